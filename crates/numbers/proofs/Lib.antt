@@ -1,0 +1,13 @@
+pub mod Closest
+pub mod Conversion
+pub mod Correct
+pub mod Examples
+pub mod Extraction
+pub mod Held
+pub mod Larger
+pub mod NoNan
+pub mod Pattern
+pub mod Rooted
+pub mod Special
+pub mod Squares
+pub mod Within

@@ -1,0 +1,65 @@
+-- `tansig_approx` and `sigmoid_approx` of util.rs.
+use mathlib.Core.Path.{_≡_}
+use Prim.Native.Nat.{ℕ, _*_, _≤_}
+use mathlib.Core.Bool.{true, false, cond}
+use mathlib.Core.List.{List}
+use lib.IntN.{pos}
+use lib.Ieee.{Float, nan, inf, fin, binary32, up, down, neg, lt, ofInt, toUnsigned}
+use Rattle.rules.specs.F32.{f32, at, _⊕_, _⊖_, _⊗_}
+use Rattle.numbers.specs.Tansig.{tansig}
+
+abbrev one : Float
+one = f32 0x3F800000
+
+abbrev half : Float
+half = f32 0x3F000000
+
+abbrev eight : Float
+eight = f32 0x41000000
+
+-- x.floor(), as a whole number, for an x from 0 to below 2 ^ 64
+abbrev pub floor : Float → ℕ
+floor x = toUnsigned 64 x
+
+-- if x < 0.0 { -x } else { x }, and if x < 0.0 { -1.0 } else { 1.0 }
+abbrev pub magnitude : Float → Float
+magnitude x = cond (lt x (f32 0)) (neg x) x
+
+abbrev pub signOf : Float → Float
+signOf x = cond (lt x (f32 0)) (neg one) one
+
+-- (0.5 + 25.0 * x).floor()
+abbrev pub place : Float → ℕ
+place x = floor (half ⊕ f32 0x41C80000 ⊗ x)
+
+-- let dy = 1.0 - y * y; y + x * dy * (1.0 - y * x)
+abbrev pub curve : Float → Float → Float
+curve y x = y ⊕ x ⊗ (one ⊖ y ⊗ y) ⊗ (one ⊖ y ⊗ x)
+
+-- from the table's nearest place: let i = place(x); let y = TANSIG_TABLE[i]; x -= 0.04 * i
+abbrev pub near : List Float → Float → Float
+near table x = curve (at table (place x)) (x ⊖ f32 0x3D23D70A ⊗ ofInt binary32 (pos (place x)))
+
+-- over any table of 201 numbers. A NaN is not below 8.0, so it gives 1.0
+unfoldable pub tansigIn : List Float → Float → Float
+tansigIn table x = cond (lt x eight) (cond (lt (neg eight) x) (signOf x ⊗ near table (magnitude x)) (neg one)) one
+
+unfoldable pub sigmoidIn : List Float → Float → Float
+unfolding tansigIn
+sigmoidIn table x = half ⊕ half ⊗ tansigIn table (half ⊗ x)
+
+-- over TANSIG_TABLE
+abbrev pub tansigApprox : Float → Float
+tansigApprox x = tansigIn tansig x
+
+abbrev pub sigmoidApprox : Float → Float
+sigmoidApprox x = sigmoidIn tansig x
+
+-- ---- for the parts of the code
+
+-- neither a NaN nor an infinity, and from 0 to 8, -0 included: what `tansig_approx` looks up
+abbrev pub Within : Float → Type 0
+Within nan = ⊥
+Within (inf s) = ⊥
+Within (fin true m e) = m ≡ 0
+Within (fin false m e) = m * up e ≤ 8 * down e

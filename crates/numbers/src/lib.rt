@@ -1,0 +1,207 @@
+// The numbers of util.rs, and what the language leaves out of IEEE 754: an `f64` rounded to an `f32`, the
+// larger and the smaller of two floats, the square root. Each function has a result for every input, and its
+// contract is an equation with a definition of `specs/`.
+ghost use mathlib.Core.Path.{_≡_};
+ghost use Prim.Native.Nat.{_*_, _^_, _<_, _≤_};
+ghost use lib.Ieee.{binary32};
+ghost use lib.Ieee.Nearest.{closest};
+ghost use Rattle.numbers.specs.Narrowed.{narrowed, Narrows};
+ghost use Rattle.numbers.specs.Root.{twiceRoot, root};
+ghost use Rattle.numbers.specs.Larger.{larger, smaller, clamped, rectified};
+ghost use Rattle.numbers.specs.Activations.{Within, magnitude, signOf, place, near, tansigIn, sigmoidIn, tansigApprox, sigmoidApprox};
+
+pub mod table;
+
+// Patterns of an `f64`: the leading digit's weight, 896 in the exponent's field, 2^-126, which is the
+// smallest normal `f32`, and 2^-150, half of the smallest. The last is the infinity of an `f32`.
+const LEAD: u64 = 0x10_0000_0000_0000;
+
+const MOVED: u64 = 0x3800_0000_0000_0000;
+
+const NORMAL: u64 = 0x3810_0000_0000_0000;
+
+const HALF_SMALLEST: u64 = 0x3690_0000_0000_0000;
+
+const INFINITY: u64 = 0x7f80_0000;
+
+// x as an `f32`: the nearest one, and of two that are as near the one whose last digit is even.
+// Past the largest it is an infinity, and a NaN stays one.
+pub fn narrow(x: f64) -> f32
+    ensures { λ r. ⌜ r ≡ narrowed x ⌝ }
+{
+    if x != x {
+        return 0.0 / 0.0;
+    }
+    let bits: u64 = f64::to_bits(x);
+    let sign: u64 = bits >> 63;
+    let size: u64 = bits % 0x8000_0000_0000_0000;
+    f32::from_bits((sign * 0x8000_0000 + narrow_magnitude(size)) as u32)
+}
+
+// The same on bit patterns without their sign. An `f32` counts its exponent from 896 less, and has
+// 29 digits less: where it is normal, the pattern is that of the `f64`, moved down by 896 and rounded.
+// Below that the digits, with the leading one, are shifted by what the exponent lacks.
+fn narrow_magnitude(a: u64) -> u64
+    requires { ⌜ a ≤ 2047 * 2 ^ 52 ⌝ }
+    ensures { λ r. ⌜ Narrows a r ⌝ }
+{
+    if a >= NORMAL {
+        let r: u64 = rounded(a - MOVED, 29);
+        if r < INFINITY {
+            return r;
+        }
+        return INFINITY;
+    }
+    if a >= HALF_SMALLEST {
+        return rounded(LEAD + a % LEAD, 926 - (a >> 52));
+    }
+    0
+}
+
+// v / 2^k to the nearest whole number, and a tie to the even one.
+fn rounded(v: u64, k: u64) -> u64
+    requires { ⌜ (v < 2 ^ 63) × (0 < k) × (k < 63) ⌝ }
+    ensures { λ r. ⌜ r ≡ closest v (2 ^ k) ⌝ }
+{
+    let half: u64 = 1 << (k - 1);
+    (v + (half - 1) + (v >> k) % 2) >> k
+}
+
+// The square root of x, rounded to the nearest `f32`. -0 gives -0, and what is below zero a NaN.
+pub fn sqrt(x: f32) -> f32
+    ensures { λ r. ⌜ r ≡ root binary32 x ⌝ }
+{
+    if x > 0.0 {
+        // x is `digits` * 2 ^ (`field` - 1075), since no `f32` is a subnormal `f64`
+        let bits: u64 = f64::to_bits(x as f64);
+        let field: u64 = bits >> 52;
+        if field == 2047 {
+            return x;
+        }
+        let digits: u64 = LEAD + bits % LEAD;
+        // an even power of two is left, and a root of 27 digits, of which 24 are kept
+        let root: u64 = rounded(twice_root(digits * (2 - field % 2)), 4);
+        return f32::from_bits(((field - 771) / 2 * 0x80_0000 + root) as u32);
+    }
+    if x == 0.0 { x } else { 0.0 / 0.0 }
+}
+
+// Twice the root of n, cut to a whole number, and 1 more where n is no square. The root is searched
+// for: it is at least `r`, and below `r + gap`.
+fn twice_root(n: u64) -> u64
+    requires { ⌜ n < 2 ^ 54 ⌝ }
+    ensures { λ r. ⌜ r ≡ twiceRoot n ⌝ }
+{
+    let mut r: u64 = 0;
+    let mut gap: u64 = 0x800_0000;
+    while gap > 1 {
+        let next: u64 = r + (gap - gap / 2);
+        if next * next <= n {
+            r = next;
+        }
+        gap = gap - gap / 2;
+    }
+    if r * r == n { 2 * r } else { 2 * r + 1 }
+}
+
+// The larger of a and b: the other one where one is a NaN, and a where they compare equal.
+pub fn max(a: f32, b: f32) -> f32
+    ensures { λ r. ⌜ r ≡ larger a b ⌝ }
+{
+    if a != a {
+        return b;
+    }
+    if a < b { b } else { a }
+}
+
+// The smaller of a and b: the other one where one is a NaN, and a where they compare equal.
+pub fn min(a: f32, b: f32) -> f32
+    ensures { λ r. ⌜ r ≡ smaller a b ⌝ }
+{
+    if a != a {
+        return b;
+    }
+    if b < a { b } else { a }
+}
+
+// x brought between low and high. A NaN stays one.
+pub fn clamp(x: f32, low: f32, high: f32) -> f32
+    ensures { λ r. ⌜ r ≡ clamped x low high ⌝ }
+{
+    if x < low {
+        return low;
+    }
+    if high < x { high } else { x }
+}
+
+// x where it is above 0, and 0 otherwise, at a NaN too.
+pub fn relu(x: f32) -> f32
+    ensures { λ r. ⌜ r ≡ rectified x ⌝ }
+{
+    max(x, 0.0)
+}
+
+fn size_of(x: f32) -> f32
+    ensures { λ r. ⌜ r ≡ magnitude x ⌝ }
+{
+    if x < 0.0 { -x } else { x }
+}
+
+fn sign_of(x: f32) -> f32
+    ensures { λ r. ⌜ r ≡ signOf x ⌝ }
+{
+    if x < 0.0 { -1.0 } else { 1.0 }
+}
+
+// The table's place nearest to x.
+fn place_of(x: f32) -> u64
+    requires { ⌜ Within x ⌝ }
+    ensures { λ r. ⌜ (r ≡ place x) × (r ≤ 200) ⌝ }
+{
+    std::num::truncating_f32_to_u64(0.5 + 25.0 * x)
+}
+
+fn near_in(table: &[f32; 201], size: f32) -> f32
+    requires { ⌜ Within size ⌝ }
+    ensures { λ r. ⌜ r ≡ near (now (table .entry)) size ⌝ }
+{
+    let i = place_of(size);
+    let x = size - 0.04 * (i as f32);
+    let y = table[i as usize];
+    let dy = 1.0 - y * y;
+    y + x * dy * (1.0 - y * x)
+}
+
+// `tansig_approx` over a lent table: a loop takes it once, by `table::all`, since each mention of it fills it anew.
+pub fn tansig_in(table: &[f32; 201], x: f32) -> f32
+    ensures { λ r. ⌜ r ≡ tansigIn (now (table .entry)) x ⌝ }
+{
+    // The tests are reversed to catch NaN.
+    if !(x < 8.0) {
+        return 1.0;
+    }
+    if !(x > -8.0) {
+        return -1.0;
+    }
+    sign_of(x) * near_in(table, size_of(x))
+}
+
+pub fn sigmoid_in(table: &[f32; 201], x: f32) -> f32
+    ensures { λ r. ⌜ r ≡ sigmoidIn (now (table .entry)) x ⌝ }
+{
+    0.5 + 0.5 * tansig_in(table, 0.5 * x)
+}
+
+pub fn tansig_approx(x: f32) -> f32
+    ensures { λ r. ⌜ r ≡ tansigApprox x ⌝ }
+{
+    let table = table::all();
+    tansig_in(&table, x)
+}
+
+pub fn sigmoid_approx(x: f32) -> f32
+    ensures { λ r. ⌜ r ≡ sigmoidApprox x ⌝ }
+{
+    let table = table::all();
+    sigmoid_in(&table, x)
+}

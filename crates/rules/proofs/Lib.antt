@@ -1,0 +1,9 @@
+pub mod Fill
+pub mod Leaves
+pub mod Loops
+pub mod Numbers
+pub mod Places
+pub mod Refused
+pub mod Table
+pub mod Tabs
+pub mod Tests
