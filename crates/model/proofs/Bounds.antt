@@ -1,12 +1,11 @@
 -- What readings stay within: no longer file reads than the largest model's, and a refusal is a number of the table. Assumes nothing.
-use mathlib.Core.Path.{_≡_, refl, sym, _∙_}
+use mathlib.Core.Path.{_≡_, refl, sym, subst}
 use mathlib.Core.List.{List, [], _∷_}
 use Prim.Native.Nat.{ℕ, zero, suc, _+_, _*_, _-_, _≤_, _<_, _^_}
 use native.Mathlib.Nat.{le-refl, add-mul}
 use native.Mathlib.Numerals.{add-one}
 use native.Mathlib.Omega.{arith}
 use lib.ListN.{length, getD, length-append, List·getD-eq-default}
-use Rattle.rules.proofs.Refused.{Clear}
 use Rattle.rules.proofs.Rows.{by-each}
 use Rattle.model.specs.declared.Activation.{Activation}
 use Rattle.model.specs.declared.Kind.{Kind}
@@ -23,8 +22,8 @@ use Rattle.model.specs.Array.{foundIn, lineIn, Within}
 use Rattle.model.proofs.Layer.{product}
 use Rattle.model.proofs.Inverse.{length-joined, number-small, Fits, FitAll}
 use Rattle.model.proofs.File.{Written, WrittenIf, writes-back}
-use Rattle.model.proofs.Places.{one-or-more, within}
-use Rattle.model.proofs.Shapes.{matched}
+use Rattle.model.proofs.Places.{within}
+use Rattle.model.proofs.Shapes.{Shaped, shape}
 
 -- ---- the largest file
 
@@ -39,7 +38,7 @@ length-file (k ∷ ks) (l ∷ ls) f =
     simp length-append (omega (arith, length-joined (lengths k (l .inputs) (l .neurons)) (l .arrays) (f .0 .arrays), length-file ks ls (f .1)))
 
 -- a, b, c and d are the neurons of layers 0 to 3, and i and j the inputs of layers 2 and 3
-largest-sum : (a b c d i j : ℕ) → 1 ≤ b → d ≤ 127 → i ≤ 127 → j ≤ 127 → 42 + a + b ≡ i → 42 + b + c ≡ j
+largest-sum : (a b c d i j : ℕ) → 1 ≤ b → d < 128 → i < 128 → j < 128 → 42 + a + b ≡ i → 42 + b + c ≡ j
     → sizeOf Dense 42 a + (sizeOf Gru a b + (sizeOf Gru i c + (sizeOf Gru j d + (sizeOf Dense d 22 + sizeOf Dense b 1)))) ≤ 157267
 largest-sum a b c d i j some few small small′ reads reads′ =
     let recurs : 3 * a * b + 3 * b * b ≤ 255 * b = rw (← add-mul (3 * a) (3 * b) b) (product (3 * a + 3 * b) b 255 b (omega arith) (omega arith)) in
@@ -51,33 +50,29 @@ largest-sum a b c d i j some few small small′ reads reads′ =
       product (3 * d) d 381 d (omega arith) (omega arith),
     )
 
-largest-file : (ls : List Layer) → FitAll kinds ls → Clear (mismatches (modelOf (headersAt 0 ls)) 0) → length (fileOf ls) ≤ 157285
-largest-file (l0 ∷ l1 ∷ l2 ∷ l3 ∷ l4 ∷ l5 ∷ []) f clear =
+largest-file : (size : ℕ) (ls : List Layer) → FitAll kinds ls → Shaped size (modelOf (headersAt 0 ls)) → length (fileOf ls) ≤ 157285
+largest-file size (l0 ∷ l1 ∷ l2 ∷ l3 ∷ l4 ∷ l5 ∷ []) f q =
     let ls = l0 ∷ l1 ∷ l2 ∷ l3 ∷ l4 ∷ l5 ∷ [] in
-    let q = matched (modelOf (headersAt 0 ls)) clear in
-    let fits2 = f .1 .1 .0 in
-    let fits3 = f .1 .1 .1 .0 in
-    let some = f .1 .0 .some in
     rw (length-file kinds ls f, q .features, ← q .vad-reads, ← q .voice-reads, ← q .gains-read, q .gains, q .voice)
     (omega (
       arith,
-      largest-sum (l0 .neurons) (l1 .neurons) (l2 .neurons) (l3 .neurons) (l2 .inputs) (l3 .inputs) (one-or-more (l1 .neurons) some) (fits3 .neurons) (fits2 .inputs) (fits3 .inputs)
-          (q .noise-reads) (q .denoise-reads),
+      largest-sum (l0 .neurons) (l1 .neurons) (l2 .neurons) (l3 .neurons) (l2 .inputs) (l3 .inputs)
+      (q .layer1 .some) (q .layer3 .neurons) (q .layer2 .inputs) (q .layer3 .inputs) (q .noise-reads) (q .denoise-reads),
     ))
-largest-file [] f clear = absurd f
-largest-file (l0 ∷ []) f clear = absurd (f .1)
-largest-file (l0 ∷ l1 ∷ []) f clear = absurd (f .1 .1)
-largest-file (l0 ∷ l1 ∷ l2 ∷ []) f clear = absurd (f .1 .1 .1)
-largest-file (l0 ∷ l1 ∷ l2 ∷ l3 ∷ []) f clear = absurd (f .1 .1 .1 .1)
-largest-file (l0 ∷ l1 ∷ l2 ∷ l3 ∷ l4 ∷ []) f clear = absurd (f .1 .1 .1 .1 .1)
-largest-file (l0 ∷ l1 ∷ l2 ∷ l3 ∷ l4 ∷ l5 ∷ l6 ∷ ls) f clear = absurd (f .1 .1 .1 .1 .1 .1)
+largest-file size [] f q = absurd f
+largest-file size (l0 ∷ []) f q = absurd (f .1)
+largest-file size (l0 ∷ l1 ∷ []) f q = absurd (f .1 .1)
+largest-file size (l0 ∷ l1 ∷ l2 ∷ []) f q = absurd (f .1 .1 .1)
+largest-file size (l0 ∷ l1 ∷ l2 ∷ l3 ∷ []) f q = absurd (f .1 .1 .1 .1)
+largest-file size (l0 ∷ l1 ∷ l2 ∷ l3 ∷ l4 ∷ []) f q = absurd (f .1 .1 .1 .1 .1)
+largest-file size (l0 ∷ l1 ∷ l2 ∷ l3 ∷ l4 ∷ l5 ∷ l6 ∷ ls) f q = absurd (f .1 .1 .1 .1 .1 .1)
 
 -- no longer file reads
 pub largest : (s : List ℕ) {m : Model} → Good m ≡ readOf s → length s ≤ 157285
 largest s {m} e = of m (rw (← e) at (writes-back s))
   where
     of : (m : Model) → Written s m → length s ≤ 157285
-    of m w = rw (w .holds .file) (largest-file (w .contents) (w .holds .fit) (w .holds .match))
+    of m w = rw (w .holds .file) (largest-file (length s) (w .contents) (w .holds .fit) (subst (Shaped (length s)) (sym (w .model)) (shape s m w)))
 
 -- a layer that is found is within 157,285 bytes
 found-small : (s : List ℕ) (j : ℕ) {k : Kind} {h : Header} → At k h ≡ foundIn (readOf s) j → Within 157285 k h

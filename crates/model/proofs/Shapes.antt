@@ -17,8 +17,14 @@ use Rattle.model.specs.Array.{Within}
 use Rattle.model.proofs.File.{Written, WrittenIf, writes-back}
 use Rattle.model.proofs.Places.{found-within}
 
--- the counts go together
-pub record Matched (m : Model) : Type 0 where
+-- a model of a file of this size
+pub record Shaped (size : ℕ) (m : Model) : Type 0 where
+  pub layer0 : Within size Dense (m .«input_dense»)
+  pub layer1 : Within size Gru (m .«vad_gru»)
+  pub layer2 : Within size Gru (m .«noise_gru»)
+  pub layer3 : Within size Gru (m .«denoise_gru»)
+  pub layer4 : Within size Dense (m .«denoise_output»)
+  pub layer5 : Within size Dense (m .«vad_output»)
   pub features : m .«input_dense» .inputs ≡ 42
   pub gains : m .«denoise_output» .neurons ≡ 22
   pub voice : m .«vad_output» .neurons ≡ 1
@@ -36,34 +42,12 @@ neither false false h = (refl, refl)
 neither true u h = absurd (let z : _≡_ {A = ℕ} 0 1 = cc in omega arith)
 neither false true h = absurd (let z : _≡_ {A = ℕ} 0 1 = cc in omega arith)
 
-pub matched : (m : Model) → Clear (mismatches m 0) → Matched m
-matched m clear =
-    let in18 = neither _ _ (clear .1 .0) in
-    let in18′ = neither _ _ (in18 .1) in
-    let in19 = neither _ _ (clear .1 .1 .0) in
-    record {
-      features = same _ _ (in18 .0);
-      gains = same _ _ (in18′ .0);
-      voice = same _ _ (in18′ .1);
-      vad-reads = same _ _ (in19 .0);
-      voice-reads = same _ _ (in19 .1);
-      noise-reads = same _ _ (clear .1 .1 .1 .0);
-      denoise-reads = same _ _ (clear .1 .1 .1 .1 .0);
-      gains-read = same _ _ (clear .1 .1 .1 .1 .1 .0);
-    }
-
--- a model of a file of this size
-pub record Shaped (size : ℕ) (m : Model) : Type 0 where
-  pub layer0 : Within size Dense (m .«input_dense»)
-  pub layer1 : Within size Gru (m .«vad_gru»)
-  pub layer2 : Within size Gru (m .«noise_gru»)
-  pub layer3 : Within size Gru (m .«denoise_gru»)
-  pub layer4 : Within size Dense (m .«denoise_output»)
-  pub layer5 : Within size Dense (m .«vad_output»)
-  pub match : Matched m
-
-shape : (s : List ℕ) (m : Model) → Written s m → Shaped (length s) m
+pub shape : (s : List ℕ) (m : Model) → Written s m → Shaped (length s) m
 shape s m w =
+    let match : Clear (mismatches m 0) = subst (λ (m : Model). Clear (mismatches m 0)) (w .model) (w .holds .match) in
+    let in18 = neither _ _ (match .1 .0) in
+    let in18′ = neither _ _ (in18 .1) in
+    let in19 = neither _ _ (match .1 .1 .0) in
     let within = found-within m w (le-refl (length s)) in
     record {
       layer0 = within 0;
@@ -72,7 +56,14 @@ shape s m w =
       layer3 = within 3;
       layer4 = within 4;
       layer5 = within 5;
-      match = matched m (subst (λ (m : Model). Clear (mismatches m 0)) (w .model) (w .holds .match));
+      features = same _ _ (in18 .0);
+      gains = same _ _ (in18′ .0);
+      voice = same _ _ (in18′ .1);
+      vad-reads = same _ _ (in19 .0);
+      voice-reads = same _ _ (in19 .1);
+      noise-reads = same _ _ (match .1 .1 .1 .0);
+      denoise-reads = same _ _ (match .1 .1 .1 .1 .0);
+      gains-read = same _ _ (match .1 .1 .1 .1 .1 .0);
     }
 
 pub shaped : (s : List ℕ) {m : Model} → Good m ≡ readOf s → Shaped (length s) m
