@@ -1,0 +1,5 @@
+pub mod DctTable
+pub mod Norm
+pub mod Scale
+pub mod Window
+pub mod WindowRule
