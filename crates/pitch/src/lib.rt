@@ -9,6 +9,7 @@ ghost use Rattle.rules.specs.Tab.{tab};
 ghost use Rattle.pitch.specs.Best.{squares, consider, slide, best, bestOf, BestFits};
 ghost use Rattle.pitch.specs.Autocorr.{tailOf, addTails, celtAutocorr, AutocorrFits};
 ghost use Rattle.pitch.specs.Fir.{fir5};
+ghost use Rattle.pitch.specs.Downsample.{halvedAt, halved, flooredAt, floored, faded, coefficients, downsampled, DownsampleFits};
 ghost use Rattle.pitch.specs.Lpc.{recurrence, mirror, state, lagNext, lagsOf, lpcOf};
 ghost use Rattle.pitch.specs.Xcorr.{corr, wholeFours, lagOf, pitchXcorr, XcorrFits};
 ghost use Rattle.pitch.specs.Inner.{innerProd, InnerFits};
@@ -425,5 +426,111 @@ pub fn celt_autocorr(x: &[f32], ac: &mut [f32]) -> u32
         return 5;
     }
     celt_autocorr_core(x, ac);
+    0
+}
+
+// Every second number, with a share of its neighbours.
+fn halve_at(x: &[f32], i: usize) -> f32
+    requires { ⌜ (length (now x) ≡ 1728) × (i < 864) ⌝ }
+    ensures { λ r. ⌜ r ≡ halvedAt (now (x .entry)) i ⌝ }
+{
+    if i == 0 {
+        return (x[1] / 2.0 + x[0]) / 2.0;
+    }
+    ((x[2 * i - 1] + x[2 * i + 1]) / 2.0 + x[2 * i]) / 2.0
+}
+
+fn halve(x: &[f32], x_lp: &mut [f32])
+    requires { ⌜ DownsampleFits (length (now x)) (length (now «x_lp»)) ⌝ }
+    ensures { λ _. ⌜ now («x_lp» .exit) ≡ halved (now (x .entry)) ⌝ }
+{
+    for i in 0..864 {
+        x_lp[i] = halve_at(x, i);
+    }
+}
+
+// The noise floor and the lag window, at lag i.
+fn floor_at(r: f32, i: usize) -> f32
+    requires { ⌜ i < 5 ⌝ }
+    ensures { λ s. ⌜ s ≡ flooredAt r i ⌝ }
+{
+    if i == 0 {
+        return r * 1.0001;
+    }
+    let w = 0.008 * (i as f32);
+    r - r * w * w
+}
+
+fn floor(ac: &mut [f32])
+    requires { ⌜ length (now ac) ≡ 5 ⌝ }
+    ensures { λ _. ⌜ now (ac .exit) ≡ floored (now (ac .entry)) ⌝ }
+{
+    for i in 0..5 {
+        ac[i] = floor_at(ac[i], i);
+    }
+}
+
+// Each coefficient times one power of 0.9 more.
+fn fade_coefficients(lpc: &mut [f32])
+    requires { ⌜ length (now lpc) ≡ 4 ⌝ }
+    ensures { λ _. ⌜ now (lpc .exit) ≡ faded (now (lpc .entry)) ⌝ }
+{
+    let mut tmp = 1.0f32;
+    for i in 0..4 {
+        tmp = tmp * 0.9;
+        lpc[i] = lpc[i] * tmp;
+    }
+}
+
+// The coefficients of the filter that flattens x_lp, over lent scratch.
+fn flatten_in(x_lp: &[f32], ac: &mut [f32], c: &mut [f32]) -> [f32; 5]
+    requires { ⌜ (5 ≤ length (now «x_lp»)) × (length (now ac) ≡ 5) × (length (now c) ≡ 4) ⌝ }
+    ensures { λ r. ⌜ r ≡ coefficients (now («x_lp» .entry)) ⌝ }
+{
+    celt_autocorr_core(x_lp, ac);
+    floor(ac);
+    lpc_core(c, ac);
+    fade_coefficients(c);
+    [
+        c[0] + 0.8,
+        c[1] + 0.8 * c[0],
+        c[2] + 0.8 * c[1],
+        c[3] + 0.8 * c[2],
+        0.8 * c[3],
+    ]
+}
+
+fn flatten(x_lp: &[f32]) -> [f32; 5]
+    requires { ⌜ 5 ≤ length (now «x_lp») ⌝ }
+    ensures { λ r. ⌜ r ≡ coefficients (now («x_lp» .entry)) ⌝ }
+{
+    let mut ac = [0.0f32; 5];
+    let mut c = [0.0f32; 4];
+    flatten_in(x_lp, &mut ac, &mut c)
+}
+
+fn pitch_downsample_core(x: &[f32], x_lp: &mut [f32])
+    requires { ⌜ DownsampleFits (length (now x)) (length (now «x_lp»)) ⌝ }
+    ensures { λ _. ⌜ now («x_lp» .exit) ≡ downsampled (now (x .entry)) ⌝ }
+{
+    halve(x, x_lp);
+    let num = flatten(&x_lp[..]);
+    fir5_core(x_lp, &num);
+}
+
+// x at half the rate, flattened.
+pub fn pitch_downsample(x: &[f32], x_lp: &mut [f32]) -> u32
+    ensures { λ r. ⌜ Leaf (DownsampleFits (length (now (x .entry))) (length (now («x_lp» .entry))))
+        (r leaving now («x_lp» .exit))
+        (0 leaving downsampled (now (x .entry)))
+        (5 leaving now («x_lp» .entry)) ⌝ }
+{
+    if x.len() != 1728 {
+        return 5;
+    }
+    if x_lp.len() != 864 {
+        return 5;
+    }
+    pitch_downsample_core(x, x_lp);
     0
 }

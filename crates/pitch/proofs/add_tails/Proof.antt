@@ -25,9 +25,12 @@ loop-again : tie.Need-loop-again Inv-loop μ-loop
 loop-again c =
     let l = c .before .before .before .loop in
     let a = c .before .before .before .before .before .before .args in
-    let ahead : at (l .ac) (l .k) ≡ at (now (a .ac)) (l .k) = tab-still _ _ _ (l .k) (l .k) nan (l .inv .3) (omega arith) in
-    (omega arith, refl, simp length-set (l .inv .2),
-    tab-more _ _ _ _ _ (l .inv .3) (rw (ahead, c .tail .ensures)) (omega arith))
+    let ahead : at (l .ac) (l .k) ≡ at (now (a .ac)) (l .k) = tab-still _ _ _ (l .k) (l .k) nan (l .inv .3) (omega arith) in (
+      omega arith,
+      refl,
+      simp length-set (l .inv .2),
+      tab-more _ _ _ _ _ (l .inv .3) (rw (ahead, c .tail .ensures)) (omega arith),
+    )
 
 pub add-tails-spec : {M : Type 1} → statement M
 add-tails-spec =

@@ -28,9 +28,12 @@ loop-again c =
     let ys = now (a .ys) in
     let n = length (now (a .xcorr)) in
     let e = c .corr4 .ensures in
-    let next : 4 * (l .k + 1) ≡ 4 * l .k + 4 = omega arith in
-    (omega arith, refl, simp length-set (l .inv .2),
-    rw next (tab-four-more _ _ _ _ (l .inv .3) (by-fours xs ys n _ (omega arith) (e .0)) (by-fours xs ys n _ (omega arith) (e .1)) (by-fours xs ys n _ (omega arith) (e .2)) (by-fours xs ys n _ (omega arith) (e .3)) (omega arith)))
+    let next : 4 * (l .k + 1) ≡ 4 * l .k + 4 = omega arith in (
+      omega arith,
+      refl,
+      simp length-set (l .inv .2),
+      rw next (tab-four-more _ _ _ _ (l .inv .3) (by-fours xs ys n _ (omega arith) (e .0)) (by-fours xs ys n _ (omega arith) (e .1)) (by-fours xs ys n _ (omega arith) (e .2)) (by-fours xs ys n _ (omega arith) (e .3)) (omega arith)),
+    )
 
 returns : tie.Need-returns Inv-loop μ-loop
 returns c =

@@ -22,9 +22,12 @@ abbrev μ-loop : tie.MeasureT-loop
 
 loop-again : tie.Need-loop-again Inv-loop μ-loop
 loop-again c =
-    let l = c .before .before .loop in
-    (omega arith, omega arith, simp length-set (l .inv .2),
-    tab-more _ _ _ _ _ (l .inv .3) (behind-fours _ _ _ _ (omega arith) (c .corr1 .ensures)) (omega arith))
+    let l = c .before .before .loop in (
+      omega arith,
+      omega arith,
+      simp length-set (l .inv .2),
+      tab-more _ _ _ _ _ (l .inv .3) (behind-fours _ _ _ _ (omega arith) (c .corr1 .ensures)) (omega arith),
+    )
 
 returns : tie.Need-returns Inv-loop μ-loop
 unfolding pitchXcorr
