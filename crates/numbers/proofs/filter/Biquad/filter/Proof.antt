@@ -15,7 +15,7 @@ use Rattle.rules.proofs.Loops.{turns, begin, more, ended}
 use Rattle.rules.proofs.Tabs.{tab-none, tab-more, tab-done}
 use Rattle.numbers.specs.declared.filter.Memory.{Memory}
 use Rattle.numbers.specs.declared.filter.Turned.{Turned}
-use Rattle.numbers.specs.Filter.{turn, memoryAt, outputAt, outputs, answer}
+use Rattle.numbers.specs.Filter.{turn, memoryAt, outputAt, outputs}
 use Rattle.numbers.proofs.filter.Biquad.filter.Statement.{statement}
 use Rattle.numbers.proofs.filter.Biquad.filter.Tie as tie
 
