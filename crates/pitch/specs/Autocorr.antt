@@ -1,4 +1,4 @@
--- `celt_autocorr`.
+-- `celt_autocorr` of pitch.rs.
 use mathlib.Core.Path.{_≡_}
 use mathlib.Core.List.{List}
 use Prim.Native.Nat.{ℕ, _+_, _-_, _≤_}

@@ -1,4 +1,4 @@
--- `find_best_pitch`. What the loop carries is the source's own struct, `Best`: the best lag has 1, the second best 2.
+-- `find_best_pitch` of pitch.rs. What the loop carries is the source's own struct, `Best`: the best lag has 1, the second best 2.
 use mathlib.Core.List.{List}
 use mathlib.Core.Bool.{cond}
 use Prim.Native.Nat.{ℕ, _+_, _≤_}
@@ -79,6 +79,19 @@ best xcorr ys len = loop (length xcorr) (lagStep xcorr ys len) (bestStart (squar
 -- (best_pitch, second_best_pitch)
 abbrev pub bestOf : List Float → List Float → ℕ → Pitches
 bestOf xcorr ys len = let b = best xcorr ys len in Pitches.Best (b .pitch1) (b .pitch2)
+
+-- an answer's number and its two lags
+abbrev pub pitchesNumber : Pitches → ℕ
+pitchesNumber (Pitches.Best p q) = 0
+pitchesNumber (Pitches.Refused n) = n
+
+abbrev pub firstOf : Pitches → ℕ
+firstOf (Pitches.Best p q) = p
+firstOf (Pitches.Refused n) = 0
+
+abbrev pub secondOf : Pitches → ℕ
+secondOf (Pitches.Best p q) = q
+secondOf (Pitches.Refused n) = 0
 
 -- the lengths
 pub record BestFits (xcorr ys len : ℕ) : Type 0 where

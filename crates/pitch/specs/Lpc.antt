@@ -1,4 +1,4 @@
--- `lpc`.
+-- `lpc` of pitch.rs.
 use mathlib.Core.List.{List}
 use mathlib.Core.Bool.{cond}
 use Prim.Native.Nat.{ℕ, _+_, _-_, _/_}

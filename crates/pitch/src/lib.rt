@@ -6,13 +6,13 @@ ghost use lib.ListN.{length, take};
 ghost use Rattle.rules.specs.F32.{f32};
 ghost use Rattle.rules.specs.Leaf.{Leaf, _leaving_};
 ghost use Rattle.rules.specs.Tab.{tab};
-ghost use Rattle.pitch.specs.Best.{squares, consider, slide, best, bestOf, BestFits};
+ghost use Rattle.pitch.specs.Best.{squares, consider, slide, best, bestOf, pitchesNumber, firstOf, secondOf, BestFits};
 ghost use Rattle.pitch.specs.Autocorr.{tailOf, addTails, celtAutocorr, AutocorrFits};
 ghost use Rattle.pitch.specs.Fir.{fir5};
 ghost use Rattle.pitch.specs.Downsample.{halvedAt, halved, flooredAt, floored, faded, coefficients, downsampled, DownsampleFits};
 ghost use Rattle.pitch.specs.Lpc.{recurrence, mirror, state, lagNext, lagsOf, lpcOf};
 ghost use Rattle.pitch.specs.Xcorr.{corr, wholeFours, lagOf, pitchXcorr, XcorrFits};
-ghost use Rattle.pitch.specs.Inner.{innerProd, InnerFits};
+ghost use Rattle.pitch.specs.Inner.{innerProd, numberOf, sumOf, InnerFits};
 
 // The filter of `fir5_in_place`, for five coefficients.
 fn fir5_core(xs: &mut [f32], num: &[f32])
@@ -82,6 +82,28 @@ fn inner_prod_core(xs: &[f32], ys: &[f32], n: usize) -> f32
 pub enum Product {
     Sum(f32),
     Refused(u32),
+}
+
+impl Product {
+    // 0, or the number of the refusal.
+    pub fn number(self) -> u32
+        ensures { λ r. ⌜ r ≡ numberOf self ⌝ }
+    {
+        match self {
+            Product::Sum(_) => 0,
+            Product::Refused(number) => number,
+        }
+    }
+
+    // The sum, 0 where it was refused.
+    pub fn sum(self) -> f32
+        ensures { λ r. ⌜ r ≡ sumOf self ⌝ }
+    {
+        match self {
+            Product::Sum(sum) => sum,
+            Product::Refused(_) => 0.0,
+        }
+    }
 }
 
 // The inner product of xs[..n] and ys[..n].
@@ -365,6 +387,37 @@ fn find_best_pitch_core(xcorr: &[f32], ys: &[f32], len: usize) -> Best
 pub enum Pitches {
     Best(usize, usize),
     Refused(u32),
+}
+
+impl Pitches {
+    // 0, or the number of the refusal.
+    pub fn number(self) -> u32
+        ensures { λ r. ⌜ r ≡ pitchesNumber self ⌝ }
+    {
+        match self {
+            Pitches::Best(_, _) => 0,
+            Pitches::Refused(number) => number,
+        }
+    }
+
+    // The best lag and the second best, 0 where they were refused.
+    pub fn first(self) -> usize
+        ensures { λ r. ⌜ r ≡ firstOf self ⌝ }
+    {
+        match self {
+            Pitches::Best(first, _) => first,
+            Pitches::Refused(_) => 0,
+        }
+    }
+
+    pub fn second(self) -> usize
+        ensures { λ r. ⌜ r ≡ secondOf self ⌝ }
+    {
+        match self {
+            Pitches::Best(_, second) => second,
+            Pitches::Refused(_) => 0,
+        }
+    }
 }
 
 // The lags with the largest and the second largest normalised correlation.
