@@ -1,0 +1,34 @@
+//! The proved library held against the Rust text, group by group.
+//!
+//! Each group makes seeded inputs, lends them to both sides and compares the number returned and every lent buffer
+//! afterwards, refused calls included. What is to be refused is worked out here, from the tables of refusals and not from
+//! either side. All NaNs are taken alike, and both zeros.
+
+pub mod rng;
+pub mod tally;
+
+#[cfg(feature = "numbers")]
+pub mod numbers;
+
+/// What the command line says: how many calls, from which seed, and whether all there are.
+pub struct Options {
+    pub calls: Option<u64>,
+    pub seed: u64,
+    pub all: bool,
+}
+
+impl Options {
+    /// The number of calls asked for, or the gate's.
+    pub fn calls(&self, gate: u64) -> u64 {
+        self.calls.unwrap_or(gate)
+    }
+}
+
+/// A group's name, and what compares it.
+pub type Group = (&'static str, fn(&Options) -> tally::Tally);
+
+/// The groups whose functions stand in the static library.
+pub const GROUPS: &[Group] = &[
+    #[cfg(feature = "numbers")]
+    ("numbers", numbers::compare),
+];
