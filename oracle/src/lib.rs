@@ -4,11 +4,21 @@
 //! afterwards, refused calls included. What is to be refused is worked out here, from the tables of refusals and not from
 //! either side. All NaNs are taken alike, and both zeros.
 
+pub mod models;
+pub mod reader;
 pub mod rng;
 pub mod tally;
 
+#[cfg(feature = "bands")]
+pub mod bands;
+#[cfg(feature = "model")]
+pub mod model;
+#[cfg(feature = "network")]
+pub mod network;
 #[cfg(feature = "numbers")]
 pub mod numbers;
+#[cfg(feature = "pitch")]
+pub mod pitch;
 
 /// What the command line says: how many calls, from which seed, and whether all there are.
 pub struct Options {
@@ -31,4 +41,12 @@ pub type Group = (&'static str, fn(&Options) -> tally::Tally);
 pub const GROUPS: &[Group] = &[
     #[cfg(feature = "numbers")]
     ("numbers", numbers::compare),
+    #[cfg(feature = "bands")]
+    ("bands", bands::compare),
+    #[cfg(feature = "pitch")]
+    ("pitch", pitch::compare),
+    #[cfg(feature = "model")]
+    ("model", model::compare),
+    #[cfg(feature = "network")]
+    ("network", network::compare),
 ];

@@ -123,11 +123,11 @@ impl Tally {
         what: &str,
         given: &[(&str, Value)],
         fits: bool,
-        out: Vec<f32>,
+        out: &[f32],
         ours: impl FnOnce(&mut [f32]) -> u32,
         rusts: impl FnOnce(&mut [f32]),
     ) {
-        let (mut mine, mut theirs) = (out.clone(), out);
+        let (mut mine, mut theirs) = (out.to_vec(), out.to_vec());
         let (number, mut want) = (ours(&mut mine), 5u32);
         if fits {
             rusts(&mut theirs);
