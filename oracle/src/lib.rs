@@ -9,8 +9,16 @@ pub mod reader;
 pub mod rng;
 pub mod tally;
 
+#[cfg(feature = "frame")]
+pub mod apart;
+#[cfg(feature = "frame")]
+pub mod ask;
 #[cfg(feature = "bands")]
 pub mod bands;
+#[cfg(feature = "frame")]
+pub mod desk;
+#[cfg(feature = "frame")]
+pub mod frame;
 #[cfg(feature = "model")]
 pub mod model;
 #[cfg(feature = "network")]
@@ -19,6 +27,8 @@ pub mod network;
 pub mod numbers;
 #[cfg(feature = "pitch")]
 pub mod pitch;
+#[cfg(feature = "frame")]
+pub mod shadow;
 
 /// What the command line says: how many calls, from which seed, and whether all there are.
 pub struct Options {
@@ -49,4 +59,8 @@ pub const GROUPS: &[Group] = &[
     ("model", model::compare),
     #[cfg(feature = "network")]
     ("network", network::compare),
+    #[cfg(feature = "frame")]
+    ("frame", frame::compare),
+    #[cfg(feature = "frame")]
+    ("apart", apart::compare),
 ];
