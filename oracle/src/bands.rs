@@ -2,15 +2,8 @@
 
 use crate::rng::Rng;
 use crate::tally::Tally;
-use crate::{named, Options};
-use nnnoiseless_text::probe::bands::{self, Complex};
-
-/// The 481 bins of 961 numbers: bin 0 is real.
-pub fn bins(numbers: &[f32]) -> Vec<Complex> {
-    let mut bins = vec![Complex { re: numbers[0], im: 0.0 }];
-    bins.extend(numbers[1..].chunks_exact(2).map(|c| Complex { re: c[0], im: c[1] }));
-    bins
-}
+use crate::{bins, named, Options};
+use nnnoiseless_text::probe::bands;
 
 pub fn compare(options: &Options) -> Tally {
     let mut tally = Tally::new("bands");

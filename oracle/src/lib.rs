@@ -30,6 +30,15 @@ pub mod pitch;
 #[cfg(feature = "frame")]
 pub mod shadow;
 
+use nnnoiseless_text::probe::bands::Complex;
+
+/// The 481 bins of 961 numbers: bin 0 is real.
+pub fn bins(numbers: &[f32]) -> Vec<Complex> {
+    let mut bins = vec![Complex { re: numbers[0], im: 0.0 }];
+    bins.extend(numbers[1..].chunks_exact(2).map(|c| Complex { re: c[0], im: c[1] }));
+    bins
+}
+
 /// What the command line says: how many calls, from which seed, and whether all there are.
 pub struct Options {
     pub calls: Option<u64>,
