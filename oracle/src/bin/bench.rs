@@ -4,6 +4,8 @@
 //! Each row is measured in rounds, ours and the Rust's in turn; the table has the medians of all samples, in nanoseconds
 //! for one call, and ours divided by the Rust's.
 
+#![cfg_attr(not(feature = "frame"), allow(unused_imports))]
+
 use nnnoiseless_text::probe::{bands, pitch, rnn, util};
 use nnnoiseless_text::{DenoiseState, RnnModel};
 use oracle::rng::{Mood, Rng};
@@ -110,8 +112,7 @@ fn of_bands(rng: &mut Rng) -> Vec<Row> {
             move || tuppence::band_gain(&mut a481, black_box(&g1)),
             move || bands::interp_band_gain(&mut b481, black_box(&g2)),
         ),
-        row("dct", move || tuppence::dct(&mut c22, black_box(&g3))),
-        move || bands::dct(&mut d22, black_box(&g4)),
+        row("dct", move || tuppence::dct(&mut c22, black_box(&g3)), move || bands::dct(&mut d22, black_box(&g4))),
         row(
             "window",
             move || tuppence::window(&mut a960, black_box(&w1)),
