@@ -1,5 +1,4 @@
-//! `vectors NAME`: a fixed list of the text's answers, for programs that replay them without the Rust; to standard output.
-//! NAME is `bands` or `pitch`.
+//! `vectors`: a fixed list of the text's answers, for the program crates/replay, which needs no Rust; to standard output.
 //!
 //! The list is words of 32 bits, little end first, record after record to its end. A record is
 //!
@@ -14,13 +13,13 @@
 //!
 //! | bands | | pitch | |
 //! |---|---|---|---|
-//! | 0 | `band_corr(out, x, p)` | 0 | `inner_prod(sum, xs, ys, n)` |
-//! | 1 | `band_gain(out, bands)` | 1 | `lpc(lpc, ac)` |
-//! | 2 | `dct(out, x)` | 2 | `pitch_xcorr(xcorr, xs, ys)` |
-//! | 3 | `window(out, x)` | 3 | `find_best_pitch(pitches, xcorr, ys, len)` |
-//! | 4 | `window_in_place(xs)` | 4 | `fir5(xs, num)` |
-//! | | | 5 | `autocorr(ac, x)` |
-//! | | | 6 | `downsample(x_lp, x)` |
+//! | 0 | `band_corr(out, x, p)` | 5 | `inner_prod(sum, xs, ys, n)` |
+//! | 1 | `band_gain(out, bands)` | 6 | `lpc(lpc, ac)` |
+//! | 2 | `dct(out, x)` | 7 | `pitch_xcorr(xcorr, xs, ys)` |
+//! | 3 | `window(out, x)` | 8 | `find_best_pitch(pitches, xcorr, ys, len)` |
+//! | 4 | `window_in_place(xs)` | 9 | `fir5(xs, num)` |
+//! | | | 10 | `autocorr(ac, x)` |
+//! | | | 11 | `downsample(x_lp, x)` |
 
 use nnnoiseless_text::probe::{bands, pitch};
 use oracle::bins;
@@ -101,15 +100,15 @@ fn of_pitch(list: &mut List, rng: &mut Rng) {
         for n in [0, 3, 4, 13] {
             let (xs, ys) = (rng.list_of(n + 1, mood), rng.list_of(n, mood));
             let answer = |sum: &mut [f32]| sum[0] = pitch::inner_prod(&xs, &ys, n);
-            list.leaf(0, &[&sum, &xs, &ys], &[n as u32], Some(answer));
+            list.leaf(5, &[&sum, &xs, &ys], &[n as u32], Some(answer));
         }
         let mut ac = [0.0; 5];
         pitch::celt_autocorr(&rng.list_of(40, mood), &mut ac);
         let out = rng.list_of(4, Mood::Any);
-        list.leaf(1, &[&out, &ac], &[], Some(|out: &mut [f32]| pitch::lpc(out, &ac)));
+        list.leaf(6, &[&out, &ac], &[], Some(|out: &mut [f32]| pitch::lpc(out, &ac)));
         for [m, n, ys] in [[0, 3, 0], [4, 4, 8], [6, 9, 14], [9, 0, 8], [5, 7, 20]] {
             let (out, xs, ys) = (rng.list_of(m, Mood::Any), rng.list_of(n, mood), rng.list_of(ys, mood));
-            list.leaf(2, &[&out, &xs, &ys], &[], Some(|out: &mut [f32]| pitch::pitch_xcorr(&xs, &ys, out)));
+            list.leaf(7, &[&out, &xs, &ys], &[], Some(|out: &mut [f32]| pitch::pitch_xcorr(&xs, &ys, out)));
         }
         for [m, len, more] in [[0, 0, 0], [12, 20, 0], [30, 8, 3]] {
             let (xcorr, ys) = (rng.list_of(m, mood), rng.list_of(m + len + more, mood));
@@ -117,30 +116,30 @@ fn of_pitch(list: &mut List, rng: &mut Rng) {
         }
         for n in [0, 5, 30] {
             let (xs, num) = (rng.list_of(n, mood), rng.list_of(5, Mood::Small));
-            list.leaf(4, &[&xs, &num], &[], Some(|xs: &mut [f32]| pitch::fir5_in_place(xs, &num)));
+            list.leaf(9, &[&xs, &num], &[], Some(|xs: &mut [f32]| pitch::fir5_in_place(xs, &num)));
         }
         for n in [5, 31] {
             let (ac, x) = (rng.list_of(5, Mood::Any), rng.list_of(n, mood));
-            list.leaf(5, &[&ac, &x], &[], Some(|ac: &mut [f32]| pitch::celt_autocorr(&x, ac)));
+            list.leaf(10, &[&ac, &x], &[], Some(|ac: &mut [f32]| pitch::celt_autocorr(&x, ac)));
         }
     }
     for mood in &MOODS[..3] {
         let (x_lp, x) = (rng.list_of(864, Mood::Any), rng.list_of(1728, *mood));
-        list.leaf(6, &[&x_lp, &x], &[], Some(|x_lp: &mut [f32]| pitch::pitch_downsample(&x, x_lp)));
+        list.leaf(11, &[&x_lp, &x], &[], Some(|x_lp: &mut [f32]| pitch::pitch_downsample(&x, x_lp)));
     }
     // an ac of 0, and its exit
-    list.leaf(1, &[&[1.0; 4], &[0.0; 5]], &[], Some(|out: &mut [f32]| pitch::lpc(out, &[0.0; 5])));
+    list.leaf(6, &[&[1.0; 4], &[0.0; 5]], &[], Some(|out: &mut [f32]| pitch::lpc(out, &[0.0; 5])));
     let any = |rng: &mut Rng, n| rng.list_of(n, Mood::Any);
     for [sum, xs, ys, n] in [[1, 3, 4, 4], [1, 4, 3, 4], [0, 4, 4, 4], [2, 4, 4, 4], [1, 4, 4, u32::MAX as usize]] {
-        list.refused(0, &[&any(rng, sum), &any(rng, xs), &any(rng, ys)], &[n as u32]);
+        list.refused(5, &[&any(rng, sum), &any(rng, xs), &any(rng, ys)], &[n as u32]);
     }
     for [leaf, out, x] in
-        [[1, 4, 4], [1, 0, 0], [4, 9, 4], [4, 9, 6], [5, 4, 9], [5, 5, 4], [6, 864, 1727], [6, 863, 0]]
+        [[6, 4, 4], [6, 0, 0], [9, 9, 4], [9, 9, 6], [10, 4, 9], [10, 5, 4], [11, 864, 1727], [11, 863, 0]]
     {
         list.refused(leaf as u32, &[&any(rng, out), &any(rng, x)], &[]);
     }
     for [m, n, ys] in [[4, 4, 7], [6, 9, 13], [1, 1, 0]] {
-        list.refused(2, &[&any(rng, m), &any(rng, n), &any(rng, ys)], &[]);
+        list.refused(7, &[&any(rng, m), &any(rng, n), &any(rng, ys)], &[]);
     }
     for [m, ys, len] in [[3, 9, 7], [3, 9, u32::MAX as usize], [0, 0, 1]] {
         best_pitch(list, &any(rng, m), &any(rng, ys), len);
@@ -149,7 +148,7 @@ fn of_pitch(list: &mut List, rng: &mut Rng) {
 
 fn best_pitch(list: &mut List, xcorr: &[f32], ys: &[f32], len: usize) {
     let held = vec![7, 7];
-    list.0.push(3);
+    list.0.push(8);
     list.lists(&[held.clone(), bits(xcorr), bits(ys), vec![len as u32]]);
     if xcorr.len() + len <= ys.len() {
         let (first, second) = pitch::find_best_pitch(xcorr, ys, len);
@@ -162,14 +161,8 @@ fn best_pitch(list: &mut List, xcorr: &[f32], ys: &[f32], len: usize) {
 fn main() {
     let mut list = List(vec![]);
     let rng = &mut Rng::new(1);
-    match std::env::args().nth(1).as_deref() {
-        Some("bands") => of_bands(&mut list, rng),
-        Some("pitch") => of_pitch(&mut list, rng),
-        _ => {
-            eprintln!("vectors bands|pitch");
-            std::process::exit(2)
-        }
-    }
+    of_bands(&mut list, rng);
+    of_pitch(&mut list, rng);
     let bytes: Vec<u8> = list.0.iter().flat_map(|word| word.to_le_bytes()).collect();
     std::io::stdout().write_all(&bytes).unwrap();
 }
