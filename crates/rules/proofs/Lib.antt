@@ -1,3 +1,4 @@
+pub mod Below
 pub mod Fill
 pub mod Leaves
 pub mod Loops
