@@ -1,8 +1,10 @@
 pub mod Below
 pub mod Fill
+pub mod Kept
 pub mod Leaves
 pub mod Loops
 pub mod Numbers
+pub mod OneNumber
 pub mod Places
 pub mod Refused
 pub mod Table

@@ -1,0 +1,39 @@
+-- A layer's output is as long as its bias, and a state keeps its length. Assumes nothing.
+use mathlib.Core.Path.{_≡_, _∙_}
+use mathlib.Core.List.{List}
+use Prim.Native.Nat.{ℕ, _+_, _*_}
+use lib.ListN.{length, length-set, length-map}
+use lib.Ieee.{Float}
+use Rattle.rules.specs.F32.{at, part}
+use Rattle.rules.specs.Loop.{loop}
+use Rattle.rules.proofs.Kept.{loop-keeps}
+use Rattle.network.specs.Sums.{ofByte, copied, columnStep, mulStep, mulAdd}
+use Rattle.network.specs.Layers.{activateStep, gateSums, updateStep, resetStep, blendStep, denseOf, gruOf}
+use Rattle.model.specs.declared.Activation.{Activation}
+
+length-copied : (bytes : List ℕ) → length (copied bytes) ≡ length bytes
+length-copied bytes = length-map bytes ofByte
+
+length-mulAdd : (out : List Float) (weights : List ℕ) (stride offset : ℕ) (input : List Float) → length (mulAdd out weights stride offset input) ≡ length out
+unfolding mulAdd
+length-mulAdd out weights stride offset input =
+    loop-keeps length (mulStep weights stride offset input)
+    (λ i s. loop-keeps length (columnStep (part (i * stride + offset) (length weights) weights) (at input i)) (λ j t. simp length-set) (length s) s)
+    (length input) out
+
+pub length-denseOf : (weights bias : List ℕ) (activation : Activation) (input : List Float) → length (denseOf weights bias activation input) ≡ length bias
+unfolding denseOf
+length-denseOf weights bias activation input =
+    loop-keeps length (activateStep activation) (λ j s. simp length-set) (length bias) (mulAdd (copied bias) weights (length bias) 0 input)
+    ∙ length-mulAdd (copied bias) weights (length bias) 0 input
+    ∙ length-copied bias
+
+pub length-gruOf : (weights recurrent bias : List ℕ) (activation : Activation) (input state : List Float)
+    → length (gruOf weights recurrent bias activation input state) ≡ length state
+unfolding gruOf
+length-gruOf weights recurrent bias activation input state =
+    let n = length state in
+    let sums = gateSums weights recurrent bias input n in
+    let z = loop n updateStep (sums 0 state) in
+    let r = loop n (resetStep state) (sums n state) in
+    loop-keeps length (blendStep activation z (sums (2 * n) r)) (λ j s. simp length-set) n state
