@@ -1,15 +1,22 @@
--- A layer's output is as long as its bias, and a state keeps its length. Assumes nothing.
+-- A layer's output has a place for each neuron, and a state keeps its length. Assumes nothing.
 use mathlib.Core.Path.{_≡_, _∙_}
 use mathlib.Core.List.{List}
 use Prim.Native.Nat.{ℕ, _+_, _*_}
-use lib.ListN.{length, length-set, length-map}
+use native.Mathlib.Omega.{arith}
+use lib.ListN.{length, length-set, length-map, length-take, length-drop}
 use lib.Ieee.{Float}
 use Rattle.rules.specs.F32.{at, part}
 use Rattle.rules.specs.Loop.{loop}
 use Rattle.rules.proofs.Kept.{loop-keeps}
 use Rattle.network.specs.Sums.{ofByte, copied, columnStep, mulStep, mulAdd}
 use Rattle.network.specs.Layers.{activateStep, gateSums, updateStep, resetStep, blendStep, denseOf, gruOf}
+use Rattle.network.specs.Compute.{array, denseAt, gruAt}
+use Rattle.model.specs.Array.{placeOf, Within}
 use Rattle.model.specs.declared.Activation.{Activation}
+use Rattle.model.specs.declared.Kind.{Kind}
+use Rattle.model.specs.declared.Kind.the-variants.{Dense, Gru}
+use Rattle.model.specs.declared.Header.{Header}
+use Rattle.model.proofs.Places.{place-within}
 
 length-copied : (bytes : List ℕ) → length (copied bytes) ≡ length bytes
 length-copied bytes = length-map bytes ofByte
@@ -37,3 +44,16 @@ length-gruOf weights recurrent bias activation input state =
     let z = loop n updateStep (sums 0 state) in
     let r = loop n (resetStep state) (sums n state) in
     loop-keeps length (blendStep activation z (sums (2 * n) r)) (λ j s. simp length-set) n state
+
+length-array : (bytes : List ℕ) (k : Kind) (h : Header) → Within (length bytes) k h → (which : ℕ) → length (array bytes k h which) ≡ placeOf k h which .size
+length-array bytes k h w which = let inside = place-within k h w which in simp (length-take, length-drop) (omega arith)
+
+-- the layers of a model
+module _ (bytes : List ℕ) (h : Header) (input : List Float) where
+  pub length-denseAt : Within (length bytes) Dense h → length (denseAt bytes h input) ≡ h .neurons
+  unfolding denseAt
+  length-denseAt w = length-denseOf (array bytes Dense h 0) (array bytes Dense h 2) (h .activation) input ∙ length-array bytes Dense h w 2
+
+  pub length-gruAt : (state : List Float) → length (gruAt bytes h input state) ≡ length state
+  unfolding gruAt
+  length-gruAt state = length-gruOf (array bytes Gru h 0) (array bytes Gru h 1) (array bytes Gru h 2) (h .activation) input state
