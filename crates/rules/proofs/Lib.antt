@@ -7,6 +7,8 @@ pub mod Numbers
 pub mod OneNumber
 pub mod Places
 pub mod Refused
+pub mod Rows
+pub mod Runs
 pub mod Table
 pub mod Tabs
 pub mod Tests
