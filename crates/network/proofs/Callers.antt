@@ -8,7 +8,7 @@ use mathlib.Core.Path.{_≡_, refl, sym, ap, _∙_}
 use mathlib.Core.Bool.{not, false}
 use mathlib.Core.List.{List, _++_}
 use Prim.Native.Nat.{ℕ, _≤_}
-use borrow.Author.Tests.{eq-eqb}
+use borrow.Author.Tests.{eq-eqb, eqb-true, not-false}
 use lib.Dec.{eqb}
 use native.Mathlib.Omega.{arith}
 use lib.ListN.{length, take, drop, length-append, length-take, length-drop}
@@ -22,11 +22,14 @@ use Rattle.model.specs.declared.Reading.{Reading}
 use Rattle.model.specs.declared.Reading.the-variants as read
 use Rattle.network.specs.Compute.{Frame, frameOf, sixLayers, framed, Outcome, outcome, byReading, wrongLengths, computed, Lengths}
 use Rattle.network.specs.declared.Computed.the-variants.{Done, Refused, Misread}
-use Rattle.network.proofs.Fitting.{same, few, voice-fits, gains-fit}
+use Rattle.network.proofs.Fitting.{few, voice-fits, gains-fit}
 use Rattle.network.proofs.Lengths.{length-denseAt, length-gruAt}
 
 equal : (a b : ℕ) → a ≡ b → (a ≠ b) ≡ false
 equal a b e = ap not (eq-eqb a b e)
+
+same : (a b : ℕ) → (a ≠ b) ≡ false → a ≡ b
+same a b e = eqb-true a b (not-false (eqb a b) e)
 
 -- no row's test holds exactly where the lengths fit
 module _ (gains voice vad noise denoise features : ℕ) where

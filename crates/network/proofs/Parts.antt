@@ -5,21 +5,22 @@ use mathlib.Core.List.{List}
 use Prim.Native.Nat.{ℕ, _+_, _*_, _≤_}
 use native.Mathlib.Nat.{add-sub-cancel-left, mul-comm, mul-assoc}
 use native.Mathlib.Omega.{arith}
-use lib.ListN.{length, take, drop, length-take, length-drop}
+use lib.ListN.{length, length-take, length-drop}
 use lib.Ieee.{Float}
 use Rattle.rules.specs.F32.{part}
+use Rattle.rules.specs.Place.{Place, get}
 use Rattle.model.specs.Array.{placeOf}
 use Rattle.model.specs.declared.Kind.{Kind}
 use Rattle.model.specs.declared.Kind.the-variants.{Dense, Gru}
 use Rattle.model.specs.declared.Header.{Header}
-use Rattle.model.specs.declared.Place.{Place}
 use Rattle.network.specs.Layers.{denseOf, gruOf, DenseArrays, GruArrays}
 use Rattle.network.specs.Compute.{array, denseAt, gruAt, At}
 
 cut-length : (bytes : List ℕ) (a n : ℕ) → a + n ≤ length bytes → length (part a (a + n) bytes) ≡ n
 cut-length bytes a n h = simp (length-take, length-drop) (omega arith)
 
-cut : (bytes : List ℕ) (a n : ℕ) (p : Place) → a ≡ p .at → n ≡ p .size → part a (a + n) bytes ≡ take (p .size) (drop (p .at) bytes)
+cut : (bytes : List ℕ) (a n : ℕ) (p : Place) → a ≡ p .at → n ≡ p .size → part a (a + n) bytes ≡ get p bytes
+unfolding get
 cut bytes a n p e f = rw (← e, ← f, add-sub-cancel-left a n)
 
 swapped : (a b : ℕ) → 3 * a * b ≡ 3 * b * a

@@ -4,6 +4,7 @@ use mathlib.Core.Path.{_≡_}
 use Prim.Native.Nat.{ℕ, _+_}
 use lib.ListN.{length, take, drop}
 use lib.Ieee.{Float}
+use Rattle.rules.specs.Place.{get}
 use Rattle.rules.specs.Refusals.{Row, _when_, first}
 use Rattle.model.specs.Array.{placeOf, Within}
 use Rattle.model.specs.Model.{readOf, _≠_}
@@ -19,7 +20,7 @@ use Rattle.network.specs.declared.Computed.the-variants.{Done, Refused, 
 
 -- an array of a layer, 0 input weights, 1 recurrent weights, 2 biases: the part of the model's bytes that it is
 abbrev pub array : List ℕ → Kind → Header → ℕ → List ℕ
-array bytes kind h which = let p = placeOf kind h which in take (p .size) (drop (p .at) bytes)
+array bytes kind h which = get (placeOf kind h which) bytes
 
 -- layer.compute(output, input)
 unfoldable pub denseAt : List ℕ → Header → List Float → List Float

@@ -1,6 +1,5 @@
 pub mod Below
 pub mod Fill
-pub mod Kept
 pub mod Leaves
 pub mod Loops
 pub mod Numbers
