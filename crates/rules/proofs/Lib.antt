@@ -1,7 +1,9 @@
+pub mod Below
 pub mod Fill
 pub mod Leaves
 pub mod Loops
 pub mod Numbers
+pub mod OneNumber
 pub mod Places
 pub mod Refused
 pub mod Rows
