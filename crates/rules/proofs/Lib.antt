@@ -1,5 +1,6 @@
 pub mod Below
 pub mod Fill
+pub mod Fused
 pub mod Leaves
 pub mod Loops
 pub mod Numbers
