@@ -1,3 +1,4 @@
+pub mod Called
 pub mod Fill
 pub mod Filling
 pub mod Leaves
