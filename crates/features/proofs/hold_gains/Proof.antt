@@ -12,7 +12,7 @@ use Rattle.features.proofs.hold_gains.Statement.{statement}
 use Rattle.features.proofs.hold_gains.Tie as tie
 
 abbrev Inv-loop : tie.InvT-loop
-Inv-loop g₀ last₀ i₀ g last i = 
+Inv-loop g₀ last₀ i₀ g last i =
     (i ≤ 22) × Filling (λ k. raised (at g₀ k) (at last₀ k)) g₀ i g × Filling (λ k. raised (at g₀ k) (at last₀ k)) last₀ i last
 
 abbrev μ-loop : tie.MeasureT-loop

@@ -11,7 +11,7 @@ use Rattle.features.proofs.cepstra.follow_logs.Statement.{statement}
 use Rattle.features.proofs.cepstra.follow_logs.Tie as tie
 
 abbrev Inv-loop : tie.InvT-loop
-Inv-loop ly₀ logs logMax₀ follow₀ i₀ ly logMax follow i = 
+Inv-loop ly₀ logs logMax₀ follow₀ i₀ ly logMax follow i =
     (i ≤ 22) × (floorsOf logMax follow ≡ loop i (floorStep logs) (floorsOf logMax₀ follow₀)) × Filling (λ k. lifted (at logs k) (floors logs k)) ly₀ i ly
 
 abbrev μ-loop : tie.MeasureT-loop

@@ -1,5 +1,5 @@
 -- `features::pitch::filter` meets its contract: what its parts ensure, put together. Assumes nothing.
-use mathlib.Core.Path.{_≡_}
+use mathlib.Core.Path.{_≡_, _∙_}
 use mathlib.Core.List.{List}
 use lib.Ieee.{Float}
 use borrow.Author.Needs.{needs}
@@ -9,10 +9,10 @@ use Rattle.features.specs.Pitch.{pitchGains, pitchAdded, restored, pitch
 use Rattle.features.proofs.pitch.filter.Statement.{statement}
 use Rattle.features.proofs.pitch.filter.Tie as tie
 
-together : {x p gains exp ex ep r rf y out : List Float}
+together : (x p gains exp ex ep r rf y out : List Float)
     → r ≡ pitchGains exp gains ex ep → rf ≡ bandGain r → y ≡ pitchAdded x p rf → out ≡ restored y ex → out ≡ pitchFiltered x p gains exp ex ep
 unfolding pitchFiltered
-together a b c d = cc
+together x p gains exp ex ep r rf y out a b c d = cc
 
 returns : tie.Need-returns
 returns c =
@@ -20,7 +20,8 @@ returns c =
     let adds = restores .before .before .before .before .before .before in
     let spreads = adds .before .before .before .before .before in
     let divides = spreads .before .before .before .before .before in
-    together (divides .gains-of .ensures) (left (spreads .interp-band-gain .ensures) (search needs)) (adds .add-pitch .ensures) (restores .restore .ensures)
+    let start = divides .before .before .before .before .before .before .before .before .before .before in
+    together _ _ _ _ _ _ _ _ _ _ (divides .gains-of .ensures) (left (spreads .interp-band-gain .ensures) (record { bins = start .pre .1 .1; from = divides .gains-of .kept .0 ∙ start .pre .1 .0 })) (adds .add-pitch .ensures) (restores .restore .ensures)
 
 pub filter-spec : {M : Type 1} → statement M
 filter-spec =

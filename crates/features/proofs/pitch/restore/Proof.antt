@@ -9,9 +9,9 @@ use Rattle.features.specs.Pitch.{renormalised, applied, restored}
 use Rattle.features.proofs.pitch.restore.Statement.{statement}
 use Rattle.features.proofs.pitch.restore.Tie as tie
 
-together : {x ex e r rf out : List Float} → e ≡ bandCorr x x → r ≡ renormalised ex e → rf ≡ bandGain r → out ≡ applied x rf → out ≡ restored x ex
+together : (x ex e r rf out : List Float) → e ≡ bandCorr x x → r ≡ renormalised ex e → rf ≡ bandGain r → out ≡ applied x rf → out ≡ restored x ex
 unfolding restored
-together a b c d = cc
+together x ex e r rf out a b c d = cc
 
 returns : tie.Need-returns
 returns c =
@@ -19,7 +19,7 @@ returns c =
     let spreads = applies .before .before .before .before .before in
     let divides = spreads .before .before .before .before .before in
     let sums = divides .before .before .before .before in
-    together
+    together _ _ _ _ _ _
     (left (sums .compute-band-corr .ensures) (search needs))
     (divides .renormalise .ensures)
     (left (spreads .interp-band-gain .ensures) (search needs))
