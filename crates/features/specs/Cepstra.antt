@@ -4,11 +4,13 @@ use mathlib.Core.Bool.{cond}
 use Prim.Native.Nat.{ℕ, _+_, _-_, _*_}
 use lib.Dec.{eqb, ltb}
 use lib.Ieee.{Float, neg}
+use lib.ListN.{set}
 use Rattle.rules.specs.Loop.{loop}
 use Rattle.rules.specs.F32.{_⊕_, _⊖_, _⊗_, _⊘_, at, f32}
 use Rattle.rules.specs.Place.{Place}
 use Rattle.rules.specs.Tab.{tab}
 use Rattle.numbers.specs.Larger.{larger, smaller}
+use Rattle.bands.specs.Dct.{dctOf}
 
 -- what goes from band to band; both begin at -2.0
 pub record Floors : Type 0 where
@@ -34,6 +36,14 @@ floors logs i = loop i (floorStep logs) (floorsOf (neg (f32 0x40000000)) (neg (f
 -- ly
 unfoldable pub followLogs : List Float → List Float
 followLogs logs = tab 22 (λ i. lifted (at logs i) (floors logs i))
+
+-- features[i] -= v
+abbrev pub lessen : ℕ → Float → List Float → List Float
+lessen i v features = set features i (at features i ⊖ v)
+
+-- dct(features, ly); features[0] -= 12.0; features[1] -= 4.0
+unfoldable pub cepstrum : List Float → List Float
+cepstrum logs = lessen 1 (f32 0x40800000) (lessen 0 (f32 0x41400000) (dctOf (followLogs logs)))
 
 -- cepstral_mem[row], and cepstral_mem[row][i]
 abbrev pub row : ℕ → Place

@@ -47,11 +47,9 @@ applied x gains = tab 961 (λ n. at x n ⊗ at gains (binOf n))
 
 -- x with its band energies brought back to ex
 unfoldable pub restored : List Float → List Float → List Float
-unfolding renormalised applied
 restored x ex = applied x (bandGain (renormalised ex (bandCorr x x)))
 
 unfoldable pub pitchFiltered : List Float → List Float → List Float → List Float → List Float → List Float → List Float
-unfolding pitchGains pitchAdded restored
 pitchFiltered x p gains exp ex ep = restored (pitchAdded x p (bandGain (pitchGains exp gains ex ep))) ex
 
 -- the lengths

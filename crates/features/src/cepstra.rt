@@ -2,10 +2,13 @@
 ghost use mathlib.Core.Path.{_≡_};
 ghost use Prim.Native.Nat.{_≤_};
 ghost use lib.ListN.{length};
-ghost use Rattle.features.specs.Cepstra.{followLogs, back, sums, slopes, bends, distance, nearestStep, nearest, variability};
+ghost use Rattle.rules.specs.Place.{put};
+ghost use Rattle.rules.specs.F32.{part};
+ghost use Rattle.features.specs.Features.{laid};
+ghost use Rattle.features.specs.Cepstra.{followLogs, cepstrum, row, back, sums, slopes, bends, distance, nearestStep, nearest, variability};
 
 // Each band's logarithm, but no lower than 7 below the largest so far, and falling by no more than 1.5 a band.
-pub(crate) fn follow_logs(ly: &mut [f32], logs: &[f32])
+fn follow_logs(ly: &mut [f32], logs: &[f32])
     requires { ⌜ (length (now ly) ≡ 22) × (length (now logs) ≡ 22) ⌝ }
     ensures { λ _. ⌜ now (ly .exit) ≡ followLogs (now (logs .entry)) ⌝ }
 {
@@ -19,8 +22,36 @@ pub(crate) fn follow_logs(ly: &mut [f32], logs: &[f32])
     }
 }
 
+// `ly` has a place for each band.
+fn cepstrum_by(out: &mut [f32], ly: &mut [f32], logs: &[f32])
+    requires { ⌜ (length (now out) ≡ 22) × (length (now ly) ≡ 22) × (length (now logs) ≡ 22) ⌝ }
+    ensures { λ _. ⌜ now (out .exit) ≡ cepstrum (now (logs .entry)) ⌝ }
+{
+    follow_logs(ly, logs);
+    bands::dct(out, ly);
+    out[0] = out[0] - 12.0;
+    out[1] = out[1] - 4.0;
+}
+
+pub(crate) fn cepstrum_of(out: &mut [f32], logs: &[f32])
+    requires { ⌜ (length (now out) ≡ 22) × (length (now logs) ≡ 22) ⌝ }
+    ensures { λ _. ⌜ now (out .exit) ≡ cepstrum (now (logs .entry)) ⌝ }
+{
+    let mut ly = [0.0f32; 22];
+    cepstrum_by(out, &mut ly, logs);
+}
+
+// Row `index` of the memory becomes the cepstrum.
+pub(crate) fn remember(mem: &mut [f32], index: usize, ceps: &[f32])
+    requires { ⌜ (length (now mem) ≡ 176) × (length (now ceps) ≡ 22) × (index ≤ 7) ⌝ }
+    ensures { λ _. ⌜ now (mem .exit) ≡ put (row index) (now (mem .entry)) (now (ceps .entry)) ⌝ }
+{
+    let at = index * 22;
+    rules::copy(&mut mem[at..at + 22], ceps);
+}
+
 // The row k rows before `index`, of 8 in a ring.
-pub(crate) fn row_back(index: usize, k: usize) -> usize
+fn row_back(index: usize, k: usize) -> usize
     requires { ⌜ (index ≤ 7) × (k ≤ 8) × (1 ≤ k) ⌝ }
     ensures { λ r. ⌜ (r ≡ back index k) × (r ≤ 7) ⌝ }
 {
@@ -30,7 +61,7 @@ pub(crate) fn row_back(index: usize, k: usize) -> usize
     index - k
 }
 
-pub(crate) fn add_rows(out: &mut [f32], mem: &[f32], c0: usize, c1: usize, c2: usize)
+fn add_rows(out: &mut [f32], mem: &[f32], c0: usize, c1: usize, c2: usize)
     requires { ⌜ (length (now out) ≡ 6) × (length (now mem) ≡ 176) × (c0 ≤ 7) × (c1 ≤ 7) × (c2 ≤ 7) ⌝ }
     ensures { λ _. ⌜ now (out .exit) ≡ sums (now (mem .entry)) c0 c1 c2 ⌝ }
 {
@@ -39,7 +70,7 @@ pub(crate) fn add_rows(out: &mut [f32], mem: &[f32], c0: usize, c1: usize, c2: u
     }
 }
 
-pub(crate) fn slope_rows(out: &mut [f32], mem: &[f32], c0: usize, c2: usize)
+fn slope_rows(out: &mut [f32], mem: &[f32], c0: usize, c2: usize)
     requires { ⌜ (length (now out) ≡ 6) × (length (now mem) ≡ 176) × (c0 ≤ 7) × (c2 ≤ 7) ⌝ }
     ensures { λ _. ⌜ now (out .exit) ≡ slopes (now (mem .entry)) c0 c2 ⌝ }
 {
@@ -48,7 +79,7 @@ pub(crate) fn slope_rows(out: &mut [f32], mem: &[f32], c0: usize, c2: usize)
     }
 }
 
-pub(crate) fn bend_rows(out: &mut [f32], mem: &[f32], c0: usize, c1: usize, c2: usize)
+fn bend_rows(out: &mut [f32], mem: &[f32], c0: usize, c1: usize, c2: usize)
     requires { ⌜ (length (now out) ≡ 6) × (length (now mem) ≡ 176) × (c0 ≤ 7) × (c1 ≤ 7) × (c2 ≤ 7) ⌝ }
     ensures { λ _. ⌜ now (out .exit) ≡ bends (now (mem .entry)) c0 c1 c2 ⌝ }
 {
@@ -94,7 +125,7 @@ fn nearest_row(mem: &[f32], i: usize) -> f32
 }
 
 // How far the rows of the memory lie from each other.
-pub(crate) fn spectral_variability(mem: &[f32]) -> f32
+fn spectral_variability(mem: &[f32]) -> f32
     requires { ⌜ length (now mem) ≡ 176 ⌝ }
     ensures { λ r. ⌜ r ≡ variability (now (mem .entry)) ⌝ }
 {
@@ -103,4 +134,17 @@ pub(crate) fn spectral_variability(mem: &[f32]) -> f32
         sum = sum + nearest_row(mem, i);
     }
     sum / 8.0 - 2.1
+}
+
+// The features that are made of the memory. The cepstrum from its place 6 on, and the pitch's features, stay.
+pub(crate) fn add_deltas(features: &mut [f32], mem: &[f32], index: usize)
+    requires { ⌜ (length (now features) ≡ 42) × (length (now mem) ≡ 176) × (index ≤ 7) ⌝ }
+    ensures { λ _. ⌜ now (features .exit) ≡ laid (part 6 22 (now (features .entry))) (part 34 41 (now (features .entry))) (now (mem .entry)) index ⌝ }
+{
+    let c1 = row_back(index, 1);
+    let c2 = row_back(index, 2);
+    add_rows(&mut features[0..6], mem, index, c1, c2);
+    slope_rows(&mut features[22..28], mem, index, c2);
+    bend_rows(&mut features[28..34], mem, index, c1, c2);
+    features[41] = spectral_variability(mem);
 }

@@ -4,10 +4,12 @@ ghost use mathlib.Core.Path.{_≡_};
 ghost use lib.ListN.{length};
 ghost use Rattle.rules.specs.Leaf.{Leaf, _leaving_};
 ghost use Rattle.features.specs.Silence.{energy, soundOf};
+ghost use Rattle.features.specs.Features.{normalisedCorr, remembered, featuresOf, FeaturesFit};
 ghost use Rattle.features.specs.Gains.{gained, GainsFit};
 ghost use Rattle.features.specs.Pitch.{applied, ApplyFits, pitchFiltered, FilterFits};
 
 mod cepstra;
+mod heard;
 mod pitch;
 
 // A frame is silent, or heard with the sum of its band energies; or the number of the refusal.
@@ -47,6 +49,60 @@ pub fn listen(ex: &[f32]) -> Sound
         return Sound::Refused(5);
     }
     sound_of(energy_of(ex))
+}
+
+// The features of a heard frame and its normalised correlations. Its cepstrum becomes row `index` of the memory of 8 rows of 22.
+// `logs` are the logarithms of 0.01 + ex, and `lag` is the lag of p behind x.
+pub fn compute_features(
+    features: &mut [f32],
+    exp: &mut [f32],
+    mem: &mut [f32],
+    index: usize,
+    x: &[f32],
+    p: &[f32],
+    ex: &[f32],
+    ep: &[f32],
+    lag: f32,
+    logs: &[f32],
+) -> u32
+    ensures { λ r. ⌜ Leaf (FeaturesFit (length (now (features .entry))) (length (now (exp .entry))) (length (now (mem .entry))) index
+        (length (now (x .entry))) (length (now (p .entry))) (length (now (ex .entry))) (length (now (ep .entry))) (length (now (logs .entry))))
+        (r leaving now (features .exit) leaving now (exp .exit) leaving now (mem .exit))
+        (0 leaving featuresOf (normalisedCorr (now (x .entry)) (now (p .entry)) (now (ex .entry)) (now (ep .entry))) lag (now (logs .entry)) (now (mem .entry)) index
+        leaving normalisedCorr (now (x .entry)) (now (p .entry)) (now (ex .entry)) (now (ep .entry))
+        leaving remembered (now (mem .entry)) index (now (logs .entry)))
+        (5 leaving now (features .entry) leaving now (exp .entry) leaving now (mem .entry)) ⌝ }
+{
+    if features.len() != 42 {
+        return 5;
+    }
+    if exp.len() != 22 {
+        return 5;
+    }
+    if mem.len() != 176 {
+        return 5;
+    }
+    if index > 7 {
+        return 5;
+    }
+    if x.len() != 961 {
+        return 5;
+    }
+    if p.len() != 961 {
+        return 5;
+    }
+    if ex.len() != 22 {
+        return 5;
+    }
+    if ep.len() != 22 {
+        return 5;
+    }
+    if logs.len() != 22 {
+        return 5;
+    }
+    heard::correlate(exp, x, p, ex, ep);
+    heard::fill_features(features, mem, index, exp, lag, logs);
+    0
 }
 
 // Each gain becomes at least 0.6 of the remembered one, and is remembered.

@@ -1,6 +1,7 @@
 pub mod Called
 pub mod Fill
 pub mod Filling
+pub mod Fronts
 pub mod Leaves
 pub mod Loops
 pub mod Numbers
