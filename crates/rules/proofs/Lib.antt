@@ -1,13 +1,9 @@
-<<<<<<< HEAD
 pub mod Below
-pub mod Fill
-pub mod Fused
-=======
 pub mod Called
 pub mod Fill
 pub mod Filling
 pub mod Fronts
->>>>>>> features
+pub mod Fused
 pub mod Leaves
 pub mod Loops
 pub mod Numbers
