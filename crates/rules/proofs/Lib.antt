@@ -12,6 +12,7 @@ pub mod Places
 pub mod Refused
 pub mod Rows
 pub mod Runs
+pub mod Stores
 pub mod Table
 pub mod Tabs
 pub mod Tests
