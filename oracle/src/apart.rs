@@ -15,23 +15,21 @@ struct Run {
     left: Vec<u32>,
     right: Vec<u32>,
     caller: Caller,
-    calls: u64,
 }
 
 impl Run {
     fn new(seed: u64) -> Run {
         let mut rng = Rng::new(seed);
         let store = rng.list_of(STORE, Mood::Any);
-        Run { rng, store, left: vec![0; 5], right: vec![0; 5], caller: Caller::new(1), calls: 0 }
+        Run { rng, store, left: vec![0; 5], right: vec![0; 5], caller: Caller::new(1) }
     }
 
     /// Any number of the right side's calls.
     fn right(&mut self) {
-        for _ in 0..self.rng.pick(&[0, 0, 1, 1, 2, 5]) {
+        for _ in 0..self.rng.pick(&[0, 0, 0, 1, 1, 3]) {
             let ask = self.caller.ask(&mut self.rng, self.right[DUE]);
             let (number, lent) = ask.put(&OURS, &mut self.right, &mut self.store);
             self.caller.answered(&ask, number, &lent);
-            self.calls += 1;
         }
     }
 
@@ -41,7 +39,6 @@ impl Run {
             *held = self.rng.list_of(held.len(), Mood::Any);
         }
         let (number, mut lent) = ask.put(&OURS, &mut self.left, &mut self.store);
-        self.calls += 1;
         // a refusal leaves what was held, and that is not the left's to receive
         if number != 0 {
             for (lent, held) in lent.iter_mut().zip(&ask.held) {
@@ -58,8 +55,7 @@ pub fn compare(options: &Options) -> Tally {
     let mut caller = Caller::new(0);
     let rng = &mut Rng::new(options.seed);
     let mut runs = [Run::new(options.seed + 1), Run::new(options.seed + 2)];
-    let calls = options.calls(100_000);
-    while runs.iter().map(|run| run.calls).sum::<u64>() < calls {
+    for _ in 0..options.calls(100_000) {
         let ask = caller.ask(rng, runs[0].left[DUE]);
         let [a, b] = &mut runs;
         a.right();

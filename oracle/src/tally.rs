@@ -55,24 +55,35 @@ pub fn exactly(a: f32, b: f32) -> bool {
 }
 
 impl Value<'_> {
-    fn same(&self, other: &Value) -> bool {
-        match (self, other) {
-            (Value::Floats(a), Value::Floats(b)) => a.len() == b.len() && a.iter().zip(*b).all(|(a, b)| alike(*a, *b)),
-            (Value::Words(a), Value::Words(b)) => a == b,
-            (Value::Longs(a), Value::Longs(b)) => a == b,
-            (Value::Bytes(a), Value::Bytes(b)) => a == b,
-            _ => false,
+    fn len(&self) -> usize {
+        match self {
+            Value::Floats(list) => list.len(),
+            Value::Words(list) => list.len(),
+            Value::Longs(list) => list.len(),
+            Value::Bytes(list) => list.len(),
         }
     }
 
-    fn show(&self, text: &mut String) {
-        let (len, words): (usize, Box<dyn Iterator<Item = String>>) = match self {
-            Value::Floats(list) => (list.len(), Box::new(list.iter().map(|x| format!("{:08x}", x.to_bits())))),
-            Value::Words(list) => (list.len(), Box::new(list.iter().map(u32::to_string))),
-            Value::Longs(list) => (list.len(), Box::new(list.iter().map(u64::to_string))),
-            Value::Bytes(list) => (list.len(), Box::new(list.iter().map(|x| format!("{x:02x}")))),
+    /// The first place where two lists differ; the shorter one ends there, if no number does.
+    fn difference(&self, other: &Value) -> Option<usize> {
+        let place = match (self, other) {
+            (Value::Floats(a), Value::Floats(b)) => a.iter().zip(*b).position(|(a, b)| !alike(*a, *b)),
+            (Value::Words(a), Value::Words(b)) => a.iter().zip(*b).position(|(a, b)| a != b),
+            (Value::Longs(a), Value::Longs(b)) => a.iter().zip(*b).position(|(a, b)| a != b),
+            (Value::Bytes(a), Value::Bytes(b)) => a.iter().zip(*b).position(|(a, b)| a != b),
+            _ => Some(0),
         };
-        let _ = write!(text, "[{len}]");
+        place.or((self.len() != other.len()).then(|| self.len().min(other.len())))
+    }
+
+    fn show(&self, text: &mut String) {
+        let words: Box<dyn Iterator<Item = String>> = match self {
+            Value::Floats(list) => Box::new(list.iter().map(|x| format!("{:08x}", x.to_bits()))),
+            Value::Words(list) => Box::new(list.iter().map(u32::to_string)),
+            Value::Longs(list) => Box::new(list.iter().map(u64::to_string)),
+            Value::Bytes(list) => Box::new(list.iter().map(|x| format!("{x:02x}"))),
+        };
+        let _ = write!(text, "[{}]", self.len());
         for word in words {
             let _ = write!(text, " {word}");
         }
@@ -99,11 +110,14 @@ impl Tally {
     /// One call: what it was given, by name, and what each side answered and left, the number returned first.
     pub fn judge(&mut self, what: &str, given: &[(&str, Value)], ours: &[Value], rusts: &[Value]) {
         self.compared += 1;
-        if ours.len() == rusts.len() && ours.iter().zip(rusts).all(|(a, b)| a.same(b)) {
+        assert_eq!(ours.len(), rusts.len());
+        let Some((which, place)) =
+            ours.iter().zip(rusts).enumerate().find_map(|(i, (a, b))| Some((i, a.difference(b)?)))
+        else {
             return;
-        }
+        };
         self.differs(|text| {
-            let _ = writeln!(text, "{what}");
+            let _ = writeln!(text, "{what}: the answers differ first in list {which}, at place {place}");
             for (name, value) in given {
                 let _ = write!(text, "  {name} ");
                 value.show(text);
@@ -168,7 +182,7 @@ pub fn thousands(n: u64) -> String {
     let digits = n.to_string();
     let mut text = String::new();
     for (i, digit) in digits.chars().enumerate() {
-        if i > 0 && (digits.len() - i) % 3 == 0 {
+        if i > 0 && (digits.len() - i).is_multiple_of(3) {
             text.push(',');
         }
         text.push(digit);

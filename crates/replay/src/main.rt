@@ -11,8 +11,11 @@ use libc::STDOUT_FILENO;
 // No list of a record is longer.
 const ROOM: usize = 2048;
 
+// Nor the list itself, in bytes.
+const SPACE: usize = 400000;
+
 fn wide(x: u8) -> u32
-    ensures { λ r. ⌜ r ≡ x ⌝ }
+    ensures { λ r. ⌜ r < 256 ⌝ }
 {
     x as u32
 }
@@ -26,6 +29,14 @@ fn word(bytes: &[u8], i: usize) -> u32 {
     let low = wide(bytes[at]) + 256 * wide(bytes[at + 1]);
     let high = wide(bytes[at + 2]) + 256 * wide(bytes[at + 3]);
     low + 65536 * high
+}
+
+// The float of these bits; any NaN is the one NaN.
+fn float(bits: u32) -> f32 {
+    if bits % 0x8000_0000 > 0x7f80_0000 {
+        return 0.0 / 0.0;
+    }
+    f32::from_bits(bits)
 }
 
 fn number(bytes: &[u8], i: usize) -> usize {
@@ -51,6 +62,17 @@ fn after(bytes: &[u8], at: usize) -> usize
     at + 1 + size(bytes, at)
 }
 
+// The same where list i of so many is there.
+fn skip(bytes: &[u8], at: usize, i: usize, lists: usize) -> usize
+    requires { ⌜ at < 2 ^ 62 ⌝ }
+    ensures { λ r. ⌜ (at ≤ r) × (r ≤ at + 2049) ⌝ }
+{
+    if i < lists {
+        return after(bytes, at);
+    }
+    at
+}
+
 // The place behind the lists at this place, whose number stands in front of them; at most four are passed.
 fn behind(bytes: &[u8], at: usize) -> usize
     requires { ⌜ at < 2 ^ 40 ⌝ }
@@ -59,9 +81,7 @@ fn behind(bytes: &[u8], at: usize) -> usize
     let lists = number(bytes, at);
     let mut end = at + 1;
     for i in 0..4 {
-        if i < lists {
-            end = after(bytes, end);
-        }
+        end = skip(bytes, end, i, lists);
     }
     end
 }
@@ -70,7 +90,7 @@ fn load(to: &mut [f32], bytes: &[u8], at: usize)
     requires { ⌜ (at < 2 ^ 62) × (length (now to) ≤ 2048) ⌝ }
 {
     for i in 0..to.len() {
-        to[i] = f32::from_bits(word(bytes, at + i));
+        to[i] = float(word(bytes, at + i));
     }
 }
 
@@ -89,7 +109,7 @@ fn same(xs: &[f32], bytes: &[u8], at: usize) -> bool
         return false;
     }
     for i in 0..xs.len() {
-        if !alike(xs[i], f32::from_bits(word(bytes, at + 1 + i))) {
+        if !alike(xs[i], float(word(bytes, at + 1 + i))) {
             return false;
         }
     }
@@ -114,69 +134,119 @@ fn call(leaf: u32, a: &mut [f32], b: &[f32], c: &[f32], n: usize) -> u32 {
     }
 }
 
-// The record at this place, of a leaf that answers floats.
-fn replay_floats(bytes: &[u8], at: usize) -> bool
-    requires { ⌜ at < 2 ^ 40 ⌝ }
+// The list at this place, into the front of the room for it.
+fn fill(to: &mut [f32], bytes: &[u8], at: usize)
+    requires { ⌜ (at < 2 ^ 61) × (length (now to) ≡ 2048) ⌝ }
 {
-    let first = at + 2;
-    let second = after(bytes, first);
+    let n = size(bytes, at);
+    load(&mut to[0..n], bytes, at + 1);
+}
+
+// The first three lists of the record at this place.
+fn fill_three(bytes: &[u8], at: usize, a: &mut [f32], b: &mut [f32], c: &mut [f32])
+    requires { ⌜ (at < 2 ^ 39) × (length (now a) ≡ 2048) × (length (now b) ≡ 2048) × (length (now c) ≡ 2048) ⌝ }
+{
+    let second = after(bytes, at + 2);
     let third = after(bytes, second);
-    let fourth = after(bytes, third);
-    let a_len = size(bytes, first);
-    let b_len = size(bytes, second);
-    let c_len = size(bytes, third);
-    let mut a = [0.0f32; 2048];
-    let mut b = [0.0f32; 2048];
-    let mut c = [0.0f32; 2048];
-    load(&mut a[..a_len], bytes, first + 1);
-    load(&mut b[..b_len], bytes, second + 1);
-    load(&mut c[..c_len], bytes, third + 1);
-    let got = call(
+    fill(a, bytes, at + 2);
+    fill(b, bytes, second);
+    fill(c, bytes, third);
+}
+
+// The call of the record at this place, of a leaf that answers floats.
+fn call_in(bytes: &[u8], at: usize, a: &mut [f32], b: &[f32], c: &[f32]) -> u32
+    requires { ⌜ (at < 2 ^ 39) × (length (now a) ≡ 2048) × (length (now b) ≡ 2048) × (length (now c) ≡ 2048) ⌝ }
+{
+    let second = after(bytes, at + 2);
+    let third = after(bytes, second);
+    let n = number(bytes, after(bytes, third) + 1);
+    let a_end = size(bytes, at + 2);
+    let b_end = size(bytes, second);
+    let c_end = size(bytes, third);
+    call(
         word(bytes, at),
-        &mut a[..a_len],
-        &b[..b_len],
-        &c[..c_len],
-        number(bytes, fourth + 1),
-    );
+        &mut a[0..a_end],
+        &b[0..b_end],
+        &c[0..c_end],
+        n,
+    )
+}
+
+// Whether the record at this place expects this number and this answer.
+fn expects(bytes: &[u8], at: usize, got: u32, a: &[f32]) -> bool
+    requires { ⌜ (at < 2 ^ 39) × (length (now a) ≡ 2048) ⌝ }
+{
     let expected = behind(bytes, at + 1);
     if got != word(bytes, expected + 2) {
         return false;
     }
-    same(&a[..a_len], bytes, expected + 3)
+    let n = size(bytes, at + 2);
+    same(&a[0..n], bytes, expected + 3)
+}
+
+fn floats_in(bytes: &[u8], at: usize, a: &mut [f32], b: &mut [f32], c: &mut [f32]) -> bool
+    requires { ⌜ (at < 2 ^ 39) × (length (now a) ≡ 2048) × (length (now b) ≡ 2048) × (length (now c) ≡ 2048) ⌝ }
+{
+    fill_three(bytes, at, a, b, c);
+    let got = call_in(bytes, at, a, b, c);
+    expects(bytes, at, got, a)
+}
+
+fn replay_floats(bytes: &[u8], at: usize) -> bool
+    requires { ⌜ at < 2 ^ 39 ⌝ }
+{
+    let mut a = [0.0f32; 2048];
+    let mut b = [0.0f32; 2048];
+    let mut c = [0.0f32; 2048];
+    floats_in(bytes, at, &mut a, &mut b, &mut c)
+}
+
+// The call of the record at this place, of find_best_pitch.
+fn best_in(bytes: &[u8], at: usize, p: &mut [u64], x: &mut [f32], y: &mut [f32]) -> u32
+    requires { ⌜ (at < 2 ^ 39) × (length (now p) ≡ 2) × (length (now x) ≡ 2048) × (length (now y) ≡ 2048) ⌝ }
+{
+    let second = after(bytes, at + 2);
+    let third = after(bytes, second);
+    let len = number(bytes, after(bytes, third) + 1);
+    fill(x, bytes, second);
+    fill(y, bytes, third);
+    let x_end = size(bytes, second);
+    let y_end = size(bytes, third);
+    of_pitch::tuppence_find_best_pitch(p, &x[0..x_end], &y[0..y_end], len)
+}
+
+fn expects_pitches(bytes: &[u8], at: usize, got: u32, first: u64, second: u64) -> bool
+    requires { ⌜ at < 2 ^ 39 ⌝ }
+{
+    let expected = behind(bytes, at + 1);
+    if got != word(bytes, expected + 2) {
+        return false;
+    }
+    if first != number(bytes, expected + 4) as u64 {
+        return false;
+    }
+    second == number(bytes, expected + 5) as u64
+}
+
+fn pitches_in(bytes: &[u8], at: usize, p: &mut [u64], x: &mut [f32], y: &mut [f32]) -> bool
+    requires { ⌜ (at < 2 ^ 39) × (length (now p) ≡ 2) × (length (now x) ≡ 2048) × (length (now y) ≡ 2048) ⌝ }
+{
+    let got = best_in(bytes, at, p, x, y);
+    expects_pitches(bytes, at, got, p[0], p[1])
 }
 
 // The record at this place, of find_best_pitch: its answer is two numbers.
 fn replay_pitches(bytes: &[u8], at: usize) -> bool
-    requires { ⌜ at < 2 ^ 40 ⌝ }
+    requires { ⌜ at < 2 ^ 39 ⌝ }
 {
-    let first = at + 2;
-    let second = after(bytes, first);
-    let third = after(bytes, second);
-    let fourth = after(bytes, third);
-    let x_len = size(bytes, second);
-    let y_len = size(bytes, third);
-    let mut pitches = [
-        number(bytes, first + 1) as u64,
-        number(bytes, first + 2) as u64,
-    ];
+    let mut p = [number(bytes, at + 3) as u64, number(bytes, at + 4) as u64];
     let mut x = [0.0f32; 2048];
     let mut y = [0.0f32; 2048];
-    load(&mut x[..x_len], bytes, second + 1);
-    load(&mut y[..y_len], bytes, third + 1);
-    let len = number(bytes, fourth + 1);
-    let got = of_pitch::tuppence_find_best_pitch(&mut pitches, &x[..x_len], &y[..y_len], len);
-    let expected = behind(bytes, at + 1);
-    if got != word(bytes, expected + 2) {
-        return false;
-    }
-    if pitches[0] != number(bytes, expected + 4) as u64 {
-        return false;
-    }
-    pitches[1] == number(bytes, expected + 5) as u64
+    pitches_in(bytes, at, &mut p, &mut x, &mut y)
 }
 
 fn replay_one(bytes: &[u8], at: usize) -> bool
-    requires { ⌜ at < 2 ^ 40 ⌝ }
+    requires { ⌜ at < 2 ^ 39 ⌝ }
 {
     if word(bytes, at) == 8 {
         return replay_pitches(bytes, at);
@@ -191,9 +261,10 @@ fn tell(calls: u64, agree: u64) {
     io::write_all(STDOUT_FILENO, b" agree\n");
 }
 
-fn replay(bytes: &[u8])
-    requires { ⌜ length (now bytes) ≤ 400000 ⌝ }
-{
+fn replay(bytes: &[u8]) {
+    if SPACE < bytes.len() {
+        return;
+    }
     let mut at = 0;
     let mut calls: u64 = 0;
     let mut agree: u64 = 0;
@@ -208,7 +279,7 @@ fn replay(bytes: &[u8])
 }
 
 fn main() {
-    let mut space = [0u8; 400000];
+    let mut space = [0u8; SPACE];
     let n = io::read_full(STDIN_FILENO, &mut space);
-    replay(&space[..n]);
+    replay(&space[0..n]);
 }

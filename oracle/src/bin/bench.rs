@@ -4,6 +4,8 @@
 //! Each row is measured in rounds, ours and the Rust's in turn; the table has the medians of all samples, in nanoseconds
 //! for one call, and ours divided by the Rust's.
 
+#![cfg_attr(not(feature = "frame"), allow(unused_imports))]
+
 use nnnoiseless_text::probe::{bands, pitch, rnn, util};
 use nnnoiseless_text::{DenoiseState, RnnModel};
 use oracle::rng::{Mood, Rng};
@@ -25,17 +27,17 @@ struct Row {
     rusts: Side,
 }
 
-fn timed(mut call: impl FnMut() + 'static) -> Side {
+fn timed<R>(mut call: impl FnMut() -> R + 'static) -> Side {
     Box::new(move |times| {
         let start = Instant::now();
         for _ in 0..times {
-            call();
+            black_box(call());
         }
         start.elapsed()
     })
 }
 
-fn row(name: &'static str, ours: impl FnMut() + 'static, rusts: impl FnMut() + 'static) -> Row {
+fn row<A, B>(name: &'static str, ours: impl FnMut() -> A + 'static, rusts: impl FnMut() -> B + 'static) -> Row {
     Row { name, ours: timed(ours), rusts: timed(rusts) }
 }
 
@@ -66,6 +68,7 @@ impl Row {
     }
 }
 
+#[cfg(feature = "numbers")]
 fn of_numbers(rng: &mut Rng) -> Vec<Row> {
     let xs: Vec<f64> = (0..1000).map(|_| rng.of(Mood::Audio) as f64 * 1.000_000_1).collect();
     let ys = xs.clone();
@@ -76,19 +79,18 @@ fn of_numbers(rng: &mut Rng) -> Vec<Row> {
     vec![
         row(
             "narrow, 1,000 numbers",
-            move || xs.iter().for_each(|x| drop(black_box(tuppence::narrow(black_box(*x))))),
-            move || ys.iter().for_each(|x| drop(black_box(black_box(*x) as f32))),
+            move || xs.iter().fold(0.0, |_, x| black_box(tuppence::narrow(black_box(*x)))),
+            move || ys.iter().fold(0.0, |_, x| black_box(black_box(*x) as f32)),
         ),
         row(
             "filter, 480 samples",
-            move || {
-                tuppence::filter(&mut out, &mut memory, &[-1.99599, 0.99600, -2.0, 1.0], black_box(&input));
-            },
+            move || tuppence::filter(&mut out, &mut memory, &[-1.99599, 0.99600, -2.0, 1.0], black_box(&input)),
             move || util::BIQUAD_HP.filter(&mut outs, &mut memories, black_box(&again)),
         ),
     ]
 }
 
+#[cfg(feature = "bands")]
 fn of_bands(rng: &mut Rng) -> Vec<Row> {
     let [x, p] = [rng.list_of(961, Mood::Audio), rng.list_of(961, Mood::Audio)];
     let [xs, ps] = [bins(&x), bins(&p)];
@@ -102,18 +104,18 @@ fn of_bands(rng: &mut Rng) -> Vec<Row> {
     vec![
         row(
             "band_corr",
-            move || drop(tuppence::band_corr(&mut a22, black_box(&x), black_box(&p))),
+            move || tuppence::band_corr(&mut a22, black_box(&x), black_box(&p)),
             move || bands::compute_band_corr(&mut b22, black_box(&xs), black_box(&ps)),
         ),
         row(
             "band_gain",
-            move || drop(tuppence::band_gain(&mut a481, black_box(&g1))),
+            move || tuppence::band_gain(&mut a481, black_box(&g1)),
             move || bands::interp_band_gain(&mut b481, black_box(&g2)),
         ),
-        row("dct", move || drop(tuppence::dct(&mut c22, black_box(&g3))), move || bands::dct(&mut d22, black_box(&g4))),
+        row("dct", move || tuppence::dct(&mut c22, black_box(&g3)), move || bands::dct(&mut d22, black_box(&g4))),
         row(
             "window",
-            move || drop(tuppence::window(&mut a960, black_box(&w1))),
+            move || tuppence::window(&mut a960, black_box(&w1)),
             move || bands::apply_window(&mut b960, black_box(&w2)),
         ),
         row(
@@ -131,6 +133,7 @@ fn of_bands(rng: &mut Rng) -> Vec<Row> {
     ]
 }
 
+#[cfg(feature = "pitch")]
 fn of_pitch(rng: &mut Rng) -> Vec<Row> {
     let xs = rng.list_of(480, Mood::Audio);
     let ys = rng.list_of(864, Mood::Audio);
@@ -143,22 +146,23 @@ fn of_pitch(rng: &mut Rng) -> Vec<Row> {
     vec![
         row(
             "inner_prod, 480",
-            move || drop(tuppence::inner_prod(black_box(&mut [0.0]), &x1, &y1, black_box(480))),
-            move || drop(black_box(pitch::inner_prod(&x2, &y2, black_box(480)))),
+            move || tuppence::inner_prod(black_box(&mut [0.0]), &x1, &y1, black_box(480)),
+            move || black_box(pitch::inner_prod(&x2, &y2, black_box(480))),
         ),
         row(
             "pitch_xcorr, 480 numbers, 294 lags",
-            move || drop(tuppence::pitch_xcorr(black_box(&mut a294), &x3, &y3)),
+            move || tuppence::pitch_xcorr(black_box(&mut a294), &x3, &y3),
             move || pitch::pitch_xcorr(&x4, &y4, black_box(&mut b294)),
         ),
         row(
             "downsample",
-            move || drop(tuppence::downsample(black_box(&mut a864), &d1)),
+            move || tuppence::downsample(black_box(&mut a864), &d1),
             move || pitch::pitch_downsample(&d2, black_box(&mut b864)),
         ),
     ]
 }
 
+#[cfg(feature = "network")]
 fn of_network(rng: &mut Rng) -> Vec<Row> {
     let model = models::of_shape(rng, models::USUAL);
     let text: &'static RnnModel = Box::leak(Box::new(RnnModel::from_bytes(&model).unwrap()));
@@ -182,6 +186,7 @@ fn of_network(rng: &mut Rng) -> Vec<Row> {
 }
 
 /// What a frame is given.
+#[cfg(feature = "frame")]
 struct Frame {
     samples: Vec<f32>,
     spectra: [Vec<f32>; 2],
@@ -190,6 +195,7 @@ struct Frame {
     inverse: Vec<f32>,
 }
 
+#[cfg(feature = "frame")]
 fn of_frame(rng: &mut Rng) -> Vec<Row> {
     let frames: Vec<Frame> = (0..100)
         .map(|_| Frame {
@@ -242,8 +248,17 @@ fn of_frame(rng: &mut Rng) -> Vec<Row> {
 
 fn main() {
     let rng = &mut Rng::new(1);
-    let mut rows: Vec<Row> =
-        [of_numbers, of_bands, of_pitch, of_network, of_frame].into_iter().flat_map(|rows| rows(rng)).collect();
+    let mut rows = vec![];
+    #[cfg(feature = "numbers")]
+    rows.extend(of_numbers(rng));
+    #[cfg(feature = "bands")]
+    rows.extend(of_bands(rng));
+    #[cfg(feature = "pitch")]
+    rows.extend(of_pitch(rng));
+    #[cfg(feature = "network")]
+    rows.extend(of_network(rng));
+    #[cfg(feature = "frame")]
+    rows.extend(of_frame(rng));
     let words: Vec<String> = std::env::args().skip(1).collect();
     if let [name, side, times] = &words[..] {
         let row = rows.iter_mut().find(|row| row.name.starts_with(&name[..])).expect("no such row");

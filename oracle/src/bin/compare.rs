@@ -35,17 +35,23 @@ fn arguments() -> (Vec<&'static Group>, Options) {
 
 fn main() {
     let (groups, options) = arguments();
-    let next = Mutex::new(groups.into_iter());
-    let failed = Mutex::new(false);
+    // the long ones stand last, and go first
+    let next = Mutex::new((0..groups.len()).rev());
+    let done = Mutex::new(vec![]);
     std::thread::scope(|scope| {
         for _ in 0..2 {
             scope.spawn(|| loop {
-                let Some((_, compare)) = next.lock().unwrap().next() else { break };
-                let tally = compare(&options);
-                println!("{}", tally.report());
-                *failed.lock().unwrap() |= tally.differences > 0 || tally.compared == 0;
+                let Some(i) = next.lock().unwrap().next() else { break };
+                let tally = groups[i].1(&options);
+                done.lock().unwrap().push((i, tally));
             });
         }
     });
-    std::process::exit(failed.into_inner().unwrap() as i32)
+    let mut done = done.into_inner().unwrap();
+    done.sort_by_key(|(i, _)| *i);
+    for (_, tally) in &done {
+        println!("{}", tally.report());
+    }
+    let failed = done.iter().any(|(_, tally)| tally.differences > 0 || tally.compared == 0);
+    std::process::exit(failed as i32)
 }

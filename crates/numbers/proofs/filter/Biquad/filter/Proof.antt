@@ -54,7 +54,7 @@ filter-spec =
     (tie.spec
     Inv-loop
     μ-loop
-    (λ c. refused (λ fits. c .if1 .taken fits) refl)  -- returns
+    (λ c. refused (λ fits. omega arith) refl)  -- returns
     (λ c. (omega arith, refl, refl, begin _ _, tab-none _ _))  -- loop-holds
     (λ c. search turns)  -- mul-turn
     (λ c. search turns)  -- shared-slice-read-turn
