@@ -55,7 +55,14 @@ pub extern "C" fn tuppence_gru(
     if 2 < activation {
         return 5;
     }
-    network::gru(state, weights, recurrent, bias, activation_of(activation), input)
+    network::gru(
+        state,
+        weights,
+        recurrent,
+        bias,
+        activation_of(activation),
+        input,
+    )
 }
 
 // 0, 5, or 7 with the number and the layer of a model that does not read.
