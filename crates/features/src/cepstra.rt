@@ -22,23 +22,15 @@ fn follow_logs(ly: &mut [f32], logs: &[f32])
     }
 }
 
-// `ly` has a place for each band.
-fn cepstrum_by(out: &mut [f32], ly: &mut [f32], logs: &[f32])
-    requires { ⌜ (length (now out) ≡ 22) × (length (now ly) ≡ 22) × (length (now logs) ≡ 22) ⌝ }
-    ensures { λ _. ⌜ now (out .exit) ≡ cepstrum (now (logs .entry)) ⌝ }
-{
-    follow_logs(ly, logs);
-    bands::dct(out, ly);
-    out[0] = out[0] - 12.0;
-    out[1] = out[1] - 4.0;
-}
-
 pub(crate) fn cepstrum_of(out: &mut [f32], logs: &[f32])
     requires { ⌜ (length (now out) ≡ 22) × (length (now logs) ≡ 22) ⌝ }
     ensures { λ _. ⌜ now (out .exit) ≡ cepstrum (now (logs .entry)) ⌝ }
 {
     let mut ly = [0.0f32; 22];
-    cepstrum_by(out, &mut ly, logs);
+    follow_logs(&mut ly, logs);
+    bands::dct(out, &ly);
+    out[0] = out[0] - 12.0;
+    out[1] = out[1] - 4.0;
 }
 
 // Row `index` of the memory becomes the cepstrum.

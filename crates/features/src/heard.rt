@@ -22,12 +22,12 @@ pub(crate) fn correlate(exp: &mut [f32], x: &[f32], p: &[f32], ex: &[f32], ep: &
     normalise(exp, ex, ep);
 }
 
-// `tmp` has a place for each band.
-fn pitch_features_by(out: &mut [f32], tmp: &mut [f32], exp: &[f32], lag: f32)
-    requires { ⌜ (length (now out) ≡ 7) × (length (now tmp) ≡ 22) × (length (now exp) ≡ 22) ⌝ }
+fn pitch_features(out: &mut [f32], exp: &[f32], lag: f32)
+    requires { ⌜ (length (now out) ≡ 7) × (length (now exp) ≡ 22) ⌝ }
     ensures { λ _. ⌜ now (out .exit) ≡ pitchFeatures (now (exp .entry)) lag ⌝ }
 {
-    bands::dct(tmp, exp);
+    let mut tmp = [0.0f32; 22];
+    bands::dct(&mut tmp, exp);
     out[0] = tmp[0] - 1.3;
     out[1] = tmp[1] - 0.9;
     out[2] = tmp[2];
@@ -35,14 +35,6 @@ fn pitch_features_by(out: &mut [f32], tmp: &mut [f32], exp: &[f32], lag: f32)
     out[4] = tmp[4];
     out[5] = tmp[5];
     out[6] = 0.01 * (lag - 300.0);
-}
-
-fn pitch_features(out: &mut [f32], exp: &[f32], lag: f32)
-    requires { ⌜ (length (now out) ≡ 7) × (length (now exp) ≡ 22) ⌝ }
-    ensures { λ _. ⌜ now (out .exit) ≡ pitchFeatures (now (exp .entry)) lag ⌝ }
-{
-    let mut tmp = [0.0f32; 22];
-    pitch_features_by(out, &mut tmp, exp, lag);
 }
 
 // The features, of which the cepstrum is remembered before its differences are made.

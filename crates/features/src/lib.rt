@@ -19,18 +19,6 @@ pub enum Sound {
     Refused(u32),
 }
 
-// The sum of the band energies, in order.
-fn energy_of(ex: &[f32]) -> f32
-    requires { ⌜ length (now ex) ≡ 22 ⌝ }
-    ensures { λ r. ⌜ r ≡ energy (now (ex .entry)) ⌝ }
-{
-    let mut e = 0.0f32;
-    for i in 0..22 {
-        e = e + ex[i];
-    }
-    e
-}
-
 // Whether an energy sum is below 0.04. A NaN is not.
 fn sound_of(e: f32) -> Sound
     ensures { λ r. ⌜ r ≡ soundOf e ⌝ }
@@ -48,7 +36,11 @@ pub fn listen(ex: &[f32]) -> Sound
     if ex.len() != 22 {
         return Sound::Refused(5);
     }
-    sound_of(energy_of(ex))
+    let mut e = 0.0f32;
+    for i in 0..22 {
+        e = e + ex[i];
+    }
+    sound_of(e)
 }
 
 // The features of a heard frame and its normalised correlations. Its cepstrum becomes row `index` of the memory of 8 rows of 22.

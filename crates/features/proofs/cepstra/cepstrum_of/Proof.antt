@@ -1,4 +1,4 @@
--- `features::cepstra::cepstrum_by` meets its contract: what its parts ensure, put together. Assumes nothing.
+-- `features::cepstra::cepstrum_of` meets its contract: what its parts ensure, put together. Assumes nothing.
 use mathlib.Core.Path.{_≡_}
 use mathlib.Core.List.{List}
 use native.Mathlib.Omega.{arith}
@@ -9,8 +9,8 @@ use Rattle.rules.specs.F32.{f32}
 use Rattle.rules.proofs.Called.{left}
 use Rattle.bands.specs.Dct.{dctOf}
 use Rattle.features.specs.Cepstra.{followLogs, lessen, cepstrum}
-use Rattle.features.proofs.cepstra.cepstrum_by.Statement.{statement}
-use Rattle.features.proofs.cepstra.cepstrum_by.Tie as tie
+use Rattle.features.proofs.cepstra.cepstrum_of.Statement.{statement}
+use Rattle.features.proofs.cepstra.cepstrum_of.Tie as tie
 
 together : (logs ly out : List Float) → ly ≡ followLogs logs → out ≡ dctOf ly → lessen 1 (f32 0x40800000) (lessen 0 (f32 0x41400000) out) ≡ cepstrum logs
 unfolding cepstrum
@@ -19,19 +19,20 @@ together logs ly out a b = rw (b, a)
 returns : tie.Need-returns
 returns c =
     let transforms = c .before .before .before .before in
-    let follows = transforms .before .before .before .before .before in
+    let follows = transforms .before .before .before .before in
     together _ _ _ (follows .follow-logs .ensures) (left (transforms .dct .ensures) (search needs))
 
-pub cepstrum-by-spec : {M : Type 1} → statement M
-cepstrum-by-spec =
+pub cepstrum-of-spec : {M : Type 1} → statement M
+cepstrum-of-spec =
     tie.close
     (tie.spec
+    (λ c. search needs)  -- slice-aggregate-follow-logs
     (λ c κs. search needs)  -- follow-logs-requires
+    (λ c. search needs)  -- slice-aggregate-dct
     (λ c κs. search needs)  -- dct-requires
     (λ c. search needs)  -- slice-read-out
     (λ c. search needs)  -- slice-write-out
     (λ c. simp length-set (omega arith))  -- slice-read-out-2
     (λ c. simp length-set (omega arith))  -- slice-write-out-2
     (λ c. search needs)  -- same-length
-    (λ c. search needs)  -- same-length-2
     returns)

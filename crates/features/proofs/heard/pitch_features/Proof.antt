@@ -1,4 +1,4 @@
--- `features::heard::pitch_features_by` meets its contract. Assumes nothing.
+-- `features::heard::pitch_features` meets its contract. Assumes nothing.
 use mathlib.Core.Path.{_≡_, refl, ap, _∙_}
 use mathlib.Core.List.{List, [], _∷_, _++_, append-nil}
 use Prim.Native.Nat.{_+_}
@@ -12,8 +12,8 @@ use Rattle.rules.specs.F32.{_⊖_, _⊗_, at, f32}
 use Rattle.rules.proofs.Called.{left}
 use Rattle.bands.specs.Dct.{dctOf}
 use Rattle.features.specs.Features.{pitchFeatures}
-use Rattle.features.proofs.heard.pitch_features_by.Statement.{statement}
-use Rattle.features.proofs.heard.pitch_features_by.Tie as tie
+use Rattle.features.proofs.heard.pitch_features.Statement.{statement}
+use Rattle.features.proofs.heard.pitch_features.Tie as tie
 
 -- seven stores into seven places
 whole : (vs out : List Float) → length vs ≡ 7 → length out ≡ 7 → sets out 0 vs ≡ vs
@@ -27,28 +27,28 @@ stored out tmp exp lag l e = rw e (whole (pitchFeatures exp lag) out refl l)
 
 returns : tie.Need-returns
 returns c =
-    let transforms = c .before .before .before .before .before .before .before .before in
-    let start = transforms .before .before .before .before .before in
+    let transforms = c .before in
+    let start = transforms .before .before .before .before in
     stored (now (start .args .out)) _ (now (start .args .exp)) (start .args .lag) (start .pre .0) (left (transforms .dct .ensures) (search needs))
 
-pub pitch-features-by-spec : {M : Type 1} → statement M
-pitch-features-by-spec =
+pub pitch-features-spec : {M : Type 1} → statement M
+pitch-features-spec =
     tie.close
     (tie.spec
+    (λ c. search needs)  -- slice-aggregate-dct
     (λ c κs. search needs)  -- dct-requires
-    (λ c. search needs)  -- slice-read-out
+    (λ c. search needs)  -- array-read-out
     (λ c. search needs)  -- slice-write-out
-    (λ c. search needs)  -- slice-read-out-2
+    (λ c. search needs)  -- array-read-out-2
     (λ c. simp length-set (omega arith))  -- slice-write-out-2
-    (λ c. search needs)  -- slice-read-out-3
+    (λ c. search needs)  -- array-read-out-3
     (λ c. simp length-set (omega arith))  -- slice-write-out-3
-    (λ c. search needs)  -- slice-read-out-4
+    (λ c. search needs)  -- array-read-out-4
     (λ c. simp length-set (omega arith))  -- slice-write-out-4
-    (λ c. search needs)  -- slice-read-out-5
+    (λ c. search needs)  -- array-read-out-5
     (λ c. simp length-set (omega arith))  -- slice-write-out-5
-    (λ c. search needs)  -- slice-read-out-6
+    (λ c. search needs)  -- array-read-out-6
     (λ c. simp length-set (omega arith))  -- slice-write-out-6
     (λ c. simp length-set (omega arith))  -- slice-write-out-7
     (λ c. simp length-set)  -- same-length
-    (λ c. search needs)  -- same-length-2
     returns)
