@@ -1,0 +1,70 @@
+-- A heard frame, stage by stage, as `compute_frame_features` of features.rs and `process_frame` of denoise.rs go. A stage takes the share as the
+-- stage before left it.
+use Prim.Native.Nat.{ℕ}
+use mathlib.Core.List.{List}
+use lib.Ieee.{Float}
+use Rattle.rules.specs.F32.{_⊗_, at}
+use Rattle.rules.specs.Place.{get, put}
+use Rattle.rules.specs.Tab.{tab}
+use Rattle.bands.specs.Bands.{bandCorr, bandGain}
+use Rattle.bands.specs.Norm.{wnorm}
+use Rattle.features.specs.Features.{computeFeatures, pitchFiltered, gained, applied}
+use Rattle.network.specs.Rnn.{rnnOf}
+use Rattle.frame.specs.Share.{keptX, keptEx, keptLag, lastg, cepstralMem, vadState, noiseState, denoiseState}
+
+-- `transform_input`: *x *= norm
+unfoldable pub scaled : List Float → List Float
+unfolding tab
+scaled spectrum = tab 961 (λ i. at spectrum i ⊗ wnorm)
+
+-- `compute_frame_features`, from the band correlations on, with p and ep of the lagged window
+pub record Featured : Type 0 where
+  pub share : List Float
+  pub features : List Float
+  pub exp : List Float
+
+unfoldable pub featured : List Float → ℕ → List Float → List Float → List Float → Featured
+featured share index p ep logs =
+    let f = computeFeatures (get cepstralMem share) index (get keptX share) p (get keptEx share) ep (at (get keptLag share) 0) logs in
+    record { share = put cepstralMem share (f .mem); features = f .features; exp = f .exp }
+
+-- `process_frame`: self.rnn.compute(&mut g[..], &mut vad_prob[..], self.feat.features())
+pub record Judged : Type 0 where
+  pub share : List Float
+  pub gains : List Float
+  pub voice : Float
+
+unfoldable pub judged : List Float → List ℕ → List Float → Judged
+judged share model features =
+    let n = rnnOf model (get vadState share) (get noiseState share) (get denoiseState share) features in
+    record {
+      share = put denoiseState (put noiseState (put vadState share (n .vad)) (n .noise)) (n .denoise);
+      gains = n .gains;
+      voice = at (n .voice) 0;
+    }
+
+-- `process_frame`: g[i] = g[i].max(0.6 * self.lastg[i]); self.lastg[i] = g[i]
+pub record Raised : Type 0 where
+  pub share : List Float
+  pub gains : List Float
+
+unfoldable pub raised : List Float → List Float → Raised
+raised share gains =
+    let h = gained gains (get lastg share) in
+    record { share = put lastg share (h .last); gains = h .g }
+
+-- the frame: the share, the voice, and the spectrum for the inverse. `pitch_filter` has the network's gains, before they are raised
+pub record Spoken : Type 0 where
+  pub share : List Float
+  pub voice : Float
+  pub spectrum : List Float
+
+unfoldable pub spoken : List Float → ℕ → List Float → List Float → List ℕ → Spoken
+spoken share index spectrum logs model =
+    let p = scaled spectrum in
+    let ep = bandCorr p p in
+    let f = featured share index p ep logs in
+    let n = judged (f .share) model (f .features) in
+    let x = pitchFiltered (get keptX share) p (n .gains) (f .exp) (get keptEx share) ep in
+    let g = raised (n .share) (n .gains) in
+    record { share = g .share; voice = n .voice; spectrum = applied x (bandGain (g .gains)) }

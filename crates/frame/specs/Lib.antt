@@ -1,0 +1,4 @@
+pub mod Reply
+pub mod Share
+pub mod Heard
+pub mod Frame
