@@ -1,11 +1,11 @@
 -- What the four calls of a frame do to one share: the definitions that the calls of `frame` are held to. A share knows of no side.
-use Prim.Native.Nat.{ℕ, _-_}
+use Prim.Native.Nat.{ℕ, _+_, _-_}
 use mathlib.Core.Bool.{Bool, false, cond, not, _&&_, _||_}
 use mathlib.Core.List.{List, [], _∷_, _++_}
 use mathlib.Core.Path.{_≡_}
 use lib.Dec.{eqb, ltb}
 use lib.IntN.{pos}
-use lib.ListN.{length, drop}
+use lib.ListN.{length}
 use lib.Ieee.{Float, binary32, ofInt}
 use Rattle.rules.specs.F32.{_⊕_, _⊘_, at, f32}
 use Rattle.rules.specs.Place.{Place, get, put}
@@ -56,9 +56,9 @@ pub record Worked (f : Framed) (reply : Reply) (share : List Float) (held out : 
 
 -- ---- call 1, from `shift_and_filter_input` and `transform_input` of features.rs
 
--- the oldest 480 numbers leave the input memory, and the filtered samples come last
+-- self.input_mem[i] = self.input_mem[i + FRAME_SIZE], and the filtered samples behind these
 unfoldable pub shifted : List Float → List Float → List Float
-shifted mem samples = drop 480 mem ++ samples
+shifted mem samples = tab 1248 (λ i. at mem (i + 480)) ++ samples
 
 -- 960 numbers of the input memory, as long ago as the lag says
 abbrev pub recent : ℕ → Place
@@ -91,7 +91,6 @@ first share samples room =
 
 -- 1e-2 + self.ex[i]
 unfoldable pub lifted : List Float → List Float
-unfolding tab
 lifted ex = tab 22 (λ i. f32 0x3C23D70A ⊕ at ex i)
 
 abbrev pub looked : List Float → List Float → ℕ → Framed
@@ -143,18 +142,20 @@ third share index vad noise denoise spectrum logs model room =
 
 -- *x /= 2.0, then `apply_window_in_place`
 unfoldable pub faded : List Float → List Float
-unfolding tab windowed
 faded inverse = windowed (tab 960 (λ i. at inverse i ⊘ f32 0x40000000))
 
 -- out[i] = self.window_buf[i] + self.synthesis_mem[i]
 unfoldable pub overlapped : List Float → List Float → List Float
-unfolding tab
 overlapped buf mem = tab 480 (λ i. at buf i ⊕ at mem i)
+
+-- self.synthesis_mem[i] = self.window_buf[FRAME_SIZE + i]
+unfoldable pub secondHalf : List Float → List Float
+secondHalf buf = tab 480 (λ i. at buf (480 + i))
 
 abbrev pub synthesised : List Float → List Float → Framed
 synthesised share inverse =
     let buf = faded inverse in
-    record { reply = Done; share = put synthesisMem share (drop 480 buf); written = overlapped buf (get synthesisMem share) ∷ [] }
+    record { reply = Done; share = put synthesisMem share (secondHalf buf); written = overlapped buf (get synthesisMem share) ∷ [] }
 
 unfoldable pub fourth : List Float → List Float → ℕ → Framed
 fourth share inverse room =

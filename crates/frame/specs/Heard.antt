@@ -14,7 +14,6 @@ use Rattle.frame.specs.Share.{keptX, keptEx, keptLag, lastg, cepstralMem
 
 -- `transform_input`: *x *= norm
 unfoldable pub scaled : List Float → List Float
-unfolding tab
 scaled spectrum = tab 961 (λ i. at spectrum i ⊗ wnorm)
 
 -- `compute_frame_features`, from the band correlations on, with p and ep of the lagged window
