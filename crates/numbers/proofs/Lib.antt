@@ -6,6 +6,7 @@ pub mod Extraction
 pub mod Held
 pub mod Larger
 pub mod NoNan
+pub mod Outputs
 pub mod Pattern
 pub mod Rooted
 pub mod Special
