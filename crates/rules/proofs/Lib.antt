@@ -1,4 +1,5 @@
 pub mod Fill
+pub mod Filling
 pub mod Leaves
 pub mod Loops
 pub mod Numbers

@@ -1,0 +1,4 @@
+pub mod Lengths
+pub mod Order
+pub mod Remembered
+pub mod Silence

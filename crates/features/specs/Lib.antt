@@ -1,0 +1,4 @@
+pub mod Cepstra
+pub mod Gains
+pub mod Pitch
+pub mod Silence

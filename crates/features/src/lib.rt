@@ -1,0 +1,91 @@
+// The arithmetic of a heard frame, from features.rs and denoise.rs, over plain slices. Each public function refuses, with 5 and
+// nothing changed, exactly where a length does not fit.
+ghost use mathlib.Core.Path.{_≡_};
+ghost use lib.ListN.{length};
+ghost use Rattle.rules.specs.Leaf.{Leaf, _leaving_};
+ghost use Rattle.features.specs.Silence.{energy, soundOf};
+ghost use Rattle.features.specs.Gains.{gained, GainsFit};
+ghost use Rattle.features.specs.Pitch.{applied, ApplyFits};
+
+mod cepstra;
+mod pitch;
+
+// A frame is silent, or heard with the sum of its band energies; or the number of the refusal.
+pub enum Sound {
+    Silent,
+    Heard(f32),
+    Refused(u32),
+}
+
+// The sum of the band energies, in order.
+fn energy_of(ex: &[f32]) -> f32
+    requires { ⌜ length (now ex) ≡ 22 ⌝ }
+    ensures { λ r. ⌜ r ≡ energy (now (ex .entry)) ⌝ }
+{
+    let mut e = 0.0f32;
+    for i in 0..22 {
+        e = e + ex[i];
+    }
+    e
+}
+
+// Whether an energy sum is below 0.04. A NaN is not.
+fn sound_of(e: f32) -> Sound
+    ensures { λ r. ⌜ r ≡ soundOf e ⌝ }
+{
+    if e < 0.04 {
+        return Sound::Silent;
+    }
+    Sound::Heard(e)
+}
+
+// Whether a frame is heard, by its 22 band energies.
+pub fn listen(ex: &[f32]) -> Sound
+    ensures { λ r. ⌜ Leaf (length (now (ex .entry)) ≡ 22) r (soundOf (energy (now (ex .entry)))) (Sound.Refused 5) ⌝ }
+{
+    if ex.len() != 22 {
+        return Sound::Refused(5);
+    }
+    sound_of(energy_of(ex))
+}
+
+// Each gain becomes at least 0.6 of the remembered one, and is remembered.
+pub fn hold_gains(g: &mut [f32], last: &mut [f32]) -> u32
+    ensures { λ r. ⌜ Leaf (GainsFit (length (now (g .entry))) (length (now (last .entry))))
+        (r leaving now (g .exit) leaving now (last .exit))
+        (0 leaving gained (now (g .entry)) (now (last .entry)) leaving gained (now (g .entry)) (now (last .entry)))
+        (5 leaving now (g .entry) leaving now (last .entry)) ⌝ }
+{
+    if g.len() != 22 {
+        return 5;
+    }
+    if last.len() != 22 {
+        return 5;
+    }
+    for i in 0..22 {
+        let raw = g[i];
+        let v = numbers::max(raw, 0.6 * last[i]);
+        g[i] = v;
+        last[i] = v;
+    }
+    0
+}
+
+// Multiplies each bin of a spectrum by its gain.
+pub fn apply_gains(x: &mut [f32], gains: &[f32]) -> u32
+    ensures { λ r. ⌜ Leaf (ApplyFits (length (now (x .entry))) (length (now (gains .entry))))
+        (r leaving now (x .exit))
+        (0 leaving applied (now (x .entry)) (now (gains .entry)))
+        (5 leaving now (x .entry)) ⌝ }
+{
+    if x.len() != 961 {
+        return 5;
+    }
+    if gains.len() != 481 {
+        return 5;
+    }
+    for n in 0..961 {
+        x[n] = x[n] * gains[(n + 1) / 2];
+    }
+    0
+}
