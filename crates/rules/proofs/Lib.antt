@@ -1,3 +1,4 @@
+pub mod Below
 pub mod Fill
 pub mod Filling
 pub mod Leaves
