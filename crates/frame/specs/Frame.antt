@@ -14,16 +14,17 @@ use Rattle.rules.specs.Tab.{tab}
 use Rattle.numbers.specs.Filter.{memoryAfter, outputs}
 use Rattle.numbers.specs.declared.filter.Biquad.{Biquad}
 use Rattle.numbers.specs.declared.filter.Memory.{Memory}
-use Rattle.bands.specs.Bands.{bandCorr}
 use Rattle.bands.specs.Windowed.{windowed}
 use Rattle.model.specs.Model.{readOf}
 use Rattle.model.specs.declared.Reading.{Reading}
 use Rattle.model.specs.declared.Reading.the-variants.{Good, Refused as Unread}
-use Rattle.features.specs.Features.{energy, quiet}
+use Rattle.features.specs.Silence.{energy, soundOf}
+use Rattle.features.specs.declared.Sound.{Sound}
+use Rattle.features.specs.declared.Sound.the-variants.{Silent as Quiet, Heard as Loud, Refused as Unfit}
 use Rattle.frame.specs.Reply.{left, passed}
 pub use Rattle.frame.specs.Share.{SHARE}
 use Rattle.frame.specs.Share.{inputMem, synthesisMem, keptX, keptEx, keptLag, memHpX}
-use Rattle.frame.specs.Heard.{scaled, Spoken, spoken}
+use Rattle.frame.specs.Heard.{scaled, energies, Spoken, spoken}
 use Rattle.frame.specs.declared.Reply.{Reply}
 use Rattle.frame.specs.declared.Reply.the-variants.{Done, Silent, Heard, Refused, Misread}
 
@@ -93,14 +94,16 @@ first share samples room =
 unfoldable pub lifted : List Float → List Float
 lifted ex = tab 22 (λ i. f32 0x3C23D70A ⊕ at ex i)
 
+-- x, ex and the lag are kept for call 3
+unfoldable pub noted : List Float → List Float → ℕ → List Float
+noted share spectrum lag = put keptLag (put keptEx (put keptX share (scaled spectrum)) (energies spectrum)) (ofInt binary32 (pos lag) ∷ [])
+
 abbrev pub looked : List Float → List Float → ℕ → Framed
 looked share spectrum lag =
-    let x = scaled spectrum in
-    let ex = bandCorr x x in
     record {
       reply = Done;
-      share = put keptLag (put keptEx (put keptX share x) ex) (ofInt binary32 (pos lag) ∷ []);
-      written = windowed (get (recent lag) (get inputMem share)) ∷ lifted ex ∷ [];
+      share = noted share spectrum lag;
+      written = windowed (get (recent lag) (get inputMem share)) ∷ lifted (energies spectrum) ∷ [];
     }
 
 unfoldable pub second : List Float → List Float → ℕ → ℕ → ℕ → Framed
@@ -127,11 +130,14 @@ silent share = record { reply = Silent; share = share; written = get keptX share
 abbrev pub heard : Float → Spoken → Framed
 heard e s = record { reply = Heard (s .voice) e; share = s .share; written = s .spectrum ∷ [] }
 
--- if e < 0.04; a NaN is heard
+-- by the sum of the band energies: if e < 0.04
+abbrev pub sounded : Sound → List Float → Spoken → Framed
+sounded Quiet share s = silent share
+sounded (Loud e) share s = heard e s
+sounded (Unfit n) share s = refused (Refused n) share
+
 unfoldable pub listened : List Float → ℕ → List Float → List Float → List ℕ → Framed
-listened share index spectrum logs model =
-    let e = energy (get keptEx share) in
-    cond (quiet e) (silent share) (heard e (spoken share index spectrum logs model))
+listened share index spectrum logs model = sounded (soundOf (energy (get keptEx share))) share (spoken share index spectrum logs model)
 
 unfoldable pub third : List Float → ℕ → ℕ → ℕ → ℕ → List Float → List Float → List ℕ → ℕ → Framed
 third share index vad noise denoise spectrum logs model room =

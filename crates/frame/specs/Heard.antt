@@ -8,13 +8,19 @@ use Rattle.rules.specs.Place.{get, put}
 use Rattle.rules.specs.Tab.{tab}
 use Rattle.bands.specs.Bands.{bandCorr, bandGain}
 use Rattle.bands.specs.Norm.{wnorm}
-use Rattle.features.specs.Features.{computeFeatures, pitchFiltered, gained, applied}
-use Rattle.network.specs.Rnn.{rnnOf}
+use Rattle.features.specs.Gains.{gained}
+use Rattle.features.specs.Pitch.{applied}
+use Rattle.stubs.specs.Features.{featuresOf, pitchFiltered}
+use Rattle.stubs.specs.Rnn.{rnnOf}
 use Rattle.frame.specs.Share.{keptX, keptEx, keptLag, lastg, cepstralMem, vadState, noiseState, denoiseState}
 
 -- `transform_input`: *x *= norm
 unfoldable pub scaled : List Float → List Float
 scaled spectrum = tab 961 (λ i. at spectrum i ⊗ wnorm)
+
+-- crate::compute_band_corr(ex, x, x)
+unfoldable pub energies : List Float → List Float
+energies spectrum = bandCorr (scaled spectrum) (scaled spectrum)
 
 -- `compute_frame_features`, from the band correlations on, with p and ep of the lagged window
 pub record Featured : Type 0 where
@@ -24,7 +30,7 @@ pub record Featured : Type 0 where
 
 unfoldable pub featured : List Float → ℕ → List Float → List Float → List Float → Featured
 featured share index p ep logs =
-    let f = computeFeatures (get cepstralMem share) index (get keptX share) p (get keptEx share) ep (at (get keptLag share) 0) logs in
+    let f = featuresOf (get cepstralMem share) index (get keptX share) p (get keptEx share) ep (at (get keptLag share) 0) logs in
     record { share = put cepstralMem share (f .mem); features = f .features; exp = f .exp }
 
 -- `process_frame`: self.rnn.compute(&mut g[..], &mut vad_prob[..], self.feat.features())
@@ -49,8 +55,8 @@ pub record Raised : Type 0 where
 
 unfoldable pub raised : List Float → List Float → Raised
 raised share gains =
-    let h = gained gains (get lastg share) in
-    record { share = put lastg share (h .last); gains = h .g }
+    let g = gained gains (get lastg share) in
+    record { share = put lastg share g; gains = g }
 
 -- the frame: the share, the voice, and the spectrum for the inverse. `pitch_filter` has the network's gains, before they are raised
 pub record Spoken : Type 0 where
@@ -61,7 +67,7 @@ pub record Spoken : Type 0 where
 unfoldable pub spoken : List Float → ℕ → List Float → List Float → List ℕ → Spoken
 spoken share index spectrum logs model =
     let p = scaled spectrum in
-    let ep = bandCorr p p in
+    let ep = energies spectrum in
     let f = featured share index p ep logs in
     let n = judged (f .share) model (f .features) in
     let x = pitchFiltered (get keptX share) p (n .gains) (f .exp) (get keptEx share) ep in

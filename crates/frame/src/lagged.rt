@@ -6,10 +6,9 @@ ghost use lib.IntN.{pos};
 ghost use lib.ListN.{length};
 ghost use lib.Ieee.{binary32, ofInt};
 ghost use Rattle.rules.specs.Place.{put};
-ghost use Rattle.bands.specs.Bands.{bandCorr};
 ghost use Rattle.frame.specs.Share.{keptX, keptEx, keptLag};
-ghost use Rattle.frame.specs.Heard.{scaled};
-ghost use Rattle.frame.specs.Frame.{lifted};
+ghost use Rattle.frame.specs.Heard.{scaled, energies};
+ghost use Rattle.frame.specs.Frame.{lifted, noted};
 
 // out is the spectrum, each number times `wnorm`.
 pub(crate) fn scale(out: &mut [f32], spectrum: &[f32])
@@ -32,17 +31,32 @@ fn lift(ex: &mut [f32])
     }
 }
 
-// The share notes the scaled spectrum, its band energies and the lag; the sums are written.
-pub(crate) fn note(share: &mut [f32], spectrum: &[f32], lag: usize, sums: &mut [f32])
-    requires { ⌜ (length (now share) ≡ 6144) × (length (now spectrum) ≡ 961) × (length (now sums) ≡ 22) × (lag ≤ 768) ⌝ }
-    ensures { λ _. ⌜ now (share .exit)
-        ≡ put keptLag (put keptEx (put keptX (now (share .entry)) (scaled (now (spectrum .entry))))
-        (bandCorr (scaled (now (spectrum .entry))) (scaled (now (spectrum .entry))))) (ofInt binary32 (pos lag) ∷ []) ⌝ }
-    ensures { λ _. ⌜ now (sums .exit) ≡ lifted (bandCorr (scaled (now (spectrum .entry))) (scaled (now (spectrum .entry)))) ⌝ }
+// The share keeps the scaled spectrum, and ex is its band energies.
+fn analyse(share: &mut [f32], spectrum: &[f32], ex: &mut [f32])
+    requires { ⌜ (length (now share) ≡ 6144) × (length (now spectrum) ≡ 961) × (length (now ex) ≡ 22) ⌝ }
+    ensures { λ _. ⌜ now (share .exit) ≡ put keptX (now (share .entry)) (scaled (now (spectrum .entry))) ⌝ }
+    ensures { λ _. ⌜ now (ex .exit) ≡ energies (now (spectrum .entry)) ⌝ }
 {
     scale(&mut share[2208..3169], spectrum);
-    bands::compute_band_corr(sums, &share[2208..3169], &share[2208..3169]);
-    rules::copy(&mut share[3169..3191], sums);
+    bands::compute_band_corr(ex, &share[2208..3169], &share[2208..3169]);
+}
+
+// The share keeps the band energies and the lag.
+fn keep(share: &mut [f32], ex: &[f32], lag: usize)
+    requires { ⌜ (length (now share) ≡ 6144) × (length (now ex) ≡ 22) × (lag ≤ 768) ⌝ }
+    ensures { λ _. ⌜ now (share .exit) ≡ put keptLag (put keptEx (now (share .entry)) (now (ex .entry))) (ofInt binary32 (pos lag) ∷ []) ⌝ }
+{
+    rules::copy(&mut share[3169..3191], ex);
     share[3191] = lag as f32;
+}
+
+// What call 2 does once its window is written.
+pub(crate) fn note(share: &mut [f32], spectrum: &[f32], lag: usize, sums: &mut [f32])
+    requires { ⌜ (length (now share) ≡ 6144) × (length (now spectrum) ≡ 961) × (length (now sums) ≡ 22) × (lag ≤ 768) ⌝ }
+    ensures { λ _. ⌜ now (share .exit) ≡ noted (now (share .entry)) (now (spectrum .entry)) lag ⌝ }
+    ensures { λ _. ⌜ now (sums .exit) ≡ lifted (energies (now (spectrum .entry))) ⌝ }
+{
+    analyse(share, spectrum, sums);
+    keep(share, sums, lag);
     lift(sums);
 }

@@ -1,6 +1,7 @@
 pub mod Below
 pub mod Fill
 pub mod Filling
+pub mod Fitted
 pub mod Leaves
 pub mod Loops
 pub mod Numbers

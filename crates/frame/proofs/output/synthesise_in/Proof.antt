@@ -1,17 +1,27 @@
-use mathlib.Core.Path.{_≡_}
-use Prim.Native.Nat.{_≤_, _-_}
-use lib.ListN.{length}
-use Rattle.rules.specs.Loop.{loop}
+-- `frame::output::synthesise_in` meets its contract: what each call leaves, in a row. Assumes nothing.
+use mathlib.Core.Path.{_≡_, ap, _∙_}
+use mathlib.Core.List.{List}
 use borrow.Author.Needs.{needs}
-use borrow.Author.Needs.{needs}
+use denote.Ref.{now}
+use lib.Ieee.{Float}
+use Rattle.rules.proofs.Fitted.{fitted}
+use Rattle.bands.specs.Windowed.{windowed}
+use Rattle.frame.specs.Frame.{faded, overlapped, secondHalf}
 use Rattle.frame.proofs.output.synthesise_in.Statement.{statement}
 use Rattle.frame.proofs.output.synthesise_in.Tie as tie
-use Rattle.frame.proofs.output.synthesise_in.Reads as reads
-use Rattle.frame.proofs.output.synthesise_in.Lts as lts
-use Rattle.bands.proofs.apply_window_in_place.Reads as apply-window-in-place-reads
-use Rattle.frame.proofs.output.halve.Reads as halve-reads
-use Rattle.frame.proofs.output.overlap.Reads as overlap-reads
 
+returns : tie.Need-returns
+unfolding faded
+returns c =
+    let o = c .before .before .before .before in
+    let w = o .before .before .before .before .before .before in
+    let h = w .before .before .before .before in
+    let a = h .before .before .before .before .before .before .args in
+    let buf = fitted (w .apply-window-in-place .ensures) (search needs) ∙ ap windowed (h .halve .ensures) in
+    (
+      o .overlap .ensures .0 ∙ ap secondHalf buf,
+      o .overlap .ensures .1 ∙ ap (λ (l : List Float). overlapped l (now (a .kept))) buf,
+    )
 
 pub synthesise-in-spec : {M : Type 1} → statement M
 synthesise-in-spec =
@@ -23,4 +33,4 @@ synthesise-in-spec =
     (λ c. search needs)  -- same-length
     (λ c. search needs)  -- same-length-2
     (λ c. search needs)  -- same-length-3
-    (λ c. search needs))  -- returns
+    returns)
