@@ -1,4 +1,4 @@
--- One layer of a model file: as data, as bytes, and what reading it gives.
+-- One layer of a model file (rnn.rs, `read_dense` and `read_gru` in `from_bytes_impl`): as data, as bytes, and what reading it gives.
 use Prim.Native.Nat.{ℕ, zero, suc, _+_, _*_}
 use mathlib.Core.List.{List, [], _∷_, _++_}
 use lib.Dec.{eqb, ltb}
@@ -9,6 +9,7 @@ use Rattle.model.specs.declared.Activation.the-variants.{Tanh, Sigmoid, 
 use Rattle.model.specs.declared.Kind.{Kind}
 use Rattle.model.specs.declared.Kind.the-variants.{Dense, Gru}
 use Rattle.model.specs.declared.Header.{Header}
+use Rattle.model.specs.declared.Cursor.{Cursor}
 use Rattle.model.specs.declared.Step.{Step}
 use Rattle.model.specs.declared.Step.the-variants as step
 
@@ -24,6 +25,7 @@ sum (n ∷ ns) = n + sum ns
 abbrev pub sizeOf : Kind → ℕ → ℕ → ℕ
 sizeOf k i n = sum (lengths k i n)
 
+-- `act`, and back
 abbrev pub activationOf : ℕ → Activation
 activationOf zero = Tanh
 activationOf (suc zero) = Sigmoid
@@ -34,6 +36,7 @@ numberOf Tanh = 0
 numberOf Sigmoid = 1
 numberOf Relu = 2
 
+-- a layer as data
 pub record Layer : Type 0 where
   pub inputs : ℕ
   pub neurons : ℕ
@@ -53,7 +56,7 @@ cut (n ∷ ns) s = take n s ∷ cut ns (drop n s)
 abbrev pub bytesOf : Layer → List ℕ
 bytesOf l = l .inputs ∷ l .neurons ∷ numberOf (l .activation) ∷ joined (l .arrays)
 
--- the refusals of a layer with this header, where so many bytes follow it. A byte above 127 is a negative number
+-- the refusals of a layer with this header, where so many bytes follow it. A byte above 127 is a negative number (`unsigned`)
 abbrev pub faults : Kind → ℕ → ℕ → ℕ → ℕ → List Row
 faults k i n a left =
     12 when ltb 127 i
@@ -83,6 +86,10 @@ headerAt at l = record { inputs = l .inputs; neurons = l .neurons; activation = 
 abbrev pub stepOf : ℕ → Front → Step
 stepOf at (layer l rest) = step.Layer (headerAt at l) (record { at = at + length (bytesOf l) })
 stepOf at (refused n) = step.Refused n
+
+-- where reading starts
+abbrev pub origin : Cursor
+origin = record { at = 0 }
 
 -- what reading a layer at a place gives
 unfoldable pub stepAt : Kind → List ℕ → ℕ → Step

@@ -1,4 +1,4 @@
--- A model file: six layers in a row.
+-- A model file: six layers in a row (rnn.rs, `from_bytes_impl`).
 use Prim.Native.Nat.{ℕ, suc, _+_}
 use mathlib.Core.Bool.{Bool, not, _||_}
 use mathlib.Core.List.{List, [], _∷_, _++_}
@@ -17,6 +17,9 @@ use Rattle.model.specs.declared.Reading.the-variants.{Good, Refused}
 -- input_dense, vad_gru, noise_gru, denoise_gru, denoise_output, vad_output
 abbrev pub kinds : List Kind
 kinds = Dense ∷ Gru ∷ Gru ∷ Gru ∷ Dense ∷ Dense ∷ []
+
+abbrev pub kindAt : ℕ → Kind
+kindAt j = getD kinds j Dense
 
 -- layers as they stand in a file
 abbrev pub fileOf : List Layer → List ℕ

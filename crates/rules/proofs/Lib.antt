@@ -7,6 +7,8 @@ pub mod Loops
 pub mod Numbers
 pub mod Places
 pub mod Refused
+pub mod Rows
+pub mod Runs
 pub mod Table
 pub mod Tabs
 pub mod Tests
