@@ -1,13 +1,15 @@
--- `pitch_filter` and `apply_gain` of features.rs. A spectrum is 961 numbers: bin 0, then the real and the imaginary part of bins 1 to 480.
+-- `pitch_filter` and `apply_gain` of features.rs.
 use mathlib.Core.Path.{_≡_}
 use mathlib.Core.List.{List}
 use mathlib.Core.Bool.{cond}
-use Prim.Native.Nat.{ℕ, _+_, _/_}
+use Prim.Native.Nat.{ℕ}
 use lib.Ieee.{Float, binary32, lt}
 use Rattle.rules.specs.F32.{_⊕_, _⊖_, _⊗_, _⊘_, at, f32}
 use Rattle.rules.specs.Tab.{tab}
 use Rattle.numbers.specs.Larger.{clamped}
 use Rattle.numbers.specs.Root.{root}
+use Rattle.bands.specs.Bands.{bandCorr, bandGain}
+use Rattle.bands.specs.Spectrum.{binOf}
 
 abbrev one : Float
 one = f32 0x3F800000
@@ -35,10 +37,6 @@ pitchGains exp gains ex ep = tab 22 (λ i. pitchGain (at exp i) (at gains i) (at
 unfoldable pub renormalised : List Float → List Float → List Float
 renormalised ex after = tab 22 (λ i. ratio (at ex i) (at after i))
 
--- the bin that number n of a spectrum belongs to
-abbrev pub binOf : ℕ → ℕ
-binOf n = (n + 1) / 2
-
 -- x += p * rf, bin by bin
 unfoldable pub pitchAdded : List Float → List Float → List Float → List Float
 pitchAdded x p rf = tab 961 (λ n. at x n ⊕ at p n ⊗ at rf (binOf n))
@@ -47,7 +45,24 @@ pitchAdded x p rf = tab 961 (λ n. at x n ⊕ at p n ⊗ at rf (binOf n))
 unfoldable pub applied : List Float → List Float → List Float
 applied x gains = tab 961 (λ n. at x n ⊗ at gains (binOf n))
 
+-- x with its band energies brought back to ex
+unfoldable pub restored : List Float → List Float → List Float
+unfolding renormalised applied
+restored x ex = applied x (bandGain (renormalised ex (bandCorr x x)))
+
+unfoldable pub pitchFiltered : List Float → List Float → List Float → List Float → List Float → List Float → List Float
+unfolding pitchGains pitchAdded restored
+pitchFiltered x p gains exp ex ep = restored (pitchAdded x p (bandGain (pitchGains exp gains ex ep))) ex
+
 -- the lengths
+pub record FilterFits (x p gains exp ex ep : ℕ) : Type 0 where
+  pub spectrum : x ≡ 961
+  pub lagged : p ≡ 961
+  pub wanted : gains ≡ 22
+  pub correlations : exp ≡ 22
+  pub energies : ex ≡ 22
+  pub laggedEnergies : ep ≡ 22
+
 pub record ApplyFits (x gains : ℕ) : Type 0 where
   pub spectrum : x ≡ 961
   pub bins : gains ≡ 481

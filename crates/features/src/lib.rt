@@ -5,7 +5,7 @@ ghost use lib.ListN.{length};
 ghost use Rattle.rules.specs.Leaf.{Leaf, _leaving_};
 ghost use Rattle.features.specs.Silence.{energy, soundOf};
 ghost use Rattle.features.specs.Gains.{gained, GainsFit};
-ghost use Rattle.features.specs.Pitch.{applied, ApplyFits};
+ghost use Rattle.features.specs.Pitch.{applied, ApplyFits, pitchFiltered, FilterFits};
 
 mod cepstra;
 mod pitch;
@@ -87,5 +87,44 @@ pub fn apply_gains(x: &mut [f32], gains: &[f32]) -> u32
     for n in 0..961 {
         x[n] = x[n] * gains[(n + 1) / 2];
     }
+    0
+}
+
+// Attenuates what has little of its pitch: by the network's gains, the correlations and both energies.
+pub fn pitch_filter(
+    x: &mut [f32],
+    p: &[f32],
+    gains: &[f32],
+    exp: &[f32],
+    ex: &[f32],
+    ep: &[f32],
+) -> u32
+    ensures { λ r. ⌜ Leaf (FilterFits (length (now (x .entry))) (length (now (p .entry))) (length (now (gains .entry)))
+        (length (now (exp .entry))) (length (now (ex .entry))) (length (now (ep .entry))))
+        (r leaving now (x .exit))
+        (0 leaving pitchFiltered (now (x .entry)) (now (p .entry)) (now (gains .entry)) (now (exp .entry)) (now (ex .entry)) (now (ep .entry)))
+        (5 leaving now (x .entry)) ⌝ }
+{
+    if x.len() != 961 {
+        return 5;
+    }
+    if p.len() != 961 {
+        return 5;
+    }
+    if gains.len() != 22 {
+        return 5;
+    }
+    if exp.len() != 22 {
+        return 5;
+    }
+    if ex.len() != 22 {
+        return 5;
+    }
+    if ep.len() != 22 {
+        return 5;
+    }
+    let mut r = [0.0f32; 22];
+    let mut rf = [0.0f32; 481];
+    pitch::filter(x, p, gains, exp, ex, ep, &mut r, &mut rf);
     0
 }

@@ -1,4 +1,5 @@
 pub mod Below
+pub mod Called
 pub mod Fill
 pub mod Filling
 pub mod Fitted
