@@ -72,18 +72,24 @@ pub record Count (n : ℕ) : Type 0 where
   pub some : 1 ≤ n
   pub small : n ≤ 127
 
+pub record DenseArrays (output weights bias input : ℕ) : Type 0 where
+  pub weighted : weights ≡ output * input
+  pub biased : bias ≡ output
+
 pub record DenseFits (output weights bias input : ℕ) : Type 0 where
   pub neurons : Count output
   pub inputs : Count input
-  pub weighted : weights ≡ output * input
-  pub biased : bias ≡ output
+  pub arrays : DenseArrays output weights bias input
+
+pub record GruArrays (state weights recurrent bias input : ℕ) : Type 0 where
+  pub weighted : weights ≡ 3 * state * input
+  pub recurs : recurrent ≡ 3 * state * state
+  pub biased : bias ≡ 3 * state
 
 pub record GruFits (state weights recurrent bias input : ℕ) : Type 0 where
   pub neurons : Count state
   pub inputs : Count input
-  pub weighted : weights ≡ 3 * state * input
-  pub recurs : recurrent ≡ 3 * state * state
-  pub biased : bias ≡ 3 * state
+  pub arrays : GruArrays state weights recurrent bias input
 
 -- ---- for the parts of the code
 

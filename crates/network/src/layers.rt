@@ -4,7 +4,7 @@ ghost use Prim.Native.Nat.{_+_, _*_, _≤_};
 ghost use lib.ListN.{length};
 ghost use Rattle.rules.specs.Loop.{loop};
 ghost use Rattle.numbers.specs.Tansig.{tansig};
-ghost use Rattle.network.specs.Layers.{activated, activateStep, updateStep, resetStep, blendStep, gateSums, denseOf, DenseFits, gruOf, GruFits, GateFits, ScratchFits};
+ghost use Rattle.network.specs.Layers.{activated, activateStep, updateStep, resetStep, blendStep, gateSums, denseOf, DenseArrays, gruOf, GruArrays, GateFits, ScratchFits};
 use crate::sums;
 use model::Activation;
 
@@ -38,7 +38,7 @@ pub(crate) fn dense(
     activation: Activation,
     input: &[f32],
 )
-    requires { ⌜ (now table ≡ tansig) × DenseFits (length (now output)) (length (now weights)) (length (now bias)) (length (now input)) ⌝ }
+    requires { ⌜ (now table ≡ tansig) × DenseArrays (length (now output)) (length (now weights)) (length (now bias)) (length (now input)) ⌝ }
     ensures { λ _. ⌜ now (output .exit) ≡ denseOf (now (weights .entry)) (now (bias .entry)) activation (now (input .entry)) ⌝ }
 {
     let n = output.len();
@@ -113,7 +113,7 @@ pub(crate) fn gru(
     activation: Activation,
     input: &[f32],
 )
-    requires { ⌜ GruFits (length (now state)) (length (now weights)) (length (now recurrent)) (length (now bias)) (length (now input)) ⌝ }
+    requires { ⌜ GruArrays (length (now state)) (length (now weights)) (length (now recurrent)) (length (now bias)) (length (now input)) ⌝ }
     requires { ⌜ (now table ≡ tansig) × ScratchFits (length (now state)) (length (now z)) (length (now r)) (length (now h)) ⌝ }
     ensures { λ _. ⌜ now (state .exit) ≡ gruOf (now (weights .entry)) (now (recurrent .entry)) (now (bias .entry)) activation (now (input .entry)) (now (state .entry)) ⌝ }
 {
@@ -125,4 +125,35 @@ pub(crate) fn gru(
     reset(r, &state[..], table);
     gate_sums(h, weights, recurrent, bias, last, input, &r[..]);
     blend(state, &z[..], &h[..], activation, table);
+}
+
+// A GRU layer over scratch of its own.
+pub(crate) fn gru_alone(
+    state: &mut [f32],
+    table: &[f32; 201],
+    weights: &[u8],
+    recurrent: &[u8],
+    bias: &[u8],
+    activation: Activation,
+    input: &[f32],
+)
+    requires { ⌜ (now table ≡ tansig) × (length (now state) ≤ 128) × GruArrays (length (now state)) (length (now weights)) (length (now recurrent)) (length (now bias)) (length (now input)) ⌝ }
+    ensures { λ _. ⌜ now (state .exit) ≡ gruOf (now (weights .entry)) (now (recurrent .entry)) (now (bias .entry)) activation (now (input .entry)) (now (state .entry)) ⌝ }
+{
+    let n = state.len();
+    let mut z = [0.0f32; 128];
+    let mut r = [0.0f32; 128];
+    let mut h = [0.0f32; 128];
+    gru(
+        state,
+        &mut z[0..n],
+        &mut r[0..n],
+        &mut h[0..n],
+        table,
+        weights,
+        recurrent,
+        bias,
+        activation,
+        input,
+    );
 }

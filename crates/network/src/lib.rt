@@ -3,12 +3,15 @@
 ghost use mathlib.Core.Path.{_≡_};
 ghost use lib.ListN.{length};
 ghost use Rattle.rules.specs.Leaf.{Leaf, _leaving_};
+ghost use Rattle.network.specs.Compute.{outcome, computed};
 ghost use Rattle.network.specs.Layers.{denseOf, DenseFits, gruOf, GruFits};
 
 mod layers;
+mod six;
 mod sums;
 
 use model::Activation;
+use model::Reading;
 
 // A dense layer: output is what activation makes of bias and weights times input.
 pub fn dense(
@@ -87,20 +90,54 @@ pub fn gru(
         return 5;
     }
     let table = numbers::table::all();
-    let mut z = [0.0f32; 128];
-    let mut r = [0.0f32; 128];
-    let mut h = [0.0f32; 128];
-    layers::gru(
-        state,
-        &mut z[0..n],
-        &mut r[0..n],
-        &mut h[0..n],
-        &table,
-        weights,
-        recurrent,
-        bias,
-        activation,
-        input,
-    );
+    layers::gru_alone(state, &table, weights, recurrent, bias, activation, input);
     0
+}
+
+// What a frame's call answers: done, a wrong length (5), or a model that does not read, its number and layer.
+pub enum Computed {
+    Done,
+    Refused(u32),
+    Misread(u32, u32),
+}
+
+// The six layers for one frame: 22 gains and one voice probability from 42 features, and the three states, of 128 places each,
+// moved on.
+pub fn compute(
+    gains: &mut [f32],
+    voice: &mut [f32],
+    vad: &mut [f32],
+    noise: &mut [f32],
+    denoise: &mut [f32],
+    model: &[u8],
+    features: &[f32],
+) -> Computed
+    ensures { λ r. ⌜ outcome r (now (gains .exit)) (now (voice .exit)) (now (vad .exit)) (now (noise .exit)) (now (denoise .exit))
+        ≡ computed (now (gains .entry)) (now (voice .entry)) (now (vad .entry)) (now (noise .entry)) (now (denoise .entry)) (now (model .entry)) (now (features .entry)) ⌝ }
+{
+    if gains.len() != 22 {
+        return Computed::Refused(5);
+    }
+    if voice.len() != 1 {
+        return Computed::Refused(5);
+    }
+    if vad.len() != 128 {
+        return Computed::Refused(5);
+    }
+    if noise.len() != 128 {
+        return Computed::Refused(5);
+    }
+    if denoise.len() != 128 {
+        return Computed::Refused(5);
+    }
+    if features.len() != 42 {
+        return Computed::Refused(5);
+    }
+    match model::read(model) {
+        Reading::Good(m) => {
+            six::frame(gains, voice, vad, noise, denoise, model, m, features);
+            Computed::Done
+        }
+        Reading::Refused(number, layer) => Computed::Misread(number, layer),
+    }
 }

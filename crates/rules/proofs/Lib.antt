@@ -6,6 +6,7 @@ pub mod Fitted
 pub mod Leaves
 pub mod Loops
 pub mod Numbers
+pub mod OneNumber
 pub mod Places
 pub mod Refused
 pub mod Rows

@@ -17,8 +17,8 @@ dense-spec =
     (λ c. refused (λ fits. omega (arith, fits .inputs .some)) refl)  -- returns-3
     (λ c. refused (λ fits. omega (arith, fits .inputs .small)) refl)  -- returns-4
     (λ c. record { fits = product (omega arith) (omega arith) })  -- mul-if5
-    (λ c. refused (λ fits. c .if5 .taken (fits .weighted)) refl)  -- returns-5
-    (λ c. refused (λ fits. c .if6 .taken (fits .biased)) refl)  -- returns-6
+    (λ c. refused (λ fits. c .if5 .taken (fits .arrays .weighted)) refl)  -- returns-5
+    (λ c. refused (λ fits. c .if6 .taken (fits .arrays .biased)) refl)  -- returns-6
     (λ c κs. search needs)  -- all-requires
     (λ c κs. search needs)  -- dense-requires
     (λ c. search needs)  -- same-length

@@ -18,20 +18,11 @@ gru-spec =
     (λ c. refused (λ fits. omega (arith, fits .inputs .small)) refl)  -- returns-4
     (λ c. search needs)  -- mul-stride
     (λ c. record { fits = product (omega arith) (omega arith) })  -- mul-if5
-    (λ c. refused (λ fits. c .if5 .taken (fits .weighted)) refl)  -- returns-5
+    (λ c. refused (λ fits. c .if5 .taken (fits .arrays .weighted)) refl)  -- returns-5
     (λ c. record { fits = product (omega arith) (omega arith) })  -- mul-if6
-    (λ c. refused (λ fits. c .if6 .taken (fits .recurs)) refl)  -- returns-6
-    (λ c. refused (λ fits. c .if7 .taken (fits .biased)) refl)  -- returns-7
+    (λ c. refused (λ fits. c .if6 .taken (fits .arrays .recurs)) refl)  -- returns-6
+    (λ c. refused (λ fits. c .if7 .taken (fits .arrays .biased)) refl)  -- returns-7
     (λ c κs. search needs)  -- all-requires
-    (λ c. search needs)  -- sub-gru
-    (λ c. search needs)  -- part-z-start
-    (λ c. search needs)  -- part-z-end
-    (λ c. search needs)  -- sub-gru-2
-    (λ c. search needs)  -- part-r-start
-    (λ c. search needs)  -- part-r-end
-    (λ c. search needs)  -- sub-gru-3
-    (λ c. search needs)  -- part-h-start
-    (λ c. search needs)  -- part-h-end
-    (λ c κs. (search needs, (c .before .before .before .before .before .all .ensures, search needs)))  -- gru-requires
+    (λ c κs. search needs)  -- gru-alone-requires
     (λ c. search needs)  -- same-length
-    (λ c. done (search needs) (leaves (c .before .before .before .before .before .gru .ensures))))  -- returns-8
+    (λ c. done (search needs) (leaves (c .before .before .gru-alone .ensures))))  -- returns-8
