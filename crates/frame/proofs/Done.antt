@@ -13,7 +13,7 @@ use Rattle.model.specs.Model.{readOf}
 use Rattle.frame.specs.declared.Reply.{Reply}
 use Rattle.frame.specs.Reply.{passed}
 use Rattle.frame.specs.Share.{SHARE}
-use Rattle.frame.specs.Frame.{Framed, Worked, taken, first, looked, second, checked, onward, listened, third, synthesised, fourth}
+use Rattle.frame.specs.Frame.{Framed, Worked, taken, first, looked, second, counted, modelled, listened, third, synthesised, fourth}
 
 -- a place, number by number
 pub at-get : (p : Place) (xs : List Float) (i : ℕ) → i < p .size → at (get p xs) i ≡ at xs (p .at + i)
@@ -33,7 +33,7 @@ module _ (share : List Float) (whole : length share ≡ SHARE) where
   pub third-done : (index vad noise denoise : ℕ) (spectrum logs : List Float) (model : List ℕ) (room : ℕ)
       → length spectrum ≡ 961 → length logs ≡ 22 → room ≡ 961 → index ≤ 7
       → third share index vad noise denoise spectrum logs model room
-      ≡ onward (checked vad noise denoise (readOf model)) share (listened share index spectrum logs model)
+      ≡ modelled (counted vad noise denoise) (readOf model) share (listened share index spectrum logs model)
   unfolding third
   third-done index vad noise denoise spectrum logs model room a b d h = simp (eq-eqb _ _ whole, eq-eqb _ _ a, eq-eqb _ _ b, eq-eqb _ _ d, le-ltb 7 index h)
 
@@ -41,9 +41,3 @@ module _ (share : List Float) (whole : length share ≡ SHARE) where
   unfolding fourth
   fourth-done inverse room a b = simp (eq-eqb _ _ whole, eq-eqb _ _ a, eq-eqb _ _ b)
 
--- what the model's reply decides
-pub onward-no : (reply : Reply) (share : List Float) (held : List (List Float)) (f : Framed) → passed reply ≡ false → Worked (onward reply share f) reply share held held
-onward-no reply share held f e = rw e (record { replies = refl; shares = refl; writes = rw e })
-
-pub onward-yes : (reply : Reply) (share : List Float) (f : Framed) → passed reply ≡ true → onward reply share f ≡ f
-onward-yes reply share f e = rw e

@@ -16,6 +16,7 @@ use Rattle.numbers.specs.declared.filter.Biquad.{Biquad}
 use Rattle.numbers.specs.declared.filter.Memory.{Memory}
 use Rattle.bands.specs.Windowed.{windowed}
 use Rattle.model.specs.Model.{readOf}
+use Rattle.model.specs.declared.Model.{Model}
 use Rattle.model.specs.declared.Reading.{Reading}
 use Rattle.model.specs.declared.Reading.the-variants.{Good, Refused as Unread}
 use Rattle.features.specs.Silence.{energy, soundOf}
@@ -113,16 +114,6 @@ second share spectrum lag room sums =
 
 -- ---- call 3, from `compute_frame_features` and `process_frame` of denoise.rs
 
--- the model is refused with 7, its counts with 8
-unfoldable pub checked : ℕ → ℕ → ℕ → Reading → Reply
-checked vad noise denoise (Unread n l) = Misread n l
-checked vad noise denoise (Good m) =
-    cond (eqb (m .«vad_gru» .neurons) vad && (eqb (m .«noise_gru» .neurons) noise && eqb (m .«denoise_gru» .neurons) denoise)) Done (Refused 8)
-
--- on with f, unless the reply is a refusal
-abbrev pub onward : Reply → List Float → Framed → Framed
-onward reply share f = cond (passed reply) f (refused reply share)
-
 -- a silent frame writes the first spectrum, and changes nothing
 abbrev pub silent : List Float → Framed
 silent share = record { reply = Silent; share = share; written = get keptX share ∷ [] }
@@ -136,13 +127,27 @@ sounded Quiet share s = silent share
 sounded (Loud e) share s = heard e s
 sounded (Unfit n) share s = refused (Refused n) share
 
-unfoldable pub listened : List Float → ℕ → List Float → List Float → List ℕ → Framed
-listened share index spectrum logs model = sounded (soundOf (energy (get keptEx share))) share (spoken share index spectrum logs model)
+unfoldable pub listened : List Float → ℕ → List Float → List Float → List ℕ → Model → Framed
+listened share index spectrum logs bytes m = sounded (soundOf (energy (get keptEx share))) share (spoken share index spectrum logs bytes m)
+
+-- whether the model has the opening's counts
+abbrev pub counted : ℕ → ℕ → ℕ → Model → Bool
+counted vad noise denoise m = eqb (m .«vad_gru» .neurons) vad && (eqb (m .«noise_gru» .neurons) noise && eqb (m .«denoise_gru» .neurons) denoise)
+
+-- a model is refused with 7, its number and its layer; its counts are refused with 8
+unfoldable pub checked : (Model → Bool) → Reading → Reply
+checked same (Unread n l) = Misread n l
+checked same (Good m) = cond (same m) Done (Refused 8)
+
+-- on with what the model makes of the frame, unless it is refused
+abbrev pub modelled : (Model → Bool) → Reading → List Float → (Model → Framed) → Framed
+modelled same (Unread n l) share f = refused (Misread n l) share
+modelled same (Good m) share f = cond (same m) (f m) (refused (Refused 8) share)
 
 unfoldable pub third : List Float → ℕ → ℕ → ℕ → ℕ → List Float → List Float → List ℕ → ℕ → Framed
 third share index vad noise denoise spectrum logs model room =
     unless (5 when wrong ((length share, SHARE) ∷ (length spectrum, 961) ∷ (length logs, 22) ∷ (room, 961) ∷ []) ∷ 5 when ltb 7 index ∷ []) share
-    (onward (checked vad noise denoise (readOf model)) share (listened share index spectrum logs model))
+    (modelled (counted vad noise denoise) (readOf model) share (listened share index spectrum logs model))
 
 -- ---- call 4, from `frame_synthesis` of features.rs
 

@@ -2,9 +2,10 @@
 ghost use mathlib.Core.Path.{_≡_};
 ghost use mathlib.Core.List.{[], _∷_};
 ghost use lib.ListN.{length};
-ghost use Rattle.frame.specs.Frame.{Worked, first, second, fourth};
+ghost use Rattle.frame.specs.Frame.{Worked, first, second, third, fourth};
 ghost use Rattle.frame.specs.Reply.{passed};
 
+mod heard;
 mod input;
 mod lagged;
 mod output;
@@ -95,6 +96,45 @@ pub fn second(
     bands::apply_window(window, &share[from..from + 960]);
     lagged::note(share, spectrum, back, sums);
     Reply::Done
+}
+
+// Call 3: the second spectrum, 22 logarithms and the model in, 961 numbers written; silent, or heard with voice and energy. Of the record it
+// is told the cepstral index and the GRU counts.
+pub fn third(
+    share: &mut [f32],
+    index: usize,
+    vad: usize,
+    noise: usize,
+    denoise: usize,
+    spectrum: &[f32],
+    logs: &[f32],
+    model: &[u8],
+    out: &mut [f32],
+) -> Reply
+    ensures { λ r. ⌜ Worked
+        (third (now (share .entry)) index vad noise denoise (now (spectrum .entry)) (now (logs .entry)) (now (model .entry)) (length (now (out .entry))))
+        r (now (share .exit)) (now (out .entry) ∷ []) (now (out .exit) ∷ []) ⌝ }
+{
+    if share.len() != SHARE {
+        return Reply::Refused(5);
+    }
+    if spectrum.len() != 961 {
+        return Reply::Refused(5);
+    }
+    if logs.len() != 22 {
+        return Reply::Refused(5);
+    }
+    if out.len() != 961 {
+        return Reply::Refused(5);
+    }
+    if index > 7 {
+        return Reply::Refused(5);
+    }
+    let reply = heard::check(model, vad, noise, denoise);
+    if !passed(reply) {
+        return reply;
+    }
+    heard::listen(share, out, index, spectrum, logs, model)
 }
 
 // Call 4: 960 inverse samples in, 480 numbers written.

@@ -2,7 +2,6 @@ pub mod Below
 pub mod Called
 pub mod Fill
 pub mod Filling
-pub mod Fitted
 pub mod Leaves
 pub mod Loops
 pub mod Numbers

@@ -9,7 +9,7 @@ use denote.Ref.{now}
 use lib.ListN.{length, take, drop, length-take, length-drop}
 use lib.Ieee.{Float}
 use Rattle.rules.specs.Place.{get}
-use Rattle.rules.proofs.Fitted.{fitted}
+use Rattle.rules.proofs.Called.{left as fitted}
 use Rattle.rules.proofs.Places.{get-get}
 use Rattle.rules.proofs.Tests.{tests}
 use Rattle.bands.specs.Windowed.{windowed}

@@ -10,7 +10,8 @@ use lib.Ieee.{Float}
 use Rattle.rules.specs.F32.{at}
 use Rattle.rules.specs.Place.{get}
 use Rattle.rules.specs.Tab.{tab}
-use Rattle.rules.proofs.Fitted.{fitted, returned}
+use Rattle.rules.proofs.Called.{left as fitted}
+use Rattle.rules.proofs.Leaves.{fitting}
 use Rattle.numbers.specs.Filter.{outputs}
 use Rattle.numbers.specs.declared.filter.Filtered.{Filtered}
 use Rattle.bands.specs.Windowed.{windowed}
@@ -39,7 +40,7 @@ returns c =
     let part : length (take 480 (drop 1248 m)) ≡ length (now (a .samples)) = simp (length-take, length-drop) (omega arith) in
     let mem = placed (now (a .mem)) (outputs biquadHp (a .memory) (now (a .samples))) m size (s .shift .ensures) (fitted (f .filter .ensures) part) in
     let window = fitted (w .apply-window .ensures) (record { into = omega arith; from = simp (length-take, length-drop, length-append) (omega arith) }) in (
-      ap (λ (x : Filtered). x .memory) (returned (f .filter .ensures) part),
+      ap (λ (x : Filtered × List Float). x .0 .memory) (fitting (f .filter .ensures) part),
       (mem, window ∙ ap (λ (l : List Float). windowed (take 960 (drop 768 l))) mem),
     )
 

@@ -7,7 +7,7 @@ use denote.Ref.{now}
 use lib.ListN.{length, length-append, length-take, length-drop}
 use lib.Ieee.{Float}
 use Rattle.rules.specs.Place.{get, put}
-use Rattle.rules.proofs.Fitted.{fitted}
+use Rattle.rules.proofs.Called.{left as fitted}
 use Rattle.rules.proofs.Places.{length-get, get-put}
 use Rattle.bands.specs.Bands.{bandCorr}
 use Rattle.frame.specs.Share.{keptX}

@@ -4,7 +4,7 @@ use mathlib.Core.List.{List}
 use borrow.Author.Needs.{needs}
 use denote.Ref.{now}
 use lib.Ieee.{Float}
-use Rattle.rules.proofs.Fitted.{fitted}
+use Rattle.rules.proofs.Called.{left as fitted}
 use Rattle.bands.specs.Windowed.{windowed}
 use Rattle.frame.specs.Frame.{faded, overlapped, secondHalf}
 use Rattle.frame.proofs.output.synthesise_in.Statement.{statement}
