@@ -64,12 +64,14 @@ pub record Spoken : Type 0 where
   pub voice : Float
   pub spectrum : List Float
 
-unfoldable pub spoken : List Float → ℕ → List Float → List Float → List ℕ → Model → Spoken
-spoken share index spectrum logs bytes m =
-    let p = scaled spectrum in
-    let ep = energies spectrum in
+unfoldable pub spokenFrom : List Float → ℕ → List Float → List Float → List Float → List ℕ → Model → Spoken
+spokenFrom share index p ep logs bytes m =
     let f = featured share index p ep logs in
     let n = judged (f .share) bytes m (f .features) in
     let x = pitchFiltered (get keptX share) p (n .gains) (f .exp) (get keptEx share) ep in
     let g = raised (n .share) (n .gains) in
     record { share = put lastg (n .share) g; voice = n .voice; spectrum = applied x (bandGain g) }
+
+-- p and ep are what the second spectrum gives
+abbrev pub spoken : List Float → ℕ → List Float → List Float → List ℕ → Model → Spoken
+spoken share index spectrum logs bytes m = spokenFrom share index (scaled spectrum) (energies spectrum) logs bytes m

@@ -9,7 +9,7 @@ ghost use Rattle.bands.specs.Bands.{bandGain};
 ghost use Rattle.model.specs.Model.{readOf};
 ghost use Rattle.features.specs.Pitch.{pitchFiltered, applied};
 ghost use Rattle.frame.specs.Share.{keptX, keptEx, lastg, vadState, noiseState, denoiseState};
-ghost use Rattle.frame.specs.Heard.{scaled, energies, featured, judged, raised, spoken};
+ghost use Rattle.frame.specs.Heard.{scaled, energies, featured, judged, raised, spokenFrom, spoken};
 ghost use Rattle.frame.specs.Frame.{Worked, listened, counted, checked};
 ghost use Rattle.frame.specs.Parts.{Reads, featuredAs, judgedAs, spokenAs, quiet, replyOf};
 use crate::Reply;
@@ -72,7 +72,18 @@ fn sense(
         ≡ featured (now (share .entry)) index (now (p .entry)) (now (ep .entry)) (now (logs .entry)) ⌝ }
 {
     let lag = share[3191];
-    stubs::compute_features(features, exp, &mut share[3216..3392], index, x, p, ex, ep, lag, logs);
+    stubs::compute_features(
+        features,
+        exp,
+        &mut share[3216..3392],
+        index,
+        x,
+        p,
+        ex,
+        ep,
+        lag,
+        logs,
+    );
 }
 
 // The three states, out of the share.
@@ -129,7 +140,16 @@ fn think(share: &mut [f32], gains: &mut [f32], model: &[u8], features: &[f32]) -
     let mut vad = [0.0f32; 128];
     let mut noise = [0.0f32; 128];
     let mut denoise = [0.0f32; 128];
-    think_in(share, gains, &mut voice, &mut vad, &mut noise, &mut denoise, model, features)
+    think_in(
+        share,
+        gains,
+        &mut voice,
+        &mut vad,
+        &mut noise,
+        &mut denoise,
+        model,
+        features,
+    )
 }
 
 fn apply_in(out: &mut [f32], gf: &mut [f32], gains: &[f32])
@@ -158,15 +178,92 @@ fn raise(share: &mut [f32], out: &mut [f32], gains: &mut [f32])
     apply(out, gains);
 }
 
+// The pitch filter, with the network's own gains; then the gains are raised, remembered and applied.
+fn shape(
+    share: &mut [f32],
+    out: &mut [f32],
+    gains: &mut [f32],
+    p: &[f32],
+    exp: &[f32],
+    ex: &[f32],
+    ep: &[f32],
+)
+    requires { ⌜ (length (now share) ≡ 6144) × (length (now out) ≡ 961) × (length (now gains) ≡ 22) ⌝ }
+    requires { ⌜ (length (now p) ≡ 961) × (length (now exp) ≡ 22) × (length (now ex) ≡ 22) × (length (now ep) ≡ 22) ⌝ }
+    ensures { λ _. ⌜ now (share .exit) ≡ put lastg (now (share .entry)) (raised (now (share .entry)) (now (gains .entry))) ⌝ }
+    ensures { λ _. ⌜ now (out .exit)
+        ≡ applied (pitchFiltered (now (out .entry)) (now (p .entry)) (now (gains .entry)) (now (exp .entry)) (now (ex .entry)) (now (ep .entry)))
+        (bandGain (raised (now (share .entry)) (now (gains .entry)))) ⌝ }
+{
+    features::pitch_filter(out, p, gains, exp, ex, ep);
+    raise(share, out, gains);
+}
+
 fn speak_in(
+    share: &mut [f32],
+    out: &mut [f32],
+    features: &mut [f32],
+    exp: &mut [f32],
+    gains: &mut [f32],
+    index: usize,
+    p: &[f32],
+    ex: &[f32],
+    ep: &[f32],
+    logs: &[f32],
+    model: &[u8],
+) -> f32
+    requires { ⌜ (length (now share) ≡ 6144) × (length (now features) ≡ 42) × (length (now exp) ≡ 22) × (length (now gains) ≡ 22) × (index ≤ 7) ⌝ }
+    requires { ⌜ (length (now p) ≡ 961) × (length (now ep) ≡ 22) × (length (now logs) ≡ 22) ⌝ }
+    requires { ⌜ (now out ≡ get keptX (now share)) × (now ex ≡ get keptEx (now share)) ⌝ }
+    ensures { λ r. ⌜ Reads (now (model .entry)) (λ m. spokenAs (now (share .exit)) r (now (out .exit))
+        ≡ spokenFrom (now (share .entry)) index (now (p .entry)) (now (ep .entry)) (now (logs .entry)) (now (model .entry)) m) ⌝ }
+{
+    sense(share, features, exp, index, out, p, ex, ep, logs);
+    let voice = think(share, gains, model, features);
+    shape(share, out, gains, p, exp, ex, ep);
+    voice
+}
+
+// A heard frame, from p and its energies on: out holds x, and becomes the spectrum for the inverse. Gives the voice back.
+fn speak(
+    share: &mut [f32],
+    out: &mut [f32],
+    index: usize,
+    p: &[f32],
+    ex: &[f32],
+    ep: &[f32],
+    logs: &[f32],
+    model: &[u8],
+) -> f32
+    requires { ⌜ (length (now share) ≡ 6144) × (index ≤ 7) × (length (now p) ≡ 961) × (length (now ep) ≡ 22) × (length (now logs) ≡ 22) ⌝ }
+    requires { ⌜ (now out ≡ get keptX (now share)) × (now ex ≡ get keptEx (now share)) ⌝ }
+    ensures { λ r. ⌜ Reads (now (model .entry)) (λ m. spokenAs (now (share .exit)) r (now (out .exit))
+        ≡ spokenFrom (now (share .entry)) index (now (p .entry)) (now (ep .entry)) (now (logs .entry)) (now (model .entry)) m) ⌝ }
+{
+    let mut features = [0.0f32; 42];
+    let mut exp = [0.0f32; 22];
+    let mut gains = [0.0f32; 22];
+    speak_in(
+        share,
+        out,
+        &mut features,
+        &mut exp,
+        &mut gains,
+        index,
+        p,
+        ex,
+        ep,
+        logs,
+        model,
+    )
+}
+
+fn hear_in(
     share: &mut [f32],
     out: &mut [f32],
     p: &mut [f32],
     ex: &mut [f32],
     ep: &mut [f32],
-    features: &mut [f32],
-    exp: &mut [f32],
-    gains: &mut [f32],
     index: usize,
     spectrum: &[f32],
     logs: &[f32],
@@ -174,21 +271,23 @@ fn speak_in(
 ) -> f32
     requires { ⌜ (length (now share) ≡ 6144) × (now out ≡ get keptX (now share)) × (index ≤ 7) × (length (now spectrum) ≡ 961) × (length (now logs) ≡ 22) ⌝ }
     requires { ⌜ (length (now p) ≡ 961) × (length (now ex) ≡ 22) × (length (now ep) ≡ 22) ⌝ }
-    requires { ⌜ (length (now features) ≡ 42) × (length (now exp) ≡ 22) × (length (now gains) ≡ 22) ⌝ }
     ensures { λ r. ⌜ Reads (now (model .entry)) (λ m. spokenAs (now (share .exit)) r (now (out .exit))
         ≡ spoken (now (share .entry)) index (now (spectrum .entry)) (now (logs .entry)) (now (model .entry)) m) ⌝ }
 {
     rules::copy(ex, &share[3169..3191]);
     transform(p, ep, spectrum);
-    sense(share, features, exp, index, out, p, ex, ep, logs);
-    let voice = think(share, gains, model, features);
-    features::pitch_filter(out, p, gains, exp, ex, ep);
-    raise(share, out, gains);
-    voice
+    speak(share, out, index, p, ex, ep, logs, model)
 }
 
-// A heard frame: out holds x and becomes the spectrum for the inverse. Gives the voice back.
-fn speak(share: &mut [f32], out: &mut [f32], index: usize, spectrum: &[f32], logs: &[f32], model: &[u8]) -> f32
+// A heard frame: out holds x, and becomes the spectrum for the inverse. Gives the voice back.
+fn hear(
+    share: &mut [f32],
+    out: &mut [f32],
+    index: usize,
+    spectrum: &[f32],
+    logs: &[f32],
+    model: &[u8],
+) -> f32
     requires { ⌜ (length (now share) ≡ 6144) × (now out ≡ get keptX (now share)) × (index ≤ 7) × (length (now spectrum) ≡ 961) × (length (now logs) ≡ 22) ⌝ }
     ensures { λ r. ⌜ Reads (now (model .entry)) (λ m. spokenAs (now (share .exit)) r (now (out .exit))
         ≡ spoken (now (share .entry)) index (now (spectrum .entry)) (now (logs .entry)) (now (model .entry)) m) ⌝ }
@@ -196,10 +295,17 @@ fn speak(share: &mut [f32], out: &mut [f32], index: usize, spectrum: &[f32], log
     let mut p = [0.0f32; 961];
     let mut ex = [0.0f32; 22];
     let mut ep = [0.0f32; 22];
-    let mut features = [0.0f32; 42];
-    let mut exp = [0.0f32; 22];
-    let mut gains = [0.0f32; 22];
-    speak_in(share, out, &mut p, &mut ex, &mut ep, &mut features, &mut exp, &mut gains, index, spectrum, logs, model)
+    hear_in(
+        share,
+        out,
+        &mut p,
+        &mut ex,
+        &mut ep,
+        index,
+        spectrum,
+        logs,
+        model,
+    )
 }
 
 fn is_quiet(sound: Sound) -> bool
@@ -223,7 +329,14 @@ fn reply_of(sound: Sound, voice: f32) -> Reply
 }
 
 // Silent, or heard; the spectrum is written.
-pub(crate) fn listen(share: &mut [f32], out: &mut [f32], index: usize, spectrum: &[f32], logs: &[f32], model: &[u8]) -> Reply
+pub(crate) fn listen(
+    share: &mut [f32],
+    out: &mut [f32],
+    index: usize,
+    spectrum: &[f32],
+    logs: &[f32],
+    model: &[u8],
+) -> Reply
     requires { ⌜ (length (now share) ≡ 6144) × (length (now out) ≡ 961) × (index ≤ 7) × (length (now spectrum) ≡ 961) × (length (now logs) ≡ 22) ⌝ }
     ensures { λ r. ⌜ Reads (now (model .entry)) (λ m. Worked
         (listened (now (share .entry)) index (now (spectrum .entry)) (now (logs .entry)) (now (model .entry)) m)
@@ -234,6 +347,6 @@ pub(crate) fn listen(share: &mut [f32], out: &mut [f32], index: usize, spectrum:
     if is_quiet(sound) {
         return Reply::Silent;
     }
-    let voice = speak(share, out, index, spectrum, logs, model);
+    let voice = hear(share, out, index, spectrum, logs, model);
     reply_of(sound, voice)
 }

@@ -22,7 +22,12 @@ fn shift(mem: &mut [f32])
 }
 
 // The input memory takes 480 samples in, filtered, and its last 960 numbers are written, windowed. Gives the filter's memories back.
-pub(crate) fn take_in(mem: &mut [f32], memory: Memory, samples: &[f32], window: &mut [f32]) -> Memory
+pub(crate) fn take_in(
+    mem: &mut [f32],
+    memory: Memory,
+    samples: &[f32],
+    window: &mut [f32],
+) -> Memory
     requires { ⌜ (length (now mem) ≡ 1728) × (length (now samples) ≡ 480) × (length (now window) ≡ 960) ⌝ }
     ensures { λ r. ⌜ r ≡ memoryAfter biquadHp memory (now (samples .entry)) ⌝ }
     ensures { λ _. ⌜ now (mem .exit) ≡ shifted (now (mem .entry)) (outputs biquadHp memory (now (samples .entry))) ⌝ }

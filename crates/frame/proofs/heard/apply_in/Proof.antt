@@ -1,16 +1,18 @@
-use mathlib.Core.Path.{_≡_}
-use Prim.Native.Nat.{_≤_, _-_}
-use lib.ListN.{length}
-use Rattle.rules.specs.Loop.{loop}
+-- `frame::heard::apply_in` meets its contract: what each call leaves, in a row. Assumes nothing.
+use mathlib.Core.Path.{ap, _∙_}
+use native.Mathlib.Omega.{arith}
 use borrow.Author.Needs.{needs}
-use borrow.Author.Needs.{needs}
+use Rattle.rules.proofs.Called.{left as fitted}
+use Rattle.features.specs.Pitch.{applied}
 use Rattle.frame.proofs.heard.apply_in.Statement.{statement}
 use Rattle.frame.proofs.heard.apply_in.Tie as tie
-use Rattle.frame.proofs.heard.apply_in.Reads as reads
-use Rattle.frame.proofs.heard.apply_in.Lts as lts
-use Rattle.bands.proofs.interp_band_gain.Reads as interp-band-gain-reads
-use Rattle.features.proofs.apply_gains.Reads as apply-gains-reads
 
+returns : tie.Need-returns
+returns c =
+    let a = c .before .before in
+    let g = a .before .before .before .before .before in
+    fitted (a .apply-gains .ensures) (record { spectrum = omega arith; bins = omega arith })
+    ∙ ap (applied _) (fitted (g .interp-band-gain .ensures) (record { bins = omega arith; from = omega arith }))
 
 pub apply-in-spec : {M : Type 1} → statement M
 apply-in-spec =
@@ -20,4 +22,4 @@ apply-in-spec =
     (λ c κs. search needs)  -- apply-gains-requires
     (λ c. search needs)  -- same-length
     (λ c. search needs)  -- same-length-2
-    (λ c. search needs))  -- returns
+    returns)

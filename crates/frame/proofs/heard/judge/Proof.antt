@@ -1,14 +1,29 @@
-use mathlib.Core.Path.{_≡_}
-use Prim.Native.Nat.{_≤_, _-_}
-use lib.ListN.{length}
-use Rattle.rules.specs.Loop.{loop}
+-- `frame::heard::judge` meets its contract: each answer by the tests that lead to it. Assumes nothing.
 use borrow.Author.Needs.{needs}
-use borrow.Author.Needs.{needs}
+use Rattle.rules.proofs.Tests.{tests}
+use Rattle.frame.specs.Frame.{checked}
 use Rattle.frame.proofs.heard.judge.Statement.{statement}
 use Rattle.frame.proofs.heard.judge.Tie as tie
-use Rattle.frame.proofs.heard.judge.Reads as reads
-use Rattle.frame.proofs.heard.judge.Lts as lts
 
+returns : tie.Need-returns
+unfolding checked
+returns c = search (tests, c .before .before .before .read2 .given .1)
+
+returns-2 : tie.Need-returns-2
+unfolding checked
+returns-2 c = search (tests, c .before .before .before .before .before .read2 .given .1)
+
+returns-3 : tie.Need-returns-3
+unfolding checked
+returns-3 c = search (tests, c .before .before .before .before .before .before .before .read2 .given .1)
+
+returns-4 : tie.Need-returns-4
+unfolding checked
+returns-4 c = rw (c .before .read .given .1)
+
+returns-5 : tie.Need-returns-5
+unfolding checked
+returns-5 c = search (tests, c .before .before .before .before .before .before .before .read2 .given .1)
 
 pub judge-spec : {M : Type 1} → statement M
 judge-spec =
@@ -16,8 +31,8 @@ judge-spec =
     (tie.spec
     (λ c. search needs)  -- enum-known-read
     (λ c. search needs)  -- enum-known-read-2
-    (λ c. search needs)  -- returns
-    (λ c. search needs)  -- returns-2
-    (λ c. search needs)  -- returns-3
-    (λ c. search needs)  -- returns-4
-    (λ c. search needs))  -- returns-5
+    returns
+    returns-2
+    returns-3
+    returns-4
+    returns-5)

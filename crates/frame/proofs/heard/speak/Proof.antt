@@ -1,15 +1,16 @@
-use mathlib.Core.Path.{_≡_}
-use Prim.Native.Nat.{_≤_, _-_}
-use lib.ListN.{length}
-use Rattle.rules.specs.Loop.{loop}
-use borrow.Author.Needs.{needs}
+-- `frame::heard::speak` meets its contract: what each stage leaves, in a row. Assumes nothing.
+use mathlib.Core.Path.{refl}
 use borrow.Author.Needs.{needs}
 use Rattle.frame.proofs.heard.speak.Statement.{statement}
 use Rattle.frame.proofs.heard.speak.Tie as tie
-use Rattle.frame.proofs.heard.speak.Reads as reads
-use Rattle.frame.proofs.heard.speak.Lts as lts
-use Rattle.frame.proofs.heard.speak_in.Reads as speak-in-reads
 
+speak-in-requires : tie.Need-speak-in-requires
+speak-in-requires c κs =
+    let pre = c .before .before .before .before .before .before .before .before .before .before .before .before .pre in
+    ((pre .0 .0, refl, refl, refl, pre .0 .1), ((pre .0 .2, pre .0 .3, pre .0 .4), (pre .1 .0, pre .1 .1)))
+
+returns : tie.Need-returns
+returns c = search needs
 
 pub speak-spec : {M : Type 1} → statement M
 speak-spec =
@@ -18,10 +19,7 @@ speak-spec =
     (λ c. search needs)  -- slice-aggregate-speak-in
     (λ c. search needs)  -- slice-aggregate-speak-in-2
     (λ c. search needs)  -- slice-aggregate-speak-in-3
-    (λ c. search needs)  -- slice-aggregate-speak-in-4
-    (λ c. search needs)  -- slice-aggregate-speak-in-5
-    (λ c. search needs)  -- slice-aggregate-speak-in-6
-    (λ c κs. search needs)  -- speak-in-requires
+    speak-in-requires
     (λ c. search needs)  -- same-length
     (λ c. search needs)  -- same-length-2
-    (λ c. search needs))  -- returns
+    returns)

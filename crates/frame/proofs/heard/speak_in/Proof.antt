@@ -1,40 +1,46 @@
-use mathlib.Core.Path.{_≡_}
-use Prim.Native.Nat.{_≤_, _-_}
+-- `frame::heard::speak_in` meets its contract: what each stage leaves, in a row. Assumes nothing.
+use mathlib.Core.Path.{ap, _∙_}
+use native.Mathlib.Omega.{arith}
+use borrow.Author.Needs.{needs}
+use denote.Ref.{now}
 use lib.ListN.{length}
-use Rattle.rules.specs.Loop.{loop}
-use borrow.Author.Needs.{needs}
-use borrow.Author.Needs.{needs}
+use Rattle.rules.proofs.Places.{length-get}
+use Rattle.frame.specs.Share.{keptX, keptEx}
+use Rattle.frame.proofs.Spoken.{spoke}
 use Rattle.frame.proofs.heard.speak_in.Statement.{statement}
 use Rattle.frame.proofs.heard.speak_in.Tie as tie
-use Rattle.frame.proofs.heard.speak_in.Reads as reads
-use Rattle.frame.proofs.heard.speak_in.Lts as lts
-use Rattle.features.proofs.pitch_filter.Reads as pitch-filter-reads
-use Rattle.frame.proofs.heard.raise.Reads as raise-reads
-use Rattle.frame.proofs.heard.sense.Reads as sense-reads
-use Rattle.frame.proofs.heard.think.Reads as think-reads
-use Rattle.frame.proofs.heard.transform.Reads as transform-reads
-use Rattle.rules.proofs.copy.Reads as copy-reads
 
+shape-requires : tie.Need-shape-requires
+shape-requires c κs =
+    let t = c .before .before .before .before .before .before .before .before in
+    let s = t .before .before .before .before .before .before .before .before .before .before in
+    let start = s .before .before .before .before .before .before .before .before .before .before .before .before .before .before .before in
+    let pre = start .pre in
+    let share = now (start .args .share) in
+    let x = ap length (pre .1 .1 .0) ∙ length-get keptX share (omega (arith, pre)) in
+    let ex = ap length (pre .1 .1 .1) ∙ length-get keptEx share (omega (arith, pre)) in
+    omega (arith, pre, x, ex, s .sense .kept, t .think .kept)
+
+returns : tie.Need-returns
+returns c m good =
+    let h = c .before .before .before .before .before .before in
+    let t = h .before .before .before .before .before .before .before .before .before in
+    let s = t .before .before .before .before .before .before .before .before .before .before in
+    let start = s .before .before .before .before .before .before .before .before .before .before .before .before .before .before .before in
+    let a = start .args in
+    spoke (now (a .share)) (now (a .model)) m (a .index) (now (a .p)) (now (a .ep)) (now (a .logs)) (start .pre .1 .1 .0) (start .pre .1 .1 .1)
+    (s .sense .ensures) (t .think .ensures m good) (h .shape .ensures .0) (h .shape .ensures .1)
 
 pub speak-in-spec : {M : Type 1} → statement M
 speak-in-spec =
     tie.close
     (tie.spec
-    (λ c. search needs)  -- sub-copy
-    (λ c. search needs)  -- part-copy-start
-    (λ c. search needs)  -- part-copy-end
-    (λ c κs. search needs)  -- copy-requires
-    (λ c κs. search needs)  -- transform-requires
     (λ c κs. search needs)  -- sense-requires
     (λ c κs. search needs)  -- think-requires
-    (λ c κs. search needs)  -- pitch-filter-requires
-    (λ c κs. search needs)  -- raise-requires
+    shape-requires
     (λ c. search needs)  -- same-length
     (λ c. search needs)  -- same-length-2
     (λ c. search needs)  -- same-length-3
     (λ c. search needs)  -- same-length-4
     (λ c. search needs)  -- same-length-5
-    (λ c. search needs)  -- same-length-6
-    (λ c. search needs)  -- same-length-7
-    (λ c. search needs)  -- same-length-8
-    (λ c. search needs))  -- returns
+    returns)

@@ -1,15 +1,24 @@
-use mathlib.Core.Path.{_≡_}
-use Prim.Native.Nat.{_≤_, _-_}
-use lib.ListN.{length}
-use Rattle.rules.specs.Loop.{loop}
+-- `frame::heard::take_states` meets its contract: what each call leaves, in a row. Assumes nothing.
+use native.Mathlib.Omega.{arith}
 use borrow.Author.Needs.{needs}
-use borrow.Author.Needs.{needs}
+use lib.ListN.{length-take, length-drop}
+use Rattle.rules.specs.Place.{get}
+use Rattle.rules.proofs.Called.{left as fitted}
 use Rattle.frame.proofs.heard.take_states.Statement.{statement}
 use Rattle.frame.proofs.heard.take_states.Tie as tie
-use Rattle.frame.proofs.heard.take_states.Reads as reads
-use Rattle.frame.proofs.heard.take_states.Lts as lts
-use Rattle.rules.proofs.copy.Reads as copy-reads
 
+returns : tie.Need-returns
+unfolding get
+returns c =
+    let d = c .before .before in
+    let n = d .before .before .before .before .before in
+    let v = n .before .before .before .before .before in (
+      fitted (v .copy .ensures) (simp (length-take, length-drop) (omega arith)),
+      (
+        fitted (n .copy2 .ensures) (simp (length-take, length-drop) (omega arith)),
+        fitted (d .copy3 .ensures) (simp (length-take, length-drop) (omega arith)),
+      ),
+    )
 
 pub take-states-spec : {M : Type 1} → statement M
 take-states-spec =
@@ -30,4 +39,4 @@ take-states-spec =
     (λ c. search needs)  -- same-length
     (λ c. search needs)  -- same-length-2
     (λ c. search needs)  -- same-length-3
-    (λ c. search needs))  -- returns
+    returns)

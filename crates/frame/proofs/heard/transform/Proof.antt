@@ -1,16 +1,21 @@
-use mathlib.Core.Path.{_≡_}
-use Prim.Native.Nat.{_≤_, _-_}
-use lib.ListN.{length}
-use Rattle.rules.specs.Loop.{loop}
+-- `frame::heard::transform` meets its contract: what each call leaves, in a row. Assumes nothing.
+use mathlib.Core.Path.{ap, _∙_}
+use mathlib.Core.List.{List}
+use native.Mathlib.Omega.{arith}
 use borrow.Author.Needs.{needs}
-use borrow.Author.Needs.{needs}
+use lib.Ieee.{Float}
+use Rattle.rules.proofs.Called.{left as fitted}
+use Rattle.bands.specs.Bands.{bandCorr}
+use Rattle.frame.specs.Heard.{energies}
 use Rattle.frame.proofs.heard.transform.Statement.{statement}
 use Rattle.frame.proofs.heard.transform.Tie as tie
-use Rattle.frame.proofs.heard.transform.Reads as reads
-use Rattle.frame.proofs.heard.transform.Lts as lts
-use Rattle.bands.proofs.compute_band_corr.Reads as compute-band-corr-reads
-use Rattle.frame.proofs.lagged.scale.Reads as scale-reads
 
+returns : tie.Need-returns
+unfolding energies
+returns c =
+    let b = c .before .before in
+    let p = b .before .before .before .before .before .scale .ensures in
+    (p, fitted (b .compute-band-corr .ensures) (record { bands = omega arith; left = omega arith; right = omega arith }) ∙ ap (λ (l : List Float). bandCorr l l) p)
 
 pub transform-spec : {M : Type 1} → statement M
 transform-spec =
@@ -20,4 +25,4 @@ transform-spec =
     (λ c κs. search needs)  -- compute-band-corr-requires
     (λ c. search needs)  -- same-length
     (λ c. search needs)  -- same-length-2
-    (λ c. search needs))  -- returns
+    returns)

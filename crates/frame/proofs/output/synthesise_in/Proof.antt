@@ -17,8 +17,7 @@ returns c =
     let w = o .before .before .before .before .before .before in
     let h = w .before .before .before .before in
     let a = h .before .before .before .before .before .before .args in
-    let buf = fitted (w .apply-window-in-place .ensures) (search needs) ∙ ap windowed (h .halve .ensures) in
-    (
+    let buf = fitted (w .apply-window-in-place .ensures) (search needs) ∙ ap windowed (h .halve .ensures) in (
       o .overlap .ensures .0 ∙ ap secondHalf buf,
       o .overlap .ensures .1 ∙ ap (λ (l : List Float). overlapped l (now (a .kept))) buf,
     )
