@@ -1,3 +1,4 @@
+pub mod Cleared
 pub mod Fill
 pub mod Leaves
 pub mod Loops
@@ -7,3 +8,4 @@ pub mod Refused
 pub mod Table
 pub mod Tabs
 pub mod Tests
+pub mod Wholes

@@ -1,0 +1,4 @@
+pub mod Apart
+mod Serve
+pub mod Settled
+pub mod Turned
