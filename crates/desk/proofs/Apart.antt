@@ -26,8 +26,8 @@ use Rattle.frame.specs.Frame.{Framed, refused}
 use Rattle.frame.specs.Reply.{passed}
 use Rattle.desk.specs.declared.Bench.{Bench}
 use Rattle.desk.specs.declared.Answer.{Answer}
-use Rattle.desk.specs.Gate.{gate, inRange, allZero}
-use Rattle.desk.specs.Desk.{Ask, opening, call1, call2, call3, call4, callOf, closed, answered, opened, framed, admitted, Outcome, desk, shareOf}
+use Rattle.desk.specs.Gate.{shareOf, gate, inRange, allZero}
+use Rattle.desk.specs.Desk.{Ask, opening, call1, call2, call3, call4, callOf, closed, answered, opened, framed, admitted, Outcome, desk}
 use Rattle.desk.proofs.Settled.{admitted-kept}
 use Rattle.desk.proofs.Turned.{through, gate-own, closed-opens}
 
@@ -60,7 +60,7 @@ module _ (b : Bench) (xs : List Float) (ask : Ask) (l : length xs ≡ SHARE) whe
   unfolding desk
   one-bench = rw (l, get-whole xs SHARE l, put-whole xs SHARE l)
 
-  one-length : length (desk 1 0 b xs ask .store) ≡ SHARE
+  pub one-length : length (desk 1 0 b xs ask .store) ≡ SHARE
   one-length = rw one-bench (admitted-kept b xs (gate 1 (callOf ask) 0 b SHARE) ask .size l)
 
 module _ (n side : ℕ) (b : Bench) (store : List Float) (ask : Ask) (l : length store ≡ n * SHARE) where

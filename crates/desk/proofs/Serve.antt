@@ -3,7 +3,7 @@
 --     served          it gets through, and what is left of the share is what the call makes of it
 --     misread, wiped  an opening that gets through, whose model is refused or reads
 -- Assumes nothing.
-use Prim.Native.Nat.{ℕ, _+_, _-_, _*_}
+use Prim.Native.Nat.{ℕ, _+_, _-_}
 use native.Mathlib.Nat.{add-sub-cancel-left}
 use mathlib.Core.Bool.{Bool, true, false, cond, not}
 use mathlib.Core.List.{List, []}
@@ -25,15 +25,15 @@ use Rattle.frame.specs.declared.Reply.{Reply}
 use Rattle.frame.specs.declared.Reply.the-variants.{Refused}
 use Rattle.desk.specs.declared.Bench.{Bench}
 use Rattle.desk.specs.declared.Answer.{Answer}
-use Rattle.desk.specs.Gate.{gate}
-use Rattle.desk.specs.Desk.{Ask, opening, callOf, noted, answered, opened, framed, openedOf, desk, shareOf, Served}
+use Rattle.desk.specs.Gate.{gate, shareOf}
+use Rattle.desk.specs.Desk.{Ask, opening, callOf, noted, answered, opened, framed, openedOf, desk, Served}
 use Rattle.desk.proofs.Turned.{through}
 
 -- a part of the store as the code lends it, from a start to an end
 abbrev pub lent : ℕ → ℕ → Place
 lent start end = record { at = start; size = end - start }
 
-lent-share : (side start end : ℕ) → (start ≡ side * SHARE) × (end ≡ side * SHARE + SHARE) → lent start end ≡ shareOf side
+lent-share : (side start end : ℕ) → (start ≡ shareOf side .at) × (end ≡ shareOf side .at + SHARE) → lent start end ≡ shareOf side
 lent-share side start end e = rw (e .0, e .1, add-sub-cancel-left)
 
 module _ (benches side : ℕ) (b : Bench) (store : List Float) (held : List (List Float)) (ask : Ask) where
@@ -44,7 +44,7 @@ module _ (benches side : ℕ) (b : Bench) (store : List Float) (held : List (Lis
       rw (← e, ne-eqb n 0 h) (record { answers = refl; stores = sym (put-get (shareOf side) store); writes = refl })
 
   pub served : (n start end : ℕ) (reply : Reply) (r : Answer) (new : List Float) (out : List (List Float))
-      → n ≡ gate benches (callOf ask) side b (length store) → n ≡ 0 → (n ≡ 0 → (start ≡ side * SHARE) × (end ≡ side * SHARE + SHARE))
+      → n ≡ gate benches (callOf ask) side b (length store) → n ≡ 0 → (n ≡ 0 → (start ≡ shareOf side .at) × (end ≡ shareOf side .at + SHARE))
       → Worked (framed ask b (get (lent start end) store)) reply new held out → r ≡ answered ask reply b
       → Served (desk benches side b store ask) r (put (lent start end) store new) held out
   unfolding desk
@@ -99,7 +99,7 @@ module _ (benches side : ℕ) (b : Bench) (store : List Float) (m : List ℕ) (n
       let no : passed (openedOf (readOf m) b .reply) ≡ false = rw (← d, ← a, ← q) (not-true p h) in
       rw (put-get (shareOf side) store) at (left-with (get (shareOf side) store) (sym (kept (readOf m) b (get (shareOf side) store) no)))
 
-  pub wiped : (start end : ℕ) (new : List Float) → not p ≡ false → (n ≡ 0 → (start ≡ side * SHARE) × (end ≡ side * SHARE + SHARE))
+  pub wiped : (start end : ℕ) (new : List Float) → not p ≡ false → (n ≡ 0 → (start ≡ shareOf side .at) × (end ≡ shareOf side .at + SHARE))
       → new ≡ zeroed (get (lent start end) store) → Served (desk benches side b store (opening m)) r (put (lent start end) store new) [] []
   wiped start end new h place f =
       let yes : passed (openedOf (readOf m) b .reply) ≡ true = rw (← d, ← a, ← q) (not-false p h) in

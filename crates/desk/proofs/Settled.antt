@@ -22,8 +22,8 @@ use Rattle.frame.specs.Reply.{passed}
 use Rattle.frame.proofs.Keeps.{Keeps, first-keeps, second-keeps, third-keeps, fourth-keeps}
 use Rattle.desk.specs.declared.Answer.{Answer}
 use Rattle.desk.specs.declared.Bench.{Bench}
-use Rattle.desk.specs.Gate.{gate}
-use Rattle.desk.specs.Desk.{Ask, opening, call1, call2, call3, call4, callOf, opened, framed, admitted, Outcome, desk, shareOf, Served}
+use Rattle.desk.specs.Gate.{shareOf, gate}
+use Rattle.desk.specs.Desk.{Ask, opening, call1, call2, call3, call4, callOf, opened, framed, admitted, Outcome, desk, Served}
 
 pub settled : {o : Outcome} {a a′ : Answer} {store store′ : List Float} {held out out′ : List (List Float)}
     → Served o a store held out → Served o a′ store′ held out′ → (a ≡ a′) × (store ≡ store′) × (out ≡ out′)

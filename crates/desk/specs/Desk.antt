@@ -1,5 +1,5 @@
 -- What a call gives: the definition that the desk's contracts cite, and that the law of isolation is about.
-use Prim.Native.Nat.{ℕ, _+_, _*_}
+use Prim.Native.Nat.{ℕ, _+_}
 use mathlib.Core.Bool.{cond}
 use mathlib.Core.List.{List, []}
 use mathlib.Core.Path.{_≡_}
@@ -7,7 +7,7 @@ use lib.Dec.{eqb, ltb}
 use lib.ListN.{length, replicate}
 use lib.Ieee.{Float}
 use Rattle.rules.specs.F32.{f32}
-use Rattle.rules.specs.Place.{Place, get, put}
+use Rattle.rules.specs.Place.{get, put}
 use Rattle.model.specs.Model.{readOf}
 use Rattle.model.specs.declared.Reading.{Reading}
 use Rattle.model.specs.declared.Reading.the-variants.{Good, Refused as Unread}
@@ -16,7 +16,7 @@ use Rattle.frame.specs.Frame.{Framed, still, refused, first, second, third, fou
 use Rattle.frame.specs.Reply.{passed, left}
 use Rattle.frame.specs.declared.Reply.{Reply}
 use Rattle.frame.specs.declared.Reply.the-variants.{Done, Silent, Heard, Refused, Misread}
-use Rattle.desk.specs.Gate.{gate}
+use Rattle.desk.specs.Gate.{gate, shareOf}
 use Rattle.desk.specs.declared.Bench.{Bench}
 use Rattle.desk.specs.declared.Answer.{Answer}
 
@@ -95,10 +95,6 @@ abbrev pub admitted : ℕ → Ask → Bench → List Float → Framed
 admitted number ask b share = cond (eqb number 0) (framed ask b share) (refused number share)
 
 -- ---- the desk: the side's record and share are worked on, and nothing else
-
--- a side's share, as a place of the store
-abbrev pub shareOf : ℕ → Place
-shareOf side = record { at = side * SHARE; size = SHARE }
 
 -- an answer, the store afterwards, and what is written: a list for each answer buffer
 pub record Outcome : Type 0 where

@@ -5,12 +5,17 @@ use mathlib.Core.List.{List, [], _∷_}
 use mathlib.Core.Path.{_≡_}
 use lib.Dec.{eqb, leb, ltb}
 use Rattle.rules.specs.Refusals.{Row, _when_, first}
+use Rattle.rules.specs.Place.{Place}
 use Rattle.frame.specs.Share.{SHARE}
 use Rattle.desk.specs.declared.Bench.{Bench}
 use Rattle.desk.specs.declared.Admission.{Admission}
 
 abbrev pub BENCHES : ℕ
 BENCHES = 2
+
+-- a side's share, as a place of the store
+abbrev pub shareOf : ℕ → Place
+shareOf side = record { at = side * SHARE; size = SHARE }
 
 -- the three GRU counts, and the cepstral index with them, are all 0
 unfoldable pub allZero : Bench → Bool
@@ -52,4 +57,4 @@ pub record Admitted (benches call side : ℕ) (b : Bench) (len : ℕ) (a : Admis
   pub number : a .number ≡ gate benches call side b len
   pub inOrder : a .start ≤ a .end
   pub inside : a .end ≤ len
-  pub share : a .number ≡ 0 → (a .start ≡ side * SHARE) × (a .end ≡ side * SHARE + SHARE)
+  pub share : a .number ≡ 0 → (a .start ≡ shareOf side .at) × (a .end ≡ shareOf side .at + SHARE)
