@@ -24,6 +24,7 @@ use Rattle.model.specs.declared.Reading.the-variants.{Good, Refused as Unread}
 use Rattle.frame.specs.Share.{SHARE}
 use Rattle.frame.specs.Frame.{Framed, refused}
 use Rattle.frame.specs.Reply.{passed}
+use Rattle.frame.specs.declared.Reply.the-variants.{Refused}
 use Rattle.desk.specs.declared.Bench.{Bench}
 use Rattle.desk.specs.declared.Answer.{Answer}
 use Rattle.desk.specs.Gate.{shareOf, gate, inRange, allZero}
@@ -158,7 +159,7 @@ module _ (b : Bench) (xs ys : List Float) (l : length xs ≡ SHARE) (k : length 
       opens (Good m) e h = rw e
       opens (Unread n l) e h = let one : _≡_ {A = ℕ} 0 1 = cc in absurd (omega arith)
 
-      go : (t : Bool) → passed (cond t (opened (readOf m) xs) (refused number xs) .reply) ≡ true
-          → outcome (opening m) b (cond t (opened (readOf m) xs) (refused number xs)) ≡ outcome (opening m) closed (admitted (gate 1 0 0 closed SHARE) (opening m) closed ys)
+      go : (t : Bool) → passed (cond t (opened (readOf m) xs) (refused (Refused number) xs) .reply) ≡ true
+          → outcome (opening m) b (cond t (opened (readOf m) xs) (refused (Refused number) xs)) ≡ outcome (opening m) closed (admitted (gate 1 0 0 closed SHARE) (opening m) closed ys)
       go true h = opens (readOf m) refl h
       go false h = let one : _≡_ {A = ℕ} 0 1 = cc in absurd (omega arith)

@@ -19,6 +19,7 @@ use Rattle.model.specs.declared.Reading.the-variants.{Good, Refused as Unread}
 use Rattle.frame.specs.Share.{SHARE}
 use Rattle.frame.specs.Frame.{Framed, refused}
 use Rattle.frame.specs.Reply.{passed}
+use Rattle.frame.specs.declared.Reply.the-variants.{Refused}
 use Rattle.frame.proofs.Keeps.{Keeps, first-keeps, second-keeps, third-keeps, fourth-keeps}
 use Rattle.desk.specs.declared.Answer.{Answer}
 use Rattle.desk.specs.declared.Bench.{Bench}
@@ -52,7 +53,7 @@ module _ (b : Bench) (share : List Float) where
       kept (call3 x l m o) = framed-kept (third-keeps share (b .index) (b .vad) (b .noise) (b .denoise) x l m o)
       kept (call4 x o) = framed-kept (fourth-keeps share x o)
 
-      go : (t : Bool) → Kept share (cond t (framed ask b share) (refused number share))
+      go : (t : Bool) → Kept share (cond t (framed ask b share) (refused (Refused number) share))
       go true = kept ask
       go false = record { size = λ h. h; still = λ _. refl }
 

@@ -12,7 +12,7 @@ use Rattle.model.specs.Model.{readOf}
 use Rattle.model.specs.declared.Reading.{Reading}
 use Rattle.model.specs.declared.Reading.the-variants.{Good, Refused as Unread}
 use Rattle.frame.specs.Share.{SHARE}
-use Rattle.frame.specs.Frame.{Framed, still, refused, first, second, third, fourth}
+use Rattle.frame.specs.Frame.{Framed, refused, first, second, third, fourth}
 use Rattle.frame.specs.Reply.{passed, left}
 use Rattle.frame.specs.declared.Reply.{Reply}
 use Rattle.frame.specs.declared.Reply.the-variants.{Done, Silent, Heard, Refused, Misread}
@@ -81,7 +81,7 @@ answered ask reply b = record { reply = reply; bench = cond (passed reply) (reco
 -- an opening wipes the share, whatever it held
 abbrev pub opened : Reading → List Float → Framed
 opened (Good m) share = record { reply = Done; share = replicate SHARE (f32 0); written = [] }
-opened (Unread n l) share = still (Misread n l) share
+opened (Unread n l) share = refused (Misread n l) share
 
 abbrev pub framed : Ask → Bench → List Float → Framed
 framed (opening m) b share = opened (readOf m) share
@@ -92,7 +92,7 @@ framed (call4 x o) b share = fourth share x o
 
 -- a call that the gate lets through, with 0, or its refusal
 abbrev pub admitted : ℕ → Ask → Bench → List Float → Framed
-admitted number ask b share = cond (eqb number 0) (framed ask b share) (refused number share)
+admitted number ask b share = cond (eqb number 0) (framed ask b share) (refused (Refused number) share)
 
 -- ---- the desk: the side's record and share are worked on, and nothing else
 

@@ -8,6 +8,8 @@ use frame::Lag;
 use frame::Reply;
 use model::Reading;
 
+pub mod host;
+
 // A side, 0 left and 1 right.
 pub struct Side(pub usize);
 
