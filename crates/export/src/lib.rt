@@ -1,2 +1,4 @@
 // The static library for Rust and C: thin functions named `tuppence_…`, a module for each crate below.
-mod of_numbers;
+pub mod of_bands;
+pub mod of_numbers;
+pub mod of_pitch;

@@ -1,72 +1,77 @@
--- Examples of the definitions in specs/, each computed by antt. Floats are written as their bit patterns. Assumes nothing.
+-- The definitions of specs/ at single numbers, computed by antt from the definitions alone. `f32` takes the bit pattern of a number. Assumes nothing.
+--     numbers-to-try     the list that the scope names: tansig, sigmoid, relu, roots
+--     narrowings         ties and the ends of the range, f64 pattern to f32 pattern
+--     filtered           three samples of the high-pass filter
+--     picks              which of two numbers `max`, `min` and `clamp` give
 use mathlib.Core.Path.{_≡_, refl}
-use mathlib.Core.List.{[], _∷_, map}
+use mathlib.Core.List.{List, [], _∷_, map}
 use Prim.Native.Nat.{ℕ}
 use lib.Ieee.{Float, nan, binary32, binary64, isNan, lt, toBits, ofBits, neg, add, sub, mul, ofInt, toUnsigned}
 use Rattle.rules.specs.F32.{f32}
-use Rattle.numbers.specs.Narrowed.{narrowed}
+use Rattle.rules.specs.Loop.{loop}
+use Rattle.rules.specs.Tab.{tab}
+use Rattle.numbers.specs.declared.filter.Memory.{Memory}
+use Rattle.numbers.specs.Activations.{tansigIn, sigmoidIn, tansigApprox, sigmoidApprox}
+use Rattle.numbers.specs.Filter.{highPass, turn, memoryAfter, outputs}
 use Rattle.numbers.specs.Larger.{larger, smaller, clamped, rectified}
+use Rattle.numbers.specs.Narrowed.{narrowed}
 use Rattle.numbers.specs.Root.{root}
 use Rattle.numbers.specs.Tansig.{tansig}
-use Rattle.numbers.specs.Activations.{tansigIn, sigmoidIn, tansigApprox, sigmoidApprox}
+
+pub numbers-to-try :
+    (tansigApprox (f32 0) ≡ f32 0)  -- tansig: 0 gives 0
+    × (tansigApprox (f32 0x4100_0000) ≡ f32 0x3F80_0000)  -- 8 gives 1
+    × (tansigApprox (f32 0xC100_0000) ≡ f32 0xBF80_0000)  -- -8 gives -1
+    × (tansigApprox nan ≡ f32 0x3F80_0000)  -- NaN gives 1
+    × (sigmoidApprox (f32 0) ≡ f32 0x3F00_0000)  -- sigmoid: 0 gives 0.5
+    × (sigmoidApprox nan ≡ f32 0x3F80_0000)  -- NaN gives 1
+    × (rectified nan ≡ f32 0)  -- relu: NaN gives 0
+    × (root binary32 (f32 0x4080_0000) ≡ f32 0x4000_0000)  -- root: 4 gives 2
+    × (root binary32 (f32 0x4000_0000) ≡ f32 0x3FB5_04F3)  -- 2
+    × (root binary32 (f32 0xBF80_0000) ≡ nan)  -- -1 gives NaN
+    × (root binary32 (f32 0x8000_0000) ≡ f32 0x8000_0000)  -- -0 gives -0
+unfolding tansigIn sigmoidIn tansig root isNan lt ofBits neg add sub mul ofInt toUnsigned
+numbers-to-try = (refl, refl, refl, refl, refl, refl, refl, refl, refl, refl, refl)
 
 abbrev narrow : ℕ → ℕ
 narrow b = toBits binary32 (narrowed (ofBits binary64 b))
 
-abbrev sqrt : ℕ → ℕ
-sqrt b = toBits binary32 (root binary32 (ofBits binary32 b))
-
--- 0.1; ±0; the infinities
-plain : map narrow (0x3fb9_9999_9999_999a ∷ 0 ∷ 0x8000_0000_0000_0000 ∷ 0x7ff0_0000_0000_0000 ∷ 0xfff0_0000_0000_0000 ∷ [])
-    ≡ (0x3dcc_cccd ∷ 0 ∷ 0x8000_0000 ∷ 0x7f80_0000 ∷ 0xff80_0000 ∷ [])
+-- 1 + 2 ^ -24 is a tie, and goes down to the even 1; the next up goes up; 1 + 3 * 2 ^ -24 is a tie, and goes up. Half way from the largest to 2 ^ 128 is an
+-- infinity, and what is just below is not; 2 ^ -150 is 0, and what is just above is the smallest; the largest subnormal is rounded up to the smallest normal
+narrowings :
+    map narrow
+    (0x3ff0_0000_1000_0000
+    ∷ 0x3ff0_0000_1000_0001
+    ∷ 0x3ff0_0000_3000_0000
+    ∷ 0x47ef_ffff_f000_0000
+    ∷ 0x47ef_ffff_efff_ffff
+    ∷ 0x3690_0000_0000_0000
+    ∷ 0xb690_0000_0000_0001
+    ∷ 0x380f_ffff_f000_0000
+    ∷ [])
+    ≡ (0x3f80_0000 ∷ 0x3f80_0001 ∷ 0x3f80_0002 ∷ 0x7f80_0000 ∷ 0x7f7f_ffff ∷ 0 ∷ 0x8000_0001 ∷ 0x0080_0000 ∷ [])
 unfolding narrowed ofBits toBits
-plain = refl
+narrowings = refl
 
--- 1 + 2 ^ -24 is a tie, and goes down to the even 1; the next up goes up; 1 + 3 * 2 ^ -24 is a tie, and goes up
-ties : map narrow (0x3ff0_0000_1000_0000 ∷ 0x3ff0_0000_1000_0001 ∷ 0x3ff0_0000_3000_0000 ∷ []) ≡ (0x3f80_0000 ∷ 0x3f80_0001 ∷ 0x3f80_0002 ∷ [])
-unfolding narrowed ofBits toBits
-ties = refl
+-- 3, 5 and 7 from zero memories, as the Rust has them. With y rounded before it is fed back the last output would end in C, and both memories would differ
+abbrev start : Memory
+start = record { m0 = f32 0; m1 = f32 0 }
 
--- half way from the largest to 2 ^ 128 is an infinity, and what is just below is not; 2 ^ -150 is 0, and what is just above is the smallest; the largest
--- subnormal is rounded up to the smallest normal
-ends : map narrow (0x47ef_ffff_f000_0000 ∷ 0x47ef_ffff_efff_ffff ∷ 0x3690_0000_0000_0000 ∷ 0xb690_0000_0000_0001 ∷ 0x380f_ffff_f000_0000 ∷ [])
-    ≡ (0x7f80_0000 ∷ 0x7f7f_ffff ∷ 0 ∷ 0x8000_0001 ∷ 0x0080_0000 ∷ [])
-unfolding narrowed ofBits toBits
-ends = refl
+abbrev samples : List Float
+samples = f32 0x4040_0000 ∷ f32 0x40A0_0000 ∷ f32 0x40E0_0000 ∷ []
 
--- 4; 2; -0; the infinity; the smallest; the largest
-roots : map sqrt (0x4080_0000 ∷ 0x4000_0000 ∷ 0x8000_0000 ∷ 0x7f80_0000 ∷ 1 ∷ 0x7f7f_ffff ∷ []) ≡ (0x4000_0000 ∷ 0x3fb5_04f3 ∷ 0x8000_0000 ∷ 0x7f80_0000 ∷ 0x1a35_04f3 ∷ 0x5f7f_ffff ∷ [])
-unfolding root ofBits toBits
-roots = refl
+filtered :
+    (outputs highPass start samples ≡ (f32 0x4040_0000 ∷ f32 0x409F_9D74 ∷ f32 0x40DE_F95B ∷ []))
+    × (memoryAfter highPass start samples ≡ record { m0 = f32 0xBD76_188C; m1 = f32 0x3D75_7C71 })
+unfolding outputs turn tab loop narrowed ofBits add sub mul
+filtered = (refl, refl)
 
-root-of-minus-one : root binary32 (ofBits binary32 0xbf80_0000) ≡ nan
-unfolding root ofBits
-root-of-minus-one = refl
-
--- of 0 and -0 the left one; the other where one is a NaN
-larger-of-zeros : map (λ b. toBits binary32 (larger (ofBits binary32 b) (ofBits binary32 0))) (0x8000_0000 ∷ 0 ∷ 0x3f80_0000 ∷ 0x7fc0_0000 ∷ []) ≡ (0x8000_0000 ∷ 0 ∷ 0x3f80_0000 ∷ 0 ∷ [])
-unfolding isNan lt ofBits toBits
-larger-of-zeros = refl
-
-smaller-of-nan : toBits binary32 (smaller (ofBits binary32 0x3f80_0000) nan) ≡ 0x3f80_0000
-unfolding isNan lt ofBits toBits
-smaller-of-nan = refl
-
-clamped-nan : clamped nan (ofBits binary32 0) (ofBits binary32 0x3f80_0000) ≡ nan
-unfolding lt ofBits
-clamped-nan = refl
-
-rectified-nan : toBits binary32 (rectified nan) ≡ 0
-unfolding isNan toBits
-rectified-nan = refl
-
-abbrev bits : Float → ℕ
-bits x = toBits binary32 x
-
--- tansig_approx at 0, 8, -8, NaN; sigmoid_approx at 0, NaN; relu at NaN
-activations :
-    (bits (tansigApprox (f32 0)) ∷ bits (tansigApprox (f32 0x41000000)) ∷ bits (tansigApprox (f32 0xC1000000)) ∷ bits (tansigApprox nan)
-    ∷ bits (sigmoidApprox (f32 0)) ∷ bits (sigmoidApprox nan) ∷ bits (rectified nan) ∷ [])
-    ≡ (0 ∷ 0x3F800000 ∷ 0xBF800000 ∷ 0x3F800000 ∷ 0x3F000000 ∷ 0x3F800000 ∷ 0 ∷ [])
-unfolding tansigIn sigmoidIn tansig isNan lt toBits ofBits neg add sub mul ofInt toUnsigned
-activations = refl
+-- of 0 and -0 the left one, and the other where one is a NaN; a NaN is not brought between two numbers
+picks :
+    (larger (f32 0x8000_0000) (f32 0) ≡ f32 0x8000_0000)
+    × (larger (f32 0) (f32 0x8000_0000) ≡ f32 0)
+    × (larger nan (f32 0) ≡ f32 0)
+    × (smaller (f32 0x3F80_0000) nan ≡ f32 0x3F80_0000)
+    × (clamped nan (f32 0) (f32 0x3F80_0000) ≡ nan)
+unfolding isNan lt ofBits
+picks = (refl, refl, refl, refl, refl)

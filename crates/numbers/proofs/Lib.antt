@@ -1,12 +1,15 @@
 pub mod Closest
 pub mod Conversion
-pub mod Correct
 pub mod Examples
 pub mod Extraction
 pub mod Held
 pub mod Larger
+pub mod NarrowCorrect
+pub mod Neighbours
 pub mod NoNan
+pub mod Outputs
 pub mod Pattern
+pub mod RootCorrect
 pub mod Rooted
 pub mod Special
 pub mod Squares

@@ -1,4 +1,5 @@
 pub mod Activations
+pub mod Filter
 pub mod Larger
 pub mod Narrowed
 pub mod Root

@@ -10,7 +10,12 @@ ghost use Rattle.numbers.specs.Root.{twiceRoot, root};
 ghost use Rattle.numbers.specs.Larger.{larger, smaller, clamped, rectified};
 ghost use Rattle.numbers.specs.Activations.{Within, magnitude, signOf, place, near, tansigIn, sigmoidIn, tansigApprox, sigmoidApprox};
 
+pub mod filter;
 pub mod table;
+
+pub use filter::Biquad;
+pub use filter::Filtered;
+pub use filter::Memory;
 
 // Patterns of an `f64`: the leading digit's weight, 896 in the exponent's field, 2^-126, which is the
 // smallest normal `f32`, and 2^-150, half of the smallest. The last is the infinity of an `f32`.

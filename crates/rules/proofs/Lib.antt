@@ -1,10 +1,14 @@
+pub mod Below
 pub mod Cleared
 pub mod Fill
 pub mod Leaves
 pub mod Loops
 pub mod Numbers
+pub mod OneNumber
 pub mod Places
 pub mod Refused
+pub mod Rows
+pub mod Runs
 pub mod Table
 pub mod Tabs
 pub mod Tests

@@ -1,0 +1,6 @@
+pub mod Edges
+pub mod Norm
+pub mod Results
+pub mod Scale
+pub mod Shares
+pub mod WindowRule

@@ -1,0 +1,9 @@
+pub mod Bands
+pub mod Dct
+pub mod DctTable
+pub mod Norm
+pub mod Scale
+pub mod Spectrum
+pub mod Window
+pub mod WindowRule
+pub mod Windowed

@@ -1,0 +1,20 @@
+-- What the number of an answer says of a leaf whose answer is an enum. Assumes nothing.
+use mathlib.Core.Path.{_≡_, refl, ap, _∙_, sym}
+use Prim.Native.Nat.{ℕ}
+use native.Mathlib.Omega.{arith}
+use Rattle.rules.specs.Leaf.{Leaf, done, refused}
+
+module _ {Answer : Type 0} {Fits : Type 0} (number : Answer → ℕ) {got new old : Answer} (promise : Leaf Fits got new old) where
+  pub turned-down : number new ≡ 0 → (number got ≡ 0 → ⊥) → (Fits → ⊥) × (number got ≡ number old)
+  turned-down zero h = go promise
+    where
+      go : Leaf Fits got new old → (Fits → ⊥) × (number got ≡ number old)
+      go (done f e) = absurd (h (ap number e ∙ zero))
+      go (refused n e) = (n, ap number e)
+
+  pub taken-up : (number old ≡ 0 → ⊥) → number got ≡ 0 → Fits × (got ≡ new)
+  taken-up some z = go promise
+    where
+      go : Leaf Fits got new old → Fits × (got ≡ new)
+      go (done f e) = (f, e)
+      go (refused n e) = absurd (some (sym (ap number e) ∙ z))

@@ -1,0 +1,46 @@
+-- `tuppence_inner_prod` meets its contract. Assumes nothing.
+use mathlib.Core.Path.{_≡_, refl, sym, ap, _∙_}
+use mathlib.Core.List.{List, [], _∷_}
+use native.Mathlib.Omega.{arith}
+use borrow.Author.Needs.{needs}
+use denote.Ref.{now}
+use lib.Ieee.{Float}
+use lib.ListN.{length, set}
+use Rattle.rules.specs.Leaf.{done, refused}
+use Rattle.rules.proofs.Leaves.{leaves}
+use Rattle.pitch.specs.Inner.{numberOf, sumOf}
+use Rattle.export.proofs.Answers.{turned-down, taken-up}
+use Rattle.export.proofs.of_pitch.tuppence_inner_prod.Statement.{statement}
+use Rattle.export.proofs.of_pitch.tuppence_inner_prod.Tie as tie
+
+stored : (xs : List Float) {v w : Float} → length xs ≡ 1 → v ≡ w → set xs 0 v ≡ (w ∷ [])
+stored [] h e = absurd (omega arith)
+stored (x ∷ []) h e = ap (λ (v : Float). v ∷ []) e
+stored (x ∷ y ∷ xs) h e = absurd (omega arith)
+
+returns-2 : tie.Need-returns-2
+returns-2 c =
+    let number = c .before .number .ensures in
+    let t = turned-down numberOf (c .before .before .inner-prod .ensures) refl (λ z. c .if2 .taken (number ∙ z)) in
+    refused (λ fits. t .0 (fits .inner)) (rw (number ∙ t .1))
+
+returns-3 : tie.Need-returns-3
+returns-3 c =
+    let asked = c .before .before in
+    let t = taken-up numberOf (asked .before .inner-prod .ensures) (λ z. omega arith) (sym (asked .number .ensures) ∙ c .before .if2 .left) in
+    let sum = now (asked .before .before .before .before .before .before .args .sum) in
+    let one : length sum ≡ 1 = omega arith in
+    done (record { one = one; inner = t .0 }) (leaves (stored sum one (c .sum .ensures ∙ ap sumOf (t .1))))
+
+pub tuppence-inner-prod-spec : {M : Type 1} → statement M
+tuppence-inner-prod-spec =
+    tie.close
+    (tie.spec
+    (λ c. refused (λ fits. c .if1 .taken (fits .one)) refl)  -- returns
+    (λ c κs. search needs)  -- inner-prod-requires
+    (λ c κs. search needs)  -- number-requires
+    returns-2
+    (λ c κs. search needs)  -- sum-requires
+    (λ c. search needs)  -- slice-write-sum
+    (λ c. search needs)  -- same-length
+    returns-3)

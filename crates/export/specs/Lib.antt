@@ -1,0 +1,2 @@
+pub mod OfNumbers
+pub mod OfPitch

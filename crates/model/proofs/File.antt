@@ -1,0 +1,65 @@
+-- A whole model file. Assumes nothing.
+--     reads-back      six layers that fit and go together are read back from their file
+--     writes-back     a file that reads is the bytes of its layers
+--     same-layers     layers that share a file are the same
+use mathlib.Core.Path.{_≡_, refl, sym, ap, _∙_}
+use mathlib.Core.List.{List, [], _∷_, _++_, append-nil}
+use Prim.Native.Nat.{ℕ, _+_}
+use native.Mathlib.Omega.{arith}
+use borrow.Author.Tests.{eqb-true, not-false}
+use mathlib.Core.Bool.{false, not}
+use lib.Dec.{eqb}
+use lib.ListN.{length}
+use Rattle.model.specs.declared.Model.{Model}
+use Rattle.model.specs.declared.Reading.{Reading}
+use Rattle.model.specs.declared.Reading.the-variants.{Good, Refused}
+use Rattle.rules.proofs.Refused.{Clear, clear, by-rows}
+use Rattle.model.specs.Layer.{Layer}
+use Rattle.model.specs.Model.{kinds, fileOf, Layers, layers, refusedAt, inRow, headersAt, modelOf, mismatches, judged, readOf}
+use Rattle.model.proofs.Inverse.{FitAll, AllFrom, row-reads, row-writes}
+
+-- six layers that go together, and their file
+pub record Holds (ls : List Layer) (s : List ℕ) : Type 0 where
+  pub fit : FitAll kinds ls
+  pub match : Clear (mismatches (modelOf (headersAt 0 ls)) 0)
+  pub file : s ≡ fileOf ls
+
+-- what is written reads back
+pub reads-back : (ls : List Layer) (s : List ℕ) → Holds ls s → readOf s ≡ Good (modelOf (headersAt 0 ls))
+unfolding readOf
+reads-back ls s h =
+    let m = modelOf (headersAt 0 ls) in
+    let row : inRow 0 kinds s ≡ layers ls [] = rw (h .file, ← append-nil (fileOf ls)) (row-reads 0 kinds ls [] (h .fit)) in
+    rw row (clear (λ n. Refused n 6) (Good m) (mismatches m 0) (h .match))
+
+-- layers that share a file are the same: no count, activation, weight or bias is lost
+pub same-layers : (ls ls′ : List Layer) → FitAll kinds ls → FitAll kinds ls′ → fileOf ls ≡ fileOf ls′ → ls ≡ ls′
+same-layers ls ls′ h h′ e =
+    let both : layers ls [] ≡ layers ls′ [] =
+    sym (row-reads 0 kinds ls [] h) ∙ ap (λ (s : List ℕ). inRow 0 kinds (s ++ [])) e ∙ row-reads 0 kinds ls′ [] h′ in
+    cc
+
+-- what reads is written back
+pub record Written (s : List ℕ) (m : Model) : Type 0 where
+  pub contents : List Layer
+  pub model : modelOf (headersAt 0 contents) ≡ m
+  pub holds : Holds contents s
+
+abbrev pub WrittenIf : List ℕ → Reading → Type 0
+WrittenIf s (Good m) = Written s m
+WrittenIf s (Refused n j) = Unit
+
+none-left : (rest : List ℕ) → not (eqb (length rest) 0) ≡ false → rest ≡ []
+none-left [] e = refl
+none-left (x ∷ rest) e = absurd (let z = eqb-true (length (x ∷ rest)) 0 (not-false (eqb (length (x ∷ rest)) 0) e) in omega arith)
+
+pub writes-back : (s : List ℕ) → WrittenIf s (readOf s)
+unfolding readOf
+writes-back s = of (inRow 0 kinds s) (row-writes 0 kinds s)
+  where
+    of : (x : Layers) → AllFrom kinds s x → WrittenIf s (judged x)
+    of (refusedAt n j) h = tt
+    of (layers ls rest) h =
+        let m = modelOf (headersAt 0 ls) in
+        by-rows (λ n. Refused n 6) (Good m) (WrittenIf s) (mismatches m (length rest)) (λ n. tt) (λ c.
+        record { contents = ls; model = refl; holds = record { fit = h .0; match = (refl, c .1); file = h .1 ∙ rw (none-left rest (c .0)) (append-nil (fileOf ls)) } })

@@ -1,0 +1,96 @@
+-- One layer of a model file (rnn.rs, `read_dense` and `read_gru` in `from_bytes_impl`): as data, as bytes, and what reading it gives.
+use Prim.Native.Nat.{ℕ, zero, suc, _+_, _*_}
+use mathlib.Core.List.{List, [], _∷_, _++_}
+use lib.Dec.{eqb, ltb}
+use lib.ListN.{length, take, drop}
+use Rattle.rules.specs.Refusals.{Row, _when_, first}
+use Rattle.model.specs.declared.Activation.{Activation}
+use Rattle.model.specs.declared.Activation.the-variants.{Tanh, Sigmoid, Relu}
+use Rattle.model.specs.declared.Kind.{Kind}
+use Rattle.model.specs.declared.Kind.the-variants.{Dense, Gru}
+use Rattle.model.specs.declared.Header.{Header}
+use Rattle.model.specs.declared.Cursor.{Cursor}
+use Rattle.model.specs.declared.Step.{Step}
+use Rattle.model.specs.declared.Step.the-variants as step
+
+-- the lengths of a layer's arrays: input weights, recurrent weights, biases
+abbrev pub lengths : Kind → ℕ → ℕ → List ℕ
+lengths Dense i n = i * n ∷ 0 ∷ n ∷ []
+lengths Gru i n = 3 * i * n ∷ 3 * n * n ∷ 3 * n ∷ []
+
+abbrev pub sum : List ℕ → ℕ
+sum [] = 0
+sum (n ∷ ns) = n + sum ns
+
+abbrev pub sizeOf : Kind → ℕ → ℕ → ℕ
+sizeOf k i n = sum (lengths k i n)
+
+-- `act`, and back
+abbrev pub activationOf : ℕ → Activation
+activationOf zero = Tanh
+activationOf (suc zero) = Sigmoid
+activationOf (suc (suc n)) = Relu
+
+abbrev pub numberOf : Activation → ℕ
+numberOf Tanh = 0
+numberOf Sigmoid = 1
+numberOf Relu = 2
+
+-- a layer as data
+pub record Layer : Type 0 where
+  pub inputs : ℕ
+  pub neurons : ℕ
+  pub activation : Activation
+  pub arrays : List (List ℕ)
+
+-- arrays in a row, and a row of bytes cut into arrays of some lengths
+abbrev pub joined : List (List ℕ) → List ℕ
+joined [] = []
+joined (x ∷ xs) = x ++ joined xs
+
+abbrev pub cut : List ℕ → List ℕ → List (List ℕ)
+cut [] s = []
+cut (n ∷ ns) s = take n s ∷ cut ns (drop n s)
+
+-- a layer as it stands in a file
+abbrev pub bytesOf : Layer → List ℕ
+bytesOf l = l .inputs ∷ l .neurons ∷ numberOf (l .activation) ∷ joined (l .arrays)
+
+-- the refusals of a layer with this header, where so many bytes follow it. A byte above 127 is a negative number (`unsigned`)
+abbrev pub faults : Kind → ℕ → ℕ → ℕ → ℕ → List Row
+faults k i n a left =
+    12 when ltb 127 i
+    ∷ 13 when ltb 127 n
+    ∷ 14 when ltb 2 a
+    ∷ 15 when eqb n 0
+    ∷ 16 when ltb left (sizeOf k i n)
+    ∷ []
+
+-- the layer in front of some bytes with the bytes behind it, or a refusal
+pub data Front : Type 0 where
+  layer : Layer → List ℕ → Front
+  refused : ℕ → Front
+
+unfoldable pub front : Kind → List ℕ → Front
+front k (i ∷ n ∷ a ∷ s) =
+    first (faults k i n a (length s)) refused
+    (layer (record { inputs = i; neurons = n; activation = activationOf a; arrays = cut (lengths k i n) s }) (drop (sizeOf k i n) s))
+front k (i ∷ n ∷ []) = refused 11
+front k (i ∷ []) = refused 11
+front k [] = refused 11
+
+-- its header, where it stands at a place of the file
+abbrev pub headerAt : ℕ → Layer → Header
+headerAt at l = record { inputs = l .inputs; neurons = l .neurons; activation = l .activation; start = at + 3 }
+
+abbrev pub stepOf : ℕ → Front → Step
+stepOf at (layer l rest) = step.Layer (headerAt at l) (record { at = at + length (bytesOf l) })
+stepOf at (refused n) = step.Refused n
+
+-- where reading starts
+abbrev pub origin : Cursor
+origin = record { at = 0 }
+
+-- what reading a layer at a place gives
+unfoldable pub stepAt : Kind → List ℕ → ℕ → Step
+stepAt k s at = stepOf at (front k (drop at s))

@@ -1,0 +1,4 @@
+pub mod Layer
+pub mod Model
+pub mod Array
+pub mod Parts

@@ -1,0 +1,97 @@
+-- A model file: six layers in a row (rnn.rs, `from_bytes_impl`).
+use Prim.Native.Nat.{ℕ, suc, _+_}
+use mathlib.Core.Bool.{Bool, not, _||_}
+use mathlib.Core.List.{List, [], _∷_, _++_}
+use lib.Dec.{eqb}
+use lib.ListN.{length, getD}
+use Rattle.rules.specs.Refusals.{Row, _when_, first}
+use Rattle.model.specs.Layer.{Layer, bytesOf, Front, layer, refused, front, headerAt}
+use Rattle.model.specs.declared.Activation.the-variants.{Tanh}
+use Rattle.model.specs.declared.Kind.{Kind}
+use Rattle.model.specs.declared.Kind.the-variants.{Dense, Gru}
+use Rattle.model.specs.declared.Header.{Header}
+use Rattle.model.specs.declared.Model.{Model}
+use Rattle.model.specs.declared.Reading.{Reading}
+use Rattle.model.specs.declared.Reading.the-variants.{Good, Refused}
+
+-- input_dense, vad_gru, noise_gru, denoise_gru, denoise_output, vad_output
+abbrev pub kinds : List Kind
+kinds = Dense ∷ Gru ∷ Gru ∷ Gru ∷ Dense ∷ Dense ∷ []
+
+abbrev pub kindAt : ℕ → Kind
+kindAt j = getD kinds j Dense
+
+-- layers as they stand in a file
+abbrev pub fileOf : List Layer → List ℕ
+fileOf [] = []
+fileOf (l ∷ ls) = bytesOf l ++ fileOf ls
+
+-- layers in a row with the bytes behind them, or a refusal with its layer
+pub data Layers : Type 0 where
+  layers : List Layer → List ℕ → Layers
+  refusedAt : ℕ → ℕ → Layers
+
+abbrev pub before : Layer → Layers → Layers
+before l (layers ls rest) = layers (l ∷ ls) rest
+before l (refusedAt n j) = refusedAt n j
+
+abbrev pub onward : ℕ → Front → (List ℕ → Layers) → Layers
+onward j (layer l rest) next = before l (next rest)
+onward j (refused n) next = refusedAt n j
+
+-- the layers of these kinds in front of some bytes, the first of them layer j
+unfoldable pub inRow : ℕ → List Kind → List ℕ → Layers
+inRow j [] s = layers [] s
+inRow j (k ∷ ks) s = onward j (front k s) (inRow (suc j) ks)
+
+-- their headers, the first of them at a place of the file
+abbrev pub headersAt : ℕ → List Layer → List Header
+headersAt at [] = []
+headersAt at (l ∷ ls) = headerAt at l ∷ headersAt (at + length (bytesOf l)) ls
+
+infix 50 _≠_
+abbrev pub _≠_ : ℕ → ℕ → Bool
+m ≠ n = not (eqb m n)
+
+-- the refusals of six layers, where so many bytes are behind them
+abbrev pub mismatches : Model → ℕ → List Row
+mismatches m left =
+    let l0 = m .«input_dense» in
+    let l1 = m .«vad_gru» in
+    let l2 = m .«noise_gru» in
+    let l3 = m .«denoise_gru» in
+    let l4 = m .«denoise_output» in
+    let l5 = m .«vad_output» in
+    17 when (left ≠ 0)
+    ∷ 18 when ((l0 .inputs ≠ 42) || ((l4 .neurons ≠ 22) || (l5 .neurons ≠ 1)))
+    ∷ 19 when ((l0 .neurons ≠ l1 .inputs) || (l1 .neurons ≠ l5 .inputs))
+    ∷ 20 when (42 + l0 .neurons + l1 .neurons ≠ l2 .inputs)
+    ∷ 21 when (42 + l1 .neurons + l2 .neurons ≠ l3 .inputs)
+    ∷ 22 when (l3 .neurons ≠ l4 .inputs)
+    ∷ []
+
+-- the model of six headers
+abbrev pub headerIn : List Header → ℕ → Header
+headerIn hs j = getD hs j (record { inputs = 0; neurons = 0; activation = Tanh; start = 0 })
+
+abbrev pub modelOf : List Header → Model
+modelOf hs =
+    record {
+      «input_dense» = headerIn hs 0;
+      «vad_gru» = headerIn hs 1;
+      «noise_gru» = headerIn hs 2;
+      «denoise_gru» = headerIn hs 3;
+      «denoise_output» = headerIn hs 4;
+      «vad_output» = headerIn hs 5;
+    }
+
+abbrev pub judge : List Row → Model → Reading
+judge rows m = first rows (λ n. Refused n 6) (Good m)
+
+abbrev pub judged : Layers → Reading
+judged (layers ls rest) = let m = modelOf (headersAt 0 ls) in judge (mismatches m (length rest)) m
+judged (refusedAt n j) = Refused n j
+
+-- what reading a file gives
+unfoldable pub readOf : List ℕ → Reading
+readOf s = judged (inRow 0 kinds s)

@@ -1,0 +1,20 @@
+-- What the private functions of the reader promise and ask for.
+use Prim.Native.Nat.{ℕ, _+_, _<_}
+use Rattle.rules.specs.Refusals.{first}
+use Rattle.model.specs.Layer.{sizeOf, activationOf, faults}
+use Rattle.model.specs.declared.Kind.{Kind}
+use Rattle.model.specs.declared.Model.{Model}
+use Rattle.model.specs.declared.Step.{Step}
+use Rattle.model.specs.declared.Step.the-variants.{Layer, Refused}
+
+-- a step over a layer with this header, where its arrays start at a place and so many bytes are left for them
+abbrev pub headed : Kind → ℕ → ℕ → ℕ → ℕ → ℕ → Step
+headed k i n a start left =
+    first (faults k i n a left) Refused
+    (Layer (record { inputs = i; neurons = n; activation = activationOf a; start = start }) (record { at = start + sizeOf k i n }))
+
+-- counts whose sums do not wrap
+pub record Few (m : Model) : Type 0 where
+  pub dense : m .«input_dense» .neurons < 128
+  pub vad : m .«vad_gru» .neurons < 128
+  pub noise : m .«noise_gru» .neurons < 128

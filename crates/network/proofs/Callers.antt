@@ -1,0 +1,129 @@
+-- Laws of `computed`, for callers.
+--     computed-wrong       where a length is wrong: 5, and all as it was
+--     computed-misread     where the lengths fit and the model does not read: its number and layer, and all as it was
+--     computed-done        where the lengths fit and the model reads: done, and what the six layers leave
+--     kept                 every buffer keeps its length
+-- Assumes nothing.
+use mathlib.Core.Path.{_≡_, refl, sym, ap, _∙_}
+use mathlib.Core.Bool.{not, false}
+use mathlib.Core.List.{List, _++_}
+use Prim.Native.Nat.{ℕ, _≤_}
+use borrow.Author.Tests.{eq-eqb, eqb-true, not-false}
+use lib.Dec.{eqb}
+use native.Mathlib.Omega.{arith}
+use lib.ListN.{length, take, drop, length-append, length-take, length-drop}
+use lib.Ieee.{Float}
+use Rattle.rules.specs.Refusals.{Row}
+use Rattle.rules.proofs.Refused.{Clear, clear, by-rows}
+use Rattle.rules.proofs.OneNumber.{refuses}
+use Rattle.model.specs.Model.{readOf, _≠_}
+use Rattle.model.specs.declared.Model.{Model}
+use Rattle.model.specs.declared.Reading.{Reading}
+use Rattle.model.specs.declared.Reading.the-variants as read
+use Rattle.network.specs.Compute.{Frame, frameOf, sixLayers, framed, Outcome, outcome, byReading, wrongLengths, computed, Lengths}
+use Rattle.network.specs.declared.Computed.the-variants.{Done, Refused, Misread}
+use Rattle.network.proofs.Fitting.{few, voice-fits, gains-fit}
+use Rattle.network.proofs.Lengths.{length-denseAt, length-gruAt}
+
+equal : (a b : ℕ) → a ≡ b → (a ≠ b) ≡ false
+equal a b e = ap not (eq-eqb a b e)
+
+same : (a b : ℕ) → (a ≠ b) ≡ false → a ≡ b
+same a b e = eqb-true a b (not-false (eqb a b) e)
+
+-- no row's test holds exactly where the lengths fit
+module _ (gains voice vad noise denoise features : ℕ) where
+  fit-clear : Lengths gains voice vad noise denoise features → Clear (wrongLengths gains voice vad noise denoise features)
+  fit-clear h =
+      (equal gains 22 (h .gained), (equal voice 1 (h .voiced), (equal vad 128 (h .first), (equal noise 128 (h .second), (equal denoise 128 (h .third), (equal features 42 (h .featured), tt))))))
+
+  clear-fit : Clear (wrongLengths gains voice vad noise denoise features) → Lengths gains voice vad noise denoise features
+  clear-fit c =
+      record {
+        gained = same gains 22 (c .0);
+        voiced = same voice 1 (c .1 .0);
+        first = same vad 128 (c .1 .1 .0);
+        second = same noise 128 (c .1 .1 .1 .0);
+        third = same denoise 128 (c .1 .1 .1 .1 .0);
+        featured = same features 42 (c .1 .1 .1 .1 .1 .0);
+      }
+
+module _ (gains voice vad noise denoise : List Float) (model : List ℕ) (features : List Float) where
+  abbrev pub Fit : Type 0
+  Fit = Lengths (length gains) (length voice) (length vad) (length noise) (length denoise) (length features)
+
+  abbrev rows : List Row
+  rows = wrongLengths (length gains) (length voice) (length vad) (length noise) (length denoise) (length features)
+
+  abbrev refuse : ℕ → Outcome
+  refuse n = outcome (Refused n) gains voice vad noise denoise
+
+  abbrev past : Outcome
+  past =
+      byReading (readOf model) (λ m. record { answer = Done; left = framed model m vad noise denoise features })
+      (λ number layer. outcome (Misread number layer) gains voice vad noise denoise)
+
+  pub computed-wrong : (Fit → ⊥) → outcome (Refused 5) gains voice vad noise denoise ≡ computed gains voice vad noise denoise model features
+  unfolding computed
+  computed-wrong wrong =
+      sym (refuses refuse past 5 rows (refl, (refl, (refl, (refl, (refl, (refl, tt))))))
+      (λ c. wrong (clear-fit (length gains) (length voice) (length vad) (length noise) (length denoise) (length features) c)))
+
+  passed : Fit → past ≡ computed gains voice vad noise denoise model features
+  unfolding computed
+  passed fit = sym (clear refuse past rows (fit-clear (length gains) (length voice) (length vad) (length noise) (length denoise) (length features) fit))
+
+  pub computed-misread : Fit → {number layer : ℕ} → readOf model ≡ read.Refused number layer
+      → outcome (Misread number layer) gains voice vad noise denoise ≡ computed gains voice vad noise denoise model features
+  computed-misread fit {number} {layer} e = sym (ap (λ (r : Reading). byReading r good bad) e) ∙ passed fit
+    where
+      good : Model → Outcome
+      good m = record { answer = Done; left = framed model m vad noise denoise features }
+
+      bad : ℕ → ℕ → Outcome
+      bad number layer = outcome (Misread number layer) gains voice vad noise denoise
+
+  pub computed-done : Fit → {m : Model} {left : Frame} → readOf model ≡ read.Good m → left ≡ framed model m vad noise denoise features
+      → record { answer = Done; left = left } ≡ computed gains voice vad noise denoise model features
+  computed-done fit e l = rw (← passed fit, e, l)
+
+  -- every buffer keeps its length
+  pub record Kept (f : Frame) : Type 0 where
+    pub gained : length (f .gains) ≡ length gains
+    pub voiced : length (f .voice) ≡ length voice
+    pub first : length (f .vad) ≡ length vad
+    pub second : length (f .noise) ≡ length noise
+    pub third : length (f .denoise) ≡ length denoise
+
+  as-held : Kept (frameOf gains voice vad noise denoise)
+  as-held = record { gained = refl; voiced = refl; first = refl; second = refl; third = refl }
+
+  -- a state whose first n places are another list of n
+  moved : (n : ℕ) (state new : List Float) → n ≤ length state → length new ≡ length (take n state) → length (new ++ drop n state) ≡ length state
+  moved n state new h e = simp (length-append, length-drop, e, length-take) (omega arith)
+
+  done-kept : Fit → (m : Model) → readOf model ≡ read.Good m → Kept (framed model m vad noise denoise features)
+  unfolding framed sixLayers
+  done-kept fit m good =
+      let few = few model m good in
+      let voiced = voice-fits model m good refl refl refl refl .answer in
+      let gained = gains-fit model m good refl refl refl refl refl refl .answer in
+      let f = sixLayers model m (take (m .«vad_gru» .neurons) vad) (take (m .«noise_gru» .neurons) noise) (take (m .«denoise_gru» .neurons) denoise) features in
+      record {
+        gained = length-denseAt model (m .«denoise_output») _ (gained .within) ∙ sym (gained .neurons) ∙ sym (fit .gained);
+        voiced = length-denseAt model (m .«vad_output») _ (voiced .within) ∙ sym (voiced .neurons) ∙ sym (fit .voiced);
+        first = moved (m .«vad_gru» .neurons) vad (f .vad) (omega (arith, few, fit .first)) (length-gruAt model (m .«vad_gru») _ _);
+        second = moved (m .«noise_gru» .neurons) noise (f .noise) (omega (arith, few, fit .second)) (length-gruAt model (m .«noise_gru») _ _);
+        third = moved (m .«denoise_gru» .neurons) denoise (f .denoise) (omega (arith, few, fit .third)) (length-gruAt model (m .«denoise_gru») _ _);
+      }
+
+  pub kept : Kept (computed gains voice vad noise denoise model features .left)
+  unfolding computed
+  kept =
+      by-rows refuse past (λ o. Kept (o .left)) rows (λ n. as-held) (λ c.
+      of (clear-fit (length gains) (length voice) (length vad) (length noise) (length denoise) (length features) c) (readOf model) refl)
+    where
+      of : Fit → (r : Reading) → readOf model ≡ r
+          → Kept (byReading r (λ m. record { answer = Done; left = framed model m vad noise denoise features }) (λ number layer. outcome (Misread number layer) gains voice vad noise denoise) .left)
+      of fit (read.Good m) e = done-kept fit m e
+      of fit (read.Refused number layer) e = as-held

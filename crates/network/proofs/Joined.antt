@@ -1,0 +1,57 @@
+-- The parts of a layer, put together: from what each call leaves to the layer's definition. Assumes nothing.
+use mathlib.Core.Path.{_≡_, ap, _∙_}
+use mathlib.Core.List.{List, _++_}
+use Prim.Native.Nat.{ℕ, _+_, _*_, _≤_}
+use native.Mathlib.Omega.{arith}
+use lib.ListN.{length, take, drop}
+use lib.Ieee.{Float}
+use Rattle.rules.specs.Loop.{loop}
+use Rattle.rules.specs.F32.{part}
+use Rattle.network.specs.Sums.{copied, mulAdd}
+use Rattle.network.specs.Layers.{activateStep, denseOf, gateSums, updateStep, resetStep, blendStep, gruOf, GruArrays, GateFits}
+use Rattle.network.specs.Compute.{Frame, denseAt, gruAt, frameOf, sixLayers, framed}
+use Rattle.model.specs.declared.Activation.{Activation}
+use Rattle.model.specs.declared.Model.{Model}
+
+pub dense-joined : (weights bias : List ℕ) (activation : Activation) (input : List Float) {n : ℕ} {a b r : List Float}
+    → length bias ≡ n → a ≡ copied bias → b ≡ mulAdd a weights n 0 input → length b ≡ n → r ≡ loop (length b) (activateStep activation) b
+    → r ≡ denseOf weights bias activation input
+unfolding denseOf
+dense-joined weights bias activation input fit e e′ l e″ = e″ ∙ rw (l, e′, e, fit)
+
+pub sums-joined : (weights recurrent bias : List ℕ) (input state : List Float) (n offset : ℕ) {a b r : List Float}
+    → a ≡ copied (part offset (offset + n) bias) → b ≡ mulAdd a weights (3 * n) offset input → r ≡ mulAdd b recurrent (3 * n) offset state
+    → r ≡ gateSums weights recurrent bias input n offset state
+unfolding gateSums
+sums-joined weights recurrent bias input state n offset e e′ e″ = e″ ∙ rw (e′, e)
+
+pub gate-fits : {n weights recurrent bias offset input out state : ℕ} → GruArrays n weights recurrent bias input → out ≡ n → state ≡ n → offset ≤ 2 * n
+    → GateFits out weights recurrent bias offset input state
+gate-fits fits same same′ h =
+    record { inside = omega arith; weighted = rw same (fits .weighted); recurs = rw (same, same′) (fits .recurs); biased = rw same (fits .biased) }
+
+-- a, b and h are a gate's sums each, in a slice of n numbers
+pub gru-joined : (weights recurrent bias : List ℕ) (activation : Activation) (input state : List Float) {nz na nr nb nh : ℕ} {a z b r h s : List Float}
+    → nz ≡ length state → a ≡ gateSums weights recurrent bias input nz 0 state → na ≡ length state → z ≡ loop na updateStep a
+    → nr ≡ length state → b ≡ gateSums weights recurrent bias input nr (length state) state → nb ≡ length state → r ≡ loop nb (resetStep state) b
+    → nh ≡ length state → h ≡ gateSums weights recurrent bias input nh (2 * length state) r
+    → s ≡ loop (length state) (blendStep activation z h) state → s ≡ gruOf weights recurrent bias activation input state
+unfolding gruOf
+gru-joined weights recurrent bias activation input state lz ea la ez lr eb lb er lh eh es = es ∙ rw (ez, ea, eh, er, eb, la, lz, lb, lr, lh)
+
+pub six-joined : (bytes : List ℕ) (m : Model) (vad noise denoise features : List Float) {hidden vad′ noise′ denoise′ gains voice : List Float}
+    → hidden ≡ denseAt bytes (m .«input_dense») features → vad′ ≡ gruAt bytes (m .«vad_gru») hidden vad → voice ≡ denseAt bytes (m .«vad_output») vad′
+    → noise′ ≡ gruAt bytes (m .«noise_gru») (hidden ++ vad′ ++ features) noise
+    → denoise′ ≡ gruAt bytes (m .«denoise_gru») (vad′ ++ noise′ ++ features) denoise
+    → gains ≡ denseAt bytes (m .«denoise_output») denoise′ → frameOf gains voice vad′ noise′ denoise′ ≡ sixLayers bytes m vad noise denoise features
+unfolding sixLayers
+six-joined bytes m vad noise denoise features eh ea ev en ed eg = rw (eg, ev, ed, en, ea, eh)
+
+-- the first places of each state were lent, a, b and c of them
+pub framed-joined : (bytes : List ℕ) (m : Model) (vad noise denoise features : List Float) (a b c : ℕ) {gains voice vad′ noise′ denoise′ : List Float}
+    → a ≡ m .«vad_gru» .neurons → b ≡ m .«noise_gru» .neurons → c ≡ m .«denoise_gru» .neurons
+    → frameOf gains voice vad′ noise′ denoise′ ≡ sixLayers bytes m (take a vad) (take b noise) (take c denoise) features
+    → frameOf gains voice (vad′ ++ drop a vad) (noise′ ++ drop b noise) (denoise′ ++ drop c denoise) ≡ framed bytes m vad noise denoise features
+unfolding framed
+framed-joined bytes m vad noise denoise features a b c ea eb ec e =
+    ap (λ (f : Frame). frameOf (f .gains) (f .voice) (f .vad ++ drop a vad) (f .noise ++ drop b noise) (f .denoise ++ drop c denoise)) e ∙ rw (ea, eb, ec)

@@ -1,0 +1,64 @@
+-- A layer's output has a place for each neuron, and a state keeps its length. Assumes nothing.
+use mathlib.Core.Path.{_≡_, refl, _∙_}
+use mathlib.Core.List.{List}
+use Prim.Native.Nat.{ℕ, _+_, _*_}
+use lib.ListN.{length, length-set, length-map}
+use lib.Ieee.{Float}
+use Rattle.rules.specs.F32.{at, part}
+use Rattle.rules.specs.Loop.{loop}
+use Rattle.rules.proofs.Runs.{kept}
+use Rattle.rules.proofs.Places.{length-get}
+use Rattle.network.specs.Sums.{ofByte, copied, columnStep, mulStep, mulAdd}
+use Rattle.network.specs.Layers.{activateStep, gateSums, updateStep, resetStep, blendStep, denseOf, gruOf}
+use Rattle.network.specs.Compute.{array, denseAt, gruAt}
+use Rattle.model.specs.Array.{placeOf, Within}
+use Rattle.model.specs.declared.Activation.{Activation}
+use Rattle.model.specs.declared.Kind.{Kind}
+use Rattle.model.specs.declared.Kind.the-variants.{Dense, Gru}
+use Rattle.model.specs.declared.Header.{Header}
+use Rattle.model.proofs.Places.{place-within}
+
+-- a loop whose turns store single elements
+same-length : (body : ℕ → List Float → List Float) → ((i : ℕ) (s : List Float) → length (body i s) ≡ length s) → (n : ℕ) (start : List Float)
+    → length (loop n body start) ≡ length start
+same-length body turn n start = kept body (λ s. length s ≡ length start) n start (λ i s b e. turn i s ∙ e) refl
+
+length-copied : (bytes : List ℕ) → length (copied bytes) ≡ length bytes
+length-copied bytes = length-map bytes ofByte
+
+length-mulAdd : (out : List Float) (weights : List ℕ) (stride offset : ℕ) (input : List Float) → length (mulAdd out weights stride offset input) ≡ length out
+unfolding mulAdd
+length-mulAdd out weights stride offset input =
+    same-length (mulStep weights stride offset input)
+    (λ i s. same-length (columnStep (part (i * stride + offset) (length weights) weights) (at input i)) (λ j t. simp length-set) (length s) s)
+    (length input) out
+
+pub length-denseOf : (weights bias : List ℕ) (activation : Activation) (input : List Float) → length (denseOf weights bias activation input) ≡ length bias
+unfolding denseOf
+length-denseOf weights bias activation input =
+    same-length (activateStep activation) (λ j s. simp length-set) (length bias) (mulAdd (copied bias) weights (length bias) 0 input)
+    ∙ length-mulAdd (copied bias) weights (length bias) 0 input
+    ∙ length-copied bias
+
+pub length-gruOf : (weights recurrent bias : List ℕ) (activation : Activation) (input state : List Float)
+    → length (gruOf weights recurrent bias activation input state) ≡ length state
+unfolding gruOf
+length-gruOf weights recurrent bias activation input state =
+    let n = length state in
+    let sums = gateSums weights recurrent bias input n in
+    let z = loop n updateStep (sums 0 state) in
+    let r = loop n (resetStep state) (sums n state) in
+    same-length (blendStep activation z (sums (2 * n) r)) (λ j s. simp length-set) n state
+
+length-array : (bytes : List ℕ) (k : Kind) (h : Header) → Within (length bytes) k h → (which : ℕ) → length (array bytes k h which) ≡ placeOf k h which .size
+length-array bytes k h w which = length-get (placeOf k h which) bytes (place-within k h w which)
+
+-- the layers of a model
+module _ (bytes : List ℕ) (h : Header) (input : List Float) where
+  pub length-denseAt : Within (length bytes) Dense h → length (denseAt bytes h input) ≡ h .neurons
+  unfolding denseAt
+  length-denseAt w = length-denseOf (array bytes Dense h 0) (array bytes Dense h 2) (h .activation) input ∙ length-array bytes Dense h w 2
+
+  pub length-gruAt : (state : List Float) → length (gruAt bytes h input state) ≡ length state
+  unfolding gruAt
+  length-gruAt state = length-gruOf (array bytes Gru h 0) (array bytes Gru h 1) (array bytes Gru h 2) (h .activation) input state

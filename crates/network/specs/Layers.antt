@@ -1,0 +1,106 @@
+-- `DenseLayer::compute` and `GruLayer::compute` of rnn.rs.
+use mathlib.Core.Path.{_≡_}
+use Prim.Native.Nat.{ℕ, _+_, _*_, _≤_}
+use mathlib.Core.List.{List}
+use lib.ListN.{length, set}
+use lib.Ieee.{Float}
+use Rattle.rules.specs.Loop.{loop}
+use Rattle.rules.specs.F32.{f32, at, part, _⊕_, _⊖_, _⊗_}
+use Rattle.numbers.specs.Larger.{rectified}
+use Rattle.numbers.specs.Activations.{tansigApprox, sigmoidApprox}
+use Rattle.network.specs.Sums.{copied, mulAdd}
+use Rattle.model.specs.declared.Activation.{Activation}
+use Rattle.model.specs.declared.Activation.the-variants.{Tanh, Sigmoid, Relu}
+
+-- WEIGHTS_SCALE, 1.0 / 256.0
+abbrev pub scale : Float
+scale = f32 0x3B800000
+
+abbrev pub activated : Activation → Float → Float
+activated Tanh x = tansigApprox x
+activated Sigmoid x = sigmoidApprox x
+activated Relu x = rectified x
+
+-- ---- a dense layer
+
+-- *out = activation(*out * WEIGHTS_SCALE)
+abbrev pub activateStep : Activation → ℕ → List Float → List Float
+activateStep activation j out = set out j (activated activation (at out j ⊗ scale))
+
+unfoldable pub denseOf : List ℕ → List ℕ → Activation → List Float → List Float
+unfolding mulAdd loop
+denseOf weights bias activation input =
+    let n = length bias in
+    loop n (activateStep activation) (mulAdd (copied bias) weights n 0 input)
+
+-- ---- a GRU layer
+
+-- the sums of the gate whose columns start at `offset`: bias, inputs, recurrent
+unfoldable pub gateSums : List ℕ → List ℕ → List ℕ → List Float → ℕ → ℕ → List Float → List Float
+unfolding mulAdd
+gateSums weights recurrent bias input n offset state =
+    let start = copied (part offset (offset + n) bias) in
+    mulAdd (mulAdd start weights (3 * n) offset input) recurrent (3 * n) offset state
+
+-- *z = sigmoid_approx(WEIGHTS_SCALE * *z)
+abbrev pub updateStep : ℕ → List Float → List Float
+updateStep j z = set z j (sigmoidApprox (scale ⊗ at z j))
+
+-- *r = s * sigmoid_approx(WEIGHTS_SCALE * *r)
+abbrev pub resetStep : List Float → ℕ → List Float → List Float
+resetStep state j r = set r j (at state j ⊗ sigmoidApprox (scale ⊗ at r j))
+
+-- *s = z * *s + (1.0 - z) * activation(WEIGHTS_SCALE * h)
+abbrev pub blendStep : Activation → List Float → List Float → ℕ → List Float → List Float
+blendStep activation z h j state =
+    set state j (at z j ⊗ at state j ⊕ (f32 0x3F800000 ⊖ at z j) ⊗ activated activation (scale ⊗ at h j))
+
+-- both gates read the old state
+unfoldable pub gruOf : List ℕ → List ℕ → List ℕ → Activation → List Float → List Float → List Float
+unfolding gateSums loop
+gruOf weights recurrent bias activation input state =
+    let n = length state in
+    let sums = gateSums weights recurrent bias input n in
+    let z = loop n updateStep (sums 0 state) in
+    let r = loop n (resetStep state) (sums n state) in
+    let h = sums (2 * n) r in
+    loop n (blendStep activation z h) state
+
+-- ---- the lengths, each count from 1 to 127
+
+pub record Count (n : ℕ) : Type 0 where
+  pub some : 1 ≤ n
+  pub small : n ≤ 127
+
+pub record DenseArrays (output weights bias input : ℕ) : Type 0 where
+  pub weighted : weights ≡ output * input
+  pub biased : bias ≡ output
+
+pub record DenseFits (output weights bias input : ℕ) : Type 0 where
+  pub neurons : Count output
+  pub inputs : Count input
+  pub arrays : DenseArrays output weights bias input
+
+pub record GruArrays (state weights recurrent bias input : ℕ) : Type 0 where
+  pub weighted : weights ≡ 3 * state * input
+  pub recurs : recurrent ≡ 3 * state * state
+  pub biased : bias ≡ 3 * state
+
+pub record GruFits (state weights recurrent bias input : ℕ) : Type 0 where
+  pub neurons : Count state
+  pub inputs : Count input
+  pub arrays : GruArrays state weights recurrent bias input
+
+-- ---- for the parts of the code
+
+-- the sums of one gate, over `state` or over the reset gates
+pub record GateFits (out weights recurrent bias offset input state : ℕ) : Type 0 where
+  pub inside : offset + out ≤ 3 * out
+  pub weighted : weights ≡ 3 * out * input
+  pub recurs : recurrent ≡ 3 * out * state
+  pub biased : bias ≡ 3 * out
+
+pub record ScratchFits (state z r h : ℕ) : Type 0 where
+  pub update : z ≡ state
+  pub reset : r ≡ state
+  pub new : h ≡ state

@@ -1,0 +1,159 @@
+// The layers for lengths that fit. The table of the activations is lent, so that a frame takes it once.
+ghost use mathlib.Core.Path.{_≡_};
+ghost use Prim.Native.Nat.{_+_, _*_, _≤_};
+ghost use lib.ListN.{length};
+ghost use Rattle.rules.specs.Loop.{loop};
+ghost use Rattle.numbers.specs.Tansig.{tansig};
+ghost use Rattle.network.specs.Layers.{activated, activateStep, updateStep, resetStep, blendStep, gateSums, denseOf, DenseArrays, gruOf, GruArrays, GateFits, ScratchFits};
+use crate::sums;
+use model::Activation;
+
+const WEIGHTS_SCALE: f32 = 1.0 / 256.0;
+
+fn activate(table: &[f32; 201], activation: Activation, x: f32) -> f32
+    requires { ⌜ now table ≡ tansig ⌝ }
+    ensures { λ r. ⌜ r ≡ activated activation x ⌝ }
+{
+    match activation {
+        Activation::Tanh => numbers::tansig_in(table, x),
+        Activation::Sigmoid => numbers::sigmoid_in(table, x),
+        Activation::Relu => numbers::relu(x),
+    }
+}
+
+fn activate_all(out: &mut [f32], table: &[f32; 201], activation: Activation)
+    requires { ⌜ now table ≡ tansig ⌝ }
+    ensures { λ _. ⌜ now (out .exit) ≡ loop (length (now (out .entry))) (activateStep activation) (now (out .entry)) ⌝ }
+{
+    for j in 0..out.len() {
+        out[j] = activate(table, activation, out[j] * WEIGHTS_SCALE);
+    }
+}
+
+pub(crate) fn dense(
+    output: &mut [f32],
+    table: &[f32; 201],
+    weights: &[u8],
+    bias: &[u8],
+    activation: Activation,
+    input: &[f32],
+)
+    requires { ⌜ (now table ≡ tansig) × DenseArrays (length (now output)) (length (now weights)) (length (now bias)) (length (now input)) ⌝ }
+    ensures { λ _. ⌜ now (output .exit) ≡ denseOf (now (weights .entry)) (now (bias .entry)) activation (now (input .entry)) ⌝ }
+{
+    let n = output.len();
+    sums::copy_weights(output, bias);
+    sums::mul_add(output, weights, n, 0, input);
+    activate_all(output, table, activation);
+}
+
+// Sums to update gates.
+fn update(z: &mut [f32], table: &[f32; 201])
+    requires { ⌜ now table ≡ tansig ⌝ }
+    ensures { λ _. ⌜ now (z .exit) ≡ loop (length (now (z .entry))) updateStep (now (z .entry)) ⌝ }
+{
+    for j in 0..z.len() {
+        z[j] = numbers::sigmoid_in(table, WEIGHTS_SCALE * z[j]);
+    }
+}
+
+// Sums to reset gates, each times the old state.
+fn reset(r: &mut [f32], state: &[f32], table: &[f32; 201])
+    requires { ⌜ (length (now r) ≡ length (now state)) × (now table ≡ tansig) ⌝ }
+    ensures { λ _. ⌜ now (r .exit) ≡ loop (length (now (r .entry))) (resetStep (now (state .entry))) (now (r .entry)) ⌝ }
+{
+    for j in 0..r.len() {
+        r[j] = state[j] * numbers::sigmoid_in(table, WEIGHTS_SCALE * r[j]);
+    }
+}
+
+// The new state, from the update gates and the candidates' sums.
+fn blend(state: &mut [f32], z: &[f32], h: &[f32], activation: Activation, table: &[f32; 201])
+    requires { ⌜ (length (now z) ≡ length (now state)) × (length (now h) ≡ length (now state)) × (now table ≡ tansig) ⌝ }
+    ensures { λ _. ⌜ now (state .exit) ≡ loop (length (now (state .entry))) (blendStep activation (now (z .entry)) (now (h .entry))) (now (state .entry)) ⌝ }
+{
+    for j in 0..state.len() {
+        let keep = z[j];
+        let new = activate(table, activation, WEIGHTS_SCALE * h[j]);
+        state[j] = keep * state[j] + (1.0 - keep) * new;
+    }
+}
+
+// The sums of one gate, at this offset: bias, inputs, recurrent.
+fn gate_sums(
+    out: &mut [f32],
+    weights: &[u8],
+    recurrent: &[u8],
+    bias: &[u8],
+    offset: usize,
+    input: &[f32],
+    state: &[f32],
+)
+    requires { ⌜ GateFits (length (now out)) (length (now weights)) (length (now recurrent)) (length (now bias)) offset (length (now input)) (length (now state)) ⌝ }
+    ensures { λ _. ⌜ now (out .exit) ≡ gateSums (now (weights .entry)) (now (recurrent .entry)) (now (bias .entry)) (now (input .entry)) (length (now (out .entry))) offset (now (state .entry)) ⌝ }
+{
+    let n = out.len();
+    let stride = 3 * n;
+    let end = offset + n;
+    sums::copy_weights(out, &bias[offset..end]);
+    sums::mul_add(out, weights, stride, offset, input);
+    sums::mul_add(out, recurrent, stride, offset, state);
+}
+
+// A GRU layer over lent scratch, one slice for each gate.
+pub(crate) fn gru(
+    state: &mut [f32],
+    z: &mut [f32],
+    r: &mut [f32],
+    h: &mut [f32],
+    table: &[f32; 201],
+    weights: &[u8],
+    recurrent: &[u8],
+    bias: &[u8],
+    activation: Activation,
+    input: &[f32],
+)
+    requires { ⌜ GruArrays (length (now state)) (length (now weights)) (length (now recurrent)) (length (now bias)) (length (now input)) ⌝ }
+    requires { ⌜ (now table ≡ tansig) × ScratchFits (length (now state)) (length (now z)) (length (now r)) (length (now h)) ⌝ }
+    ensures { λ _. ⌜ now (state .exit) ≡ gruOf (now (weights .entry)) (now (recurrent .entry)) (now (bias .entry)) activation (now (input .entry)) (now (state .entry)) ⌝ }
+{
+    let n = state.len();
+    let last = 2 * n;
+    gate_sums(z, weights, recurrent, bias, 0, input, &state[..]);
+    update(z, table);
+    gate_sums(r, weights, recurrent, bias, n, input, &state[..]);
+    reset(r, &state[..], table);
+    gate_sums(h, weights, recurrent, bias, last, input, &r[..]);
+    blend(state, &z[..], &h[..], activation, table);
+}
+
+// A GRU layer over scratch of its own.
+pub(crate) fn gru_alone(
+    state: &mut [f32],
+    table: &[f32; 201],
+    weights: &[u8],
+    recurrent: &[u8],
+    bias: &[u8],
+    activation: Activation,
+    input: &[f32],
+)
+    requires { ⌜ (now table ≡ tansig) × (length (now state) ≤ 128) × GruArrays (length (now state)) (length (now weights)) (length (now recurrent)) (length (now bias)) (length (now input)) ⌝ }
+    ensures { λ _. ⌜ now (state .exit) ≡ gruOf (now (weights .entry)) (now (recurrent .entry)) (now (bias .entry)) activation (now (input .entry)) (now (state .entry)) ⌝ }
+{
+    let n = state.len();
+    let mut z = [0.0f32; 128];
+    let mut r = [0.0f32; 128];
+    let mut h = [0.0f32; 128];
+    gru(
+        state,
+        &mut z[0..n],
+        &mut r[0..n],
+        &mut h[0..n],
+        table,
+        weights,
+        recurrent,
+        bias,
+        activation,
+        input,
+    );
+}

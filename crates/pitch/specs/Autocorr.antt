@@ -1,0 +1,30 @@
+-- `celt_autocorr` of pitch.rs.
+use mathlib.Core.Path.{_≡_}
+use mathlib.Core.List.{List}
+use Prim.Native.Nat.{ℕ, _+_, _-_, _≤_}
+use lib.Ieee.{Float}
+use lib.ListN.{length, take}
+use Rattle.rules.specs.Loop.{range}
+use Rattle.rules.specs.F32.{_⊕_, _⊗_, at, f32}
+use Rattle.rules.specs.Tab.{tab}
+use Rattle.pitch.specs.Xcorr.{pitchXcorr}
+
+-- d += x[i] * x[i - k]
+abbrev pub lagTerm : List Float → ℕ → ℕ → Float → Float
+lagTerm x k i d = d ⊕ at x i ⊗ at x (i - k)
+
+unfoldable pub tailOf : List Float → ℕ → ℕ → Float
+tailOf x k from = range (k + from) (length x) (lagTerm x k) (f32 0)
+
+-- ac[k] += d
+abbrev pub addTails : List Float → ℕ → List Float → List Float
+addTails x from ac = tab (length ac) (λ k. at ac k ⊕ tailOf x k from)
+
+-- for the 5 lags of 0 to 4
+unfoldable pub celtAutocorr : List Float → List Float
+celtAutocorr x = let fast = length x - 4 in addTails x fast (pitchXcorr (take fast x) x 5)
+
+-- the lengths
+pub record AutocorrFits (x ac : ℕ) : Type 0 where
+  pub lags : ac ≡ 5
+  pub enough : 5 ≤ x

@@ -1,0 +1,64 @@
+-- `pitch_downsample` of pitch.rs: 1,728 numbers to 864.
+use mathlib.Core.Path.{_≡_}
+use mathlib.Core.Bool.{cond}
+use mathlib.Core.List.{List, [], _∷_}
+use Prim.Native.Nat.{ℕ, _+_, _-_, _*_}
+use lib.Dec.{eqb}
+use lib.IntN.{pos}
+use lib.Ieee.{Float, binary32, ofInt}
+use Rattle.rules.specs.Loop.{loop}
+use Rattle.rules.specs.Tab.{tab}
+use Rattle.rules.specs.F32.{_⊕_, _⊖_, _⊗_, _⊘_, at, f32}
+use Rattle.pitch.specs.Autocorr.{celtAutocorr}
+use Rattle.pitch.specs.Fir.{fir5}
+use Rattle.pitch.specs.Lpc.{lpcOf}
+
+abbrev two : Float
+two = f32 0x40000000
+
+-- x_lp[i] = ((x[2 * i - 1] + x[2 * i + 1]) / 2.0 + x[2 * i]) / 2.0, and x_lp[0] = (x[1] / 2.0 + x[0]) / 2.0
+abbrev pub halvedAt : List Float → ℕ → Float
+halvedAt x i = cond (eqb i 0) ((at x 1 ⊘ two ⊕ at x 0) ⊘ two) (((at x (2 * i - 1) ⊕ at x (2 * i + 1)) ⊘ two ⊕ at x (2 * i)) ⊘ two)
+
+unfoldable pub halved : List Float → List Float
+halved x = tab 864 (halvedAt x)
+
+-- 0.008 * i as f32
+abbrev pub lagWeight : ℕ → Float
+lagWeight i = f32 0x3C03126F ⊗ ofInt binary32 (pos i)
+
+-- the noise floor, ac[0] *= 1.0001, and the lag windowing, ac[i] -= ac[i] * (0.008 * i as f32) * (0.008 * i as f32)
+abbrev pub flooredAt : Float → ℕ → Float
+flooredAt r i = cond (eqb i 0) (r ⊗ f32 0x3F800347) (r ⊖ r ⊗ lagWeight i ⊗ lagWeight i)
+
+unfoldable pub floored : List Float → List Float
+floored ac = tab 5 (λ i. flooredAt (at ac i) i)
+
+-- tmp after n turns of tmp *= 0.9, from 1.0
+abbrev pub fadeStep : ℕ → Float → Float
+fadeStep i tmp = tmp ⊗ f32 0x3F666666
+
+unfoldable pub fade : ℕ → Float
+unfolding loop
+fade n = loop n fadeStep (f32 0x3F800000)
+
+-- tmp *= 0.9; lpc_coeffs[i] *= tmp
+unfoldable pub faded : List Float → List Float
+faded lpc = tab 4 (λ i. at lpc i ⊗ fade (i + 1))
+
+-- lpc_coeffs2: a zero is added
+abbrev pub withZero : List Float → List Float
+withZero lpc =
+    let w = f32 0x3F4CCCCD in
+    (at lpc 0 ⊕ w) ∷ (at lpc 1 ⊕ w ⊗ at lpc 0) ∷ (at lpc 2 ⊕ w ⊗ at lpc 1) ∷ (at lpc 3 ⊕ w ⊗ at lpc 2) ∷ w ⊗ at lpc 3 ∷ []
+
+unfoldable pub coefficients : List Float → List Float
+coefficients low = withZero (faded (lpcOf 4 (floored (celtAutocorr low))))
+
+unfoldable pub downsampled : List Float → List Float
+downsampled x = fir5 (halved x) (coefficients (halved x))
+
+-- the lengths
+pub record DownsampleFits (x low : ℕ) : Type 0 where
+  pub whole : x ≡ 1728
+  pub half : low ≡ 864

@@ -1,0 +1,52 @@
+-- `lpc` of pitch.rs.
+use mathlib.Core.List.{List}
+use mathlib.Core.Bool.{cond}
+use Prim.Native.Nat.{ℕ, _+_, _-_, _/_}
+use lib.Ieee.{Float, neg, eq, lt}
+use lib.ListN.{length, set, replicate}
+use Rattle.rules.specs.Loop.{loop, walk, Flow, go, stop, value}
+use Rattle.rules.specs.F32.{_⊕_, _⊖_, _⊗_, _⊘_, at, f32}
+
+-- for j in 0..i { rr += lpc[j] * ac[i - j] }
+abbrev pub recurrenceStep : List Float → List Float → ℕ → ℕ → Float → Float
+recurrenceStep lpc ac i j rr = rr ⊕ at lpc j ⊗ at ac (i - j)
+
+abbrev pub recurrence : List Float → List Float → ℕ → Float
+recurrence lpc ac i = loop i (recurrenceStep lpc ac i) (f32 0)
+
+-- lpc[j] and lpc[i - 1 - j], each from both
+abbrev pub mirrorStep : Float → ℕ → ℕ → List Float → List Float
+mirrorStep r i j lpc =
+    let tmp1 = at lpc j in
+    let tmp2 = at lpc (i - 1 - j) in
+    set (set lpc j (tmp1 ⊕ r ⊗ tmp2)) (i - 1 - j) (tmp2 ⊕ r ⊗ tmp1)
+
+abbrev pub mirror : List Float → Float → ℕ → List Float
+mirror lpc r i = loop ((i + 1) / 2) (mirrorStep r i) lpc
+
+-- the numbers that the loop carries
+pub record Lpc : Type 0 where
+  pub lpc : List Float
+  pub error : Float
+
+abbrev pub state : List Float → Float → Lpc
+state lpc error = record { lpc = lpc; error = error }
+
+-- one lag more
+unfoldable pub lagNext : List Float → ℕ → Lpc → Lpc
+lagNext ac i s =
+    let r = neg (recurrence (s .lpc) ac i ⊕ at ac (i + 1)) ⊘ s .error in
+    state (mirror (set (s .lpc) i r) r i) (s .error ⊖ r ⊗ r ⊗ s .error)
+
+-- the loop is left once the gain is 30 dB: 0x3A83126F is 0.001
+abbrev pub lagStep : List Float → ℕ → Lpc → Flow Lpc
+lagStep ac i s =
+    let next = lagNext ac i s in
+    cond (lt (next .error) (f32 0x3A83126F ⊗ at ac 0)) (stop next) (go next)
+
+abbrev pub lagsOf : List Float → List Float → List Float
+lagsOf lpc ac = value (walk (length lpc) (lagStep ac) (state lpc (at ac 0))) .lpc
+
+-- the coefficients of p lags
+unfoldable pub lpcOf : ℕ → List Float → List Float
+lpcOf p ac = let none = replicate p (f32 0) in cond (eq (at ac 0) (f32 0)) none (lagsOf none ac)

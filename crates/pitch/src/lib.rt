@@ -1,0 +1,589 @@
+// The arithmetic of pitch.rs. A public leaf refuses with 5, and nothing changed, exactly where its lengths do not fit; its core does the work.
+ghost use mathlib.Core.Path.{_≡_};
+ghost use Prim.Native.Nat.{_+_, _<_, _≤_};
+ghost use lib.Ieee.{neg};
+ghost use lib.ListN.{length, take};
+ghost use Rattle.rules.specs.F32.{f32};
+ghost use Rattle.rules.specs.Leaf.{Leaf, _leaving_};
+ghost use Rattle.rules.specs.Tab.{tab};
+ghost use Rattle.pitch.specs.Best.{squares, consider, slide, best, bestOf, pitchesNumber, firstOf, secondOf, BestFits};
+ghost use Rattle.pitch.specs.Autocorr.{tailOf, addTails, celtAutocorr, AutocorrFits};
+ghost use Rattle.pitch.specs.Fir.{fir5};
+ghost use Rattle.pitch.specs.Downsample.{halvedAt, halved, flooredAt, floored, faded, coefficients, downsampled, DownsampleFits};
+ghost use Rattle.pitch.specs.Lpc.{recurrence, mirror, state, lagNext, lagsOf, lpcOf};
+ghost use Rattle.pitch.specs.Xcorr.{corr, wholeFours, lagOf, pitchXcorr, XcorrFits};
+ghost use Rattle.pitch.specs.Inner.{innerProd, numberOf, sumOf, InnerFits};
+
+// The filter of `fir5_in_place`, for five coefficients.
+fn fir5_core(xs: &mut [f32], num: &[f32])
+    requires { ⌜ length (now num) ≡ 5 ⌝ }
+    ensures { λ _. ⌜ now (xs .exit) ≡ fir5 (now (xs .entry)) (now (num .entry)) ⌝ }
+{
+    let num0 = num[0];
+    let num1 = num[1];
+    let num2 = num[2];
+    let num3 = num[3];
+    let num4 = num[4];
+    let mut mem0 = 0.0f32;
+    let mut mem1 = 0.0f32;
+    let mut mem2 = 0.0f32;
+    let mut mem3 = 0.0f32;
+    let mut mem4 = 0.0f32;
+    for i in 0..xs.len() {
+        let x = xs[i];
+        let out = x + num0 * mem0 + num1 * mem1 + num2 * mem2 + num3 * mem3 + num4 * mem4;
+        mem4 = mem3;
+        mem3 = mem2;
+        mem2 = mem1;
+        mem1 = mem0;
+        mem0 = x;
+        xs[i] = out;
+    }
+}
+
+// A filter of five coefficients, run over `xs` in place.
+pub fn fir5_in_place(xs: &mut [f32], num: &[f32]) -> u32
+    ensures { λ r. ⌜ Leaf (length (now (num .entry)) ≡ 5)
+        (r leaving now (xs .exit))
+        (0 leaving fir5 (now (xs .entry)) (now (num .entry)))
+        (5 leaving now (xs .entry)) ⌝ }
+{
+    if num.len() != 5 {
+        return 5;
+    }
+    fir5_core(xs, num);
+    0
+}
+
+// The sum of `inner_prod`, for an n that fits.
+fn inner_prod_core(xs: &[f32], ys: &[f32], n: usize) -> f32
+    requires { ⌜ InnerFits (length (now xs)) (length (now ys)) n ⌝ }
+    ensures { λ r. ⌜ r ≡ innerProd (now (xs .entry)) (now (ys .entry)) n ⌝ }
+{
+    let mut sum0 = 0.0f32;
+    let mut sum1 = 0.0f32;
+    let mut sum2 = 0.0f32;
+    let mut sum3 = 0.0f32;
+    for k in 0..n / 4 {
+        let i = 4 * k;
+        sum0 = sum0 + xs[i] * ys[i];
+        sum1 = sum1 + xs[i + 1] * ys[i + 1];
+        sum2 = sum2 + xs[i + 2] * ys[i + 2];
+        sum3 = sum3 + xs[i + 3] * ys[i + 3];
+    }
+    let mut sum = sum0 + sum1 + sum2 + sum3;
+    for j in n - n % 4..n {
+        sum = sum + xs[j] * ys[j];
+    }
+    sum
+}
+
+// The answer of `inner_prod`: the sum, or the number of the refusal.
+pub enum Product {
+    Sum(f32),
+    Refused(u32),
+}
+
+impl Product {
+    // 0, or the number of the refusal.
+    pub fn number(self) -> u32
+        ensures { λ r. ⌜ r ≡ numberOf self ⌝ }
+    {
+        match self {
+            Product::Sum(_) => 0,
+            Product::Refused(number) => number,
+        }
+    }
+
+    // The sum, 0 where it was refused.
+    pub fn sum(self) -> f32
+        ensures { λ r. ⌜ r ≡ sumOf self ⌝ }
+    {
+        match self {
+            Product::Sum(sum) => sum,
+            Product::Refused(_) => 0.0,
+        }
+    }
+}
+
+// The inner product of xs[..n] and ys[..n].
+pub fn inner_prod(xs: &[f32], ys: &[f32], n: usize) -> Product
+    ensures { λ r. ⌜ Leaf (InnerFits (length (now (xs .entry))) (length (now (ys .entry))) n)
+        r (Product.Sum (innerProd (now (xs .entry)) (now (ys .entry)) n)) (Product.Refused 5) ⌝ }
+{
+    if xs.len() < n {
+        return Product::Refused(5);
+    }
+    if ys.len() < n {
+        return Product::Refused(5);
+    }
+    Product::Sum(inner_prod_core(xs, ys, n))
+}
+
+// The sum of lpc[j] * ac[i - j] over the j below i.
+fn recur(lpc: &[f32], ac: &[f32], i: usize) -> f32
+    requires { ⌜ (i < length (now lpc)) × (i < length (now ac)) ⌝ }
+    ensures { λ r. ⌜ r ≡ recurrence (now (lpc .entry)) (now (ac .entry)) i ⌝ }
+{
+    let mut rr = 0.0f32;
+    for j in 0..i {
+        rr = rr + lpc[j] * ac[i - j];
+    }
+    rr
+}
+
+// The update of lpc[..i], symmetrical about its middle.
+fn update(lpc: &mut [f32], r: f32, i: usize)
+    requires { ⌜ i < length (now lpc) ⌝ }
+    ensures { λ _. ⌜ now (lpc .exit) ≡ mirror (now (lpc .entry)) r i ⌝ }
+{
+    for j in 0..(i + 1) / 2 {
+        let tmp1 = lpc[j];
+        let tmp2 = lpc[i - 1 - j];
+        lpc[j] = tmp1 + r * tmp2;
+        lpc[i - 1 - j] = tmp2 + r * tmp1;
+    }
+}
+
+// One lag more: the error that is left.
+fn lag(lpc: &mut [f32], ac: &[f32], i: usize, error: f32) -> f32
+    requires { ⌜ (i < length (now lpc)) × (length (now lpc) < length (now ac)) ⌝ }
+    ensures { λ r. ⌜ state (now (lpc .exit)) r ≡ lagNext (now (ac .entry)) i (state (now (lpc .entry)) error) ⌝ }
+{
+    let rr = recur(lpc, ac, i) + ac[i + 1];
+    let r = -rr / error;
+    lpc[i] = r;
+    update(lpc, r, i);
+    error - r * r * error
+}
+
+// The lags of `lpc`, until the gain is 30 dB.
+fn lags(lpc: &mut [f32], ac: &[f32])
+    requires { ⌜ length (now lpc) < length (now ac) ⌝ }
+    ensures { λ _. ⌜ now (lpc .exit) ≡ lagsOf (now (lpc .entry)) (now (ac .entry)) ⌝ }
+{
+    let mut error = ac[0];
+    for i in 0..lpc.len() {
+        error = lag(lpc, ac, i, error);
+        if error < 0.001 * ac[0] {
+            return;
+        }
+    }
+}
+
+// The coefficients of `lpc`, for lengths that fit.
+fn lpc_core(lpc: &mut [f32], ac: &[f32])
+    requires { ⌜ length (now lpc) < length (now ac) ⌝ }
+    ensures { λ _. ⌜ now (lpc .exit) ≡ lpcOf (length (now (lpc .entry))) (now (ac .entry)) ⌝ }
+{
+    rules::clear(lpc);
+    if ac[0] == 0.0 {
+        return;
+    }
+    lags(lpc, ac);
+}
+
+// Linear predictive coding: the coefficients of as many lags as `lpc` has places, from autocorrelations.
+pub fn lpc(lpc: &mut [f32], ac: &[f32]) -> u32
+    ensures { λ r. ⌜ Leaf (length (now (lpc .entry)) < length (now (ac .entry)))
+        (r leaving now (lpc .exit))
+        (0 leaving lpcOf (length (now (lpc .entry))) (now (ac .entry)))
+        (5 leaving now (lpc .entry)) ⌝ }
+{
+    if ac.len() <= lpc.len() {
+        return 5;
+    }
+    lpc_core(lpc, ac);
+    0
+}
+
+// The correlations at four lags in a row.
+struct Four {
+    c0: f32,
+    c1: f32,
+    c2: f32,
+    c3: f32,
+}
+
+fn corr4(xs: &[f32], ys: &[f32], i: usize) -> Four
+    requires { ⌜ i + 3 + length (now xs) ≤ length (now ys) ⌝ }
+    ensures { λ r. ⌜ (r .c0 ≡ corr (f32 0) (now (xs .entry)) (now (ys .entry)) i)
+        × (r .c1 ≡ corr (f32 0) (now (xs .entry)) (now (ys .entry)) (i + 1))
+        × (r .c2 ≡ corr (f32 0) (now (xs .entry)) (now (ys .entry)) (i + 2))
+        × (r .c3 ≡ corr (f32 0) (now (xs .entry)) (now (ys .entry)) (i + 3)) ⌝ }
+{
+    let mut c0 = 0.0f32;
+    let mut c1 = 0.0f32;
+    let mut c2 = 0.0f32;
+    let mut c3 = 0.0f32;
+    for j in 0..xs.len() {
+        let x = xs[j];
+        c0 = c0 + x * ys[i + j];
+        c1 = c1 + x * ys[i + 1 + j];
+        c2 = c2 + x * ys[i + 2 + j];
+        c3 = c3 + x * ys[i + 3 + j];
+    }
+    Four { c0, c1, c2, c3 }
+}
+
+// The correlation at one lag, summed from -0.0 as an iterator sums it.
+fn corr1(xs: &[f32], ys: &[f32], i: usize) -> f32
+    requires { ⌜ i + length (now xs) ≤ length (now ys) ⌝ }
+    ensures { λ r. ⌜ r ≡ corr (neg (f32 0)) (now (xs .entry)) (now (ys .entry)) i ⌝ }
+{
+    let mut sum = -0.0f32;
+    for j in 0..xs.len() {
+        sum = sum + xs[j] * ys[i + j];
+    }
+    sum
+}
+
+// The lags by fours.
+fn xcorr_fours(xs: &[f32], ys: &[f32], xcorr: &mut [f32])
+    requires { ⌜ XcorrFits (length (now xs)) (length (now ys)) (length (now xcorr)) ⌝ }
+    ensures { λ _. ⌜ take (wholeFours (length (now (xcorr .entry)))) (now (xcorr .exit))
+        ≡ tab (wholeFours (length (now (xcorr .entry)))) (lagOf (now (xs .entry)) (now (ys .entry)) (length (now (xcorr .entry)))) ⌝ }
+{
+    for k in 0..xcorr.len() / 4 {
+        let i = 4 * k;
+        let c = corr4(xs, ys, i);
+        xcorr[i] = c.c0;
+        xcorr[i + 1] = c.c1;
+        xcorr[i + 2] = c.c2;
+        xcorr[i + 3] = c.c3;
+    }
+}
+
+// The lags that are left.
+fn xcorr_rest(xs: &[f32], ys: &[f32], xcorr: &mut [f32])
+    requires { ⌜ XcorrFits (length (now xs)) (length (now ys)) (length (now xcorr)) ⌝ }
+    requires { ⌜ take (wholeFours (length (now xcorr))) (now xcorr) ≡ tab (wholeFours (length (now xcorr))) (lagOf (now xs) (now ys) (length (now xcorr))) ⌝ }
+    ensures { λ _. ⌜ now (xcorr .exit) ≡ pitchXcorr (now (xs .entry)) (now (ys .entry)) (length (now (xcorr .entry))) ⌝ }
+{
+    let n = xcorr.len();
+    for i in n - n % 4..n {
+        xcorr[i] = corr1(xs, ys, i);
+    }
+}
+
+fn pitch_xcorr_core(xs: &[f32], ys: &[f32], xcorr: &mut [f32])
+    requires { ⌜ XcorrFits (length (now xs)) (length (now ys)) (length (now xcorr)) ⌝ }
+    ensures { λ _. ⌜ now (xcorr .exit) ≡ pitchXcorr (now (xs .entry)) (now (ys .entry)) (length (now (xcorr .entry))) ⌝ }
+{
+    xcorr_fours(xs, ys, xcorr);
+    xcorr_rest(xs, ys, xcorr);
+}
+
+// The correlations of xs with ys, at as many lags as xcorr has places.
+pub fn pitch_xcorr(xs: &[f32], ys: &[f32], xcorr: &mut [f32]) -> u32
+    ensures { λ r. ⌜ Leaf (XcorrFits (length (now (xs .entry))) (length (now (ys .entry))) (length (now (xcorr .entry))))
+        (r leaving now (xcorr .exit))
+        (0 leaving pitchXcorr (now (xs .entry)) (now (ys .entry)) (length (now (xcorr .entry))))
+        (5 leaving now (xcorr .entry)) ⌝ }
+{
+    let n = xcorr.len();
+    if n == 0 {
+        return 0;
+    }
+    let m = xs.len();
+    if ys.len() < m {
+        return 5;
+    }
+    if ys.len() - m < n - 1 {
+        return 5;
+    }
+    if ys.len() - (m - m % 4) < n - n % 4 {
+        return 5;
+    }
+    pitch_xcorr_core(xs, ys, xcorr);
+    0
+}
+
+// 1.0 and the squares of ys[..len].
+fn norm(ys: &[f32], len: usize) -> f32
+    requires { ⌜ len ≤ length (now ys) ⌝ }
+    ensures { λ r. ⌜ r ≡ squares (now (ys .entry)) len ⌝ }
+{
+    let mut sum = 1.0f32;
+    for i in 0..len {
+        sum = sum + ys[i] * ys[i];
+    }
+    sum
+}
+
+// What `find_best_pitch` carries from lag to lag: the best lag has 1, the second best 2.
+struct Best {
+    num1: f32,
+    num2: f32,
+    den1: f32,
+    den2: f32,
+    pitch1: usize,
+    pitch2: usize,
+    norm: f32,
+}
+
+// The two best, with lag i among them.
+fn consider_lag(b: Best, corr: f32, i: usize) -> Best
+    ensures { λ r. ⌜ r ≡ consider corr i b ⌝ }
+{
+    if corr > 0.0 {
+        let num = corr * corr;
+        if num * b.den2 > b.num2 * b.norm {
+            if num * b.den1 > b.num1 * b.norm {
+                return Best {
+                    num1: num,
+                    num2: b.num1,
+                    den1: b.norm,
+                    den2: b.den1,
+                    pitch1: i,
+                    pitch2: b.pitch1,
+                    norm: b.norm,
+                };
+            }
+            return Best {
+                num1: b.num1,
+                num2: num,
+                den1: b.den1,
+                den2: b.norm,
+                pitch1: b.pitch1,
+                pitch2: i,
+                norm: b.norm,
+            };
+        }
+    }
+    b
+}
+
+// The window of the norm moves on from lag i.
+fn slide_norm(b: Best, ys: &[f32], i: usize, len: usize) -> Best
+    requires { ⌜ i + len < length (now ys) ⌝ }
+    ensures { λ r. ⌜ r ≡ slide (now (ys .entry)) len i b ⌝ }
+{
+    let mut next = b;
+    next.norm = numbers::max(b.norm + (ys[i + len] * ys[i + len] - ys[i] * ys[i]), 1.0);
+    next
+}
+
+fn find_best_pitch_core(xcorr: &[f32], ys: &[f32], len: usize) -> Best
+    requires { ⌜ BestFits (length (now xcorr)) (length (now ys)) len ⌝ }
+    ensures { λ r. ⌜ r ≡ best (now (xcorr .entry)) (now (ys .entry)) len ⌝ }
+{
+    let mut b = Best {
+        num1: -1.0,
+        num2: -1.0,
+        den1: 0.0,
+        den2: 0.0,
+        pitch1: 0,
+        pitch2: 1,
+        norm: norm(ys, len),
+    };
+    for i in 0..xcorr.len() {
+        b = slide_norm(consider_lag(b, xcorr[i], i), ys, i, len);
+    }
+    b
+}
+
+// The answer of `find_best_pitch`: the best lag and the second best, or the number of the refusal.
+pub enum Pitches {
+    Best(usize, usize),
+    Refused(u32),
+}
+
+impl Pitches {
+    // 0, or the number of the refusal.
+    pub fn number(self) -> u32
+        ensures { λ r. ⌜ r ≡ pitchesNumber self ⌝ }
+    {
+        match self {
+            Pitches::Best(_, _) => 0,
+            Pitches::Refused(number) => number,
+        }
+    }
+
+    // The best lag and the second best, 0 where they were refused.
+    pub fn first(self) -> usize
+        ensures { λ r. ⌜ r ≡ firstOf self ⌝ }
+    {
+        match self {
+            Pitches::Best(first, _) => first,
+            Pitches::Refused(_) => 0,
+        }
+    }
+
+    pub fn second(self) -> usize
+        ensures { λ r. ⌜ r ≡ secondOf self ⌝ }
+    {
+        match self {
+            Pitches::Best(_, second) => second,
+            Pitches::Refused(_) => 0,
+        }
+    }
+}
+
+// The lags with the largest and the second largest normalised correlation.
+pub fn find_best_pitch(xcorr: &[f32], ys: &[f32], len: usize) -> Pitches
+    ensures { λ r. ⌜ Leaf (BestFits (length (now (xcorr .entry))) (length (now (ys .entry))) len)
+        r (bestOf (now (xcorr .entry)) (now (ys .entry)) len) (Pitches.Refused 5) ⌝ }
+{
+    if ys.len() < len {
+        return Pitches::Refused(5);
+    }
+    if ys.len() - len < xcorr.len() {
+        return Pitches::Refused(5);
+    }
+    let b = find_best_pitch_core(xcorr, ys, len);
+    Pitches::Best(b.pitch1, b.pitch2)
+}
+
+// The products at lag k that `pitch_xcorr` leaves out: those from `from` on.
+fn tail(x: &[f32], k: usize, from: usize) -> f32
+    requires { ⌜ k + from ≤ length (now x) ⌝ }
+    ensures { λ r. ⌜ r ≡ tailOf (now (x .entry)) k from ⌝ }
+{
+    let mut d = 0.0f32;
+    for i in k + from..x.len() {
+        d = d + x[i] * x[i - k];
+    }
+    d
+}
+
+fn add_tails(x: &[f32], ac: &mut [f32], from: usize)
+    requires { ⌜ length (now ac) + from ≤ length (now x) + 1 ⌝ }
+    ensures { λ _. ⌜ now (ac .exit) ≡ addTails (now (x .entry)) from (now (ac .entry)) ⌝ }
+{
+    for k in 0..ac.len() {
+        ac[k] = ac[k] + tail(x, k, from);
+    }
+}
+
+fn celt_autocorr_core(x: &[f32], ac: &mut [f32])
+    requires { ⌜ AutocorrFits (length (now x)) (length (now ac)) ⌝ }
+    ensures { λ _. ⌜ now (ac .exit) ≡ celtAutocorr (now (x .entry)) ⌝ }
+{
+    let fast = x.len() - (ac.len() - 1);
+    pitch_xcorr_core(&x[..fast], x, ac);
+    add_tails(x, ac, fast);
+}
+
+// The autocorrelation of x at the lags 0 to 4.
+pub fn celt_autocorr(x: &[f32], ac: &mut [f32]) -> u32
+    ensures { λ r. ⌜ Leaf (AutocorrFits (length (now (x .entry))) (length (now (ac .entry))))
+        (r leaving now (ac .exit))
+        (0 leaving celtAutocorr (now (x .entry)))
+        (5 leaving now (ac .entry)) ⌝ }
+{
+    if ac.len() != 5 {
+        return 5;
+    }
+    if x.len() < 5 {
+        return 5;
+    }
+    celt_autocorr_core(x, ac);
+    0
+}
+
+// Every second number, with a share of its neighbours.
+fn halve_at(x: &[f32], i: usize) -> f32
+    requires { ⌜ (length (now x) ≡ 1728) × (i < 864) ⌝ }
+    ensures { λ r. ⌜ r ≡ halvedAt (now (x .entry)) i ⌝ }
+{
+    if i == 0 {
+        return (x[1] / 2.0 + x[0]) / 2.0;
+    }
+    ((x[2 * i - 1] + x[2 * i + 1]) / 2.0 + x[2 * i]) / 2.0
+}
+
+fn halve(x: &[f32], x_lp: &mut [f32])
+    requires { ⌜ DownsampleFits (length (now x)) (length (now «x_lp»)) ⌝ }
+    ensures { λ _. ⌜ now («x_lp» .exit) ≡ halved (now (x .entry)) ⌝ }
+{
+    for i in 0..864 {
+        x_lp[i] = halve_at(x, i);
+    }
+}
+
+// The noise floor and the lag window, at lag i.
+fn floor_at(r: f32, i: usize) -> f32
+    requires { ⌜ i < 5 ⌝ }
+    ensures { λ s. ⌜ s ≡ flooredAt r i ⌝ }
+{
+    if i == 0 {
+        return r * 1.0001;
+    }
+    let w = 0.008 * (i as f32);
+    r - r * w * w
+}
+
+fn floor(ac: &mut [f32])
+    requires { ⌜ length (now ac) ≡ 5 ⌝ }
+    ensures { λ _. ⌜ now (ac .exit) ≡ floored (now (ac .entry)) ⌝ }
+{
+    for i in 0..5 {
+        ac[i] = floor_at(ac[i], i);
+    }
+}
+
+// Each coefficient times one power of 0.9 more.
+fn fade_coefficients(lpc: &mut [f32])
+    requires { ⌜ length (now lpc) ≡ 4 ⌝ }
+    ensures { λ _. ⌜ now (lpc .exit) ≡ faded (now (lpc .entry)) ⌝ }
+{
+    let mut tmp = 1.0f32;
+    for i in 0..4 {
+        tmp = tmp * 0.9;
+        lpc[i] = lpc[i] * tmp;
+    }
+}
+
+// The coefficients of the filter that flattens x_lp, over lent scratch.
+fn flatten_in(x_lp: &[f32], ac: &mut [f32], c: &mut [f32]) -> [f32; 5]
+    requires { ⌜ (5 ≤ length (now «x_lp»)) × (length (now ac) ≡ 5) × (length (now c) ≡ 4) ⌝ }
+    ensures { λ r. ⌜ r ≡ coefficients (now («x_lp» .entry)) ⌝ }
+{
+    celt_autocorr_core(x_lp, ac);
+    floor(ac);
+    lpc_core(c, ac);
+    fade_coefficients(c);
+    [
+        c[0] + 0.8,
+        c[1] + 0.8 * c[0],
+        c[2] + 0.8 * c[1],
+        c[3] + 0.8 * c[2],
+        0.8 * c[3],
+    ]
+}
+
+fn flatten(x_lp: &[f32]) -> [f32; 5]
+    requires { ⌜ 5 ≤ length (now «x_lp») ⌝ }
+    ensures { λ r. ⌜ r ≡ coefficients (now («x_lp» .entry)) ⌝ }
+{
+    let mut ac = [0.0f32; 5];
+    let mut c = [0.0f32; 4];
+    flatten_in(x_lp, &mut ac, &mut c)
+}
+
+fn pitch_downsample_core(x: &[f32], x_lp: &mut [f32])
+    requires { ⌜ DownsampleFits (length (now x)) (length (now «x_lp»)) ⌝ }
+    ensures { λ _. ⌜ now («x_lp» .exit) ≡ downsampled (now (x .entry)) ⌝ }
+{
+    halve(x, x_lp);
+    let num = flatten(&x_lp[..]);
+    fir5_core(x_lp, &num);
+}
+
+// x at half the rate, flattened.
+pub fn pitch_downsample(x: &[f32], x_lp: &mut [f32]) -> u32
+    ensures { λ r. ⌜ Leaf (DownsampleFits (length (now (x .entry))) (length (now («x_lp» .entry))))
+        (r leaving now («x_lp» .exit))
+        (0 leaving downsampled (now (x .entry)))
+        (5 leaving now («x_lp» .entry)) ⌝ }
+{
+    if x.len() != 1728 {
+        return 5;
+    }
+    if x_lp.len() != 864 {
+        return 5;
+    }
+    pitch_downsample_core(x, x_lp);
+    0
+}

@@ -1,0 +1,277 @@
+//! `bench`: the proved library's time beside the Rust text's, in one process and on the same inputs; one table.
+//! `bench ROW ours|rust N`: runs one side of one row N times and measures nothing, for callgrind.
+//!
+//! Each row is measured in rounds, ours and the Rust's in turn; the table has the medians of all samples, in nanoseconds
+//! for one call, and ours divided by the Rust's.
+
+#![cfg_attr(not(feature = "frame"), allow(unused_imports))]
+
+use nnnoiseless_text::probe::{bands, pitch, rnn, util};
+use nnnoiseless_text::{DenoiseState, RnnModel};
+use oracle::rng::{Mood, Rng};
+use oracle::{bins, models};
+use std::hint::black_box;
+use std::time::{Duration, Instant};
+
+const ROUNDS: usize = 10;
+const SAMPLES: usize = 100;
+/// A sample takes at least so long.
+const LEAST: Duration = Duration::from_micros(20);
+
+/// Runs N times, and says how long that took.
+type Side = Box<dyn FnMut(usize) -> Duration>;
+
+struct Row {
+    name: &'static str,
+    ours: Side,
+    rusts: Side,
+}
+
+fn timed<R>(mut call: impl FnMut() -> R + 'static) -> Side {
+    Box::new(move |times| {
+        let start = Instant::now();
+        for _ in 0..times {
+            black_box(call());
+        }
+        start.elapsed()
+    })
+}
+
+fn row<A, B>(name: &'static str, ours: impl FnMut() -> A + 'static, rusts: impl FnMut() -> B + 'static) -> Row {
+    Row { name, ours: timed(ours), rusts: timed(rusts) }
+}
+
+/// How many runs make a sample.
+fn batch(side: &mut Side) -> usize {
+    let mut times = 1;
+    while side(times) < LEAST {
+        times *= 2;
+    }
+    times
+}
+
+impl Row {
+    /// The medians, in nanoseconds.
+    fn measure(&mut self) -> [f64; 2] {
+        let mut samples = [vec![], vec![]];
+        let times = batch(&mut self.ours).max(batch(&mut self.rusts));
+        for _ in 0..ROUNDS {
+            for (side, samples) in [&mut self.ours, &mut self.rusts].into_iter().zip(&mut samples) {
+                side(times);
+                samples.extend((0..SAMPLES).map(|_| side(times).as_nanos() as f64 / times as f64));
+            }
+        }
+        samples.map(|mut samples| {
+            samples.sort_by(f64::total_cmp);
+            samples[samples.len() / 2]
+        })
+    }
+}
+
+#[cfg(feature = "numbers")]
+fn of_numbers(rng: &mut Rng) -> Vec<Row> {
+    let xs: Vec<f64> = (0..1000).map(|_| rng.of(Mood::Audio) as f64 * 1.000_000_1).collect();
+    let ys = xs.clone();
+    let input = rng.list_of(480, Mood::Audio);
+    let again = input.clone();
+    let (mut out, mut memory) = (vec![0.0; 480], [0.0; 2]);
+    let (mut outs, mut memories) = (vec![0.0; 480], [0.0; 2]);
+    vec![
+        row(
+            "narrow, 1,000 numbers",
+            move || xs.iter().fold(0.0, |_, x| black_box(tuppence::narrow(black_box(*x)))),
+            move || ys.iter().fold(0.0, |_, x| black_box(black_box(*x) as f32)),
+        ),
+        row(
+            "filter, 480 samples",
+            move || tuppence::filter(&mut out, &mut memory, &[-1.99599, 0.99600, -2.0, 1.0], black_box(&input)),
+            move || util::BIQUAD_HP.filter(&mut outs, &mut memories, black_box(&again)),
+        ),
+    ]
+}
+
+#[cfg(feature = "bands")]
+fn of_bands(rng: &mut Rng) -> Vec<Row> {
+    let [x, p] = [rng.list_of(961, Mood::Audio), rng.list_of(961, Mood::Audio)];
+    let [xs, ps] = [bins(&x), bins(&p)];
+    let gains = rng.list_of(22, Mood::Unit);
+    let [g1, g2, g3, g4] = std::array::from_fn(|_| gains.clone());
+    let window = rng.list_of(960, Mood::Audio);
+    let [w1, w2, w3, w4] = std::array::from_fn(|_| window.clone());
+    let [mut a22, mut b22, mut c22, mut d22] = [[0.0; 22]; 4];
+    let [mut a481, mut b481] = [[0.0; 481]; 2];
+    let [mut a960, mut b960, mut c960, mut d960] = [[0.0; 960]; 4];
+    vec![
+        row(
+            "band_corr",
+            move || tuppence::band_corr(&mut a22, black_box(&x), black_box(&p)),
+            move || bands::compute_band_corr(&mut b22, black_box(&xs), black_box(&ps)),
+        ),
+        row(
+            "band_gain",
+            move || tuppence::band_gain(&mut a481, black_box(&g1)),
+            move || bands::interp_band_gain(&mut b481, black_box(&g2)),
+        ),
+        row("dct", move || tuppence::dct(&mut c22, black_box(&g3)), move || bands::dct(&mut d22, black_box(&g4))),
+        row(
+            "window",
+            move || tuppence::window(&mut a960, black_box(&w1)),
+            move || bands::apply_window(&mut b960, black_box(&w2)),
+        ),
+        row(
+            "window_in_place",
+            // the numbers are set anew, lest they sink below the normal ones
+            move || {
+                c960.copy_from_slice(&w3);
+                tuppence::window_in_place(black_box(&mut c960));
+            },
+            move || {
+                d960.copy_from_slice(&w4);
+                bands::apply_window_in_place(black_box(&mut d960));
+            },
+        ),
+    ]
+}
+
+#[cfg(feature = "pitch")]
+fn of_pitch(rng: &mut Rng) -> Vec<Row> {
+    let xs = rng.list_of(480, Mood::Audio);
+    let ys = rng.list_of(864, Mood::Audio);
+    let x = rng.list_of(1728, Mood::Audio);
+    let [x1, x2, x3, x4] = std::array::from_fn(|_| xs.clone());
+    let [y1, y2, y3, y4] = std::array::from_fn(|_| ys.clone());
+    let [d1, d2] = std::array::from_fn(|_| x.clone());
+    let [mut a294, mut b294] = [[0.0; 294]; 2];
+    let [mut a864, mut b864] = [[0.0; 864]; 2];
+    vec![
+        row(
+            "inner_prod, 480",
+            move || tuppence::inner_prod(black_box(&mut [0.0]), &x1, &y1, black_box(480)),
+            move || black_box(pitch::inner_prod(&x2, &y2, black_box(480))),
+        ),
+        row(
+            "pitch_xcorr, 480 numbers, 294 lags",
+            move || tuppence::pitch_xcorr(black_box(&mut a294), &x3, &y3),
+            move || pitch::pitch_xcorr(&x4, &y4, black_box(&mut b294)),
+        ),
+        row(
+            "downsample",
+            move || tuppence::downsample(black_box(&mut a864), &d1),
+            move || pitch::pitch_downsample(&d2, black_box(&mut b864)),
+        ),
+    ]
+}
+
+#[cfg(feature = "network")]
+fn of_network(rng: &mut Rng) -> Vec<Row> {
+    let model = models::of_shape(rng, models::USUAL);
+    let text: &'static RnnModel = Box::leak(Box::new(RnnModel::from_bytes(&model).unwrap()));
+    let frames: Vec<Vec<f32>> = (0..1000).map(|_| rng.list_of(42, Mood::Small)).collect();
+    let again = frames.clone();
+    let (mut gains, mut voice, mut states) = ([0.0; 22], [0.0], [[0.0; 128]; 3]);
+    let (mut gain, mut vad, mut state) = ([0.0; 22], [0.0], rnn::state(text));
+    let (mut i, mut j) = (0, 0);
+    vec![row(
+        "six layers, 24 24 48 96",
+        move || {
+            let [a, b, c] = &mut states;
+            tuppence::network(&mut gains, &mut voice, a, b, c, black_box(&model), &frames[i % 1000]);
+            i += 1;
+        },
+        move || {
+            state.compute(&mut gain, &mut vad, black_box(&again[j % 1000]));
+            j += 1;
+        },
+    )]
+}
+
+/// What a frame is given.
+#[cfg(feature = "frame")]
+struct Frame {
+    samples: Vec<f32>,
+    spectra: [Vec<f32>; 2],
+    lag: u32,
+    logs: Vec<f32>,
+    inverse: Vec<f32>,
+}
+
+#[cfg(feature = "frame")]
+fn of_frame(rng: &mut Rng) -> Vec<Row> {
+    let frames: Vec<Frame> = (0..100)
+        .map(|_| Frame {
+            samples: rng.list_of(480, Mood::Audio),
+            spectra: std::array::from_fn(|_| rng.list_of(961, Mood::Audio)),
+            lag: rng.below(769) as u32,
+            logs: rng.list_of(22, Mood::Small),
+            inverse: rng.list_of(960, Mood::Audio),
+        })
+        .collect();
+    let frames: &'static [Frame] = Box::leak(frames.into_boxed_slice());
+    let model = models::of_shape(rng, models::USUAL);
+    let mut text = DenoiseState::from_model(RnnModel::from_bytes(&model).unwrap());
+    let (mut record, mut store) = ([0; 5], vec![0.0; 12_288]);
+    assert_eq!(tuppence::open(&mut record, &mut store, 1, &model), 0);
+    let mut window = [0.0; 960];
+    let (mut sums, mut spectrum, mut answer, mut out) = ([0.0; 22], [0.0; 961], [0.0; 3], [0.0; 480]);
+    let (mut i, mut j) = (0, 0);
+    let ours = timed(move || {
+        let frame = &frames[i % frames.len()];
+        let [x, p] = &frame.spectra;
+        let (r, s) = (&mut record[..], &mut store[..]);
+        let mut refused = tuppence::call1(r, s, 1, &frame.samples, &mut window);
+        refused |= tuppence::call2(r, s, 1, x, frame.lag, &mut window, &mut sums);
+        refused |= tuppence::call3(r, s, 1, p, &frame.logs, &model, &mut spectrum, &mut answer);
+        refused |= tuppence::call4(r, s, 1, &frame.inverse, &mut out);
+        assert!(refused == 0 && answer[0] == 1.0, "the frame is heard");
+        i += 1;
+    });
+    // what the text asks for is put into the feed before the clock runs
+    let rusts: Side = Box::new(move |times| {
+        let mut output = [0.0; 480];
+        let mut total = Duration::ZERO;
+        for _ in 0..times {
+            let frame = &frames[j % frames.len()];
+            feed::start_unwatched();
+            frame.spectra.iter().for_each(|spectrum| feed::spectrum(spectrum));
+            feed::lag(frame.lag as usize);
+            feed::logs(&frame.logs);
+            feed::inverse(&frame.inverse);
+            let start = Instant::now();
+            text.process_frame(black_box(&mut output), &frame.samples);
+            total += start.elapsed();
+            j += 1;
+        }
+        total
+    });
+    vec![Row { name: "a heard frame, four calls", ours, rusts }]
+}
+
+fn main() {
+    let rng = &mut Rng::new(1);
+    let mut rows = vec![];
+    #[cfg(feature = "numbers")]
+    rows.extend(of_numbers(rng));
+    #[cfg(feature = "bands")]
+    rows.extend(of_bands(rng));
+    #[cfg(feature = "pitch")]
+    rows.extend(of_pitch(rng));
+    #[cfg(feature = "network")]
+    rows.extend(of_network(rng));
+    #[cfg(feature = "frame")]
+    rows.extend(of_frame(rng));
+    let words: Vec<String> = std::env::args().skip(1).collect();
+    if let [name, side, times] = &words[..] {
+        let row = rows.iter_mut().find(|row| row.name.starts_with(&name[..])).expect("no such row");
+        let times = times.parse().expect("a number of times");
+        match &side[..] {
+            "ours" => (row.ours)(times),
+            _ => (row.rusts)(times),
+        };
+        return;
+    }
+    println!("{:36} {:>10} {:>10} {:>6}", "", "ours", "Rust", "ratio");
+    for row in &mut rows {
+        let [ours, rusts] = row.measure();
+        println!("{:36} {ours:7.0} ns {rusts:7.0} ns {:6.2}", row.name, ours / rusts);
+    }
+}

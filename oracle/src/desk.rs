@@ -1,0 +1,236 @@
+//! The desk by the text: an opening and four calls over a lent store, answered by the text's own functions.
+//!
+//! Nothing is kept between calls but the store and the records: each call sets the text's memories from its share, runs the
+//! text's functions for that part of the frame, and writes the memories back. The module
+//! `shadow` runs the same frames once more, whole, by `process_frame`.
+
+use crate::reader::{self, Refusal};
+use nnnoiseless_text::probe::{bands, features, rnn};
+use nnnoiseless_text::{DenoiseFeatures, RnnModel};
+use std::ops::Range;
+
+/// The store's length, and a side's share of it.
+pub const STORE: usize = 2 * SHARE;
+pub const SHARE: usize = 6144;
+
+// A share, place by place.
+pub const INPUT_MEM: Range<usize> = 0..1728;
+pub const SYNTHESIS_MEM: Range<usize> = 1728..2208;
+pub const X: Range<usize> = 2208..3169;
+pub const EX: Range<usize> = 3169..3191;
+pub const LAG: usize = 3191;
+pub const MEM_HP_X: Range<usize> = 3192..3194;
+pub const LASTG: Range<usize> = 3194..3216;
+pub const CEPSTRAL_MEM: Range<usize> = 3216..3392;
+pub const STATES: [usize; 3] = [3392, 3520, 3648];
+
+// A record: due call, cepstral index, and the three GRU counts.
+pub const DUE: usize = 0;
+pub const INDEX: usize = 1;
+pub const COUNTS: Range<usize> = 2..5;
+
+fn in_range(record: &[u32]) -> bool {
+    match *record {
+        [0, index, vad, noise, denoise] => [index, vad, noise, denoise] == [0; 4],
+        [due, index, vad, noise, denoise] => {
+            due <= 4 && index <= 7 && [vad, noise, denoise].iter().all(|n| (1..=127).contains(n))
+        }
+        _ => false,
+    }
+}
+
+/// Refusals 1 to 4, or 0. `call` is 0 for an opening.
+fn gate(call: u32, record: &[u32], store: &[f32], side: u32) -> u32 {
+    if side > 1 {
+        1
+    } else if store.len() != STORE || !in_range(record) {
+        2
+    } else if call == 0 {
+        0
+    } else if record[DUE] == 0 {
+        3
+    } else if record[DUE] != call {
+        4
+    } else {
+        0
+    }
+}
+
+/// Refusals 1 to 5, and else a side's share.
+macro_rules! share {
+    ($call:expr, $record:ident, $store:ident, $side:ident, $($slice:ident $length:literal),*) => {{
+        let number = gate($call, $record, $store, $side);
+        if number != 0 {
+            return number;
+        }
+        if $($slice.len() != $length)||* {
+            return 5;
+        }
+        &mut $store[$side as usize * SHARE..][..SHARE]
+    }};
+}
+
+/// Refusal 7.
+fn misread(Refusal { number, layer }: Refusal) -> u32 {
+    7 + 256 * number + 65_536 * layer
+}
+
+/// The counts of the three GRUs.
+fn counts(layers: &[reader::Layer; 6]) -> [u32; 3] {
+    [1, 2, 3].map(|k| layers[k].neurons as u32)
+}
+
+/// Sets the text's memories from a share.
+pub fn load(text: &mut DenoiseFeatures, share: &[f32], index: u32) {
+    let memory = features::memory(text);
+    memory.input_mem.copy_from_slice(&share[INPUT_MEM]);
+    memory.synthesis_mem.copy_from_slice(&share[SYNTHESIS_MEM]);
+    memory.mem_hp_x.copy_from_slice(&share[MEM_HP_X]);
+    memory.cepstral_mem.as_flattened_mut().copy_from_slice(&share[CEPSTRAL_MEM]);
+    *memory.mem_id = index as usize;
+}
+
+fn loaded(share: &[f32], record: &[u32]) -> DenoiseFeatures {
+    let mut text = DenoiseFeatures::new();
+    load(&mut text, share, record[INDEX]);
+    text
+}
+
+/// Writes the text's memories back.
+fn save(text: &mut DenoiseFeatures, share: &mut [f32], record: &mut [u32]) {
+    let memory = features::memory(text);
+    share[INPUT_MEM].copy_from_slice(memory.input_mem);
+    share[SYNTHESIS_MEM].copy_from_slice(memory.synthesis_mem);
+    share[MEM_HP_X].copy_from_slice(memory.mem_hp_x);
+    share[CEPSTRAL_MEM].copy_from_slice(memory.cepstral_mem.as_flattened());
+    record[INDEX] = *memory.mem_id as u32;
+}
+
+pub fn open(record: &mut [u32], store: &mut [f32], side: u32, model: &[u8]) -> u32 {
+    let number = gate(0, record, store, side);
+    if number != 0 {
+        return number;
+    }
+    let layers = match reader::read(model, true) {
+        Ok(layers) => layers,
+        Err(refusal) => return misread(refusal),
+    };
+    store[side as usize * SHARE..][..SHARE].fill(0.0);
+    record[DUE] = 1;
+    record[INDEX] = 0;
+    record[COUNTS].copy_from_slice(&counts(&layers));
+    0
+}
+
+pub fn call1(record: &mut [u32], store: &mut [f32], side: u32, samples: &[f32], window: &mut [f32]) -> u32 {
+    let share = share!(1, record, store, side, samples 480, window 960);
+    let mut text = loaded(share, record);
+    text.shift_and_filter_input(samples);
+    feed::start();
+    feed::spectrum(&[0.0; 961]);
+    window.copy_from_slice(&features::window(&mut text, 0));
+    feed::finish();
+    save(&mut text, share, record);
+    record[DUE] = 2;
+    0
+}
+
+/// The text runs on to the end of `compute_frame_features`; of that, call 2 has what it hands to its second transform and
+/// to its logarithms.
+pub fn call2(
+    record: &mut [u32],
+    store: &mut [f32],
+    side: u32,
+    spectrum: &[f32],
+    lag: u32,
+    window: &mut [f32],
+    sums: &mut [f32],
+) -> u32 {
+    let share = share!(2, record, store, side, spectrum 961, window 960, sums 22);
+    if lag > 768 {
+        return 6;
+    }
+    let mut text = loaded(share, record);
+    feed::start();
+    feed::spectrum(spectrum);
+    feed::lag(lag as usize);
+    feed::spectrum(&[0.0; 961]);
+    feed::logs(&[0.0; 22]);
+    text.compute_frame_features();
+    let seen = feed::finish();
+    window.copy_from_slice(&seen.windows[1]);
+    sums.copy_from_slice(&seen.logs);
+    text.x.write(&mut share[X]);
+    share[EX].copy_from_slice(&text.ex);
+    share[LAG] = lag as f32;
+    record[DUE] = 3;
+    0
+}
+
+pub fn call3(
+    record: &mut [u32],
+    store: &mut [f32],
+    side: u32,
+    spectrum: &[f32],
+    logs: &[f32],
+    model: &[u8],
+    out: &mut [f32],
+    answer: &mut [f32],
+) -> u32 {
+    let share = share!(3, record, store, side, spectrum 961, logs 22, out 961, answer 3);
+    match reader::read(model, true) {
+        Err(refusal) => return misread(refusal),
+        Ok(layers) if counts(&layers) != record[COUNTS] => return 8,
+        Ok(_) => {}
+    }
+    let mut text = loaded(share, record);
+    feed::start();
+    feed::spectrum(&[0.0; 961]);
+    feed::kept(feed::Kept { x: share[X].to_vec(), ex: share[EX].to_vec(), lag: share[LAG] });
+    feed::spectrum(spectrum);
+    feed::logs(logs);
+    let silent = text.compute_frame_features();
+    feed::finish();
+    answer.fill(0.0);
+    if !silent {
+        let model = RnnModel::from_bytes(model).expect("the text reads what the table accepts");
+        answer.copy_from_slice(&[1.0, heard(&mut text, share, &model), text.ex.iter().fold(0.0, |e, x| e + x)]);
+        save(&mut text, share, record);
+    }
+    text.x.write(out);
+    record[DUE] = 4;
+    0
+}
+
+/// What `process_frame` does with a heard frame, up to the inverse transform. The voice.
+fn heard(text: &mut DenoiseFeatures, share: &mut [f32], model: &RnnModel) -> f32 {
+    let (mut g, mut gf, mut voice) = ([0.0; 22], [1.0; 481], [0.0]);
+    let mut state = rnn::state(model);
+    for (to, at) in rnn::states(&mut state).into_iter().zip(STATES) {
+        to.copy_from_slice(&share[at..][..to.len()]);
+    }
+    state.compute(&mut g, &mut voice, text.features());
+    for (from, at) in rnn::states(&mut state).into_iter().zip(STATES) {
+        share[at..][..from.len()].copy_from_slice(from);
+    }
+    text.pitch_filter(&g);
+    for (g, last) in g.iter_mut().zip(&mut share[LASTG]) {
+        *g = g.max(0.6 * *last);
+        *last = *g;
+    }
+    bands::interp_band_gain(&mut gf, &g);
+    features::apply_gain(text, &gf);
+    voice[0]
+}
+
+pub fn call4(record: &mut [u32], store: &mut [f32], side: u32, inverse: &[f32], out: &mut [f32]) -> u32 {
+    let share = share!(4, record, store, side, inverse 960, out 480);
+    let mut text = loaded(share, record);
+    feed::start();
+    feed::inverse(inverse);
+    features::frame_synthesis(&mut text, out);
+    feed::finish();
+    save(&mut text, share, record);
+    record[DUE] = 1;
+    0
+}

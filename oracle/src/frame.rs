@@ -1,0 +1,160 @@
+//! features.rs and denoise.rs: whole frames in four calls, on two sides of one store.
+
+use crate::ask::{Ask, Caller, Surface, OURS};
+use crate::desk::{self, COUNTS, DUE, EX, INDEX, LAG, SHARE, STORE, X};
+use crate::rng::{Mood, Rng};
+use crate::shadow::Shadow;
+use crate::tally::{Tally, Value};
+use crate::Options;
+
+/// The desk by the text.
+const TEXT: Surface =
+    Surface { open: desk::open, call1: desk::call1, call2: desk::call2, call3: desk::call3, call4: desk::call4 };
+
+/// A desk's store and both records.
+#[derive(Clone)]
+struct World {
+    store: Vec<f32>,
+    records: [Vec<u32>; 2],
+}
+
+pub fn compare(options: &Options) -> Tally {
+    compare_with(options, &OURS)
+}
+
+/// Any desk against the desk by the text.
+pub fn compare_with(options: &Options, desk: &Surface) -> Tally {
+    let mut tally = Tally::new("frame");
+    let rng = &mut Rng::new(options.seed);
+    let mut ours = World { store: rng.list(STORE), records: [vec![0; 5], vec![0; 5]] };
+    let mut rusts = ours.clone();
+    let mut callers = [Caller::new(0), Caller::new(1)];
+    let mut shadows = [Shadow::default(), Shadow::default()];
+    let calls = options.calls(24_000);
+    // a call in eight, at least, ends a frame
+    while tally.compared < calls || shadows.iter().map(|s| s.frames).sum::<u64>() < calls / 8 {
+        let side = rng.below(2);
+        let ask = callers[side].ask(rng, rusts.records[side][DUE]);
+        let damage = Damage::any(rng, side);
+        let saved = [&ours, &rusts].map(|world| damage.passing().then(|| world.clone()));
+        for world in [&mut ours, &mut rusts] {
+            damage.apply(world, side);
+        }
+        let before = rusts.clone();
+        let (number, lent) = ask.put(desk, &mut ours.records[side], &mut ours.store);
+        let (want, wanted) = ask.put(&TEXT, &mut rusts.records[side], &mut rusts.store);
+        judge(&mut tally, &ask, &before, (number, &lent, &ours), (want, &wanted, &rusts));
+        callers[side].answered(&ask, want, &wanted);
+        if !matches!(damage, Damage::None) {
+            shadows.iter_mut().for_each(Shadow::touched);
+        }
+        if want == 0 {
+            let [was, is] = [&before, &rusts].map(|w| (&w.store[side * SHARE..][..SHARE], w.records[side][INDEX]));
+            if let Some(what) = shadows[side].follow(&ask, &wanted, was, is) {
+                let what = format!("the text's process_frame differs from the four calls in {what}\n");
+                tally.differs(|text| text.push_str(&what));
+            }
+        }
+        if let [Some(a), Some(b)] = saved {
+            if want != 0 {
+                (ours, rusts) = (a, b);
+            } else if ask.call != 0 {
+                // what the model must agree with
+                ours.records[side][COUNTS].copy_from_slice(&a.records[side][COUNTS]);
+                rusts.records[side][COUNTS].copy_from_slice(&b.records[side][COUNTS]);
+            }
+        }
+    }
+    tally
+}
+
+/// What befalls a store or a record from outside before a call.
+enum Damage {
+    None,
+    /// A record with another number at a place.
+    Record(usize, u32),
+    /// The record of a closed side.
+    Closed,
+    /// A record of another length.
+    RecordLength(usize),
+    /// A store of another length.
+    StoreLength(usize),
+    /// Other numbers in the store, from a place on.
+    Store(usize, Vec<f32>),
+}
+
+impl Damage {
+    fn any(rng: &mut Rng, side: usize) -> Damage {
+        let share = side * SHARE;
+        let mood = if rng.once_in(4) { rng.mood() } else { rng.pick(&[Mood::Small, Mood::Unit, Mood::Whole]) };
+        match rng.below(800) {
+            0..=14 => Damage::Record(rng.below(5), rng.pick(&RECORD)),
+            15..=19 => Damage::RecordLength(rng.pick(&[0, 1, 4, 6])),
+            20..=24 => Damage::Closed,
+            25..=30 => Damage::StoreLength(rng.pick(&[0, SHARE, STORE - 1, STORE + 1, 2 * STORE])),
+            31 => Damage::Store(share, rng.list_of(SHARE, mood)),
+            32 | 33 => Damage::Store(share + X.start, rng.list_of(X.len(), mood)),
+            // around the border of silence
+            34 | 35 => {
+                let mut ex = vec![0.0; 22];
+                let border = 0.04f32;
+                ex[rng.below(22)] = rng.pick(&[border, border.next_down(), f32::NAN, -1.0, 0.0]);
+                Damage::Store(share + EX.start, ex)
+            }
+            36 => Damage::Store(share + LAG, vec![rng.float()]),
+            37 => Damage::Store(rng.below(STORE), vec![rng.of(mood)]),
+            _ => Damage::None,
+        }
+    }
+
+    /// Whether it is mended after the call: where that was refused, wholly, else the record's counts.
+    fn passing(&self) -> bool {
+        !matches!(self, Damage::None | Damage::Store(..))
+    }
+
+    fn apply(&self, world: &mut World, side: usize) {
+        match self {
+            Damage::None => {}
+            Damage::Record(at, number) => world.records[side][*at] = *number,
+            Damage::Closed => world.records[side].fill(0),
+            Damage::RecordLength(len) => world.records[side].resize(*len, 1),
+            Damage::StoreLength(len) => world.store.resize(*len, 1.0),
+            Damage::Store(at, numbers) => world.store[*at..][..numbers.len()].copy_from_slice(numbers),
+        }
+    }
+}
+
+/// Numbers at the borders of what a record may hold.
+const RECORD: [u32; 16] = [0, 1, 2, 3, 4, 5, 6, 7, 8, 126, 127, 128, 255, 256, 65_536, u32::MAX];
+
+type Left<'a> = (u32, &'a [Vec<f32>], &'a World);
+
+fn judge(tally: &mut Tally, ask: &Ask, before: &World, ours: Left, rusts: Left) {
+    let words = [ask.call, ask.side, ask.lag];
+    let mut given = vec![("call, side, lag", Value::from(&words[..])), ("model", Value::from(&ask.model))];
+    given.extend(ask.given.iter().map(|list| ("given", list.into())));
+    given.extend(ask.held.iter().map(|list| ("held", list.into())));
+    given.extend(before.records.iter().map(|record| ("record", record.into())));
+    given.push(("store", (&before.store).into()));
+    fn all<'a>((number, lent, world): &'a Left) -> Vec<Value<'a>> {
+        let mut all = vec![Value::from(number)];
+        all.extend(lent.iter().map(Value::from));
+        all.extend(world.records.iter().map(Value::from));
+        all.push((&world.store).into());
+        all
+    }
+    tally.judge("frame", &given, &all(&ours), &all(&rusts));
+}
+
+#[cfg(test)]
+mod tests {
+    use super::*;
+
+    /// The desk by the text against itself: what remains is the comparison of its frames with `process_frame`.
+    #[test]
+    fn four_calls_are_a_frame() {
+        let options = Options { calls: Some(8_000), seed: 5, all: false };
+        let tally = compare_with(&options, &TEXT);
+        assert_eq!(tally.differences, 0, "{}", tally.report());
+    }
+}

@@ -1,0 +1,75 @@
+//! The proved library held against the Rust text, group by group.
+//!
+//! Each group makes seeded inputs, lends them to both sides and compares the number returned and every lent buffer
+//! afterwards, refused calls included. What is to be refused is worked out here, from the tables of refusals and not from
+//! either side. All NaNs are taken alike, and both zeros.
+
+pub mod models;
+pub mod reader;
+pub mod rng;
+pub mod tally;
+
+#[cfg(feature = "frame")]
+pub mod apart;
+#[cfg(feature = "frame")]
+pub mod ask;
+#[cfg(feature = "bands")]
+pub mod bands;
+#[cfg(feature = "frame")]
+pub mod desk;
+#[cfg(feature = "frame")]
+pub mod frame;
+#[cfg(feature = "model")]
+pub mod model;
+#[cfg(feature = "network")]
+pub mod network;
+#[cfg(feature = "numbers")]
+pub mod numbers;
+#[cfg(feature = "pitch")]
+pub mod pitch;
+#[cfg(feature = "frame")]
+pub mod shadow;
+
+use nnnoiseless_text::probe::bands::Complex;
+
+/// The 481 bins of 961 numbers: bin 0 is real.
+pub fn bins(numbers: &[f32]) -> Vec<Complex> {
+    let mut bins = vec![Complex { re: numbers[0], im: 0.0 }];
+    bins.extend(numbers[1..].chunks_exact(2).map(|c| Complex { re: c[0], im: c[1] }));
+    bins
+}
+
+/// What the command line says: how many calls, from which seed, and whether all there are.
+pub struct Options {
+    pub calls: Option<u64>,
+    pub seed: u64,
+    pub all: bool,
+}
+
+impl Options {
+    /// The number of calls asked for, or the gate's.
+    pub fn calls(&self, gate: u64) -> u64 {
+        self.calls.unwrap_or(gate)
+    }
+}
+
+/// A group's name, and what compares it.
+pub type Group = (&'static str, fn(&Options) -> tally::Tally);
+
+/// The groups whose functions stand in the static library.
+pub const GROUPS: &[Group] = &[
+    #[cfg(feature = "numbers")]
+    ("numbers", numbers::compare),
+    #[cfg(feature = "bands")]
+    ("bands", bands::compare),
+    #[cfg(feature = "pitch")]
+    ("pitch", pitch::compare),
+    #[cfg(feature = "model")]
+    ("model", model::compare),
+    #[cfg(feature = "network")]
+    ("network", network::compare),
+    #[cfg(feature = "frame")]
+    ("frame", frame::compare),
+    #[cfg(feature = "frame")]
+    ("apart", apart::compare),
+];

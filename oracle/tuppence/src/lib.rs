@@ -1,0 +1,93 @@
+//! The proved library, `export`, by its C surface: one safe function for each of its `tuppence_…`.
+//!
+//! A slice crosses as a pointer and a length, and no function asks anything of its caller, so each is safe for whatever
+//! it is lent. A `u32` is 0 for done, or the number of the refusal, which leaves every lent buffer as it was.
+
+macro_rules! surface {
+    (@ $symbol:ident, $name:ident, $result:ty, [$($c:ty,)*] [$($a:ident: $r:ty,)*] [$($v:expr,)*]) => {
+        pub fn $name($($a: $r),*) -> $result {
+            extern "C" {
+                fn $symbol($(_: $c),*) -> $result;
+            }
+            // SAFETY: the archive has this function with these parameters, each slice's pointer and length belong
+            // together, and nothing is asked of the arguments' values.
+            unsafe { $symbol($($v),*) }
+        }
+    };
+    (@ $s:ident, $n:ident, $o:ty, [$($c:ty,)*] [$($p:tt)*] [$($v:tt)*] $a:ident: &mut [$t:ty], $($rest:tt)*) => {
+        surface!(@ $s, $n, $o, [$($c,)* *mut $t, usize,] [$($p)* $a: &mut [$t],] [$($v)* $a.as_mut_ptr(), $a.len(),] $($rest)*);
+    };
+    (@ $s:ident, $n:ident, $o:ty, [$($c:ty,)*] [$($p:tt)*] [$($v:tt)*] $a:ident: &[$t:ty], $($rest:tt)*) => {
+        surface!(@ $s, $n, $o, [$($c,)* *const $t, usize,] [$($p)* $a: &[$t],] [$($v)* $a.as_ptr(), $a.len(),] $($rest)*);
+    };
+    (@ $s:ident, $n:ident, $o:ty, [$($c:ty,)*] [$($p:tt)*] [$($v:tt)*] $a:ident: $t:ty, $($rest:tt)*) => {
+        surface!(@ $s, $n, $o, [$($c,)* $t,] [$($p)* $a: $t,] [$($v)* $a,] $($rest)*);
+    };
+    ($($symbol:ident as $name:ident($($parameters:tt)*) -> $result:ty;)*) => {
+        $(surface!(@ $symbol, $name, $result, [] [] [] $($parameters)*,);)*
+    };
+}
+
+#[cfg(feature = "numbers")]
+surface! {
+    tuppence_tansig as tansig(x: f32) -> f32;
+    tuppence_sigmoid as sigmoid(x: f32) -> f32;
+    tuppence_relu as relu(x: f32) -> f32;
+    tuppence_sqrt as sqrt(x: f32) -> f32;
+    tuppence_max as max(a: f32, b: f32) -> f32;
+    tuppence_min as min(a: f32, b: f32) -> f32;
+    tuppence_clamp as clamp(x: f32, low: f32, high: f32) -> f32;
+    tuppence_narrow as narrow(x: f64) -> f32;
+    tuppence_filter as filter(output: &mut [f32], memory: &mut [f32], coefficients: &[f32], input: &[f32]) -> u32;
+}
+
+#[cfg(feature = "bands")]
+surface! {
+    tuppence_band_corr as band_corr(out: &mut [f32], x: &[f32], p: &[f32]) -> u32;
+    tuppence_band_gain as band_gain(out: &mut [f32], bands: &[f32]) -> u32;
+    tuppence_dct as dct(out: &mut [f32], x: &[f32]) -> u32;
+    tuppence_window as window(out: &mut [f32], x: &[f32]) -> u32;
+    tuppence_window_in_place as window_in_place(xs: &mut [f32]) -> u32;
+}
+
+#[cfg(feature = "pitch")]
+surface! {
+    tuppence_inner_prod as inner_prod(sum: &mut [f32], xs: &[f32], ys: &[f32], n: usize) -> u32;
+    tuppence_lpc as lpc(lpc: &mut [f32], ac: &[f32]) -> u32;
+    tuppence_pitch_xcorr as pitch_xcorr(xcorr: &mut [f32], xs: &[f32], ys: &[f32]) -> u32;
+    tuppence_find_best_pitch as find_best_pitch(pitches: &mut [u64], xcorr: &[f32], ys: &[f32], len: usize) -> u32;
+    tuppence_fir5 as fir5(xs: &mut [f32], num: &[f32]) -> u32;
+    tuppence_autocorr as autocorr(ac: &mut [f32], x: &[f32]) -> u32;
+    tuppence_downsample as downsample(x_lp: &mut [f32], x: &[f32]) -> u32;
+}
+
+// Six times inputs, neurons, activation, offset and length; a refusal r of layer l is r + 65,536 l.
+#[cfg(feature = "model")]
+surface! {
+    tuppence_model as model(numbers: &mut [u32], model: &[u8]) -> u32;
+}
+
+#[cfg(feature = "network")]
+surface! {
+    tuppence_dense as dense(output: &mut [f32], weights: &[u8], bias: &[u8], activation: u32, input: &[f32]) -> u32;
+    tuppence_gru as gru(state: &mut [f32], weights: &[u8], recurrent: &[u8], bias: &[u8], activation: u32, input: &[f32]) -> u32;
+    tuppence_network as network(
+        gains: &mut [f32], voice: &mut [f32], vad: &mut [f32], noise: &mut [f32], denoise: &mut [f32],
+        model: &[u8], features: &[f32]
+    ) -> u32;
+}
+
+// A record is due call, cepstral index and the three GRU counts. Refusal 7 is 7 + 256 × the model's + 65,536 × its layer.
+#[cfg(feature = "frame")]
+surface! {
+    tuppence_open as open(record: &mut [u32], store: &mut [f32], side: u32, model: &[u8]) -> u32;
+    tuppence_call1 as call1(record: &mut [u32], store: &mut [f32], side: u32, samples: &[f32], window: &mut [f32]) -> u32;
+    tuppence_call2 as call2(
+        record: &mut [u32], store: &mut [f32], side: u32, spectrum: &[f32], lag: u32, window: &mut [f32], sums: &mut [f32]
+    ) -> u32;
+    tuppence_call3 as call3(
+        record: &mut [u32], store: &mut [f32], side: u32, spectrum: &[f32], logs: &[f32], model: &[u8],
+        out: &mut [f32], answer: &mut [f32]
+    ) -> u32;
+    tuppence_call4 as call4(record: &mut [u32], store: &mut [f32], side: u32, inverse: &[f32], out: &mut [f32]) -> u32;
+}
