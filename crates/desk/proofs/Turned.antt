@@ -1,4 +1,5 @@
 -- Laws of the gate.
+--     none          where it gives 0, no test of the table holds
 --     through       where it gives 0, the side and the store are right
 --     gate-own      of a side and a store that are right, the side's own record decides alone
 --     closed-opens  a closed side lets nothing through but an opening
@@ -17,7 +18,7 @@ use Rattle.desk.specs.Gate.{refusals, gate}
 
 module _ (benches call side : ℕ) (b : Bench) (len : ℕ) where
   -- no test of the table holds
-  none : gate benches call side b len ≡ 0 → Clear (refusals benches call side b len)
+  pub none : gate benches call side b len ≡ 0 → Clear (refusals benches call side b len)
   unfolding gate
   none e = cleared (refusals benches call side b len) tt e
 

@@ -80,7 +80,7 @@ pub fn open(bench: &mut [u32], store: &mut [f32], side: u32, model: &[u8]) -> u3
         (hosted side (now (bench .entry)) (now (store .entry)) (opening (now (model .entry))))
         r (now (bench .entry)) (now (bench .exit)) (now (store .exit)) [] [] ⌝ }
 {
-    let answer = crate::open(Side(wide(side)), bench_in(bench), store, model);
+    let answer = crate::open(Side(side as usize), bench_in(bench), store, model);
     hand_back(bench, answer)
 }
 
@@ -95,7 +95,7 @@ pub fn call1(
         (hosted side (now (bench .entry)) (now (store .entry)) (call1 (now (samples .entry)) (length (now (window .entry)))))
         r (now (bench .entry)) (now (bench .exit)) (now (store .exit)) (now (window .entry) ∷ []) (now (window .exit) ∷ []) ⌝ }
 {
-    let answer = crate::call1(Side(wide(side)), bench_in(bench), store, samples, window);
+    let answer = crate::call1(Side(side as usize), bench_in(bench), store, samples, window);
     hand_back(bench, answer)
 }
 
@@ -115,11 +115,11 @@ pub fn call2(
         (now (window .entry) ∷ now (sums .entry) ∷ []) (now (window .exit) ∷ now (sums .exit) ∷ []) ⌝ }
 {
     let answer = crate::call2(
-        Side(wide(side)),
+        Side(side as usize),
         bench_in(bench),
         store,
         spectrum,
-        Lag(wide(lag)),
+        Lag(lag as usize),
         window,
         sums,
     );
@@ -137,7 +137,7 @@ pub fn call4(
         (hosted side (now (bench .entry)) (now (store .entry)) (call4 (now (inverse .entry)) (length (now (out .entry)))))
         r (now (bench .entry)) (now (bench .exit)) (now (store .exit)) (now (out .entry) ∷ []) (now (out .exit) ∷ []) ⌝ }
 {
-    let answer = crate::call4(Side(wide(side)), bench_in(bench), store, inverse, out);
+    let answer = crate::call4(Side(side as usize), bench_in(bench), store, inverse, out);
     hand_back(bench, answer)
 }
 
@@ -206,13 +206,13 @@ pub fn call3(
 {
     let b = bench_in(bench);
     if three.len() != 3 {
-        let number = crate::gate(3, Side(wide(side)), b, store.len());
+        let number = crate::gate(3, Side(side as usize), b, store.len());
         if number != 0 {
             return number;
         }
         return 5;
     }
-    let answer = crate::call3(Side(wide(side)), b, store, spectrum, logs, model, out);
+    let answer = crate::call3(Side(side as usize), b, store, spectrum, logs, model, out);
     let reply = answer.reply;
     tell(three, reply);
     hand_back(bench, answer)
