@@ -47,7 +47,7 @@ activation-of Tanh = refl
 activation-of Sigmoid = refl
 activation-of Relu = refl
 
-number-small : (a : Activation) → numberOf a ≤ 2
+pub number-small : (a : Activation) → numberOf a ≤ 2
 number-small Tanh = omega arith
 number-small Sigmoid = omega arith
 number-small Relu = omega arith

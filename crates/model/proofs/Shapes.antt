@@ -42,7 +42,7 @@ neither false false h = (refl, refl)
 neither true u h = absurd (let z : _≡_ {A = ℕ} 0 1 = cc in omega arith)
 neither false true h = absurd (let z : _≡_ {A = ℕ} 0 1 = cc in omega arith)
 
-shape : (s : List ℕ) (m : Model) → Written s m → Shaped (length s) m
+pub shape : (s : List ℕ) (m : Model) → Written s m → Shaped (length s) m
 shape s m w =
     let match : Clear (mismatches m 0) = subst (λ (m : Model). Clear (mismatches m 0)) (w .model) (w .holds .match) in
     let in18 = neither _ _ (match .1 .0) in

@@ -2,3 +2,4 @@ pub mod Layer
 pub mod Model
 pub mod Array
 pub mod Parts
+pub mod Summary

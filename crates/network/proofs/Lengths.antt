@@ -8,7 +8,7 @@ use Rattle.rules.specs.F32.{at, part}
 use Rattle.rules.specs.Loop.{loop}
 use Rattle.rules.proofs.Runs.{kept}
 use Rattle.rules.proofs.Places.{length-get}
-use Rattle.network.specs.Sums.{ofByte, copied, columnStep, mulStep, mulAdd}
+use Rattle.network.specs.Sums.{ofByte, copied, columnStep, addColumn, mulStep, mulAdd}
 use Rattle.network.specs.Layers.{activateStep, gateSums, updateStep, resetStep, blendStep, denseOf, gruOf}
 use Rattle.network.specs.Compute.{array, denseAt, gruAt}
 use Rattle.model.specs.Array.{placeOf, Within}
@@ -26,12 +26,14 @@ same-length body turn n start = kept body (λ s. length s ≡ length start) n st
 length-copied : (bytes : List ℕ) → length (copied bytes) ≡ length bytes
 length-copied bytes = length-map bytes ofByte
 
+pub length-addColumn : (out : List Float) (col : List ℕ) (x : Float) → length (addColumn out col x) ≡ length out
+length-addColumn out col x = same-length (columnStep col x) (λ j s. simp length-set) (length out) out
+
 length-mulAdd : (out : List Float) (weights : List ℕ) (stride offset : ℕ) (input : List Float) → length (mulAdd out weights stride offset input) ≡ length out
 unfolding mulAdd
 length-mulAdd out weights stride offset input =
     same-length (mulStep weights stride offset input)
-    (λ i s. same-length (columnStep (part (i * stride + offset) (length weights) weights) (at input i)) (λ j t. simp length-set) (length s) s)
-    (length input) out
+    (λ i s. length-addColumn s (part (i * stride + offset) (length weights) weights) (at input i)) (length input) out
 
 pub length-denseOf : (weights bias : List ℕ) (activation : Activation) (input : List Float) → length (denseOf weights bias activation input) ≡ length bias
 unfolding denseOf

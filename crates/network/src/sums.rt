@@ -30,12 +30,35 @@ fn add_column(out: &mut [f32], col: &[u8], x: f32)
     }
 }
 
+// Two columns of `mul_add` in one pass: at each place first the one, then the other.
+fn add_two(out: &mut [f32], first: &[u8], x: f32, second: &[u8], y: f32)
+    requires { ⌜ (length (now out) ≤ length (now first)) × (length (now out) ≤ length (now second)) ⌝ }
+    ensures { λ _. ⌜ now (out .exit) ≡ addColumn (addColumn (now (out .entry)) (now (first .entry)) x) (now (second .entry)) y ⌝ }
+{
+    for j in 0..out.len() {
+        out[j] = out[j] + weight(first[j]) * x + weight(second[j]) * y;
+    }
+}
+
 // out[j] += weights[i * stride + offset + j] * input[i], for each i in order.
 pub(crate) fn mul_add(out: &mut [f32], weights: &[u8], stride: usize, offset: usize, input: &[f32])
     requires { ⌜ MulAddFits (length (now out)) (length (now weights)) stride offset (length (now input)) ⌝ }
     ensures { λ _. ⌜ now (out .exit) ≡ mulAdd (now (out .entry)) (now (weights .entry)) stride offset (now (input .entry)) ⌝ }
 {
-    for i in 0..input.len() {
+    let mut i = 0usize;
+    while i + 1 < input.len() {
+        let start = i * stride + offset;
+        let next = start + stride;
+        add_two(
+            out,
+            &weights[start..],
+            input[i],
+            &weights[next..],
+            input[i + 1],
+        );
+        i += 2;
+    }
+    if i < input.len() {
         let start = i * stride + offset;
         add_column(out, &weights[start..], input[i]);
     }

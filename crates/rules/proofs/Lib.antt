@@ -1,6 +1,7 @@
 pub mod Below
 pub mod Cleared
 pub mod Fill
+pub mod Fused
 pub mod Leaves
 pub mod Loops
 pub mod Numbers

@@ -1,0 +1,151 @@
+-- What readings stay within: no longer file reads than the largest model's, and a refusal is a number of the table. Assumes nothing.
+use mathlib.Core.Path.{_≡_, refl, sym, subst}
+use mathlib.Core.List.{List, [], _∷_}
+use Prim.Native.Nat.{ℕ, zero, suc, _+_, _*_, _-_, _≤_, _<_, _^_}
+use native.Mathlib.Nat.{le-refl, add-mul}
+use native.Mathlib.Numerals.{add-one}
+use native.Mathlib.Omega.{arith}
+use lib.ListN.{length, getD, length-append, List·getD-eq-default}
+use Rattle.rules.proofs.Rows.{by-each}
+use Rattle.model.specs.declared.Activation.{Activation}
+use Rattle.model.specs.declared.Kind.{Kind}
+use Rattle.model.specs.declared.Kind.the-variants.{Dense, Gru}
+use Rattle.model.specs.declared.Header.{Header}
+use Rattle.model.specs.declared.Model.{Model}
+use Rattle.model.specs.declared.Found.{Found}
+use Rattle.model.specs.declared.Found.the-variants.{At, Nothing}
+use Rattle.model.specs.declared.Reading.{Reading}
+use Rattle.model.specs.declared.Reading.the-variants.{Good, Refused}
+use Rattle.model.specs.Layer.{lengths, sizeOf, numberOf, bytesOf, Layer, faults, Front, layer, refused, front}
+use Rattle.model.specs.Model.{kinds, fileOf, Layers, layers, refusedAt, before, onward, inRow, headersAt, modelOf, mismatches, judged, readOf}
+use Rattle.model.specs.Array.{foundIn, lineIn, Within}
+use Rattle.model.proofs.Layer.{product}
+use Rattle.model.proofs.Inverse.{length-joined, number-small, Fits, FitAll}
+use Rattle.model.proofs.File.{Written, WrittenIf, writes-back}
+use Rattle.model.proofs.Places.{within}
+use Rattle.model.proofs.Shapes.{Shaped, shape}
+
+-- ---- the largest file
+
+abbrev total : List Kind → List Layer → ℕ
+total [] ls = 0
+total (k ∷ ks) [] = 0
+total (k ∷ ks) (l ∷ ls) = 3 + sizeOf k (l .inputs) (l .neurons) + total ks ls
+
+length-file : (ks : List Kind) (ls : List Layer) → FitAll ks ls → length (fileOf ls) ≡ total ks ls
+length-file [] [] f = refl
+length-file (k ∷ ks) (l ∷ ls) f =
+    simp length-append (omega (arith, length-joined (lengths k (l .inputs) (l .neurons)) (l .arrays) (f .0 .arrays), length-file ks ls (f .1)))
+
+-- a, b, c and d are the neurons of layers 0 to 3, and i and j the inputs of layers 2 and 3
+largest-sum : (a b c d i j : ℕ) → 1 ≤ b → d < 128 → i < 128 → j < 128 → 42 + a + b ≡ i → 42 + b + c ≡ j
+    → sizeOf Dense 42 a + (sizeOf Gru a b + (sizeOf Gru i c + (sizeOf Gru j d + (sizeOf Dense d 22 + sizeOf Dense b 1)))) ≤ 157267
+largest-sum a b c d i j some few small small′ reads reads′ =
+    let recurs : 3 * a * b + 3 * b * b ≤ 255 * b = rw (← add-mul (3 * a) (3 * b) b) (product (3 * a + 3 * b) b 255 b (omega arith) (omega arith)) in
+    omega (
+      arith,
+      product (3 * i) c 381 c (omega arith) (omega arith),
+      product (3 * c) c 252 c (omega arith) (omega arith),
+      product (3 * j) d 381 d (omega arith) (omega arith),
+      product (3 * d) d 381 d (omega arith) (omega arith),
+    )
+
+largest-file : (size : ℕ) (ls : List Layer) → FitAll kinds ls → Shaped size (modelOf (headersAt 0 ls)) → length (fileOf ls) ≤ 157285
+largest-file size (l0 ∷ l1 ∷ l2 ∷ l3 ∷ l4 ∷ l5 ∷ []) f q =
+    let ls = l0 ∷ l1 ∷ l2 ∷ l3 ∷ l4 ∷ l5 ∷ [] in
+    rw (length-file kinds ls f, q .features, ← q .vad-reads, ← q .voice-reads, ← q .gains-read, q .gains, q .voice)
+    (omega (
+      arith,
+      largest-sum (l0 .neurons) (l1 .neurons) (l2 .neurons) (l3 .neurons) (l2 .inputs) (l3 .inputs)
+      (q .layer1 .some) (q .layer3 .neurons) (q .layer2 .inputs) (q .layer3 .inputs) (q .noise-reads) (q .denoise-reads),
+    ))
+largest-file size [] f q = absurd f
+largest-file size (l0 ∷ []) f q = absurd (f .1)
+largest-file size (l0 ∷ l1 ∷ []) f q = absurd (f .1 .1)
+largest-file size (l0 ∷ l1 ∷ l2 ∷ []) f q = absurd (f .1 .1 .1)
+largest-file size (l0 ∷ l1 ∷ l2 ∷ l3 ∷ []) f q = absurd (f .1 .1 .1 .1)
+largest-file size (l0 ∷ l1 ∷ l2 ∷ l3 ∷ l4 ∷ []) f q = absurd (f .1 .1 .1 .1 .1)
+largest-file size (l0 ∷ l1 ∷ l2 ∷ l3 ∷ l4 ∷ l5 ∷ l6 ∷ ls) f q = absurd (f .1 .1 .1 .1 .1 .1)
+
+-- no longer file reads
+pub largest : (s : List ℕ) {m : Model} → Good m ≡ readOf s → length s ≤ 157285
+largest s {m} e = of m (rw (← e) at (writes-back s))
+  where
+    of : (m : Model) → Written s m → length s ≤ 157285
+    of m w = rw (w .holds .file) (largest-file (length s) (w .contents) (w .holds .fit) (subst (Shaped (length s)) (sym (w .model)) (shape s m w)))
+
+-- a layer that is found is within 157,285 bytes
+found-small : (s : List ℕ) (j : ℕ) {k : Kind} {h : Header} → At k h ≡ foundIn (readOf s) j → Within 157285 k h
+found-small s j {k} {h} e = within s j e (of (readOf s) refl e)
+  where
+    of : (r : Reading) → r ≡ readOf s → At k h ≡ foundIn r j → length s ≤ 157285
+    of (Good m) good e = largest s good
+    of (Refused n l) bad e = absurd (let z : _≡_ {A = ℕ} 0 1 = cc in omega arith)
+
+-- the numbers of a line, behind its layer
+pub line-small : (s : List ℕ) (j n : ℕ) → getD (lineIn (foundIn (readOf s) j) j) (n + 1) 0 < 2 ^ 32
+line-small s j n = rw (add-one n) (of (foundIn (readOf s) j) refl n)
+  where
+    of : (f : Found) → f ≡ foundIn (readOf s) j → (n : ℕ) → getD (lineIn f j) (suc n) 0 < 2 ^ 32
+    of Nothing e zero = omega arith
+    of Nothing e (suc zero) = omega arith
+    of Nothing e (suc (suc zero)) = omega arith
+    of Nothing e (suc (suc (suc zero))) = omega arith
+    of Nothing e (suc (suc (suc (suc zero)))) = omega arith
+    of Nothing e (suc (suc (suc (suc (suc n))))) = omega arith
+    of (At k h) e zero = let w = found-small s j e in omega arith
+    of (At k h) e (suc zero) = let w = found-small s j e in omega arith
+    of (At k h) e (suc (suc zero)) = let a = number-small (h .activation) in omega arith
+    of (At k h) e (suc (suc (suc zero))) = let w = found-small s j e in omega arith
+    of (At k h) e (suc (suc (suc (suc zero)))) = let w = found-small s j e in omega arith
+    of (At k h) e (suc (suc (suc (suc (suc n))))) = omega arith
+
+-- ---- refusals
+
+abbrev InTable : Reading → Type 0
+InTable (Good m) = Unit
+InTable (Refused n j) = (11 ≤ n) × (n ≤ 22) × (j ≤ 6)
+
+abbrev InFront : Front → Type 0
+InFront (layer l rest) = Unit
+InFront (refused n) = (11 ≤ n) × (n ≤ 22)
+
+front-in : (k : Kind) (s : List ℕ) → InFront (front k s)
+unfolding front
+front-in k (i ∷ n ∷ a ∷ s) =
+    by-each refused _ InFront (faults k i n a (length s))
+    ((omega arith, omega arith), ((omega arith, omega arith), ((omega arith, omega arith), ((omega arith, omega arith), ((omega arith, omega arith), tt))))) tt
+front-in k (i ∷ n ∷ []) = (omega arith, omega arith)
+front-in k (i ∷ []) = (omega arith, omega arith)
+front-in k [] = (omega arith, omega arith)
+
+abbrev InLayers : ℕ → Layers → Type 0
+InLayers m (layers ls rest) = Unit
+InLayers m (refusedAt n j) = (11 ≤ n) × (n ≤ 22) × (j < m)
+
+row-in : (j : ℕ) (ks : List Kind) (s : List ℕ) → InLayers (j + length ks) (inRow j ks s)
+unfolding inRow
+row-in j [] s = tt
+row-in j (k ∷ ks) s = after (front k s) (front-in k s) (row-in (suc j) ks)
+  where
+    passed : (l : Layer) (x : Layers) → InLayers (suc j + length ks) x → InLayers (j + suc (length ks)) (before l x)
+    passed l (layers ls rest) h = tt
+    passed l (refusedAt n m) h = (h .0, h .1, omega (arith, h .2))
+
+    after : (f : Front) → InFront f → ((r : List ℕ) → InLayers (suc j + length ks) (inRow (suc j) ks r)) → InLayers (j + suc (length ks)) (onward j f (inRow (suc j) ks))
+    after (layer l r) h g = passed l (inRow (suc j) ks r) (g r)
+    after (refused n) h g = (h .0, h .1, omega arith)
+
+reading-in : (s : List ℕ) → InTable (readOf s)
+unfolding readOf
+reading-in s = of (inRow 0 kinds s) (row-in 0 kinds s)
+  where
+    of : (x : Layers) → InLayers 6 x → InTable (judged x)
+    of (layers ls rest) h =
+        let m = modelOf (headersAt 0 ls) in
+        by-each (λ n. Refused n 6) (Good m) InTable (mismatches m (length rest)) ((omega arith, omega arith, omega arith), ((omega arith, omega arith, omega arith), ((omega arith, omega arith, omega arith), ((omega arith, omega arith, omega arith), ((omega arith, omega arith, omega arith), ((omega arith, omega arith, omega arith), tt)))))) tt
+    of (refusedAt n j) h = (h .0, h .1, omega (arith, h .2))
+
+-- a refusal is one of 11 to 22, and its layer one of 0 to 6
+pub refused-in : (s : List ℕ) {n j : ℕ} → Refused n j ≡ readOf s → (11 ≤ n) × (n ≤ 22) × (j ≤ 6)
+refused-in s e = rw (← e) at (reading-in s)
