@@ -1,5 +1,6 @@
 pub mod Below
 pub mod Called
+pub mod Cleared
 pub mod Fill
 pub mod Filling
 pub mod Fronts
@@ -16,3 +17,4 @@ pub mod Stores
 pub mod Table
 pub mod Tabs
 pub mod Tests
+pub mod Wholes
