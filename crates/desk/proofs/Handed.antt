@@ -44,7 +44,7 @@ module _ (side : ℕ) (bench : List ℕ) (b : Bench) (store store′ : List Floa
       (record {
         small = small BENCHES side b store ask;
         fits =
-          λ p.
+            λ p.
             let r = range-kept BENCHES side b store ask p in
             let w = within (o .answer .bench) (r .1) in
             record {

@@ -110,7 +110,7 @@ pub fn call2(
 ) -> u32
     ensures { λ r. ⌜ Hosted
         (hosted side (now (bench .entry)) (now (store .entry))
-            (call2 (now (spectrum .entry)) lag (length (now (window .entry))) (length (now (sums .entry)))))
+        (call2 (now (spectrum .entry)) lag (length (now (window .entry))) (length (now (sums .entry)))))
         r (now (bench .entry)) (now (bench .exit)) (now (store .exit))
         (now (window .entry) ∷ now (sums .entry) ∷ []) (now (window .exit) ∷ now (sums .exit) ∷ []) ⌝ }
 {
@@ -200,7 +200,7 @@ pub fn call3(
 ) -> u32
     ensures { λ r. ⌜ Hosted
         (hosted3 side (now (bench .entry)) (now (store .entry))
-            (call3 (now (spectrum .entry)) (now (logs .entry)) (now (model .entry)) (length (now (out .entry)))) (length (now (three .entry))))
+        (call3 (now (spectrum .entry)) (now (logs .entry)) (now (model .entry)) (length (now (out .entry)))) (length (now (three .entry))))
         r (now (bench .entry)) (now (bench .exit)) (now (store .exit))
         (now (out .entry) ∷ now (three .entry) ∷ []) (now (out .exit) ∷ now (three .exit) ∷ []) ⌝ }
 {

@@ -12,7 +12,7 @@ use Rattle.model.specs.declared.Model.{Model}
 use Rattle.network.specs.Compute.{framed}
 use Rattle.features.specs.Gains.{gained}
 use Rattle.features.specs.Pitch.{pitchFiltered, applied}
-use Rattle.stubs.specs.Features.{normalisedCorr, featuresOf, remembered}
+use Rattle.features.specs.Features.{normalisedCorr, featuresOf, remembered}
 use Rattle.frame.specs.Share.{keptX, keptEx, keptLag, lastg, cepstralMem, vadState, noiseState, denoiseState}
 
 -- `transform_input`: *x *= norm

@@ -72,7 +72,7 @@ fn sense(
         ≡ featured (now (share .entry)) index (now (p .entry)) (now (ep .entry)) (now (logs .entry)) ⌝ }
 {
     let lag = share[3191];
-    stubs::compute_features(
+    features::compute_features(
         features,
         exp,
         &mut share[3216..3392],

@@ -12,7 +12,7 @@ use Rattle.rules.specs.Leaf.{_leaving_}
 use Rattle.rules.specs.Place.{get, put}
 use Rattle.rules.proofs.Called.{left as fitted}
 use Rattle.rules.proofs.Places.{length-get}
-use Rattle.stubs.specs.Features.{normalisedCorr, featuresOf, remembered}
+use Rattle.features.specs.Features.{normalisedCorr, featuresOf, remembered}
 use Rattle.frame.specs.Share.{keptX, keptEx, keptLag, cepstralMem}
 use Rattle.frame.specs.Heard.{featured}
 use Rattle.frame.specs.Parts.{featuredAs}
