@@ -11,8 +11,8 @@ ghost use Rattle.bands.specs.Dct.{dctSum, dctScaled, dctIn, dctOf, DctFi
 ghost use Rattle.bands.specs.Norm.{wnorm};
 ghost use Rattle.bands.specs.Windowed.{windowedBy, windowed, WindowFits};
 
-pub mod dct_table;
-pub mod window;
+mod dct_table;
+mod window;
 
 // EBAND_5MS times 4.
 const EDGES: [usize; 22] = [
