@@ -1,2 +1,3 @@
+pub mod OfNetwork
 pub mod OfNumbers
 pub mod OfPitch

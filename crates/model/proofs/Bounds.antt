@@ -57,7 +57,7 @@ largest-file size (l0 ∷ l1 ∷ l2 ∷ l3 ∷ l4 ∷ l5 ∷ []) f q =
     (omega (
       arith,
       largest-sum (l0 .neurons) (l1 .neurons) (l2 .neurons) (l3 .neurons) (l2 .inputs) (l3 .inputs)
-      (q .layer1 .some) (q .layer3 .neurons) (q .layer2 .inputs) (q .layer3 .inputs) (q .noise-reads) (q .denoise-reads),
+          (q .layer1 .some) (q .layer3 .neurons) (q .layer2 .inputs) (q .layer3 .inputs) (q .noise-reads) (q .denoise-reads),
     ))
 largest-file size [] f q = absurd f
 largest-file size (l0 ∷ []) f q = absurd (f .1)

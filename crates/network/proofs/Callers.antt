@@ -3,6 +3,7 @@
 --     computed-misread     where the lengths fit and the model does not read: its number and layer, and all as it was
 --     computed-done        where the lengths fit and the model reads: done, and what the six layers leave
 --     kept                 every buffer keeps its length
+--     answered             a refusal is 5, and a model's refusal one of its table
 -- Assumes nothing.
 use mathlib.Core.Path.{_≡_, refl, sym, ap, _∙_}
 use mathlib.Core.Bool.{not, false}
@@ -16,11 +17,14 @@ use lib.Ieee.{Float}
 use Rattle.rules.specs.Refusals.{Row}
 use Rattle.rules.proofs.Refused.{Clear, clear, by-rows}
 use Rattle.rules.proofs.OneNumber.{refuses}
+use Rattle.rules.proofs.Rows.{by-each}
 use Rattle.model.specs.Model.{readOf, _≠_}
 use Rattle.model.specs.declared.Model.{Model}
 use Rattle.model.specs.declared.Reading.{Reading}
 use Rattle.model.specs.declared.Reading.the-variants as read
 use Rattle.network.specs.Compute.{Frame, frameOf, sixLayers, framed, Outcome, outcome, byReading, wrongLengths, computed, Lengths}
+use Rattle.model.proofs.Bounds.{refused-in}
+use Rattle.network.specs.declared.Computed.{Computed}
 use Rattle.network.specs.declared.Computed.the-variants.{Done, Refused, Misread}
 use Rattle.network.proofs.Fitting.{few, voice-fits, gains-fit}
 use Rattle.network.proofs.Lengths.{length-denseAt, length-gruAt}
@@ -47,6 +51,12 @@ module _ (gains voice vad noise denoise features : ℕ) where
         third = same denoise 128 (c .1 .1 .1 .1 .0);
         featured = same features 42 (c .1 .1 .1 .1 .1 .0);
       }
+
+-- the numbers and the layers that an answer can have
+abbrev pub Answered : Computed → Type 0
+Answered Done = Unit
+Answered (Refused number) = number ≡ 5
+Answered (Misread number layer) = (number ≤ 22) × (layer ≤ 6)
 
 module _ (gains voice vad noise denoise : List Float) (model : List ℕ) (features : List Float) where
   abbrev pub Fit : Type 0
@@ -127,3 +137,13 @@ module _ (gains voice vad noise denoise : List Float) (model : List ℕ) (featur
           → Kept (byReading r (λ m. record { answer = Done; left = framed model m vad noise denoise features }) (λ number layer. outcome (Misread number layer) gains voice vad noise denoise) .left)
       of fit (read.Good m) e = done-kept fit m e
       of fit (read.Refused number layer) e = as-held
+
+  -- what it answers: a refusal is 5, and a model's refusal one of its table
+  pub answered : Answered (computed gains voice vad noise denoise model features .answer)
+  unfolding computed
+  answered = by-each refuse past (λ o. Answered (o .answer)) rows (refl, (refl, (refl, (refl, (refl, (refl, tt)))))) (of (readOf model) refl)
+    where
+      of : (r : Reading) → readOf model ≡ r
+          → Answered (byReading r (λ m. record { answer = Done; left = framed model m vad noise denoise features }) (λ number layer. outcome (Misread number layer) gains voice vad noise denoise) .answer)
+      of (read.Good m) e = tt
+      of (read.Refused number layer) e = let b = refused-in model (sym e) in (b .1, b .2)

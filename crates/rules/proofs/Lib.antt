@@ -1,5 +1,9 @@
 pub mod Below
+pub mod Called
+pub mod Cleared
 pub mod Fill
+pub mod Filling
+pub mod Fronts
 pub mod Fused
 pub mod Leaves
 pub mod Loops
@@ -9,6 +13,8 @@ pub mod Places
 pub mod Refused
 pub mod Rows
 pub mod Runs
+pub mod Stores
 pub mod Table
 pub mod Tabs
 pub mod Tests
+pub mod Wholes

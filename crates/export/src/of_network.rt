@@ -1,0 +1,96 @@
+// network: the layers, with the activation as a number, and the six layers for one frame.
+ghost use mathlib.Core.Path.{_≡_};
+ghost use lib.ListN.{length};
+ghost use Rattle.rules.specs.Leaf.{Leaf, _leaving_};
+ghost use Rattle.model.specs.Layer.{activationOf};
+ghost use Rattle.network.specs.Layers.{denseOf, DenseFits, gruOf, GruFits};
+ghost use Rattle.network.specs.Compute.{frameOf, computed};
+ghost use Rattle.export.specs.OfNetwork.{Known, numberOf, told, Small};
+use model::Activation;
+use network::Computed;
+
+fn activation_of(number: u32) -> Activation
+    ensures { λ r. ⌜ r ≡ activationOf number ⌝ }
+{
+    match number {
+        0 => Activation::Tanh,
+        1 => Activation::Sigmoid,
+        _ => Activation::Relu,
+    }
+}
+
+#[no_mangle]
+pub extern "C" fn tuppence_dense(
+    output: &mut [f32],
+    weights: &[u8],
+    bias: &[u8],
+    activation: u32,
+    input: &[f32],
+) -> u32
+    ensures { λ r. ⌜ Leaf (Known activation (DenseFits (length (now (output .entry))) (length (now (weights .entry))) (length (now (bias .entry))) (length (now (input .entry)))))
+        (r leaving now (output .exit))
+        (0 leaving denseOf (now (weights .entry)) (now (bias .entry)) (activationOf activation) (now (input .entry)))
+        (5 leaving now (output .entry)) ⌝ }
+{
+    if 2 < activation {
+        return 5;
+    }
+    network::dense(output, weights, bias, activation_of(activation), input)
+}
+
+#[no_mangle]
+pub extern "C" fn tuppence_gru(
+    state: &mut [f32],
+    weights: &[u8],
+    recurrent: &[u8],
+    bias: &[u8],
+    activation: u32,
+    input: &[f32],
+) -> u32
+    ensures { λ r. ⌜ Leaf (Known activation (GruFits (length (now (state .entry))) (length (now (weights .entry))) (length (now (recurrent .entry))) (length (now (bias .entry))) (length (now (input .entry)))))
+        (r leaving now (state .exit))
+        (0 leaving gruOf (now (weights .entry)) (now (recurrent .entry)) (now (bias .entry)) (activationOf activation) (now (input .entry)) (now (state .entry)))
+        (5 leaving now (state .entry)) ⌝ }
+{
+    if 2 < activation {
+        return 5;
+    }
+    network::gru(
+        state,
+        weights,
+        recurrent,
+        bias,
+        activation_of(activation),
+        input,
+    )
+}
+
+// 0, 5, or 7 with the number and the layer of a model that does not read.
+fn number_of(answer: Computed) -> u32
+    requires { ⌜ Small answer ⌝ }
+    ensures { λ r. ⌜ r ≡ numberOf answer ⌝ }
+{
+    match answer {
+        Computed::Done => 0,
+        Computed::Refused(number) => number,
+        Computed::Misread(number, layer) => 7 + 256 * number + 65536 * layer,
+    }
+}
+
+// The states have 128 places each.
+#[no_mangle]
+pub extern "C" fn tuppence_network(
+    gains: &mut [f32],
+    voice: &mut [f32],
+    vad: &mut [f32],
+    noise: &mut [f32],
+    denoise: &mut [f32],
+    model: &[u8],
+    features: &[f32],
+) -> u32
+    ensures { λ r. ⌜ (r leaving frameOf (now (gains .exit)) (now (voice .exit)) (now (vad .exit)) (now (noise .exit)) (now (denoise .exit)))
+        ≡ told (computed (now (gains .entry)) (now (voice .entry)) (now (vad .entry)) (now (noise .entry)) (now (denoise .entry)) (now (model .entry)) (now (features .entry))) ⌝ }
+{
+    let answer = network::compute(gains, voice, vad, noise, denoise, model, features);
+    number_of(answer)
+}
