@@ -53,11 +53,11 @@ placed side store o = record { answer = o .answer; store = put (shareOf side) st
 -- ---- a desk of one bench, whose store is the share
 
 -- what comes of a share, as an outcome
-abbrev outcome : Ask → Bench → Framed → Outcome
-outcome ask b f = record { answer = answered ask (f .reply) b; store = f .share; written = f .written }
+abbrev pub outcomeOf : Ask → Bench → Framed → Outcome
+outcomeOf ask b f = record { answer = answered ask (f .reply) b; store = f .share; written = f .written }
 
 module _ (b : Bench) (xs : List Float) (ask : Ask) (l : length xs ≡ SHARE) where
-  one-bench : desk 1 0 b xs ask ≡ outcome ask b (admitted (gate 1 (callOf ask) 0 b SHARE) ask b xs)
+  pub one-bench : desk 1 0 b xs ask ≡ outcomeOf ask b (admitted (gate 1 (callOf ask) 0 b SHARE) ask b xs)
   unfolding desk
   one-bench = rw (l, get-whole xs SHARE l, put-whole xs SHARE l)
 
@@ -78,7 +78,7 @@ module _ (n side : ℕ) (b : Bench) (store : List Float) (ask : Ask) (l : length
     fits : length share ≡ SHARE
     fits = length-get (shareOf side) store within
 
-    asked : desk n side b store ask ≡ placed side store (outcome ask b (admitted (gate 1 (callOf ask) 0 b SHARE) ask b share))
+    asked : desk n side b store ask ≡ placed side store (outcomeOf ask b (admitted (gate 1 (callOf ask) 0 b SHARE) ask b share))
     unfolding desk
     asked = rw (gate-own n (callOf ask) side b (length store) h l)
 
@@ -130,19 +130,19 @@ module _ (b : Bench) (xs ys : List Float) (l : length xs ≡ SHARE) (k : length 
       number : ℕ
       number = gate 1 (callOf ask) 0 b SHARE
 
-      opens : (read : Reading) (m : List ℕ) → Alike (outcome (opening m) b (opened read xs)) (outcome (opening m) b (opened read ys))
+      opens : (read : Reading) (m : List ℕ) → Alike (outcomeOf (opening m) b (opened read xs)) (outcomeOf (opening m) b (opened read ys))
       opens (Good m) _ = record { answer = refl; written = refl; store = inl refl }
       opens (Unread n l) _ = record { answer = refl; written = refl; store = inr z }
 
       -- of a closed side only an opening gets through
-      admit : (a : Ask) → callOf a ≡ 0 → Alike (outcome a b (framed a b xs)) (outcome a b (framed a b ys))
+      admit : (a : Ask) → callOf a ≡ 0 → Alike (outcomeOf a b (framed a b xs)) (outcomeOf a b (framed a b ys))
       admit (opening m) e = opens (readOf m) m
       admit (call1 x w) e = absurd (omega arith)
       admit (call2 x g w s) e = absurd (omega arith)
       admit (call3 x g m o) e = absurd (omega arith)
       admit (call4 x o) e = absurd (omega arith)
 
-      go : (t : Bool) → eqb number 0 ≡ t → Alike (outcome ask b (admitted number ask b xs)) (outcome ask b (admitted number ask b ys))
+      go : (t : Bool) → eqb number 0 ≡ t → Alike (outcomeOf ask b (admitted number ask b xs)) (outcomeOf ask b (admitted number ask b ys))
       go true e = rw e (admit ask (closed-opens 1 (callOf ask) 0 b SHARE z (eqb-true number 0 e)))
       go false e = rw e (record { answer = refl; written = refl; store = inr z })
 
@@ -155,11 +155,11 @@ module _ (b : Bench) (xs ys : List Float) (l : length xs ≡ SHARE) (k : length 
       number = gate 1 0 0 b SHARE
 
       opens : (read : Reading) → readOf m ≡ read → passed (opened read xs .reply) ≡ true
-          → outcome (opening m) b (opened read xs) ≡ outcome (opening m) closed (opened read ys)
+          → outcomeOf (opening m) b (opened read xs) ≡ outcomeOf (opening m) closed (opened read ys)
       opens (Good m) e h = rw e
       opens (Unread n l) e h = let one : _≡_ {A = ℕ} 0 1 = cc in absurd (omega arith)
 
       go : (t : Bool) → passed (cond t (opened (readOf m) xs) (refused (Refused number) xs) .reply) ≡ true
-          → outcome (opening m) b (cond t (opened (readOf m) xs) (refused (Refused number) xs)) ≡ outcome (opening m) closed (admitted (gate 1 0 0 closed SHARE) (opening m) closed ys)
+          → outcomeOf (opening m) b (cond t (opened (readOf m) xs) (refused (Refused number) xs)) ≡ outcomeOf (opening m) closed (admitted (gate 1 0 0 closed SHARE) (opening m) closed ys)
       go true h = opens (readOf m) refl h
       go false h = let one : _≡_ {A = ℕ} 0 1 = cc in absurd (omega arith)

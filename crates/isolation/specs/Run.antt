@@ -40,6 +40,11 @@ after n st c =
     let o = outcome n st c in
     record { bench = λ s. cond (eqb (c .side) s) (o .answer .bench) (st .bench s); store = o .store }
 
+-- the records and the store when a run is over
+unfoldable pub ended : ℕ → State → List Call → State
+ended n st [] = st
+ended n st (c ∷ cs) = ended n (after n st c) cs
+
 -- what the side of a call receives: the answer, that is the reply (done, silent, heard with voice and energy, or a refusal's number, with 7 the model's
 -- number and layer) and the record; and every number of every buffer that was lent to the call. A refused call leaves the buffers as they were held:
 -- what it receives is the answer alone.
