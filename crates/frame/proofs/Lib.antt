@@ -1,4 +1,5 @@
 pub mod Done
+pub mod Keeps
 pub mod Sounded
 pub mod Spoken
 pub mod Truth
