@@ -1,4 +1,9 @@
+pub mod Beside
+pub mod Cases
 pub mod Done
+pub mod Held
+pub mod Keeps
+pub mod Settled
 pub mod Sounded
 pub mod Spoken
 pub mod Truth
