@@ -7,8 +7,8 @@ use lib.ListN.{length, take, drop}
 use lib.Ieee.{Float}
 use Rattle.rules.specs.Loop.{loop}
 use Rattle.rules.specs.F32.{part}
-use Rattle.network.specs.Sums.{copied, mulAdd}
-use Rattle.network.specs.Layers.{activateStep, denseOf, gateSums, updateStep, resetStep, blendStep, gruOf, GruArrays, GateFits}
+use Rattle.matrix.specs.Sums.{mulAdd}
+use Rattle.network.specs.Layers.{copied, activateStep, denseOf, gateSums, updateStep, resetStep, blendStep, gruOf, GruArrays, GateFits}
 use Rattle.network.specs.Compute.{Frame, denseAt, gruAt, frameOf, sixLayers, framed}
 use Rattle.model.specs.declared.Activation.{Activation}
 use Rattle.model.specs.declared.Model.{Model}

@@ -2,6 +2,7 @@ pub mod Below
 pub mod Fill
 pub mod Fused
 pub mod Leaves
+pub mod Lengths
 pub mod Loops
 pub mod Numbers
 pub mod OneNumber
