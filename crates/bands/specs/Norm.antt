@@ -1,12 +1,12 @@
--- `wnorm` of lib.rs, `common`: 1 over the f32 sum of the window's squares, in order. Rust's f32 sum starts from -0.0.
+-- `wnorm` of lib.rs, `common`: 1_f32 / window.iter().map(|x| x * x).sum::<f32>(). Rust's f32 sum starts from -0.0.
+use mathlib.Core.List.{List, [], _∷_}
 use lib.Ieee.{Float}
-use Prim.Native.Nat.{ℕ}
-use Rattle.rules.specs.Loop.{loop}
-use Rattle.rules.specs.F32.{_⊕_, _⊗_, _⊘_, at, f32}
+use Rattle.rules.specs.F32.{_⊕_, _⊗_, _⊘_, f32}
 use Rattle.bands.specs.Window.{window}
 
-abbrev pub squareStep : ℕ → Float → Float
-squareStep i sum = sum ⊕ at window i ⊗ at window i
+unfoldable pub sumSquares : Float → List Float → Float
+sumSquares sum [] = sum
+sumSquares sum (x ∷ xs) = sumSquares (sum ⊕ x ⊗ x) xs
 
 unfoldable pub wnorm : Float
-wnorm = f32 0x3F800000 ⊘ loop 960 squareStep (f32 0x80000000)
+wnorm = f32 0x3F800000 ⊘ sumSquares (f32 0x80000000) window

@@ -11,8 +11,8 @@ ghost use Rattle.bands.specs.Dct.{dctSum, dctScaled, dctIn, dctOf, DctFi
 ghost use Rattle.bands.specs.Norm.{wnorm};
 ghost use Rattle.bands.specs.Windowed.{windowedBy, windowed, WindowFits};
 
-pub mod dct_table;
-pub mod window;
+mod dct_table;
+mod window;
 
 // EBAND_5MS times 4.
 const EDGES: [usize; 22] = [
@@ -56,14 +56,6 @@ fn all_edges() -> [usize; 22]
     EDGES
 }
 
-// Bin 0 is real.
-fn corr_0(x: &[f32], p: &[f32]) -> f32
-    requires { ⌜ (length (now x) ≡ 961) × (length (now p) ≡ 961) ⌝ }
-    ensures { λ r. ⌜ r ≡ binCorr (now (x .entry)) (now (p .entry)) 0 ⌝ }
-{
-    x[0] * p[0] + 0.0 * 0.0
-}
-
 // Bin k, with no branch: this is the innermost loop's.
 fn corr_at(x: &[f32], p: &[f32], k: usize) -> f32
     requires { ⌜ (length (now x) ≡ 961) × (length (now p) ≡ 961) × (0 < k) × (k ≤ 480) ⌝ }
@@ -73,13 +65,13 @@ fn corr_at(x: &[f32], p: &[f32], k: usize) -> f32
     x[n - 1] * p[n - 1] + x[n] * p[n]
 }
 
-// The first bin of band 0.
+// Bin 0, the first of band 0. It is real.
 fn add_bin_0(out: &mut [f32], x: &[f32], p: &[f32])
     requires { ⌜ BandFits (length (now out)) (length (now x)) (length (now p)) ⌝ }
     ensures { λ _. ⌜ now (out .exit) ≡ corrStep (now (x .entry)) (now (p .entry)) 0 0 (now (out .entry)) ⌝ }
 {
     let frac = 0.0 / 4.0;
-    let corr = corr_0(x, p);
+    let corr = x[0] * p[0] + 0.0 * 0.0;
     out[0] = out[0] + (1.0 - frac) * corr;
     out[1] = out[1] + frac * corr;
 }

@@ -7,8 +7,8 @@ use lib.ListN.{length, take, drop}
 use lib.Ieee.{Float}
 use Rattle.rules.specs.Loop.{loop}
 use Rattle.rules.specs.F32.{part}
-use Rattle.matrix.specs.Sums.{mulAdd}
-use Rattle.network.specs.Layers.{copied, activateStep, denseOf, gateSums, updateStep, resetStep, blendStep, gruOf, GruArrays, GateFits}
+use Rattle.matrix.specs.Sums.{mulAdd, MulAddFits}
+use Rattle.network.specs.Layers.{copied, activateStep, denseOf, gateSums, updateStep, resetStep, blendStep, gruOf, DenseArrays, GruArrays, GateFits}
 use Rattle.network.specs.Compute.{Frame, denseAt, gruAt, frameOf, sixLayers, framed}
 use Rattle.model.specs.declared.Activation.{Activation}
 use Rattle.model.specs.declared.Model.{Model}
@@ -18,6 +18,18 @@ pub dense-joined : (weights bias : List ℕ) (activation : Activation) (input : 
     → r ≡ denseOf weights bias activation input
 unfolding denseOf
 dense-joined weights bias activation input fit e e′ l e″ = e″ ∙ rw (l, e′, e, fit)
+
+-- the multiply-adds of a layer fit, on an output that keeps its length
+pub dense-fits : {output weights bias input now : ℕ} → DenseArrays output weights bias input → now ≡ output → MulAddFits now weights output 0 input
+dense-fits arrays same = record { rows = omega arith; columns = arrays .weighted }
+
+pub input-fits : {out weights recurrent bias offset input state now : ℕ} → GateFits out weights recurrent bias offset input state → now ≡ out
+    → MulAddFits now weights (3 * out) offset input
+input-fits fits same = record { rows = omega (arith, fits .inside); columns = fits .weighted }
+
+pub state-fits : {out weights recurrent bias offset input state now : ℕ} → GateFits out weights recurrent bias offset input state → now ≡ out
+    → MulAddFits now recurrent (3 * out) offset state
+state-fits fits same = record { rows = omega (arith, fits .inside); columns = fits .recurs }
 
 pub sums-joined : (weights recurrent bias : List ℕ) (input state : List Float) (n offset : ℕ) {a b r : List Float}
     → a ≡ copied (part offset (offset + n) bias) → b ≡ mulAdd a weights (3 * n) offset input → r ≡ mulAdd b recurrent (3 * n) offset state

@@ -1,6 +1,9 @@
-// The numbers of util.rs, and what the language leaves out of IEEE 754: an `f64` rounded to an `f32`, the
-// larger and the smaller of two floats, the square root. Each function has a result for every input, and its
-// contract is an equation with a definition of `specs/`.
+// The numbers of util.rs, and what the language leaves out of IEEE 754. Each function has a result for every input, and
+// its contract is an equation with a definition of `specs/`.
+//     max, min, clamp, relu            two numbers compared
+//     tansig_approx, sigmoid_approx    the activations; with `_in`, over a table that a loop takes once
+//     Biquad                           the high-pass filter, in filter.rt
+//     narrow, sqrt                     `x as f32` of an `f64`, and the square root, from the bits
 ghost use mathlib.Core.Path.{_≡_};
 ghost use Prim.Native.Nat.{_*_, _^_, _<_, _≤_};
 ghost use lib.Ieee.{binary32};
@@ -16,6 +19,112 @@ pub mod table;
 pub use filter::Biquad;
 pub use filter::Filtered;
 pub use filter::Memory;
+
+// The larger of a and b: the other one where one is a NaN, and a where they compare equal.
+pub fn max(a: f32, b: f32) -> f32
+    ensures { λ r. ⌜ r ≡ larger a b ⌝ }
+{
+    if a != a {
+        return b;
+    }
+    if a < b { b } else { a }
+}
+
+// The smaller of a and b: the other one where one is a NaN, and a where they compare equal.
+pub fn min(a: f32, b: f32) -> f32
+    ensures { λ r. ⌜ r ≡ smaller a b ⌝ }
+{
+    if a != a {
+        return b;
+    }
+    if b < a { b } else { a }
+}
+
+// x brought between low and high. A NaN stays one.
+pub fn clamp(x: f32, low: f32, high: f32) -> f32
+    ensures { λ r. ⌜ r ≡ clamped x low high ⌝ }
+{
+    if x < low {
+        return low;
+    }
+    if high < x { high } else { x }
+}
+
+// x where it is above 0, and 0 otherwise, at a NaN too; -0 stays -0.
+pub fn relu(x: f32) -> f32
+    ensures { λ r. ⌜ r ≡ rectified x ⌝ }
+{
+    max(x, 0.0)
+}
+
+// Without its sign, and the sign by itself.
+fn size_of(x: f32) -> f32
+    ensures { λ r. ⌜ r ≡ magnitude x ⌝ }
+{
+    if x < 0.0 { -x } else { x }
+}
+
+fn sign_of(x: f32) -> f32
+    ensures { λ r. ⌜ r ≡ signOf x ⌝ }
+{
+    if x < 0.0 { -1.0 } else { 1.0 }
+}
+
+// The table's place nearest to x.
+fn place_of(x: f32) -> u64
+    requires { ⌜ Within x ⌝ }
+    ensures { λ r. ⌜ (r ≡ place x) × (r ≤ 200) ⌝ }
+{
+    std::num::truncating_f32_to_u64(0.5 + 25.0 * x)
+}
+
+// A number from 0 to 8: the table's entry nearest to it, and from there along the curve.
+fn near_in(table: &[f32; 201], size: f32) -> f32
+    requires { ⌜ Within size ⌝ }
+    ensures { λ r. ⌜ r ≡ near (now (table .entry)) size ⌝ }
+{
+    let i = place_of(size);
+    let x = size - 0.04 * (i as f32);
+    let y = table[i as usize];
+    let dy = 1.0 - y * y;
+    y + x * dy * (1.0 - y * x)
+}
+
+// `tansig_approx` over a lent table. A loop takes `table::all` once: each mention of a table fills it anew.
+pub fn tansig_in(table: &[f32; 201], x: f32) -> f32
+    ensures { λ r. ⌜ r ≡ tansigIn (now (table .entry)) x ⌝ }
+{
+    // The tests are reversed to catch NaN.
+    if !(x < 8.0) {
+        return 1.0;
+    }
+    if !(x > -8.0) {
+        return -1.0;
+    }
+    sign_of(x) * near_in(table, size_of(x))
+}
+
+pub fn sigmoid_in(table: &[f32; 201], x: f32) -> f32
+    ensures { λ r. ⌜ r ≡ sigmoidIn (now (table .entry)) x ⌝ }
+{
+    0.5 + 0.5 * tansig_in(table, 0.5 * x)
+}
+
+// The hyperbolic tangent, nearly.
+pub fn tansig_approx(x: f32) -> f32
+    ensures { λ r. ⌜ r ≡ tansigApprox x ⌝ }
+{
+    let table = table::all();
+    tansig_in(&table, x)
+}
+
+// The logistic curve, nearly.
+pub fn sigmoid_approx(x: f32) -> f32
+    ensures { λ r. ⌜ r ≡ sigmoidApprox x ⌝ }
+{
+    let table = table::all();
+    sigmoid_in(&table, x)
+}
 
 // Patterns of an `f64`: the leading digit's weight, 896 in the exponent's field, 2^-126, which is the
 // smallest normal `f32`, and 2^-150, half of the smallest. The last is the infinity of an `f32`.
@@ -152,106 +261,4 @@ fn guessed_root(n: u64) -> u64 {
         }
     }
     0
-}
-
-// The larger of a and b: the other one where one is a NaN, and a where they compare equal.
-pub fn max(a: f32, b: f32) -> f32
-    ensures { λ r. ⌜ r ≡ larger a b ⌝ }
-{
-    if a != a {
-        return b;
-    }
-    if a < b { b } else { a }
-}
-
-// The smaller of a and b: the other one where one is a NaN, and a where they compare equal.
-pub fn min(a: f32, b: f32) -> f32
-    ensures { λ r. ⌜ r ≡ smaller a b ⌝ }
-{
-    if a != a {
-        return b;
-    }
-    if b < a { b } else { a }
-}
-
-// x brought between low and high. A NaN stays one.
-pub fn clamp(x: f32, low: f32, high: f32) -> f32
-    ensures { λ r. ⌜ r ≡ clamped x low high ⌝ }
-{
-    if x < low {
-        return low;
-    }
-    if high < x { high } else { x }
-}
-
-// x where it is above 0, and 0 otherwise, at a NaN too.
-pub fn relu(x: f32) -> f32
-    ensures { λ r. ⌜ r ≡ rectified x ⌝ }
-{
-    max(x, 0.0)
-}
-
-fn size_of(x: f32) -> f32
-    ensures { λ r. ⌜ r ≡ magnitude x ⌝ }
-{
-    if x < 0.0 { -x } else { x }
-}
-
-fn sign_of(x: f32) -> f32
-    ensures { λ r. ⌜ r ≡ signOf x ⌝ }
-{
-    if x < 0.0 { -1.0 } else { 1.0 }
-}
-
-// The table's place nearest to x.
-fn place_of(x: f32) -> u64
-    requires { ⌜ Within x ⌝ }
-    ensures { λ r. ⌜ (r ≡ place x) × (r ≤ 200) ⌝ }
-{
-    std::num::truncating_f32_to_u64(0.5 + 25.0 * x)
-}
-
-fn near_in(table: &[f32; 201], size: f32) -> f32
-    requires { ⌜ Within size ⌝ }
-    ensures { λ r. ⌜ r ≡ near (now (table .entry)) size ⌝ }
-{
-    let i = place_of(size);
-    let x = size - 0.04 * (i as f32);
-    let y = table[i as usize];
-    let dy = 1.0 - y * y;
-    y + x * dy * (1.0 - y * x)
-}
-
-// `tansig_approx` over a lent table: a loop takes it once, by `table::all`, since each mention of it fills it anew.
-pub fn tansig_in(table: &[f32; 201], x: f32) -> f32
-    ensures { λ r. ⌜ r ≡ tansigIn (now (table .entry)) x ⌝ }
-{
-    // The tests are reversed to catch NaN.
-    if !(x < 8.0) {
-        return 1.0;
-    }
-    if !(x > -8.0) {
-        return -1.0;
-    }
-    sign_of(x) * near_in(table, size_of(x))
-}
-
-pub fn sigmoid_in(table: &[f32; 201], x: f32) -> f32
-    ensures { λ r. ⌜ r ≡ sigmoidIn (now (table .entry)) x ⌝ }
-{
-    0.5 + 0.5 * tansig_in(table, 0.5 * x)
-}
-
-pub fn tansig_approx(x: f32) -> f32
-    ensures { λ r. ⌜ r ≡ tansigApprox x ⌝ }
-{
-    let table = table::all();
-    tansig_in(&table, x)
-}
-
-pub fn sigmoid_approx(x: f32) -> f32
-    ensures { λ r. ⌜ r ≡ sigmoidApprox x ⌝ }
-{
-    let table = table::all();
-    sigmoid_in(&table, x)
 }

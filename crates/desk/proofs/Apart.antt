@@ -1,0 +1,165 @@
+-- What the law of isolation rests on: laws of one call, over the definition `desk` and any number of benches.
+--     its-own         a call on a side is what a desk of one bench makes of it, with the side's share for its store
+--     other-share     no other side's share changes
+--     same-length     the store keeps its length
+--     closed-alike    what the share of a closed side held is never told
+--     anew            an opening that is done forgets the record and the share that it found
+-- Assumes nothing.
+use Prim.Native.Nat.{ℕ, _*_, _<_, _≤_}
+use native.Mathlib.Omega.{arith}
+use mathlib.Core.Bool.{Bool, true, false, cond}
+use mathlib.Core.List.{List}
+use mathlib.Core.Logic.{_⊎_, inl, inr, ⊎-elim}
+use mathlib.Core.Path.{_≡_, refl, sym, ap, _∙_}
+use borrow.Author.Tests.{ltb-true, ltb-false, eqb-true, eq-eqb, ne-eqb}
+use lib.Dec.{eqb, ltb}
+use lib.ListN.{length}
+use lib.Ieee.{Float}
+use Rattle.rules.specs.Place.{Place, Within, Apart, get, put}
+use Rattle.rules.proofs.Places.{length-get, length-put, get-put, get-put-apart, put-get}
+use Rattle.rules.proofs.Wholes.{get-whole, put-whole}
+use Rattle.model.specs.Model.{readOf}
+use Rattle.model.specs.declared.Reading.{Reading}
+use Rattle.model.specs.declared.Reading.the-variants.{Good, Refused as Unread}
+use Rattle.frame.specs.Share.{SHARE}
+use Rattle.frame.specs.Frame.{Framed, refused}
+use Rattle.frame.specs.Reply.{passed}
+use Rattle.frame.specs.declared.Reply.the-variants.{Refused}
+use Rattle.desk.specs.declared.Bench.{Bench}
+use Rattle.desk.specs.declared.Answer.{Answer}
+use Rattle.desk.specs.Gate.{shareOf, gate, inRange, allZero}
+use Rattle.desk.specs.Desk.{Ask, opening, call1, call2, call3, call4, callOf, closed, answered, opened, framed, admitted, Outcome, desk}
+use Rattle.desk.proofs.Settled.{admitted-kept}
+use Rattle.desk.proofs.Turned.{through, gate-own, closed-opens}
+
+-- ---- shares of two sides are apart
+
+lt-or-ge : (a b : ℕ) → (a < b) ⊎ (b ≤ a)
+lt-or-ge a b = go (ltb a b) refl
+  where
+    go : (t : Bool) → ltb a b ≡ t → (a < b) ⊎ (b ≤ a)
+    go true e = inl (ltb-true a b e)
+    go false e = inr (ltb-false a b e)
+
+apart : (a b : ℕ) → (a ≡ b → ⊥) → Apart (shareOf a) (shareOf b)
+apart a b ne = ⊎-elim (λ h. inl (omega arith)) (λ h. inr (omega arith)) (lt-or-ge a b)
+
+-- ---- one call on a desk of n benches
+
+-- an outcome on a store that is the share of a side, in the store that the share is a part of
+abbrev pub placed : ℕ → List Float → Outcome → Outcome
+placed side store o = record { answer = o .answer; store = put (shareOf side) store (o .store); written = o .written }
+
+-- ---- a desk of one bench, whose store is the share
+
+-- what comes of a share, as an outcome
+abbrev outcome : Ask → Bench → Framed → Outcome
+outcome ask b f = record { answer = answered ask (f .reply) b; store = f .share; written = f .written }
+
+module _ (b : Bench) (xs : List Float) (ask : Ask) (l : length xs ≡ SHARE) where
+  one-bench : desk 1 0 b xs ask ≡ outcome ask b (admitted (gate 1 (callOf ask) 0 b SHARE) ask b xs)
+  unfolding desk
+  one-bench = rw (l, get-whole xs SHARE l, put-whole xs SHARE l)
+
+  pub one-length : length (desk 1 0 b xs ask .store) ≡ SHARE
+  one-length = rw one-bench (admitted-kept b xs (gate 1 (callOf ask) 0 b SHARE) ask .size l)
+
+module _ (n side : ℕ) (b : Bench) (store : List Float) (ask : Ask) (l : length store ≡ n * SHARE) where
+  abbrev share : List Float
+  share = get (shareOf side) store
+
+  abbrev after : List Float
+  after = desk n side b store ask .store
+
+  module _ (h : side < n) where
+    within : Within (shareOf side) store
+    within = omega arith
+
+    fits : length share ≡ SHARE
+    fits = length-get (shareOf side) store within
+
+    asked : desk n side b store ask ≡ placed side store (outcome ask b (admitted (gate 1 (callOf ask) 0 b SHARE) ask b share))
+    unfolding desk
+    asked = rw (gate-own n (callOf ask) side b (length store) h l)
+
+    pub its-own : desk n side b store ask ≡ placed side store (desk 1 0 b share ask)
+    its-own = asked ∙ ap (placed side store) (sym (one-bench b share ask fits))
+
+    stored : after ≡ put (shareOf side) store (desk 1 0 b share ask .store)
+    stored = ap (λ (o : Outcome). o .store) its-own
+
+    whole : length (desk 1 0 b share ask .store) ≡ SHARE
+    whole = one-length b share ask fits
+
+    pub own-share : get (shareOf side) after ≡ desk 1 0 b share ask .store
+    own-share = ap (get (shareOf side)) stored ∙ get-put (shareOf side) store (desk 1 0 b share ask .store) within whole
+
+  -- no side of the desk
+  no-side : n ≤ side → after ≡ store
+  unfolding desk
+  no-side h =
+      let shut : gate n (callOf ask) side b (length store) ≡ 0 → ⊥ = λ z. omega (arith, through n (callOf ask) side b (length store) z .0) in
+      rw (ne-eqb (gate n (callOf ask) side b (length store)) 0 shut) (put-get (shareOf side) store)
+
+  pub same-length : length after ≡ length store
+  same-length =
+      ⊎-elim
+      (λ h. ap length (stored h) ∙ length-put (shareOf side) store (desk 1 0 b share ask .store) (within h) (whole h))
+      (λ h. ap length (no-side h))
+      (lt-or-ge side n)
+
+  pub other-share : (s : ℕ) → (side ≡ s → ⊥) → get (shareOf s) after ≡ get (shareOf s) store
+  other-share s ne =
+      ⊎-elim
+      (λ h. ap (get (shareOf s)) (stored h) ∙ get-put-apart (shareOf side) (shareOf s) store (desk 1 0 b share ask .store) (within h) (whole h) (apart side s ne))
+      (λ h. ap (get (shareOf s)) (no-side h))
+      (lt-or-ge side n)
+
+-- ---- what a share held before an opening is never told
+
+-- two outcomes that answer alike, and leave the same store or a closed record
+pub record Alike (o u : Outcome) : Type 0 where
+  pub answer : o .answer ≡ u .answer
+  pub written : o .written ≡ u .written
+  pub store : (o .store ≡ u .store) ⊎ (o .answer .bench .due ≡ 0)
+
+module _ (b : Bench) (xs ys : List Float) (l : length xs ≡ SHARE) (k : length ys ≡ SHARE) where
+  pub closed-alike : (ask : Ask) → b .due ≡ 0 → Alike (desk 1 0 b xs ask) (desk 1 0 b ys ask)
+  closed-alike ask z = rw (one-bench b xs ask l, one-bench b ys ask k) (go (eqb number 0) refl)
+    where
+      number : ℕ
+      number = gate 1 (callOf ask) 0 b SHARE
+
+      opens : (read : Reading) (m : List ℕ) → Alike (outcome (opening m) b (opened read xs)) (outcome (opening m) b (opened read ys))
+      opens (Good m) _ = record { answer = refl; written = refl; store = inl refl }
+      opens (Unread n l) _ = record { answer = refl; written = refl; store = inr z }
+
+      -- of a closed side only an opening gets through
+      admit : (a : Ask) → callOf a ≡ 0 → Alike (outcome a b (framed a b xs)) (outcome a b (framed a b ys))
+      admit (opening m) e = opens (readOf m) m
+      admit (call1 x w) e = absurd (omega arith)
+      admit (call2 x g w s) e = absurd (omega arith)
+      admit (call3 x g m o) e = absurd (omega arith)
+      admit (call4 x o) e = absurd (omega arith)
+
+      go : (t : Bool) → eqb number 0 ≡ t → Alike (outcome ask b (admitted number ask b xs)) (outcome ask b (admitted number ask b ys))
+      go true e = rw e (admit ask (closed-opens 1 (callOf ask) 0 b SHARE z (eqb-true number 0 e)))
+      go false e = rw e (record { answer = refl; written = refl; store = inr z })
+
+  -- the closed record, too, gets through
+  pub anew : (m : List ℕ) → passed (desk 1 0 b xs (opening m) .answer .reply) ≡ true → desk 1 0 b xs (opening m) ≡ desk 1 0 closed ys (opening m)
+  unfolding gate inRange allZero
+  anew m = rw (one-bench b xs (opening m) l, one-bench closed ys (opening m) k) (go (eqb number 0))
+    where
+      number : ℕ
+      number = gate 1 0 0 b SHARE
+
+      opens : (read : Reading) → readOf m ≡ read → passed (opened read xs .reply) ≡ true
+          → outcome (opening m) b (opened read xs) ≡ outcome (opening m) closed (opened read ys)
+      opens (Good m) e h = rw e
+      opens (Unread n l) e h = let one : _≡_ {A = ℕ} 0 1 = cc in absurd (omega arith)
+
+      go : (t : Bool) → passed (cond t (opened (readOf m) xs) (refused (Refused number) xs) .reply) ≡ true
+          → outcome (opening m) b (cond t (opened (readOf m) xs) (refused (Refused number) xs)) ≡ outcome (opening m) closed (admitted (gate 1 0 0 closed SHARE) (opening m) closed ys)
+      go true h = opens (readOf m) refl h
+      go false h = let one : _≡_ {A = ℕ} 0 1 = cc in absurd (omega arith)

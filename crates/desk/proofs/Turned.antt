@@ -1,0 +1,41 @@
+-- Laws of the gate.
+--     none          where it gives 0, no test of the table holds
+--     through       where it gives 0, the side and the store are right
+--     gate-own      of a side and a store that are right, the side's own record decides alone
+--     closed-opens  a closed side lets nothing through but an opening
+-- Assumes nothing.
+use Prim.Native.Nat.{ℕ, _*_, _<_}
+use mathlib.Core.Bool.{Bool, true, false}
+use mathlib.Core.Path.{_≡_, refl}
+use native.Mathlib.Omega.{arith}
+use borrow.Author.Tests.{lt-ltb, eq-eqb, ltb-true, eqb-true, not-false}
+use lib.Dec.{eqb, ltb}
+use Rattle.rules.proofs.Cleared.{cleared}
+use Rattle.rules.proofs.Refused.{Clear}
+use Rattle.frame.specs.Share.{SHARE}
+use Rattle.desk.specs.declared.Bench.{Bench}
+use Rattle.desk.specs.Gate.{refusals, gate}
+
+module _ (benches call side : ℕ) (b : Bench) (len : ℕ) where
+  -- no test of the table holds
+  pub none : gate benches call side b len ≡ 0 → Clear (refusals benches call side b len)
+  unfolding gate
+  none e = cleared (refusals benches call side b len) tt e
+
+  pub through : gate benches call side b len ≡ 0 → (side < benches) × (len ≡ benches * SHARE)
+  through e =
+      let c = none e in
+      (ltb-true side benches (not-false (ltb side benches) (c .0)), eqb-true len (benches * SHARE) (not-false (eqb len (benches * SHARE)) (c .1 .0)))
+
+  pub gate-own : side < benches → len ≡ benches * SHARE → gate benches call side b len ≡ gate 1 call 0 b SHARE
+  unfolding gate
+  gate-own h l = simp (lt-ltb side benches h, eq-eqb len (benches * SHARE) l)
+
+  pub closed-opens : b .due ≡ 0 → gate benches call side b len ≡ 0 → call ≡ 0
+  closed-opens z e = go (eqb call 0) refl
+    where
+      go : (t : Bool) → eqb call 0 ≡ t → call ≡ 0
+      go true h = eqb-true call 0 h
+      go false h =
+          let wrong : true ≡ false = rw (h, eq-eqb (b .due) 0 z) at (none e .1 .1 .1 .0) in
+          let one : _≡_ {A = ℕ} 0 1 = cc in absurd (omega arith)

@@ -1,0 +1,15 @@
+-- `desk::all_zero` meets its contract: each answer by the tests that lead to it. Assumes nothing.
+use Rattle.rules.proofs.Tests.{tests}
+use Rattle.desk.specs.Gate.{allZero}
+use Rattle.desk.proofs.all_zero.Statement.{statement}
+use Rattle.desk.proofs.all_zero.Tie as tie
+
+pub all-zero-spec : {M : Type 1} → statement M
+unfolding allZero
+all-zero-spec =
+    tie.close
+    (tie.spec
+    (λ c. search tests)  -- returns
+    (λ c. search tests)  -- returns-2
+    (λ c. search tests)  -- returns-3
+    (λ c. search tests))  -- returns-4

@@ -1,0 +1,23 @@
+-- `desk::call1` meets its contract: the gate turns it away, or the side's share is lent to `frame::first`. Assumes nothing.
+use borrow.Author.Needs.{needs}
+use Rattle.rules.specs.Place.{get, put}
+use Rattle.desk.proofs.Serve.{turned-away, served}
+use Rattle.desk.proofs.call1.Statement.{statement}
+use Rattle.desk.proofs.call1.Tie as tie
+
+pub call1-spec : {M : Type 1} → statement M
+unfolding get put
+call1-spec =
+    tie.close
+    (tie.spec
+    (λ c κs. search needs)  -- admit-requires
+    (λ c. search turned-away)  -- returns
+    (λ c. search needs)  -- mul-first
+    (λ c. search needs)  -- sub-first
+    (λ c. search needs)  -- part-first-start
+    (λ c. search needs)  -- part-first-end
+    (λ c κs. search needs)  -- first-requires
+    (λ c κs. search needs)  -- told-requires
+    (λ c. search needs)  -- same-length
+    (λ c. search needs)  -- same-length-2
+    (λ c. search served))  -- returns-2

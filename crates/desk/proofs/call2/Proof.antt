@@ -1,0 +1,24 @@
+-- `desk::call2` meets its contract: the gate turns it away, or the side's share is lent to `frame::second`. Assumes nothing.
+use borrow.Author.Needs.{needs}
+use Rattle.rules.specs.Place.{get, put}
+use Rattle.desk.proofs.Serve.{turned-away, served}
+use Rattle.desk.proofs.call2.Statement.{statement}
+use Rattle.desk.proofs.call2.Tie as tie
+
+pub call2-spec : {M : Type 1} → statement M
+unfolding get put
+call2-spec =
+    tie.close
+    (tie.spec
+    (λ c κs. search needs)  -- admit-requires
+    (λ c. search turned-away)  -- returns
+    (λ c. search needs)  -- mul-second
+    (λ c. search needs)  -- sub-second
+    (λ c. search needs)  -- part-second-start
+    (λ c. search needs)  -- part-second-end
+    (λ c κs. search needs)  -- second-requires
+    (λ c κs. search needs)  -- told-requires
+    (λ c. search needs)  -- same-length
+    (λ c. search needs)  -- same-length-2
+    (λ c. search needs)  -- same-length-3
+    (λ c. search served))  -- returns-2

@@ -1,0 +1,20 @@
+-- `desk::gate` meets its contract: each answer by the tests that lead to it. Assumes nothing.
+use borrow.Author.Needs.{needs}
+use Rattle.rules.proofs.Tests.{tests, answered-no, answered-yes}
+use Rattle.desk.specs.Gate.{gate}
+use Rattle.desk.proofs.gate.Statement.{statement}
+use Rattle.desk.proofs.gate.Tie as tie
+
+pub gate-spec : {M : Type 1} → statement M
+unfolding gate
+gate-spec =
+    tie.close
+    (tie.spec
+    (λ c. search tests)  -- returns
+    (λ c. search tests)  -- returns-2
+    (λ c κs. search needs)  -- in-range-requires
+    (λ c. search (tests, answered-no (c .before .in-range .ensures) (c .if3 .taken)))  -- returns-3
+    (λ c. search (tests, answered-yes (c .before .before .in-range .ensures) (c .before .if3 .left)))  -- returns-4
+    (λ c. search (tests, answered-yes (c .before .before .before .before .in-range .ensures) (c .before .before .before .if3 .left)))  -- returns-5
+    (λ c. search (tests, answered-yes (c .before .before .before .before .before .before .in-range .ensures) (c .before .before .before .before .before .if3 .left)))  -- returns-6
+    (λ c. search (tests, answered-yes (c .before .before .before .before .before .before .in-range .ensures) (c .before .before .before .before .before .if3 .left))))  -- returns-7

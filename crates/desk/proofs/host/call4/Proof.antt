@@ -1,0 +1,17 @@
+-- `desk::host::call4` meets its contract: it is the call of the desk, and its answer is handed back as numbers. Assumes nothing.
+use borrow.Author.Needs.{needs}
+use Rattle.desk.proofs.Handed.{hands-back, handed}
+use Rattle.desk.proofs.host.call4.Statement.{statement}
+use Rattle.desk.proofs.host.call4.Tie as tie
+
+pub call4-spec : {M : Type 1} → statement M
+call4-spec =
+    tie.close
+    (tie.spec
+    (λ c κs. search needs)  -- bench-in-requires
+    (λ c κs. search needs)  -- call4-requires
+    (λ c κs. search (hands-back, c .before .before .before .before .before .before .before .before .bench-in .ensures, c .before .before .before .before .before .call4 .ensures))  -- hand-back-requires
+    (λ c. search needs)  -- same-length
+    (λ c. search needs)  -- same-length-2
+    (λ c. search needs)  -- same-length-3
+    (λ c. search (handed, c .before .before .before .before .before .before .before .before .before .before .before .bench-in .ensures, c .before .before .before .before .before .before .before .before .call4 .ensures, c .before .before .hand-back .ensures)))  -- returns

@@ -1,0 +1,25 @@
+-- `desk::open` meets its contract: the gate turns it away, the model is refused, or the side's share is wiped. Assumes nothing.
+use borrow.Author.Needs.{needs}
+use Rattle.rules.specs.Place.{get, put}
+use Rattle.desk.proofs.Serve.{turned-away, misread, wiped}
+use Rattle.desk.proofs.open.Statement.{statement}
+use Rattle.desk.proofs.open.Tie as tie
+
+pub open-spec : {M : Type 1} → statement M
+unfolding get put
+open-spec =
+    tie.close
+    (tie.spec
+    (λ c κs. search needs)  -- admit-requires
+    (λ c. search turned-away)  -- returns
+    (λ c κs. search needs)  -- read-requires
+    (λ c κs. search needs)  -- opened-requires
+    (λ c κs. search needs)  -- passed-requires
+    (λ c. search misread)  -- returns-2
+    (λ c. search needs)  -- mul-clear
+    (λ c. search needs)  -- sub-clear
+    (λ c. search needs)  -- part-clear-start
+    (λ c. search needs)  -- part-clear-end
+    (λ c κs. search needs)  -- clear-requires
+    (λ c. search needs)  -- same-length
+    (λ c. search wiped))  -- returns-3

@@ -1,0 +1,17 @@
+-- `desk::opened` meets its contract: each arm by its variant. Assumes nothing.
+use borrow.Author.Needs.{needs}
+use mathlib.Core.Path.{sym, ap}
+use Rattle.model.specs.declared.Reading.{Reading}
+use Rattle.desk.specs.Desk.{openedOf}
+use Rattle.desk.proofs.opened.Statement.{statement}
+use Rattle.desk.proofs.opened.Tie as tie
+
+pub opened-spec : {M : Type 1} → statement M
+opened-spec =
+    tie.close
+    (tie.spec
+    (λ c. search needs)  -- enum-known-read
+    (λ c. search needs)  -- enum-known-read-2
+    (λ c κs. search needs)  -- bench-of-requires
+    (λ c. sym (ap (λ (x : Reading). openedOf x (c .before .before .before .args .b)) (c .before .read .given .1)))  -- returns
+    (λ c. rw (c .bench-of .ensures) (sym (ap (λ (x : Reading). openedOf x (c .before .before .before .before .args .b)) (c .before .before .read2 .given .1)))))  -- returns-2

@@ -1,0 +1,16 @@
+-- `desk::told` meets its contract: each answer by the tests that lead to it. Assumes nothing.
+use borrow.Author.Needs.{needs}
+use Rattle.rules.proofs.Tests.{tests, answered-no, answered-yes}
+use Rattle.desk.proofs.told.Statement.{statement}
+use Rattle.desk.proofs.told.Tie as tie
+
+pub told-spec : {M : Type 1} → statement M
+told-spec =
+    tie.close
+    (tie.spec
+    (λ c κs. search needs)  -- passed-requires
+    (λ c. search (tests, answered-no (c .before .passed .ensures) (c .if1 .taken)))  -- returns
+    (λ c κs. search needs)  -- next-due-requires
+    (λ c κs. search needs)  -- next-index-requires
+    (λ c κs. search needs)  -- bench-of-requires
+    (λ c. search (tests, answered-yes (c .before .before .before .before .passed .ensures) (c .before .before .before .if1 .left), c .before .before .next-due .ensures, c .before .next-index .ensures, c .bench-of .ensures)))  -- returns-2

@@ -1,0 +1,60 @@
+-- How many numbers each definition gives. Assumes nothing.
+use mathlib.Core.Path.{_≡_, refl, _∙_}
+use mathlib.Core.List.{List}
+use Prim.Native.Nat.{ℕ, _*_, _≤_}
+use native.Mathlib.Omega.{arith}
+use lib.Ieee.{Float}
+use lib.ListN.{length, length-set, length-append, length-drop}
+use Rattle.rules.proofs.Places.{length-put}
+use Rattle.rules.proofs.Tabs.{length-tab}
+use Rattle.bands.proofs.Results.{length-dct}
+use Rattle.features.specs.Cepstra.{row, followLogs, cepstrum, sums, slopes, bends}
+use Rattle.features.specs.Features.{normalised, normalisedCorr, pitchFeatures, remembered, laid, featuresOf}
+use Rattle.features.specs.Gains.{gained}
+use Rattle.features.specs.Pitch.{applied, restored, pitchFiltered}
+
+pub length-gained : (g last : List Float) → length (gained g last) ≡ 22
+unfolding gained
+length-gained g last = length-tab 22 _
+
+pub length-applied : (x gains : List Float) → length (applied x gains) ≡ 961
+unfolding applied
+length-applied x gains = length-tab 961 _
+
+pub length-filtered : (x p gains exp ex ep : List Float) → length (pitchFiltered x p gains exp ex ep) ≡ 961
+unfolding pitchFiltered restored
+length-filtered x p gains exp ex ep = simp length-applied
+
+pub length-normalised : (x p ex ep : List Float) → length (normalisedCorr x p ex ep) ≡ 22
+unfolding normalisedCorr normalised
+length-normalised x p ex ep = length-tab 22 _
+
+pub length-pitch : (exp : List Float) (lag : Float) → length (pitchFeatures exp lag) ≡ 7
+unfolding pitchFeatures
+length-pitch exp lag = refl
+
+pub length-cepstrum : (logs : List Float) → length (cepstrum logs) ≡ 22
+unfolding cepstrum
+length-cepstrum logs = simp length-set (length-dct (followLogs logs))
+
+pub length-remembered : (mem : List Float) (index : ℕ) (logs : List Float) → length mem ≡ 176 → index ≤ 7 → length (remembered mem index logs) ≡ 176
+unfolding remembered
+length-remembered mem index logs rows inside = length-put (row index) mem (cepstrum logs) (omega arith) (length-cepstrum logs) ∙ rows
+
+module _ (mem : List Float) (c0 c1 c2 : ℕ) where
+  pub length-sums : length (sums mem c0 c1 c2) ≡ 6
+  unfolding sums
+  length-sums = length-tab 6 _
+
+  pub length-slopes : length (slopes mem c0 c2) ≡ 6
+  unfolding slopes
+  length-slopes = length-tab 6 _
+
+  pub length-bends : length (bends mem c0 c1 c2) ≡ 6
+  unfolding bends
+  length-bends = length-tab 6 _
+
+pub length-features : (exp : List Float) (lag : Float) (logs mem : List Float) (index : ℕ) → length (featuresOf exp lag logs mem index) ≡ 42
+unfolding featuresOf laid
+length-features exp lag logs mem index =
+    simp (length-append, length-drop, length-sums, length-slopes, length-bends, length-pitch, length-cepstrum)

@@ -1,0 +1,5 @@
+pub mod Lengths
+pub mod Order
+pub mod Places
+pub mod Remembered
+pub mod Silence

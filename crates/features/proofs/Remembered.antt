@@ -1,0 +1,21 @@
+-- The two laws of remembered gains, for any gains g, NaN among them: no remembered gain becomes NaN, and each is at least 0.6 of its predecessor. Assumes nothing.
+use mathlib.Core.Path.{_≡_}
+use mathlib.Core.List.{List}
+use mathlib.Core.Bool.{true, false}
+use Prim.Native.Nat.{ℕ, _<_}
+use lib.Ieee.{Float, nan, le, isNan}
+use Rattle.rules.specs.F32.{at}
+use Rattle.rules.proofs.Tabs.{getD-tab}
+use Rattle.features.specs.Gains.{held, raised, gained}
+use Rattle.features.proofs.Order.{held-no-nan, larger-no-nan, larger-at-least}
+
+module _ (g last : List Float) (i : ℕ) (band : i < 22) (number : isNan (at last i) ≡ false) where
+  is : at (gained g last) i ≡ raised (at g i) (at last i)
+  unfolding gained
+  is = getD-tab 22 (λ k. raised (at g k) (at last k)) i nan band
+
+  pub never-nan : isNan (at (gained g last) i) ≡ false
+  never-nan = rw is (larger-no-nan _ _ (held-no-nan _ number))
+
+  pub at-least-held : le (held (at last i)) (at (gained g last) i) ≡ true
+  at-least-held = rw is (larger-at-least _ _ (held-no-nan _ number))

@@ -1,0 +1,47 @@
+-- `features::apply_gains` meets its contract. Assumes nothing.
+use Prim.Native.Nat.{_≤_, _-_}
+use mathlib.Core.Path.{refl}
+use native.Mathlib.Omega.{arith}
+use lib.Ieee.{nan}
+use Rattle.rules.specs.F32.{_⊗_, at}
+use Rattle.rules.specs.Leaf.{done, refused}
+use Rattle.rules.proofs.Leaves.{leaves}
+use Rattle.rules.proofs.Filling.{Filling, fills, filling-more, filling-ahead}
+use Rattle.bands.specs.Spectrum.{binOf}
+use Rattle.features.specs.Pitch.{applied}
+use Rattle.features.proofs.apply_gains.Statement.{statement}
+use Rattle.features.proofs.apply_gains.Tie as tie
+
+abbrev Inv-loop : tie.InvT-loop
+Inv-loop x₀ gains n₀ x n = (n ≤ 961) × Filling (λ k. at x₀ k ⊗ at gains (binOf k)) x₀ n x
+
+abbrev μ-loop : tie.MeasureT-loop
+μ-loop x₀ gains n₀ x n = 961 - n
+
+loop-again : tie.Need-loop-again Inv-loop μ-loop
+loop-again c =
+    let l = c .before .before .before .loop in
+    (omega arith, filling-more _ _ _ (l .inv .1) (omega arith) (rw (filling-ahead _ _ (l .n) (l .n) nan (l .inv .1) (omega arith))))
+
+pub apply-gains-spec : {M : Type 1} → statement M
+unfolding applied
+apply-gains-spec =
+    tie.close
+    (tie.spec
+    Inv-loop
+    μ-loop
+    (λ c. refused (λ fits. c .if1 .taken (fits .spectrum)) refl)  -- returns
+    (λ c. refused (λ fits. c .if2 .taken (fits .bins)) refl)  -- returns-2
+    (λ c. search fills)  -- loop-holds
+    (λ c. search fills)  -- mul-x
+    (λ c. search fills)  -- slice-read-x
+    (λ c. search fills)  -- add-x
+    (λ c. search fills)  -- mul-x-2
+    (λ c. search fills)  -- shared-slice-read-x
+    (λ c. search fills)  -- mul-x-3
+    (λ c. search fills)  -- slice-write-x
+    (λ c. search fills)  -- add-n
+    (λ c. search fills)  -- loop-less
+    loop-again
+    (λ c. search fills)  -- same-length
+    (λ c. done (search fills) (leaves (search fills))))  -- returns-3

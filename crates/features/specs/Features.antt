@@ -1,0 +1,60 @@
+-- The 42 features of a heard frame, its normalised correlations and the new cepstral memory, from `compute_frame_features` of features.rs. `logs` are the
+-- logarithms of 0.01 + ex, and `lag` is the pitch index.
+use mathlib.Core.Path.{_≡_}
+use mathlib.Core.List.{List, [], _∷_, _++_}
+use Prim.Native.Nat.{ℕ, _≤_}
+use lib.Ieee.{Float, binary32}
+use lib.ListN.{drop}
+use Rattle.rules.specs.F32.{_⊕_, _⊖_, _⊗_, _⊘_, at, f32}
+use Rattle.rules.specs.Place.{put}
+use Rattle.rules.specs.Tab.{tab}
+use Rattle.numbers.specs.Root.{root}
+use Rattle.bands.specs.Bands.{bandCorr}
+use Rattle.bands.specs.Dct.{dctOf}
+use Rattle.features.specs.Cepstra.{cepstrum, row, back, sums, slopes, bends, variability}
+
+-- exp[i] /= (0.001 + ex[i] * ep[i]).sqrt()
+unfoldable pub normalised : List Float → List Float → List Float → List Float
+normalised exp ex ep = tab 22 (λ i. at exp i ⊘ root binary32 (f32 0x3A83126F ⊕ at ex i ⊗ at ep i))
+
+unfoldable pub normalisedCorr : List Float → List Float → List Float → List Float → List Float
+normalisedCorr x p ex ep = normalised (bandCorr x p) ex ep
+
+-- features[34..41]: the first six of exp's DCT, less 1.3 and 0.9 in the first two, and 0.01 * (lag - 300.0)
+unfoldable pub pitchFeatures : List Float → Float → List Float
+pitchFeatures exp lag =
+    let tmp = dctOf exp in
+    (at tmp 0 ⊖ f32 0x3FA66666)
+    ∷ (at tmp 1 ⊖ f32 0x3F666666)
+    ∷ at tmp 2
+    ∷ at tmp 3
+    ∷ at tmp 4
+    ∷ at tmp 5
+    ∷ (f32 0x3C23D70A ⊗ (lag ⊖ f32 0x43960000))
+    ∷ []
+
+-- cepstral_mem[index] becomes the cepstrum
+unfoldable pub remembered : List Float → ℕ → List Float → List Float
+remembered mem index logs = put (row index) mem (cepstrum logs)
+
+-- features[..42], by places: 0 to 5 the sums, 6 to 21 what the cepstrum has there, 22 to 33 the differences, 34 to 40 the pitch's, 41 the variability
+unfoldable pub laid : List Float → List Float → List Float → ℕ → List Float
+laid ceps pitch mem index =
+    let c1 = back index 1 in
+    let c2 = back index 2 in
+    sums mem index c1 c2 ++ ceps ++ slopes mem index c2 ++ bends mem index c1 c2 ++ pitch ++ variability mem ∷ []
+
+unfoldable pub featuresOf : List Float → Float → List Float → List Float → ℕ → List Float
+featuresOf exp lag logs mem index = laid (drop 6 (cepstrum logs)) (pitchFeatures exp lag) (remembered mem index logs) index
+
+-- the lengths and the index
+pub record FeaturesFit (features exp mem index x p ex ep logs : ℕ) : Type 0 where
+  pub all : features ≡ 42
+  pub correlations : exp ≡ 22
+  pub rows : mem ≡ 176
+  pub inside : index ≤ 7
+  pub spectrum : x ≡ 961
+  pub lagged : p ≡ 961
+  pub energies : ex ≡ 22
+  pub laggedEnergies : ep ≡ 22
+  pub logarithms : logs ≡ 22

@@ -1,0 +1,25 @@
+-- The gains, each at least 0.6 of the remembered one, from `process_frame` of denoise.rs.
+use mathlib.Core.Path.{_≡_}
+use mathlib.Core.List.{List}
+use Prim.Native.Nat.{ℕ}
+use lib.Ieee.{Float}
+use Rattle.rules.specs.F32.{_⊗_, at, f32}
+use Rattle.rules.specs.Tab.{tab}
+use Rattle.numbers.specs.Larger.{larger}
+
+-- 0.6 * lastg[i]
+abbrev pub held : Float → Float
+held last = f32 0x3F19999A ⊗ last
+
+-- g[i].max(0.6 * lastg[i])
+abbrev pub raised : Float → Float → Float
+raised g last = larger g (held last)
+
+-- what g and lastg both become
+unfoldable pub gained : List Float → List Float → List Float
+gained g last = tab 22 (λ i. raised (at g i) (at last i))
+
+-- the lengths
+pub record GainsFit (g last : ℕ) : Type 0 where
+  pub gains : g ≡ 22
+  pub remembered : last ≡ 22

@@ -1,0 +1,4 @@
+pub mod Done
+pub mod Sounded
+pub mod Spoken
+pub mod Truth

@@ -1,0 +1,50 @@
+-- `frame::heard::hear_in` meets its contract: what each call leaves, in a row. Assumes nothing.
+use mathlib.Core.Path.{_≡_, ap₂, _∙_}
+use mathlib.Core.List.{List}
+use native.Mathlib.Omega.{arith}
+use borrow.Author.Needs.{needs}
+use denote.Ref.{now}
+use lib.ListN.{length, take, drop}
+use lib.Ieee.{Float}
+use Rattle.rules.specs.Place.{get}
+use Rattle.rules.proofs.Called.{left as fitted}
+use Rattle.rules.proofs.Places.{length-get}
+use Rattle.frame.specs.Share.{keptEx}
+use Rattle.frame.specs.Heard.{spokenFrom}
+use Rattle.frame.proofs.heard.hear_in.Statement.{statement}
+use Rattle.frame.proofs.heard.hear_in.Tie as tie
+
+speak-requires : tie.Need-speak-requires
+unfolding get
+speak-requires c κs =
+    let x = c .before .before .before .before .before .before .before .before .before in
+    let k = x .before .before .before .before .before in
+    let start = k .before .before .before .before .before .before .before .before .before .before .before .before in
+    let pre = start .pre in
+    let size = length-get keptEx (now (start .args .share)) (omega (arith, pre)) in
+    (omega (arith, pre, x .transform .kept), (pre .0 .1, fitted (k .copy .ensures) (omega (arith, pre, size))))
+
+returns : tie.Need-returns
+returns c m good =
+    let s = c .before .before .before .before in
+    let x = s .before .before .before .before .before .before .before .before .before .before in
+    let a = x .before .before .before .before .before .before .before .before .before .before .before .before .before .before .before .before .before .args in
+    s .speak .ensures m good
+    ∙ ap₂ (λ (p ep : List Float). spokenFrom (now (a .share)) (a .index) p ep (now (a .logs)) (now (a .model)) m) (x .transform .ensures .0) (x .transform .ensures .1)
+
+pub hear-in-spec : {M : Type 1} → statement M
+hear-in-spec =
+    tie.close
+    (tie.spec
+    (λ c. search needs)  -- sub-copy
+    (λ c. search needs)  -- part-copy-start
+    (λ c. search needs)  -- part-copy-end
+    (λ c κs. search needs)  -- copy-requires
+    (λ c κs. search needs)  -- transform-requires
+    speak-requires
+    (λ c. search needs)  -- same-length
+    (λ c. search needs)  -- same-length-2
+    (λ c. search needs)  -- same-length-3
+    (λ c. search needs)  -- same-length-4
+    (λ c. search needs)  -- same-length-5
+    returns)

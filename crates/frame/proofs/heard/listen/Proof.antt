@@ -1,0 +1,70 @@
+-- `frame::heard::listen` meets its contract. Assumes nothing.
+use mathlib.Core.Path.{_≡_, sym, _∙_}
+use mathlib.Core.List.{[], _∷_}
+use native.Mathlib.Omega.{arith}
+use borrow.Author.Needs.{needs}
+use denote.Ref.{now}
+use lib.ListN.{length}
+use Rattle.rules.specs.Place.{get}
+use Rattle.rules.proofs.Called.{left as fitted}
+use Rattle.rules.proofs.Leaves.{fitting}
+use Rattle.rules.proofs.Places.{length-get}
+use Rattle.frame.specs.Share.{keptX, keptEx}
+use Rattle.frame.proofs.Sounded.{is-silent, is-heard}
+use Rattle.frame.proofs.heard.listen.Statement.{statement}
+use Rattle.frame.proofs.heard.listen.Tie as tie
+
+returns : tie.Need-returns
+unfolding get
+returns c m good =
+    let k = c .before .before .before .before in
+    let l = k .before .before .before .before in
+    let a = l .before .before .before .before .before .before .before .before .args in
+    let share = now (a .share) in
+    let x = fitted (k .copy .ensures) (omega (arith, length-get keptX share (omega arith))) in
+    let sound = fitting (l .listen .ensures) (length-get keptEx share (omega arith)) in
+    is-silent share (a .index) (now (a .spectrum)) (now (a .logs)) (now (a .model)) m (now (a .out) ∷ []) sound (sym (c .before .is-quiet .ensures) ∙ c .if1 .taken) x
+
+hear-requires : tie.Need-hear-requires
+unfolding get
+hear-requires c κs =
+    let k = c .before .before .before .before .before .before in
+    let start = k .before .before .before .before .before .before .before .before .before .before .before .before in
+    let pre = start .pre in
+    let size = length-get keptX (now (start .args .share)) (omega (arith, pre)) in
+    (pre .0, fitted (k .copy .ensures) (omega (arith, pre, size)), pre .2, pre .3, pre .4)
+
+returns-2 : tie.Need-returns-2
+unfolding get
+returns-2 c m good =
+    let h = c .before .before .before .before .before in
+    let i = h .before .before .before in
+    let l = i .before .before .before .before .before .before .before .before in
+    let start = l .before .before .before .before .before .before .before .before in
+    let a = start .args in
+    let share = now (a .share) in
+    let sound = fitting (l .listen .ensures) (length-get keptEx share (omega (arith, start .pre))) in
+    let said = is-heard share (a .index) (now (a .spectrum)) (now (a .logs)) (now (a .model)) m (now (a .out) ∷ []) sound (sym (i .before .is-quiet .ensures) ∙ i .if1 .left) (h .hear .ensures m good) in
+    rw (c .reply-of .ensures) said
+
+pub listen-spec : {M : Type 1} → statement M
+listen-spec =
+    tie.close
+    (tie.spec
+    (λ c. search needs)  -- sub-listen
+    (λ c. search needs)  -- part-listen-start
+    (λ c. search needs)  -- part-listen-end
+    (λ c κs. search needs)  -- listen-requires
+    (λ c. search needs)  -- sub-copy
+    (λ c. search needs)  -- part-copy-start
+    (λ c. search needs)  -- part-copy-end
+    (λ c κs. search needs)  -- copy-requires
+    (λ c κs. search needs)  -- is-quiet-requires
+    (λ c. search needs)  -- same-length
+    (λ c. search needs)  -- same-length-2
+    returns
+    hear-requires
+    (λ c κs. search needs)  -- reply-of-requires
+    (λ c. search needs)  -- same-length-3
+    (λ c. search needs)  -- same-length-4
+    returns-2)

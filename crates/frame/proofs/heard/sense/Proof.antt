@@ -1,0 +1,80 @@
+-- `frame::heard::sense` meets its contract: what each call leaves, in a row. Assumes nothing.
+use Prim.Native.Nat.{ℕ}
+use mathlib.Core.Path.{_≡_, ap, _∙_}
+use mathlib.Core.List.{List}
+use native.Mathlib.Omega.{arith}
+use borrow.Author.Needs.{needs}
+use denote.Ref.{now}
+use lib.ListN.{length}
+use lib.Ieee.{Float}
+use Rattle.rules.specs.F32.{at}
+use Rattle.rules.specs.Leaf.{_leaving_}
+use Rattle.rules.specs.Place.{get, put}
+use Rattle.rules.proofs.Called.{left as fitted}
+use Rattle.rules.proofs.Places.{length-get}
+use Rattle.features.specs.Features.{normalisedCorr, featuresOf, remembered}
+use Rattle.frame.specs.Share.{keptX, keptEx, keptLag, cepstralMem}
+use Rattle.frame.specs.Heard.{featured}
+use Rattle.frame.specs.Parts.{featuredAs}
+use Rattle.frame.proofs.Done.{at-get}
+use Rattle.frame.proofs.heard.sense.Statement.{statement}
+use Rattle.frame.proofs.heard.sense.Tie as tie
+
+-- what `compute_features` leaves, from x, ex and the lag as the share keeps them
+sensed : (share : List Float) (index : ℕ) (p ep logs : List Float) {x ex : List Float} {lag : Float} {f e m : List Float}
+    → x ≡ get keptX share → ex ≡ get keptEx share → at (get keptLag share) 0 ≡ lag
+    → (f leaving e leaving m)
+    ≡ (featuresOf (normalisedCorr x p ex ep) lag logs (get cepstralMem share) index
+    leaving normalisedCorr x p ex ep
+    leaving remembered (get cepstralMem share) index logs)
+    → featuredAs (put cepstralMem share m) f e ≡ featured share index p ep logs
+unfolding featured
+sensed share index p ep logs hx hex hlag h =
+    rw (
+      hlag,
+      ← hx,
+      ← hex,
+      ap (λ (b : List Float × (List Float × List Float)). b .0) h,
+      ap (λ (b : List Float × (List Float × List Float)). b .1 .0) h,
+      ap (λ (b : List Float × (List Float × List Float)). b .1 .1) h,
+    )
+
+returns : tie.Need-returns
+unfolding get put
+returns c =
+    let f = c .before .before .before .before .before .before in
+    let start = f .before .before .before .before .before .before .before .before .before .before .before .before .before in
+    let a = start .args in
+    let share = now (a .share) in
+    let x = start .pre .1 .1 .0 in
+    let ex = start .pre .1 .1 .1 in
+    let wide = ap length x ∙ length-get keptX share (omega arith) in
+    let few = ap length ex ∙ length-get keptEx share (omega arith) in
+    let rows = length-get cepstralMem share (omega arith) in
+    sensed share (a .index) (now (a .p)) (now (a .ep)) (now (a .logs)) x ex (at-get keptLag share 0 (omega arith))
+    (fitted (f .compute-features .ensures)
+    (record {
+      all = omega arith;
+      correlations = omega arith;
+      rows = rows;
+      inside = omega arith;
+      spectrum = wide;
+      lagged = omega arith;
+      energies = few;
+      laggedEnergies = omega arith;
+      logarithms = omega arith;
+    }))
+
+pub sense-spec : {M : Type 1} → statement M
+sense-spec =
+    tie.close
+    (tie.spec
+    (λ c. search needs)  -- slice-read-lag
+    (λ c. search needs)  -- sub-compute-features
+    (λ c. search needs)  -- part-compute-features-start
+    (λ c. search needs)  -- part-compute-features-end
+    (λ c κs. search needs)  -- compute-features-requires
+    (λ c. search needs)  -- same-length
+    (λ c. search needs)  -- same-length-2
+    (λ c. search needs)  -- same-length-3
+    returns)

@@ -1,0 +1,35 @@
+-- `frame::heard::shape` meets its contract: what each call leaves, in a row. Assumes nothing.
+use mathlib.Core.Path.{ap, _∙_}
+use mathlib.Core.List.{List}
+use borrow.Author.Needs.{needs}
+use denote.Ref.{now}
+use lib.Ieee.{Float}
+use Rattle.rules.proofs.Called.{left as fitted}
+use Rattle.bands.specs.Bands.{bandGain}
+use Rattle.features.specs.Pitch.{applied}
+use Rattle.frame.specs.Heard.{raised}
+use Rattle.frame.proofs.heard.shape.Statement.{statement}
+use Rattle.frame.proofs.heard.shape.Tie as tie
+
+returns : tie.Need-returns
+returns c =
+    let r = c .before .before .before .before .before .before in
+    let f = r .before .before .before .before .before .before in
+    let start = f .before .before .before .before .before .before .before .before .before .before in
+    let a = start .args in
+    let pre = start .pre in
+    let x =
+    fitted (f .pitch-filter .ensures)
+    (record { spectrum = pre .0 .1; lagged = pre .1 .0; wanted = pre .0 .2; correlations = pre .1 .1; energies = pre .1 .2; laggedEnergies = pre .1 .3 }) in
+    (r .raise .ensures .0, r .raise .ensures .1 ∙ ap (λ (l : List Float). applied l (bandGain (raised (now (a .share)) (now (a .gains))))) x)
+
+pub shape-spec : {M : Type 1} → statement M
+shape-spec =
+    tie.close
+    (tie.spec
+    (λ c κs. search needs)  -- pitch-filter-requires
+    (λ c κs. search needs)  -- raise-requires
+    (λ c. search needs)  -- same-length
+    (λ c. search needs)  -- same-length-2
+    (λ c. search needs)  -- same-length-3
+    returns)

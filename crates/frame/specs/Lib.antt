@@ -1,0 +1,5 @@
+pub mod Reply
+pub mod Share
+pub mod Heard
+pub mod Frame
+pub mod Parts

@@ -1,0 +1,352 @@
+// Call 3: `compute_frame_features` of features.rs and `process_frame` of denoise.rs, from the second spectrum on.
+ghost use mathlib.Core.Path.{_≡_};
+ghost use mathlib.Core.List.{[], _∷_};
+ghost use Prim.Native.Nat.{_≤_};
+ghost use lib.ListN.{length};
+ghost use Rattle.rules.specs.F32.{at};
+ghost use Rattle.rules.specs.Place.{get, put};
+ghost use Rattle.bands.specs.Bands.{bandGain};
+ghost use Rattle.model.specs.Model.{readOf};
+ghost use Rattle.features.specs.Pitch.{pitchFiltered, applied};
+ghost use Rattle.frame.specs.Share.{keptX, keptEx, lastg, vadState, noiseState, denoiseState};
+ghost use Rattle.frame.specs.Heard.{scaled, energies, featured, judged, raised, spokenFrom, spoken};
+ghost use Rattle.frame.specs.Frame.{Worked, listened, counted, checked};
+ghost use Rattle.frame.specs.Parts.{Reads, featuredAs, judgedAs, spokenAs, quiet, replyOf};
+use crate::Reply;
+use features::Sound;
+use model::Reading;
+
+// Refusals 7 and 8, or done.
+fn judge(read: Reading, vad: usize, noise: usize, denoise: usize) -> Reply
+    ensures { λ r. ⌜ r ≡ checked (counted vad noise denoise) read ⌝ }
+{
+    match read {
+        Reading::Refused(number, layer) => Reply::Misread(number, layer),
+        Reading::Good(m) => {
+            if m.vad_gru.neurons != vad {
+                return Reply::Refused(8);
+            }
+            if m.noise_gru.neurons != noise {
+                return Reply::Refused(8);
+            }
+            if m.denoise_gru.neurons != denoise {
+                return Reply::Refused(8);
+            }
+            Reply::Done
+        }
+    }
+}
+
+pub(crate) fn check(model: &[u8], vad: usize, noise: usize, denoise: usize) -> Reply
+    ensures { λ r. ⌜ r ≡ checked (counted vad noise denoise) (readOf (now (model .entry))) ⌝ }
+{
+    judge(model::read(model), vad, noise, denoise)
+}
+
+// p is the spectrum, scaled, and ep its band energies.
+fn transform(p: &mut [f32], ep: &mut [f32], spectrum: &[f32])
+    requires { ⌜ (length (now p) ≡ 961) × (length (now ep) ≡ 22) × (length (now spectrum) ≡ 961) ⌝ }
+    ensures { λ _. ⌜ now (p .exit) ≡ scaled (now (spectrum .entry)) ⌝ }
+    ensures { λ _. ⌜ now (ep .exit) ≡ energies (now (spectrum .entry)) ⌝ }
+{
+    crate::lagged::scale(p, spectrum);
+    bands::compute_band_corr(ep, p, p);
+}
+
+// The features, the correlations and the new cepstrum; x and ex are as the share keeps them.
+fn sense(
+    share: &mut [f32],
+    features: &mut [f32],
+    exp: &mut [f32],
+    index: usize,
+    x: &[f32],
+    p: &[f32],
+    ex: &[f32],
+    ep: &[f32],
+    logs: &[f32],
+)
+    requires { ⌜ (length (now share) ≡ 6144) × (length (now features) ≡ 42) × (length (now exp) ≡ 22) × (index ≤ 7) ⌝ }
+    requires { ⌜ (length (now p) ≡ 961) × (length (now ep) ≡ 22) × (length (now logs) ≡ 22) ⌝ }
+    requires { ⌜ (now x ≡ get keptX (now share)) × (now ex ≡ get keptEx (now share)) ⌝ }
+    ensures { λ _. ⌜ featuredAs (now (share .exit)) (now (features .exit)) (now (exp .exit))
+        ≡ featured (now (share .entry)) index (now (p .entry)) (now (ep .entry)) (now (logs .entry)) ⌝ }
+{
+    let lag = share[3191];
+    features::compute_features(
+        features,
+        exp,
+        &mut share[3216..3392],
+        index,
+        x,
+        p,
+        ex,
+        ep,
+        lag,
+        logs,
+    );
+}
+
+// The three states, out of the share.
+fn take_states(vad: &mut [f32], noise: &mut [f32], denoise: &mut [f32], share: &[f32])
+    requires { ⌜ (length (now share) ≡ 6144) × (length (now vad) ≡ 128) × (length (now noise) ≡ 128) × (length (now denoise) ≡ 128) ⌝ }
+    ensures { λ _. ⌜ now (vad .exit) ≡ get vadState (now (share .entry)) ⌝ }
+    ensures { λ _. ⌜ now (noise .exit) ≡ get noiseState (now (share .entry)) ⌝ }
+    ensures { λ _. ⌜ now (denoise .exit) ≡ get denoiseState (now (share .entry)) ⌝ }
+{
+    rules::copy(vad, &share[3392..3520]);
+    rules::copy(noise, &share[3520..3648]);
+    rules::copy(denoise, &share[3648..3776]);
+}
+
+// The three states, into the share.
+fn put_states(share: &mut [f32], vad: &[f32], noise: &[f32], denoise: &[f32])
+    requires { ⌜ (length (now share) ≡ 6144) × (length (now vad) ≡ 128) × (length (now noise) ≡ 128) × (length (now denoise) ≡ 128) ⌝ }
+    ensures { λ _. ⌜ now (share .exit)
+        ≡ put denoiseState (put noiseState (put vadState (now (share .entry)) (now (vad .entry))) (now (noise .entry))) (now (denoise .entry)) ⌝ }
+{
+    rules::copy(&mut share[3392..3520], vad);
+    rules::copy(&mut share[3520..3648], noise);
+    rules::copy(&mut share[3648..3776], denoise);
+}
+
+fn think_in(
+    share: &mut [f32],
+    gains: &mut [f32],
+    voice: &mut [f32],
+    vad: &mut [f32],
+    noise: &mut [f32],
+    denoise: &mut [f32],
+    model: &[u8],
+    features: &[f32],
+) -> f32
+    requires { ⌜ (length (now share) ≡ 6144) × (length (now gains) ≡ 22) × (length (now voice) ≡ 1) × (length (now features) ≡ 42) ⌝ }
+    requires { ⌜ (length (now vad) ≡ 128) × (length (now noise) ≡ 128) × (length (now denoise) ≡ 128) ⌝ }
+    ensures { λ r. ⌜ Reads (now (model .entry))
+        (λ m. judgedAs (now (share .exit)) (now (gains .exit)) r ≡ judged (now (share .entry)) (now (model .entry)) m (now (features .entry))) ⌝ }
+{
+    take_states(vad, noise, denoise, share);
+    network::compute(gains, voice, vad, noise, denoise, model, features);
+    put_states(share, vad, noise, denoise);
+    voice[0]
+}
+
+// The network, over the states in the share: the gains, and the voice. Three parts of one slice can't be lent at once, so the states are copied.
+fn think(share: &mut [f32], gains: &mut [f32], model: &[u8], features: &[f32]) -> f32
+    requires { ⌜ (length (now share) ≡ 6144) × (length (now gains) ≡ 22) × (length (now features) ≡ 42) ⌝ }
+    ensures { λ r. ⌜ Reads (now (model .entry))
+        (λ m. judgedAs (now (share .exit)) (now (gains .exit)) r ≡ judged (now (share .entry)) (now (model .entry)) m (now (features .entry))) ⌝ }
+{
+    let mut voice = [0.0f32; 1];
+    let mut vad = [0.0f32; 128];
+    let mut noise = [0.0f32; 128];
+    let mut denoise = [0.0f32; 128];
+    think_in(
+        share,
+        gains,
+        &mut voice,
+        &mut vad,
+        &mut noise,
+        &mut denoise,
+        model,
+        features,
+    )
+}
+
+fn apply_in(out: &mut [f32], gf: &mut [f32], gains: &[f32])
+    requires { ⌜ (length (now out) ≡ 961) × (length (now gf) ≡ 481) × (length (now gains) ≡ 22) ⌝ }
+    ensures { λ _. ⌜ now (out .exit) ≡ applied (now (out .entry)) (bandGain (now (gains .entry))) ⌝ }
+{
+    bands::interp_band_gain(gf, gains);
+    features::apply_gains(out, gf);
+}
+
+fn apply(out: &mut [f32], gains: &[f32])
+    requires { ⌜ (length (now out) ≡ 961) × (length (now gains) ≡ 22) ⌝ }
+    ensures { λ _. ⌜ now (out .exit) ≡ applied (now (out .entry)) (bandGain (now (gains .entry))) ⌝ }
+{
+    let mut gf = [0.0f32; 481];
+    apply_in(out, &mut gf, gains);
+}
+
+// The gains are raised, remembered and applied.
+fn raise(share: &mut [f32], out: &mut [f32], gains: &mut [f32])
+    requires { ⌜ (length (now share) ≡ 6144) × (length (now out) ≡ 961) × (length (now gains) ≡ 22) ⌝ }
+    ensures { λ _. ⌜ now (share .exit) ≡ put lastg (now (share .entry)) (raised (now (share .entry)) (now (gains .entry))) ⌝ }
+    ensures { λ _. ⌜ now (out .exit) ≡ applied (now (out .entry)) (bandGain (raised (now (share .entry)) (now (gains .entry)))) ⌝ }
+{
+    features::hold_gains(gains, &mut share[3194..3216]);
+    apply(out, gains);
+}
+
+// The pitch filter, with the network's own gains; then the gains are raised, remembered and applied.
+fn shape(
+    share: &mut [f32],
+    out: &mut [f32],
+    gains: &mut [f32],
+    p: &[f32],
+    exp: &[f32],
+    ex: &[f32],
+    ep: &[f32],
+)
+    requires { ⌜ (length (now share) ≡ 6144) × (length (now out) ≡ 961) × (length (now gains) ≡ 22) ⌝ }
+    requires { ⌜ (length (now p) ≡ 961) × (length (now exp) ≡ 22) × (length (now ex) ≡ 22) × (length (now ep) ≡ 22) ⌝ }
+    ensures { λ _. ⌜ now (share .exit) ≡ put lastg (now (share .entry)) (raised (now (share .entry)) (now (gains .entry))) ⌝ }
+    ensures { λ _. ⌜ now (out .exit)
+        ≡ applied (pitchFiltered (now (out .entry)) (now (p .entry)) (now (gains .entry)) (now (exp .entry)) (now (ex .entry)) (now (ep .entry)))
+        (bandGain (raised (now (share .entry)) (now (gains .entry)))) ⌝ }
+{
+    features::pitch_filter(out, p, gains, exp, ex, ep);
+    raise(share, out, gains);
+}
+
+fn speak_in(
+    share: &mut [f32],
+    out: &mut [f32],
+    features: &mut [f32],
+    exp: &mut [f32],
+    gains: &mut [f32],
+    index: usize,
+    p: &[f32],
+    ex: &[f32],
+    ep: &[f32],
+    logs: &[f32],
+    model: &[u8],
+) -> f32
+    requires { ⌜ (length (now share) ≡ 6144) × (length (now features) ≡ 42) × (length (now exp) ≡ 22) × (length (now gains) ≡ 22) × (index ≤ 7) ⌝ }
+    requires { ⌜ (length (now p) ≡ 961) × (length (now ep) ≡ 22) × (length (now logs) ≡ 22) ⌝ }
+    requires { ⌜ (now out ≡ get keptX (now share)) × (now ex ≡ get keptEx (now share)) ⌝ }
+    ensures { λ r. ⌜ Reads (now (model .entry)) (λ m. spokenAs (now (share .exit)) r (now (out .exit))
+        ≡ spokenFrom (now (share .entry)) index (now (p .entry)) (now (ep .entry)) (now (logs .entry)) (now (model .entry)) m) ⌝ }
+{
+    sense(share, features, exp, index, out, p, ex, ep, logs);
+    let voice = think(share, gains, model, features);
+    shape(share, out, gains, p, exp, ex, ep);
+    voice
+}
+
+// A heard frame, from p and its energies on: out holds x, and becomes the spectrum for the inverse. Gives the voice back.
+fn speak(
+    share: &mut [f32],
+    out: &mut [f32],
+    index: usize,
+    p: &[f32],
+    ex: &[f32],
+    ep: &[f32],
+    logs: &[f32],
+    model: &[u8],
+) -> f32
+    requires { ⌜ (length (now share) ≡ 6144) × (index ≤ 7) × (length (now p) ≡ 961) × (length (now ep) ≡ 22) × (length (now logs) ≡ 22) ⌝ }
+    requires { ⌜ (now out ≡ get keptX (now share)) × (now ex ≡ get keptEx (now share)) ⌝ }
+    ensures { λ r. ⌜ Reads (now (model .entry)) (λ m. spokenAs (now (share .exit)) r (now (out .exit))
+        ≡ spokenFrom (now (share .entry)) index (now (p .entry)) (now (ep .entry)) (now (logs .entry)) (now (model .entry)) m) ⌝ }
+{
+    let mut features = [0.0f32; 42];
+    let mut exp = [0.0f32; 22];
+    let mut gains = [0.0f32; 22];
+    speak_in(
+        share,
+        out,
+        &mut features,
+        &mut exp,
+        &mut gains,
+        index,
+        p,
+        ex,
+        ep,
+        logs,
+        model,
+    )
+}
+
+fn hear_in(
+    share: &mut [f32],
+    out: &mut [f32],
+    p: &mut [f32],
+    ex: &mut [f32],
+    ep: &mut [f32],
+    index: usize,
+    spectrum: &[f32],
+    logs: &[f32],
+    model: &[u8],
+) -> f32
+    requires { ⌜ (length (now share) ≡ 6144) × (now out ≡ get keptX (now share)) × (index ≤ 7) × (length (now spectrum) ≡ 961) × (length (now logs) ≡ 22) ⌝ }
+    requires { ⌜ (length (now p) ≡ 961) × (length (now ex) ≡ 22) × (length (now ep) ≡ 22) ⌝ }
+    ensures { λ r. ⌜ Reads (now (model .entry)) (λ m. spokenAs (now (share .exit)) r (now (out .exit))
+        ≡ spoken (now (share .entry)) index (now (spectrum .entry)) (now (logs .entry)) (now (model .entry)) m) ⌝ }
+{
+    rules::copy(ex, &share[3169..3191]);
+    transform(p, ep, spectrum);
+    speak(share, out, index, p, ex, ep, logs, model)
+}
+
+// A heard frame: out holds x, and becomes the spectrum for the inverse. Gives the voice back.
+fn hear(
+    share: &mut [f32],
+    out: &mut [f32],
+    index: usize,
+    spectrum: &[f32],
+    logs: &[f32],
+    model: &[u8],
+) -> f32
+    requires { ⌜ (length (now share) ≡ 6144) × (now out ≡ get keptX (now share)) × (index ≤ 7) × (length (now spectrum) ≡ 961) × (length (now logs) ≡ 22) ⌝ }
+    ensures { λ r. ⌜ Reads (now (model .entry)) (λ m. spokenAs (now (share .exit)) r (now (out .exit))
+        ≡ spoken (now (share .entry)) index (now (spectrum .entry)) (now (logs .entry)) (now (model .entry)) m) ⌝ }
+{
+    let mut p = [0.0f32; 961];
+    let mut ex = [0.0f32; 22];
+    let mut ep = [0.0f32; 22];
+    hear_in(
+        share,
+        out,
+        &mut p,
+        &mut ex,
+        &mut ep,
+        index,
+        spectrum,
+        logs,
+        model,
+    )
+}
+
+fn is_quiet(sound: Sound) -> bool
+    ensures { λ r. ⌜ r ≡ quiet sound ⌝ }
+{
+    match sound {
+        Sound::Silent => true,
+        Sound::Heard(_) => false,
+        Sound::Refused(_) => false,
+    }
+}
+
+fn reply_of(sound: Sound, voice: f32) -> Reply
+    ensures { λ r. ⌜ r ≡ replyOf sound voice ⌝ }
+{
+    match sound {
+        Sound::Silent => Reply::Silent,
+        Sound::Heard(energy) => Reply::Heard(voice, energy),
+        Sound::Refused(number) => Reply::Refused(number),
+    }
+}
+
+// Silent, or heard; the spectrum is written.
+pub(crate) fn listen(
+    share: &mut [f32],
+    out: &mut [f32],
+    index: usize,
+    spectrum: &[f32],
+    logs: &[f32],
+    model: &[u8],
+) -> Reply
+    requires { ⌜ (length (now share) ≡ 6144) × (length (now out) ≡ 961) × (index ≤ 7) × (length (now spectrum) ≡ 961) × (length (now logs) ≡ 22) ⌝ }
+    ensures { λ r. ⌜ Reads (now (model .entry)) (λ m. Worked
+        (listened (now (share .entry)) index (now (spectrum .entry)) (now (logs .entry)) (now (model .entry)) m)
+        r (now (share .exit)) (now (out .entry) ∷ []) (now (out .exit) ∷ [])) ⌝ }
+{
+    let sound = features::listen(&share[3169..3191]);
+    rules::copy(out, &share[2208..3169]);
+    if is_quiet(sound) {
+        return Reply::Silent;
+    }
+    let voice = hear(share, out, index, spectrum, logs, model);
+    reply_of(sound, voice)
+}

@@ -1,0 +1,62 @@
+// Call 2: what `transform_input` and `compute_frame_features` of features.rs make of the first spectrum.
+ghost use mathlib.Core.Path.{_≡_};
+ghost use mathlib.Core.List.{[], _∷_};
+ghost use Prim.Native.Nat.{_≤_};
+ghost use lib.IntN.{pos};
+ghost use lib.ListN.{length};
+ghost use lib.Ieee.{binary32, ofInt};
+ghost use Rattle.rules.specs.Place.{put};
+ghost use Rattle.frame.specs.Share.{keptX, keptEx, keptLag};
+ghost use Rattle.frame.specs.Heard.{scaled, energies};
+ghost use Rattle.frame.specs.Frame.{lifted, noted};
+
+// out is the spectrum, each number times `wnorm`.
+pub(crate) fn scale(out: &mut [f32], spectrum: &[f32])
+    requires { ⌜ (length (now out) ≡ 961) × (length (now spectrum) ≡ 961) ⌝ }
+    ensures { λ _. ⌜ now (out .exit) ≡ scaled (now (spectrum .entry)) ⌝ }
+{
+    let norm = bands::wnorm();
+    for i in 0..961 {
+        out[i] = spectrum[i] * norm;
+    }
+}
+
+// Adds 0.01 to each energy: what the logarithms are taken of.
+fn lift(ex: &mut [f32])
+    requires { ⌜ length (now ex) ≡ 22 ⌝ }
+    ensures { λ _. ⌜ now (ex .exit) ≡ lifted (now (ex .entry)) ⌝ }
+{
+    for i in 0..22 {
+        ex[i] = 0.01 + ex[i];
+    }
+}
+
+// The share keeps the scaled spectrum, and ex is its band energies.
+fn analyse(share: &mut [f32], spectrum: &[f32], ex: &mut [f32])
+    requires { ⌜ (length (now share) ≡ 6144) × (length (now spectrum) ≡ 961) × (length (now ex) ≡ 22) ⌝ }
+    ensures { λ _. ⌜ now (share .exit) ≡ put keptX (now (share .entry)) (scaled (now (spectrum .entry))) ⌝ }
+    ensures { λ _. ⌜ now (ex .exit) ≡ energies (now (spectrum .entry)) ⌝ }
+{
+    scale(&mut share[2208..3169], spectrum);
+    bands::compute_band_corr(ex, &share[2208..3169], &share[2208..3169]);
+}
+
+// The share keeps the band energies and the lag.
+fn keep(share: &mut [f32], ex: &[f32], lag: usize)
+    requires { ⌜ (length (now share) ≡ 6144) × (length (now ex) ≡ 22) × (lag ≤ 768) ⌝ }
+    ensures { λ _. ⌜ now (share .exit) ≡ put keptLag (put keptEx (now (share .entry)) (now (ex .entry))) (ofInt binary32 (pos lag) ∷ []) ⌝ }
+{
+    rules::copy(&mut share[3169..3191], ex);
+    share[3191] = lag as f32;
+}
+
+// What call 2 does once its window is written.
+pub(crate) fn note(share: &mut [f32], spectrum: &[f32], lag: usize, sums: &mut [f32])
+    requires { ⌜ (length (now share) ≡ 6144) × (length (now spectrum) ≡ 961) × (length (now sums) ≡ 22) × (lag ≤ 768) ⌝ }
+    ensures { λ _. ⌜ now (share .exit) ≡ noted (now (share .entry)) (now (spectrum .entry)) lag ⌝ }
+    ensures { λ _. ⌜ now (sums .exit) ≡ lifted (energies (now (spectrum .entry))) ⌝ }
+{
+    analyse(share, spectrum, sums);
+    keep(share, sums, lag);
+    lift(sums);
+}

@@ -1,0 +1,73 @@
+-- Runs of calls on a desk of n benches, and what one side receives in a run.
+use Prim.Native.Nat.{ℕ}
+use mathlib.Core.Bool.{cond}
+use mathlib.Core.List.{List, [], _∷_, map}
+use lib.Dec.{eqb}
+use lib.ListN.{replicate}
+use lib.Ieee.{Float}
+use Rattle.rules.specs.F32.{f32}
+use Rattle.frame.specs.Reply.{passed, left}
+use Rattle.frame.specs.Share.{SHARE}
+use Rattle.desk.specs.declared.Answer.{Answer}
+use Rattle.desk.specs.declared.Bench.{Bench}
+use Rattle.desk.specs.Desk.{Ask, opening, Outcome, closed, desk}
+
+-- a call as the host makes it: on a side, with its arguments, and with answer buffers that held anything
+pub record Call : Type 0 where
+  pub side : ℕ
+  pub ask : Ask
+  pub held : List (List Float)
+
+-- an opening has no answer buffer
+abbrev pub openingOf : ℕ → List ℕ → Call
+openingOf side model = record { side = side; ask = opening model; held = [] }
+
+-- each side's record as it was last received, and the store
+pub record State : Type 0 where
+  pub bench : ℕ → Bench
+  pub store : List Float
+
+abbrev pub allClosed : List Float → State
+allClosed store = record { bench = λ _. closed; store = store }
+
+-- what a call gives is what the desk's contracts say, with the side's record as it was last received
+abbrev pub outcome : ℕ → State → Call → Outcome
+outcome n st c = desk n (c .side) (st .bench (c .side)) (st .store) (c .ask)
+
+-- only calls touch the records and the store
+abbrev pub after : ℕ → State → Call → State
+after n st c =
+    let o = outcome n st c in
+    record { bench = λ s. cond (eqb (c .side) s) (o .answer .bench) (st .bench s); store = o .store }
+
+-- what the side of a call receives: the answer, that is the reply (done, silent, heard with voice and energy, or a refusal's number, with 7 the model's
+-- number and layer) and the record; and every number of every buffer that was lent to the call. A refused call leaves the buffers as they were held:
+-- what it receives is the answer alone.
+pub record Received : Type 0 where
+  pub answer : Answer
+  pub buffers : List (List Float)
+
+abbrev pub receive : Outcome → List (List Float) → Received
+receive o held =
+    let reply = o .answer .reply in
+    record { answer = o .answer; buffers = cond (passed reply) (left reply held (o .written)) [] }
+
+-- what side s receives in a run, call by call
+unfoldable pub received : ℕ → ℕ → State → List Call → List Received
+received n s st [] = []
+received n s st (c ∷ cs) =
+    let rest = received n s (after n st c) cs in
+    cond (eqb (c .side) s) (receive (outcome n st c) (c .held) ∷ rest) rest
+
+-- what is asked of side s in a run: its own calls, in order
+unfoldable pub asked : ℕ → List Call → List Ask
+asked s [] = []
+asked s (c ∷ cs) = cond (eqb (c .side) s) (c .ask ∷ asked s cs) (asked s cs)
+
+-- what a side receives for its own calls alone: on a desk of one bench, closed and wiped, where nobody else calls
+abbrev pub lonely : Ask → Call
+lonely ask = record { side = 0; ask = ask; held = [] }
+
+unfoldable pub alone : List Ask → List Received
+unfolding received
+alone asks = received 1 0 (allClosed (replicate SHARE (f32 0))) (map lonely asks)

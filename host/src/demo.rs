@@ -1,0 +1,161 @@
+//! `host demo`: two short dictations over a grinder, cleaned with the house model.
+
+use crate::clean::{self, Cleaned};
+use crate::{wav, FRAME, RATE};
+use std::f64::consts::TAU;
+use std::path::Path;
+
+/// The house model (host/model/house.py).
+pub const HOUSE: &[u8] = include_bytes!("../model/house.rnn");
+/// The voices (demo/README.md).
+const VOICES: [&[u8]; 2] = [include_bytes!("../demo/left.wav"), include_bytes!("../demo/right.wav")];
+/// Seconds of grinder before the voice and behind it.
+const LEAD: f64 = 1.5;
+const TAIL: f64 = 1.0;
+/// The voice's level, and how far below it the grinder is.
+const LEVEL: f64 = 3_000.0;
+const BELOW: f64 = 5.0;
+
+/// A small generator of numbers, the same for the same seed.
+pub struct Rng(pub u64);
+
+impl Rng {
+    pub fn next(&mut self) -> u64 {
+        self.0 ^= self.0 << 13;
+        self.0 ^= self.0 >> 7;
+        self.0 ^= self.0 << 17;
+        self.0
+    }
+
+    /// From -1 to 1.
+    pub fn number(&mut self) -> f64 {
+        (self.next() >> 11) as f64 / (1u64 << 52) as f64 - 1.0
+    }
+}
+
+fn power(samples: &[f64]) -> f64 {
+    samples.iter().map(|x| x * x).sum::<f64>() / samples.len().max(1) as f64
+}
+
+/// A voice of 16 kHz at 48 kHz: a windowed sinc between its samples.
+fn upsampled(voice: &[f32]) -> Vec<f64> {
+    const REACH: isize = 16;
+    let tap = |t: f64| {
+        let x = t * TAU / 2.0;
+        let sinc = if t == 0.0 { 1.0 } else { x.sin() / x };
+        sinc * (0.5 + 0.5 * (t * TAU / 2.0 / REACH as f64).cos())
+    };
+    (0..3 * voice.len() as isize)
+        .map(|i| {
+            (i / 3 - REACH + 1..=i / 3 + REACH)
+                .filter_map(|k| Some(f64::from(*voice.get(usize::try_from(k).ok()?)?) * tap(i as f64 / 3.0 - k as f64)))
+                .sum()
+        })
+        .collect()
+}
+
+/// A broadband rush, mains hum, and a motor's whine whose speed wanders, swelling slowly.
+pub fn grinder(n: usize, seed: u64, hum: f64, whine: f64) -> Vec<f64> {
+    let mut rng = Rng(seed);
+    let mut poles = [0.0; 3];
+    let mut phase = 0.0;
+    (0..n)
+        .map(|i| {
+            let t = i as f64 / f64::from(RATE);
+            let white = rng.number();
+            for (pole, keep) in poles.iter_mut().zip([0.6, 0.9, 0.98]) {
+                *pole = keep * *pole + (1.0 - keep) * white;
+            }
+            let rush = 0.3 * white + 2.0 * poles[0] + 3.0 * poles[1] + 5.0 * poles[2];
+            phase += whine * (1.0 + 0.03 * (TAU * 0.23 * t).sin()) / f64::from(RATE);
+            let tones: f64 = (1..=8)
+                .map(|k| f64::from(k))
+                .map(|k| ((TAU * hum * k * t + k).sin() + (TAU * phase * k + 2.0 * k).sin()) * 0.25 / k)
+                .sum();
+            (rush + tones) * 10f64.powf(0.15 * (TAU * 0.31 * t).sin())
+        })
+        .collect()
+}
+
+/// One bench's dictation: the voice alone, and over its grinder.
+pub struct Dictation {
+    pub voice: Vec<f64>,
+    pub noisy: Vec<f32>,
+}
+
+pub fn dictation(bench: usize) -> Dictation {
+    let voice = wav::read(VOICES[bench]).expect("the demo's voice").channels.remove(0);
+    let pause = |seconds: f64| vec![0.0; (seconds * f64::from(RATE)) as usize];
+    let mut clean = [pause(LEAD), upsampled(&voice), pause(TAIL)].concat();
+    let loud: Vec<f64> = clean.chunks(FRAME).filter(|c| power(c) > 1e4).flatten().copied().collect();
+    let scale = LEVEL / power(&loud).sqrt();
+    clean.iter_mut().for_each(|x| *x *= scale);
+    let (hum, whine) = [(100.0, 340.0), (50.0, 210.0)][bench];
+    let noise = grinder(clean.len(), 0x5eed_0001 + bench as u64, hum, whine);
+    let level = LEVEL / 10f64.powf(BELOW / 20.0) / power(&noise).sqrt();
+    let noisy =
+        clean.iter().zip(noise).map(|(x, v)| (x + level * v).round().clamp(-32_768.0, 32_767.0) as f32).collect();
+    Dictation { voice: clean, noisy }
+}
+
+/// Decibels.
+fn db(ratio: f64) -> f64 {
+    10.0 * ratio.log10()
+}
+
+/// What the cleaning did, in decibels; the first 1.5 seconds, in which the model finds the noise floor, do not count.
+pub struct Effect {
+    pub pauses: f64,
+    pub voice: f64,
+    pub ratio: [f64; 2],
+}
+
+/// The samples through the library's high-pass filter, which the box puts in front of everything.
+fn filtered(samples: &[f32]) -> Vec<f64> {
+    let mut out = vec![0.0; samples.len()];
+    assert_eq!(tuppence::filter(&mut out, &mut [0.0; 2], &[-1.99599, 0.996, -2.0, 1.0], samples), 0);
+    out.into_iter().map(f64::from).collect()
+}
+
+pub fn effect(dictation: &Dictation, after: &[f32]) -> Effect {
+    let voice = filtered(&dictation.voice.iter().map(|x| *x as f32).collect::<Vec<_>>());
+    let before = filtered(&dictation.noisy);
+    let after: Vec<f64> = after.iter().map(|x| f64::from(*x)).collect();
+    let frames = |speaking: bool, of: &[f64]| -> Vec<f64> {
+        let first = (LEAD * f64::from(RATE)) as usize / FRAME;
+        let kept = of.chunks(FRAME).zip(voice.chunks(FRAME)).skip(first);
+        kept.filter(|(_, v)| (power(v) > 1e4) == speaking).flat_map(|(c, _)| c.to_vec()).collect()
+    };
+    let less = |a: &[f64], b: &[f64]| a.iter().zip(b).map(|(a, b)| a - b).collect::<Vec<f64>>();
+    let ratio = |of: &[f64]| {
+        let voice = frames(true, &voice);
+        db(power(&voice) / power(&less(&frames(true, of), &voice)))
+    };
+    Effect {
+        pauses: db(power(&frames(false, &after)) / power(&frames(false, &before))),
+        voice: db(power(&frames(true, &after)) / power(&frames(true, &voice))),
+        ratio: [ratio(&before), ratio(&after)],
+    }
+}
+
+/// Makes the dictations, cleans them, and writes both into the folder.
+pub fn demo(out: &Path) -> Result<[Cleaned; 2], String> {
+    let dictations = [dictation(0), dictation(1)];
+    let [left, right] = [&dictations[0], &dictations[1]].map(|d| d.noisy.clone());
+    let benches = clean::run(left, right, HOUSE, |_| ()).map_err(|refusal| refusal.to_string())?;
+    let before =
+        [&benches[0], &benches[1]].map(|b| (format!("{}-before.wav", b.side.name()), wav::write(RATE, &b.before)));
+    clean::store(&benches, &before, out)?;
+    for (bench, dictation) in benches.iter().zip(&dictations) {
+        let e = effect(dictation, &bench.after);
+        println!(
+            "{:5}  pauses {:+.1} dB, voice {:+.1} dB, signal to noise {:.1} dB before and {:.1} dB after",
+            bench.side.name(),
+            e.pauses,
+            e.voice,
+            e.ratio[0],
+            e.ratio[1]
+        );
+    }
+    Ok(benches)
+}

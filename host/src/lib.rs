@@ -1,0 +1,18 @@
+//! The recorder box: it runs both benches over one lent store through the proved library, and does itself what the library
+//! leaves to its host: both transforms, the logarithm, the lag, the files.
+
+pub mod bench;
+pub mod clean;
+pub mod demo;
+pub mod picture;
+pub mod recorder;
+pub mod reference;
+pub mod refusal;
+pub mod table;
+pub mod transform;
+pub mod wav;
+
+/// Samples of a frame.
+pub const FRAME: usize = 480;
+/// Samples of a second.
+pub const RATE: u32 = 48_000;

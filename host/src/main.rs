@@ -1,0 +1,71 @@
+use host::clean::{clean, Inputs, Job};
+use std::path::PathBuf;
+use std::process::ExitCode;
+
+const HELP: &str = "\
+host: cleans two dictations, one for each bench
+
+  host clean --left L.wav --right R.wav --model M.rnn --out DIR
+  host clean --both STEREO.wav --model M.rnn --out DIR
+      Recordings of 48 kHz, 16-bit PCM or 32-bit float; of a stereo file the left
+      channel is the left bench. Writes left.wav, right.wav, frames.csv and
+      benches.svg into DIR.
+  host demo DIR
+      The same with two dictations over a grinder and the house model, which come
+      with the program; the recordings before cleaning are written too.
+  host bench
+      Frames a second, where a frame's time goes, and the ratio to the Rust text.
+  host --help
+
+Exit status: 0 done, 2 something was not right; then nothing is written.
+";
+
+/// The values of the named options, each once; `None` where another word, or half an option, stands.
+fn options(words: &[String], names: &[&str]) -> Option<Vec<PathBuf>> {
+    if words.len() != 2 * names.len() {
+        return None;
+    }
+    let value = |name: &&str| words.chunks_exact(2).find(|pair| pair[0] == *name).map(|pair| PathBuf::from(&pair[1]));
+    names.iter().map(value).collect()
+}
+
+fn job(words: &[String]) -> Option<Job> {
+    if let Some(mut paths) = options(words, &["--left", "--right", "--model", "--out"]) {
+        let (out, model, right, left) = (paths.pop()?, paths.pop()?, paths.pop()?, paths.pop()?);
+        return Some(Job { inputs: Inputs::Two { left, right }, model, out });
+    }
+    let mut paths = options(words, &["--both", "--model", "--out"])?;
+    let (out, model, both) = (paths.pop()?, paths.pop()?, paths.pop()?);
+    Some(Job { inputs: Inputs::Stereo(both), model, out })
+}
+
+fn run(words: &[String]) -> Result<(), String> {
+    match words {
+        [help] if help == "--help" || help == "-h" => print!("{HELP}"),
+        [bench] if bench == "bench" => host::bench::bench(),
+        [demo, dir] if demo == "demo" => {
+            host::demo::demo(dir.as_ref())?;
+            println!("Look at {dir}/benches.svg, and listen to {dir}/left-before.wav and {dir}/left.wav.");
+        }
+        [word, rest @ ..] if word == "clean" => {
+            let job = job(rest).ok_or("clean: the options are not right; see host --help")?;
+            let benches = clean(&job)?;
+            for bench in &benches {
+                println!("{}: {} frames", bench.side.name(), bench.heard.len());
+            }
+        }
+        _ => return Err("what shall be done? See host --help".into()),
+    }
+    Ok(())
+}
+
+fn main() -> ExitCode {
+    let words: Vec<String> = std::env::args().skip(1).collect();
+    match run(&words) {
+        Ok(()) => ExitCode::SUCCESS,
+        Err(why) => {
+            eprintln!("host: {why}");
+            ExitCode::from(2)
+        }
+    }
+}

@@ -1,0 +1,95 @@
+//! One picture of both benches before and after, with the heard stretches marked.
+
+use crate::clean::Cleaned;
+use crate::recorder::Heard;
+use crate::{FRAME, RATE};
+use std::fmt::Write;
+
+const WIDTH: f64 = 1000.0;
+const LEFT: f64 = 90.0;
+const STRIP: f64 = 90.0;
+const GAP: f64 = 16.0;
+const TOP: f64 = 46.0;
+/// Columns of a waveform.
+const COLUMNS: usize = 500;
+
+/// The outline of a waveform around `middle`: the largest and the least sample of each column.
+fn outline(samples: &[f32], seconds: f64, middle: f64) -> String {
+    let (mut upper, mut lower) = (String::new(), Vec::new());
+    for column in 0..COLUMNS {
+        let at = |c: usize| (c as f64 / COLUMNS as f64 * seconds * f64::from(RATE)) as usize;
+        let Some(part) = samples.get(at(column)..at(column + 1).min(samples.len())) else { break };
+        let most = part.iter().fold(0.0f32, |a, b| a.max(*b));
+        let least = part.iter().fold(0.0f32, |a, b| a.min(*b));
+        let x = LEFT + WIDTH * (column as f64 + 0.5) / COLUMNS as f64;
+        let y = |v: f32| middle - f64::from(v) / 32_768.0 * STRIP * 1.5;
+        write!(upper, "{x:.1},{:.1} ", y(most)).unwrap();
+        lower.push(format!("{x:.1},{:.1}", y(least)));
+    }
+    lower.reverse();
+    upper + &lower.join(" ")
+}
+
+/// The stretches of frames in a row for which `test` holds, in seconds.
+fn stretches(heard: &[Heard], test: impl Fn(&Heard) -> bool) -> Vec<(f64, f64)> {
+    let second = |frame: usize| frame as f64 * FRAME as f64 / f64::from(RATE);
+    let mut found: Vec<(f64, f64)> = Vec::new();
+    for frame in heard.iter().enumerate().filter(|(_, h)| test(h)).map(|(i, _)| i) {
+        match found.last_mut() {
+            Some(last) if last.1 == second(frame) => last.1 = second(frame + 1),
+            _ => found.push((second(frame), second(frame + 1))),
+        }
+    }
+    found
+}
+
+fn is_heard(heard: &Heard) -> bool {
+    matches!(heard, Heard::Voice { .. })
+}
+
+fn is_voice(heard: &Heard) -> bool {
+    matches!(heard, Heard::Voice { probability, .. } if *probability > 0.5)
+}
+
+/// A strip for each recording, the heard stretches as a bar below it, and where a voice is likely the bar is dark.
+pub fn svg(benches: &[Cleaned; 2]) -> String {
+    let seconds = benches.iter().map(|b| b.before.len()).max().unwrap_or(0).max(1) as f64 / f64::from(RATE);
+    let height = TOP + 4.0 * (STRIP + GAP) + 30.0;
+    let mut text = format!(
+        "<svg xmlns=\"http://www.w3.org/2000/svg\" viewBox=\"0 0 {} {height}\" font-family=\"sans-serif\" font-size=\"13\">\n\
+         <rect width=\"100%\" height=\"100%\" fill=\"white\"/>\n\
+         <text x=\"{LEFT}\" y=\"22\">Both benches, before and after. The bar marks what was heard; it is dark where a voice is likely.</text>\n",
+        LEFT + WIDTH + 20.0
+    );
+    let mut top = TOP;
+    for bench in benches {
+        for (what, samples, colour) in [("before", &bench.before, "#999999"), ("after", &bench.after, "#1f6f8b")] {
+            let middle = top + STRIP / 2.0;
+            writeln!(text, "<text x=\"8\" y=\"{:.0}\">{} {what}</text>", middle + 4.0, bench.side.name()).unwrap();
+            writeln!(text, "<polygon fill=\"{colour}\" points=\"{}\"/>", outline(samples, seconds, middle)).unwrap();
+            for (test, shade) in [(is_heard as fn(&Heard) -> bool, "#f2d7a6"), (is_voice, "#c0562f")] {
+                for (from, to) in stretches(&bench.heard, test) {
+                    let x = |s: f64| LEFT + WIDTH * (s / seconds).min(1.0);
+                    let (y, wide) = (top + STRIP, x(to) - x(from));
+                    writeln!(
+                        text,
+                        "<rect x=\"{:.1}\" y=\"{y:.1}\" width=\"{wide:.1}\" height=\"5\" fill=\"{shade}\"/>",
+                        x(from)
+                    )
+                    .unwrap();
+                }
+            }
+            top += STRIP + GAP;
+        }
+    }
+    for second in 0..=seconds as usize {
+        let x = LEFT + WIDTH * second as f64 / seconds;
+        writeln!(
+            text,
+            "<text x=\"{x:.0}\" y=\"{:.0}\" text-anchor=\"middle\" fill=\"#555555\">{second} s</text>",
+            top + 14.0
+        )
+        .unwrap();
+    }
+    text + "</svg>\n"
+}

@@ -1,0 +1,168 @@
+//! The command line: what it writes, and each error with exit status 2 and nothing left behind.
+
+use host::demo::{dictation, HOUSE};
+use host::wav;
+use std::fs;
+use std::path::{Path, PathBuf};
+use std::process::{Command, Output};
+
+/// A folder of its own for each test.
+fn folder(name: &str) -> PathBuf {
+    let path = Path::new(env!("CARGO_TARGET_TMPDIR")).join(name);
+    let _ = fs::remove_dir_all(&path);
+    fs::create_dir_all(&path).unwrap();
+    path
+}
+
+fn host(words: &[&str]) -> Output {
+    Command::new(env!("CARGO_BIN_EXE_host")).args(words).output().unwrap()
+}
+
+/// Both recordings and the model, as files.
+struct Given {
+    path: PathBuf,
+}
+
+impl Given {
+    fn new(name: &str) -> Given {
+        let given = Given { path: folder(name) };
+        given.put("left.wav", &wav::write(48_000, &dictation(0).noisy));
+        given.put("right.wav", &wav::write(48_000, &dictation(1).noisy));
+        given.put("house.rnn", HOUSE);
+        given
+    }
+
+    fn put(&self, name: &str, bytes: &[u8]) {
+        fs::write(self.path.join(name), bytes).unwrap();
+    }
+
+    fn at(&self, name: &str) -> String {
+        self.path.join(name).to_str().unwrap().into()
+    }
+
+    fn clean(&self, left: &str, right: &str, model: &str, out: &str) -> Output {
+        let [l, r, m, o] = [left, right, model, out].map(|name| self.at(name));
+        host(&["clean", "--left", &l, "--right", &r, "--model", &m, "--out", &o])
+    }
+
+    /// The run ends with 2, says this, and leaves no folder.
+    fn fails(&self, output: Output, words: &[&str]) {
+        let said = String::from_utf8(output.stderr).unwrap();
+        assert_eq!(output.status.code(), Some(2), "{said}");
+        for word in words {
+            assert!(said.contains(word), "{said}");
+        }
+        assert!(!self.path.join("out").exists(), "{said}");
+    }
+}
+
+const WRITTEN: [&str; 4] = ["left.wav", "right.wav", "frames.csv", "benches.svg"];
+
+#[test]
+fn clean_writes_its_four_files() {
+    let given = Given::new("clean");
+    let output = given.clean("left.wav", "right.wav", "house.rnn", "out");
+    assert!(output.status.success(), "{}", String::from_utf8_lossy(&output.stderr));
+    let mut names: Vec<_> = fs::read_dir(given.path.join("out")).unwrap().map(|e| e.unwrap().file_name()).collect();
+    let mut wanted: Vec<std::ffi::OsString> = WRITTEN.iter().map(|n| n.into()).collect();
+    names.sort();
+    wanted.sort();
+    assert_eq!(names, wanted);
+    let table = fs::read_to_string(given.path.join("out/frames.csv")).unwrap();
+    assert!(table.starts_with("side,frame,state,voice,energy\nleft,0,"));
+    assert!(fs::read_to_string(given.path.join("out/benches.svg")).unwrap().starts_with("<svg"));
+    let left = wav::read(&fs::read(given.path.join("out/left.wav")).unwrap()).unwrap();
+    assert_eq!(left.channels[0].len(), dictation(0).noisy.len());
+}
+
+#[test]
+fn another_right_recording_leaves_the_left_file_as_it_is() {
+    let given = Given::new("apart");
+    given.put("noise.wav", &wav::write(48_000, &dictation(0).noisy.iter().rev().map(|x| 2.0 * x).collect::<Vec<_>>()));
+    assert!(given.clean("left.wav", "right.wav", "house.rnn", "one").status.success());
+    assert!(given.clean("left.wav", "noise.wav", "house.rnn", "two").status.success());
+    let read = |name: &str| fs::read(given.path.join(name)).unwrap();
+    assert!(read("one/left.wav") == read("two/left.wav"));
+    assert!(read("one/right.wav") != read("two/right.wav"));
+}
+
+#[test]
+fn a_stereo_file_is_both_benches() {
+    let given = Given::new("stereo");
+    let sides = [dictation(0).noisy, dictation(1).noisy];
+    let n = sides[0].len().min(sides[1].len());
+    let mixed: Vec<f32> = (0..2 * n).map(|i| sides[i % 2][i / 2]).collect();
+    let mut stereo = wav::write(48_000, &mixed);
+    stereo[22] = 2;
+    given.put("both.wav", &stereo);
+    given.put("l.wav", &wav::write(48_000, &sides[0][..n]));
+    given.put("r.wav", &wav::write(48_000, &sides[1][..n]));
+    let [b, m, o] = ["both.wav", "house.rnn", "one"].map(|name| given.at(name));
+    assert!(host(&["clean", "--both", &b, "--model", &m, "--out", &o]).status.success());
+    assert!(given.clean("l.wav", "r.wav", "house.rnn", "two").status.success());
+    for name in WRITTEN {
+        let read = |folder: &str| fs::read(given.path.join(folder).join(name)).unwrap();
+        assert!(read("one") == read("two"), "{name}");
+    }
+}
+
+#[test]
+fn the_demo_needs_no_files() {
+    let out = folder("demo").join("out");
+    let output = host(&["demo", out.to_str().unwrap()]);
+    assert!(output.status.success());
+    for name in WRITTEN.iter().chain(&["left-before.wav", "right-before.wav"]) {
+        assert!(out.join(name).exists(), "{name}");
+    }
+    assert!(String::from_utf8(output.stdout).unwrap().contains("benches.svg"));
+}
+
+#[test]
+fn a_missing_file() {
+    let given = Given::new("missing");
+    given.fails(given.clean("none.wav", "right.wav", "house.rnn", "out"), &["none.wav"]);
+    given.fails(given.clean("left.wav", "right.wav", "none.rnn", "out"), &["none.rnn"]);
+}
+
+#[test]
+fn another_sample_rate() {
+    let given = Given::new("rate");
+    given.put("slow.wav", &wav::write(44_100, &[0.0; 4_410]));
+    given.fails(given.clean("slow.wav", "right.wav", "house.rnn", "out"), &["slow.wav", "48,000", "44100"]);
+}
+
+#[test]
+fn another_format() {
+    let given = Given::new("format");
+    given.put("text.wav", b"no sound at all");
+    given.fails(given.clean("text.wav", "right.wav", "house.rnn", "out"), &["text.wav", "not a WAV file"]);
+}
+
+#[test]
+fn a_refused_model() {
+    let given = Given::new("model");
+    given.put("cut.rnn", &HOUSE[..HOUSE.len() - 1]);
+    given.fails(
+        given.clean("left.wav", "right.wav", "cut.rnn", "out"),
+        &["it ends within a layer's weights", "refusal 16", "layer 5", "vad_output"],
+    );
+    given.put("empty.rnn", b"");
+    given.fails(given.clean("left.wav", "right.wav", "empty.rnn", "out"), &["refusal 11", "layer 0", "input_dense"]);
+}
+
+#[test]
+fn an_unwritable_folder() {
+    let given = Given::new("unwritable");
+    let output = given.clean("left.wav", "right.wav", "house.rnn", "left.wav/out");
+    given.fails(output, &["left.wav/out"]);
+}
+
+#[test]
+fn other_words() {
+    let given = Given::new("words");
+    for words in [&[][..], &["clean"], &["clean", "--left", "x"], &["demo"], &["wash", "x"]] {
+        given.fails(host(words), &["--help"]);
+    }
+    let help = host(&["--help"]);
+    assert!(help.status.success() && String::from_utf8(help.stdout).unwrap().contains("host clean --left"));
+}
