@@ -70,13 +70,7 @@ fn is_product(len: usize, a: usize, b: usize) -> bool
 }
 
 // out[j] += weights[i * stride + offset + j] * input[i], for each i in order; 5, and out as it was, where lengths do not fit.
-pub fn mul_add(
-    out: &mut [f32],
-    weights: &[u8],
-    stride: usize,
-    offset: usize,
-    input: &[f32],
-) -> u32
+pub fn mul_add(out: &mut [f32], weights: &[u8], stride: usize, offset: usize, input: &[f32]) -> u32
     ensures { λ r. ⌜ MulAdd (now (weights .entry)) stride offset (now (input .entry)) (now (out .entry)) r (now (out .exit)) ⌝ }
 {
     if stride < offset {

@@ -1,10 +1,6 @@
 -- `network::layers::dense` meets its contract. Assumes nothing.
-use mathlib.Core.Path.{_≡_, refl, _∙_}
-use Prim.Native.Nat.{_+_, _≤_}
-use native.Mathlib.Omega.{arith}
 use borrow.Author.Needs.{needs}
-use Rattle.rules.proofs.Called.{left}
-use Rattle.network.proofs.Joined.{dense-joined, dense-fits}
+use Rattle.network.proofs.Joined.{dense-joined}
 use Rattle.network.proofs.layers.dense.Statement.{statement}
 use Rattle.network.proofs.layers.dense.Tie as tie
 
@@ -14,9 +10,7 @@ returns c =
     let at-add = c .before .before .before .before .before .before in
     let at-copy = at-add .before .before .before .before in
     let start = at-copy .before .before .before .before .before .before in
-    let arrays = start .pre .1 in
-    let kept = at-copy .copy-weights .kept .0 in
-    dense-joined _ _ _ _ (arrays .biased) (at-copy .copy-weights .ensures) (left (at-add .mul-add-at .ensures) (dense-fits arrays kept)) (at-add .mul-add-at .kept .0 ∙ kept)
+    dense-joined _ _ _ _ (start .pre .1) (at-copy .copy-weights .ensures) (at-copy .copy-weights .kept .0) (at-add .mul-add-at .ensures) (at-add .mul-add-at .kept .1 .1 .1 .0)
     (activate .ensures)
 
 pub dense-spec : {M : Type 1} → statement M
