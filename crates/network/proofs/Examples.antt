@@ -7,7 +7,7 @@ use Rattle.rules.specs.Loop.{loop}
 use Rattle.rules.specs.F32.{f32}
 use Rattle.numbers.specs.Tansig.{tansig}
 use Rattle.numbers.specs.Activations.{tansigIn, sigmoidIn}
-use Rattle.network.specs.Sums.{mulAdd}
+use Rattle.matrix.specs.Sums.{mulAdd}
 use Rattle.network.specs.Layers.{denseOf, gateSums, gruOf}
 use Rattle.model.specs.declared.Activation.{Activation}
 use Rattle.model.specs.declared.Activation.the-variants.{Tanh, Sigmoid, Relu}

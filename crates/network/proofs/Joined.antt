@@ -7,23 +7,30 @@ use lib.ListN.{length, take, drop}
 use lib.Ieee.{Float}
 use Rattle.rules.specs.Loop.{loop}
 use Rattle.rules.specs.F32.{part}
-use Rattle.network.specs.Sums.{copied, mulAdd}
-use Rattle.network.specs.Layers.{activateStep, denseOf, gateSums, updateStep, resetStep, blendStep, gruOf, GruArrays, GateFits}
+use Rattle.rules.proofs.Called.{left}
+use Rattle.matrix.specs.Sums.{mulAdd, MulAddFits, MulAdd}
+use Rattle.network.specs.Layers.{copied, activateStep, denseOf, gateSums, updateStep, resetStep, blendStep, gruOf, DenseArrays, GruArrays, GateFits}
 use Rattle.network.specs.Compute.{Frame, denseAt, gruAt, frameOf, sixLayers, framed}
 use Rattle.model.specs.declared.Activation.{Activation}
 use Rattle.model.specs.declared.Model.{Model}
 
-pub dense-joined : (weights bias : List ℕ) (activation : Activation) (input : List Float) {n : ℕ} {a b r : List Float}
-    → length bias ≡ n → a ≡ copied bias → b ≡ mulAdd a weights n 0 input → length b ≡ n → r ≡ loop (length b) (activateStep activation) b
-    → r ≡ denseOf weights bias activation input
+pub dense-joined : (weights bias : List ℕ) (activation : Activation) (input : List Float) {n k : ℕ} {a b r : List Float}
+    → DenseArrays n (length weights) (length bias) (length input) → a ≡ copied bias → length a ≡ n → MulAdd weights n 0 input a k b → length b ≡ length a
+    → r ≡ loop (length b) (activateStep activation) b → r ≡ denseOf weights bias activation input
 unfolding denseOf
-dense-joined weights bias activation input fit e e′ l e″ = e″ ∙ rw (l, e′, e, fit)
+dense-joined weights bias activation input {n} {k} {a} {b} arrays e la add lb e′ =
+    let fits : MulAddFits (length a) (length weights) n 0 (length input) = record { rows = omega arith; columns = arrays .weighted } in
+    e′ ∙ rw (lb ∙ la, left add fits, e, arrays .biased)
 
-pub sums-joined : (weights recurrent bias : List ℕ) (input state : List Float) (n offset : ℕ) {a b r : List Float}
-    → a ≡ copied (part offset (offset + n) bias) → b ≡ mulAdd a weights (3 * n) offset input → r ≡ mulAdd b recurrent (3 * n) offset state
+pub sums-joined : (weights recurrent bias : List ℕ) (input state : List Float) (n offset : ℕ) {k l : ℕ} {a b r : List Float}
+    → GateFits n (length weights) (length recurrent) (length bias) offset (length input) (length state) → a ≡ copied (part offset (offset + n) bias) → length a ≡ n
+    → MulAdd weights (3 * n) offset input a k b → length b ≡ length a → MulAdd recurrent (3 * n) offset state b l r
     → r ≡ gateSums weights recurrent bias input n offset state
 unfolding gateSums
-sums-joined weights recurrent bias input state n offset e e′ e″ = e″ ∙ rw (e′, e)
+sums-joined weights recurrent bias input state n offset {k} {l} {a} {b} fits e la add lb again =
+    let first : MulAddFits (length a) (length weights) (3 * n) offset (length input) = record { rows = omega (arith, fits .inside); columns = fits .weighted } in
+    let second : MulAddFits (length b) (length recurrent) (3 * n) offset (length state) = record { rows = omega (arith, fits .inside); columns = fits .recurs } in
+    left again second ∙ rw (left add first, e)
 
 pub gate-fits : {n weights recurrent bias offset input out state : ℕ} → GruArrays n weights recurrent bias input → out ≡ n → state ≡ n → offset ≤ 2 * n
     → GateFits out weights recurrent bias offset input state

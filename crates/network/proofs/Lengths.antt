@@ -1,15 +1,15 @@
 -- A layer's output has a place for each neuron, and a state keeps its length. Assumes nothing.
-use mathlib.Core.Path.{_≡_, refl, _∙_}
+use mathlib.Core.Path.{_≡_, _∙_}
 use mathlib.Core.List.{List}
-use Prim.Native.Nat.{ℕ, _+_, _*_}
+use Prim.Native.Nat.{ℕ, _*_}
 use lib.ListN.{length, length-set, length-map}
 use lib.Ieee.{Float}
-use Rattle.rules.specs.F32.{at, part}
 use Rattle.rules.specs.Loop.{loop}
-use Rattle.rules.proofs.Runs.{kept}
+use Rattle.rules.proofs.Lengths.{same-length}
 use Rattle.rules.proofs.Places.{length-get}
-use Rattle.network.specs.Sums.{ofByte, copied, columnStep, addColumn, mulStep, mulAdd}
-use Rattle.network.specs.Layers.{activateStep, gateSums, updateStep, resetStep, blendStep, denseOf, gruOf}
+use Rattle.matrix.specs.Sums.{ofByte, mulAdd}
+use Rattle.matrix.proofs.Lengths.{length-mulAdd}
+use Rattle.network.specs.Layers.{copied, activateStep, gateSums, updateStep, resetStep, blendStep, denseOf, gruOf}
 use Rattle.network.specs.Compute.{array, denseAt, gruAt}
 use Rattle.model.specs.Array.{placeOf, Within}
 use Rattle.model.specs.declared.Activation.{Activation}
@@ -18,22 +18,8 @@ use Rattle.model.specs.declared.Kind.the-variants.{Dense, Gru}
 use Rattle.model.specs.declared.Header.{Header}
 use Rattle.model.proofs.Places.{place-within}
 
--- a loop whose turns store single elements
-same-length : (body : ℕ → List Float → List Float) → ((i : ℕ) (s : List Float) → length (body i s) ≡ length s) → (n : ℕ) (start : List Float)
-    → length (loop n body start) ≡ length start
-same-length body turn n start = kept body (λ s. length s ≡ length start) n start (λ i s b e. turn i s ∙ e) refl
-
 length-copied : (bytes : List ℕ) → length (copied bytes) ≡ length bytes
 length-copied bytes = length-map bytes ofByte
-
-pub length-addColumn : (out : List Float) (col : List ℕ) (x : Float) → length (addColumn out col x) ≡ length out
-length-addColumn out col x = same-length (columnStep col x) (λ j s. simp length-set) (length out) out
-
-length-mulAdd : (out : List Float) (weights : List ℕ) (stride offset : ℕ) (input : List Float) → length (mulAdd out weights stride offset input) ≡ length out
-unfolding mulAdd
-length-mulAdd out weights stride offset input =
-    same-length (mulStep weights stride offset input)
-    (λ i s. length-addColumn s (part (i * stride + offset) (length weights) weights) (at input i)) (length input) out
 
 pub length-denseOf : (weights bias : List ℕ) (activation : Activation) (input : List Float) → length (denseOf weights bias activation input) ≡ length bias
 unfolding denseOf

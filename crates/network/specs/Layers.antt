@@ -1,14 +1,14 @@
--- `DenseLayer::compute` and `GruLayer::compute` of rnn.rs.
+-- `copy_i8`, `DenseLayer::compute` and `GruLayer::compute` of rnn.rs.
 use mathlib.Core.Path.{_≡_}
 use Prim.Native.Nat.{ℕ, _+_, _*_, _≤_}
-use mathlib.Core.List.{List}
+use mathlib.Core.List.{List, map}
 use lib.ListN.{length, set}
 use lib.Ieee.{Float}
 use Rattle.rules.specs.Loop.{loop}
 use Rattle.rules.specs.F32.{f32, at, part, _⊕_, _⊖_, _⊗_}
 use Rattle.numbers.specs.Larger.{rectified}
 use Rattle.numbers.specs.Activations.{tansigApprox, sigmoidApprox}
-use Rattle.network.specs.Sums.{copied, mulAdd}
+use Rattle.matrix.specs.Sums.{ofByte, mulAdd}
 use Rattle.model.specs.declared.Activation.{Activation}
 use Rattle.model.specs.declared.Activation.the-variants.{Tanh, Sigmoid, Relu}
 
@@ -20,6 +20,10 @@ abbrev pub activated : Activation → Float → Float
 activated Tanh x = tansigApprox x
 activated Sigmoid x = sigmoidApprox x
 activated Relu x = rectified x
+
+-- for (x, y) in out.iter_mut().zip(bytes) { *x = *y as f32 }, for lengths that are equal
+abbrev pub copied : List ℕ → List Float
+copied bytes = map ofByte bytes
 
 -- ---- a dense layer
 

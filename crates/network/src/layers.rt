@@ -4,11 +4,20 @@ ghost use Prim.Native.Nat.{_+_, _*_, _≤_};
 ghost use lib.ListN.{length};
 ghost use Rattle.rules.specs.Loop.{loop};
 ghost use Rattle.numbers.specs.Tansig.{tansig};
-ghost use Rattle.network.specs.Layers.{activated, activateStep, updateStep, resetStep, blendStep, gateSums, denseOf, DenseArrays, gruOf, GruArrays, GateFits, ScratchFits};
-use crate::sums;
+ghost use Rattle.network.specs.Layers.{copied, activated, activateStep, updateStep, resetStep, blendStep, gateSums, denseOf, DenseArrays, gruOf, GruArrays, GateFits, ScratchFits};
 use model::Activation;
 
 const WEIGHTS_SCALE: f32 = 1.0 / 256.0;
+
+// Biases, as numbers.
+fn copy_weights(out: &mut [f32], bytes: &[u8])
+    requires { ⌜ length (now out) ≡ length (now bytes) ⌝ }
+    ensures { λ _. ⌜ now (out .exit) ≡ copied (now (bytes .entry)) ⌝ }
+{
+    for j in 0..out.len() {
+        out[j] = matrix::sums::weight(bytes[j]);
+    }
+}
 
 fn activate(table: &[f32; 201], activation: Activation, x: f32) -> f32
     requires { ⌜ now table ≡ tansig ⌝ }
@@ -42,8 +51,8 @@ pub(crate) fn dense(
     ensures { λ _. ⌜ now (output .exit) ≡ denseOf (now (weights .entry)) (now (bias .entry)) activation (now (input .entry)) ⌝ }
 {
     let n = output.len();
-    sums::copy_weights(output, bias);
-    sums::mul_add(output, weights, n, 0, input);
+    copy_weights(output, bias);
+    matrix::mul_add_at(weights, n, 0, output, input);
     activate_all(output, table, activation);
 }
 
@@ -95,9 +104,9 @@ fn gate_sums(
     let n = out.len();
     let stride = 3 * n;
     let end = offset + n;
-    sums::copy_weights(out, &bias[offset..end]);
-    sums::mul_add(out, weights, stride, offset, input);
-    sums::mul_add(out, recurrent, stride, offset, state);
+    copy_weights(out, &bias[offset..end]);
+    matrix::mul_add_at(weights, stride, offset, out, input);
+    matrix::mul_add_at(recurrent, stride, offset, out, state);
 }
 
 // A GRU layer over lent scratch, one slice for each gate.

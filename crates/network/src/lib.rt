@@ -8,7 +8,6 @@ ghost use Rattle.network.specs.Layers.{denseOf, DenseFits, gruOf, GruFit
 
 mod layers;
 mod six;
-mod sums;
 
 use model::Activation;
 use model::Reading;

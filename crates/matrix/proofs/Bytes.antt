@@ -8,7 +8,7 @@ use lib.Signed.{mag}
 use mir.Syntax.{w16}
 use mir.Val.{toZ, ofZ}
 use Rattle.rules.proofs.Below.{at-each}
-use Rattle.network.specs.Sums.{signed}
+use Rattle.matrix.specs.Sums.{signed}
 
 abbrev moved : ℕ → ℤ
 moved b = toZ w16 ((b + 128) % 256) -ℤ pos 128

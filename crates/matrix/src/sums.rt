@@ -1,23 +1,15 @@
-// Sums of weights over plain slices, column by column as in the Rust's `mul_add`.
+// The multiply-add over plain slices, column by column as in the Rust.
 ghost use mathlib.Core.Path.{_≡_};
 ghost use Prim.Native.Nat.{_+_, _*_, _≤_};
+ghost use lib.Dec.{eqb};
 ghost use lib.ListN.{length};
-ghost use Rattle.network.specs.Sums.{ofByte, copied, addColumn, mulAdd, MulAddFits};
+ghost use Rattle.matrix.specs.Sums.{ofByte, addColumn, mulAdd, MulAddFits, MulAdd};
 
 // A model byte as the f32 that it stands for. Without a branch, so that loops over it are vectorised.
-fn weight(b: u8) -> f32
+pub fn weight(b: u8) -> f32
     ensures { λ r. ⌜ r ≡ ofByte b ⌝ }
 {
     (((b as u16 + 128) % 256) as i16 - 128) as f32
-}
-
-pub(crate) fn copy_weights(out: &mut [f32], bytes: &[u8])
-    requires { ⌜ length (now out) ≡ length (now bytes) ⌝ }
-    ensures { λ _. ⌜ now (out .exit) ≡ copied (now (bytes .entry)) ⌝ }
-{
-    for j in 0..out.len() {
-        out[j] = weight(bytes[j]);
-    }
 }
 
 // One column of `mul_add`.
@@ -40,8 +32,8 @@ fn add_two(out: &mut [f32], first: &[u8], x: f32, second: &[u8], y: f32)
     }
 }
 
-// out[j] += weights[i * stride + offset + j] * input[i], for each i in order.
-pub(crate) fn mul_add(out: &mut [f32], weights: &[u8], stride: usize, offset: usize, input: &[f32])
+// The sums of `mul_add`, for lengths that fit.
+fn mul_add_core(out: &mut [f32], weights: &[u8], stride: usize, offset: usize, input: &[f32])
     requires { ⌜ MulAddFits (length (now out)) (length (now weights)) stride offset (length (now input)) ⌝ }
     ensures { λ _. ⌜ now (out .exit) ≡ mulAdd (now (out .entry)) (now (weights .entry)) stride offset (now (input .entry)) ⌝ }
 {
@@ -62,4 +54,34 @@ pub(crate) fn mul_add(out: &mut [f32], weights: &[u8], stride: usize, offset: us
         let start = i * stride + offset;
         add_column(out, &weights[start..], input[i]);
     }
+}
+
+// Whether len is a * b, a product that may be past the largest usize.
+fn is_product(len: usize, a: usize, b: usize) -> bool
+    ensures { λ r. ⌜ r ≡ eqb len (a * b) ⌝ }
+{
+    if a == 0 {
+        return len == 0;
+    }
+    if len % a != 0 {
+        return false;
+    }
+    len / a == b
+}
+
+// out[j] += weights[i * stride + offset + j] * input[i], for each i in order; 5, and out as it was, where lengths do not fit.
+pub fn mul_add(out: &mut [f32], weights: &[u8], stride: usize, offset: usize, input: &[f32]) -> u32
+    ensures { λ r. ⌜ MulAdd (now (weights .entry)) stride offset (now (input .entry)) (now (out .entry)) r (now (out .exit)) ⌝ }
+{
+    if stride < offset {
+        return 5;
+    }
+    if stride - offset < out.len() {
+        return 5;
+    }
+    if !is_product(weights.len(), stride, input.len()) {
+        return 5;
+    }
+    mul_add_core(out, weights, stride, offset, input);
+    0
 }

@@ -12,8 +12,8 @@ use Rattle.rules.specs.Loop.{loop}
 use Rattle.rules.proofs.Fused.{fused}
 use Rattle.rules.proofs.Loops.{more}
 use Rattle.rules.proofs.Numbers.{row-fits}
-use Rattle.network.specs.Sums.{ofByte, columnStep, addColumn, mulStep}
-use Rattle.network.proofs.Lengths.{length-addColumn}
+use Rattle.matrix.specs.Sums.{ofByte, columnStep, addColumn, mulStep}
+use Rattle.matrix.proofs.Lengths.{length-addColumn}
 
 abbrev added : List ℕ → Float → ℕ → Float → Float
 added col x j a = a ⊕ ofByte (getD col j 0) ⊗ x

@@ -1,13 +1,13 @@
--- `network::sums::add_two` meets its contract. Assumes nothing.
+-- `matrix::sums::add_two` meets its contract. Assumes nothing.
 use mathlib.Core.Path.{_≡_}
 use Prim.Native.Nat.{_≤_, _-_}
 use native.Mathlib.Omega.{arith}
 use lib.ListN.{length, length-set}
 use Rattle.rules.specs.Loop.{loop}
 use Rattle.rules.proofs.Loops.{turns, more, ended}
-use Rattle.network.proofs.Columns.{twoStep, two-columns}
-use Rattle.network.proofs.sums.add_two.Statement.{statement}
-use Rattle.network.proofs.sums.add_two.Tie as tie
+use Rattle.matrix.proofs.Columns.{twoStep, two-columns}
+use Rattle.matrix.proofs.sums.add_two.Statement.{statement}
+use Rattle.matrix.proofs.sums.add_two.Tie as tie
 
 abbrev Inv-loop : tie.InvT-loop
 Inv-loop out₀ first x second y j₀ j-end out j =

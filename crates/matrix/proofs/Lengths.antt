@@ -1,0 +1,17 @@
+-- A multiply-add keeps its output's length. Assumes nothing.
+use mathlib.Core.Path.{_≡_}
+use mathlib.Core.List.{List}
+use Prim.Native.Nat.{ℕ, _+_, _*_}
+use lib.ListN.{length, length-set}
+use lib.Ieee.{Float}
+use Rattle.rules.specs.F32.{at, part}
+use Rattle.rules.proofs.Lengths.{same-length}
+use Rattle.matrix.specs.Sums.{columnStep, addColumn, mulStep, mulAdd}
+
+pub length-addColumn : (out : List Float) (col : List ℕ) (x : Float) → length (addColumn out col x) ≡ length out
+length-addColumn out col x = same-length (columnStep col x) (λ j s. simp length-set) (length out) out
+
+pub length-mulAdd : (out : List Float) (weights : List ℕ) (stride offset : ℕ) (input : List Float) → length (mulAdd out weights stride offset input) ≡ length out
+unfolding mulAdd
+length-mulAdd out weights stride offset input =
+    same-length (mulStep weights stride offset input) (λ i s. length-addColumn s (part (i * stride + offset) (length weights) weights) (at input i)) (length input) out

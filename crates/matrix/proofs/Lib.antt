@@ -1,0 +1,4 @@
+pub mod Bytes
+pub mod Columns
+pub mod Lengths
+pub mod Weights
