@@ -1,6 +1,6 @@
 -- What the desk's contracts settle.
---     settled         a contract is met by one outcome alone
---     refused-keeps   a refusal changes neither the record nor the store nor a buffer
+--     settled, host-settled    a contract is met by one outcome alone
+--     refused-keeps            a refusal changes neither the record nor the store nor a buffer
 -- Assumes nothing.
 use Prim.Native.Nat.{ℕ}
 use mathlib.Core.Bool.{Bool, true, false, cond}
@@ -25,10 +25,16 @@ use Rattle.desk.specs.declared.Answer.{Answer}
 use Rattle.desk.specs.declared.Bench.{Bench}
 use Rattle.desk.specs.Gate.{shareOf, gate}
 use Rattle.desk.specs.Desk.{Ask, opening, call1, call2, call3, call4, callOf, opened, framed, admitted, Outcome, desk, Served}
+use Rattle.desk.specs.Surface.{Hosted}
 
 pub settled : {o : Outcome} {a a′ : Answer} {store store′ : List Float} {held out out′ : List (List Float)}
     → Served o a store held out → Served o a′ store′ held out′ → (a ≡ a′) × (store ≡ store′) × (out ≡ out′)
 settled s t = (s .answers ∙ sym (t .answers), s .stores ∙ sym (t .stores), s .writes ∙ sym (t .writes))
+
+pub host-settled : {o : Outcome} {n n′ : ℕ} {given bench bench′ : List ℕ} {store store′ : List Float} {held out out′ : List (List Float)}
+    → Hosted o n given bench store held out → Hosted o n′ given bench′ store′ held out′ → (n ≡ n′) × (bench ≡ bench′) × (store ≡ store′) × (out ≡ out′)
+host-settled s t =
+    (s .numbers ∙ sym (t .numbers), s .benches ∙ sym (t .benches), s .stores ∙ sym (t .stores), s .writes ∙ sym (t .writes))
 
 -- what a call keeps of a share of the right length: its length; and, refused, all of it
 pub record Kept (share : List Float) (f : Framed) : Type 0 where

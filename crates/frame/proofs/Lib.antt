@@ -3,6 +3,7 @@ pub mod Cases
 pub mod Done
 pub mod Held
 pub mod Keeps
+pub mod Replies
 pub mod Settled
 pub mod Sounded
 pub mod Spoken

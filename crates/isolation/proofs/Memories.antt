@@ -8,47 +8,61 @@ use Prim.Native.Nat.{ℕ, _+_, _*_, _≤_, _<_}
 use native.Mathlib.Omega.{arith}
 use mathlib.Core.Bool.{Bool, true, false, cond}
 use mathlib.Core.List.{List, [], _∷_}
+use mathlib.Core.Logic.{inl, inr}
 use mathlib.Core.Path.{_≡_, refl, sym, ap, _∙_}
 use borrow.Author.Tests.{eq-eqb, eqb-true, eqb-false}
 use lib.Dec.{eqb}
 use lib.ListN.{length, replicate, getD-replicate}
 use lib.Seq.{getD-take, getD-drop}
-use lib.Ieee.{Float, nan, isNan, le}
-use Rattle.rules.specs.F32.{_⊗_, at, f32}
+use lib.Ieee.{Float, isNan, le}
+use Rattle.rules.specs.F32.{at, f32}
 use Rattle.rules.specs.Place.{Place, get}
 use Rattle.rules.proofs.Places.{length-get}
 use Rattle.model.specs.Model.{readOf}
 use Rattle.model.specs.declared.Reading.{Reading}
 use Rattle.model.specs.declared.Reading.the-variants.{Good, Refused as Unread}
-use Rattle.features.proofs.Remembered.{never-nan as never-nan-gain, at-least-held}
+use Rattle.features.specs.Gains.{held}
 use Rattle.frame.specs.Reply.{passed}
-use Rattle.frame.specs.Share.{SHARE, lastg}
-use Rattle.frame.specs.Frame.{Framed, refused, first, second, third, fourth}
+use Rattle.frame.specs.Share.{SHARE, lastg, cepstralMem, vadState, noiseState, denoiseState}
+use Rattle.frame.specs.Frame.{Framed, refused}
 use Rattle.frame.specs.declared.Reply.{Reply}
 use Rattle.frame.specs.declared.Reply.the-variants.{Done, Silent, Heard, Refused, Misread}
-use Rattle.frame.proofs.Remembers.{first-leaves, second-leaves, third-heeds, fourth-leaves}
-use Rattle.frame.proofs.Replies.{first-replies, second-replies, fourth-replies}
+use Rattle.frame.proofs.Beside.{taken-beside, noted-beside, synthesised-beside}
+use Rattle.frame.proofs.Cases.{first-by, second-by, third-by, fourth-by}
+use Rattle.frame.proofs.Held.{gainOf, isHeard, Holds, first-holds, second-holds, third-holds, fourth-holds}
+use Rattle.frame.proofs.Truth.{false-true}
+use Rattle.desk.specs.declared.Answer.{Answer}
 use Rattle.desk.specs.declared.Bench.{Bench}
 use Rattle.desk.specs.Gate.{shareOf, gate}
-use Rattle.desk.specs.Desk.{Ask, opening, call1, call2, call3, call4, callOf, closed, advanced, answered, opened, framed, admitted, Outcome, desk}
-use Rattle.desk.proofs.Apart.{outcomeOf, one-bench, one-length, its-own, own-share, other-share, same-length, anew}
+use Rattle.desk.specs.Desk.{Ask, opening, call1, call2, call3, call4, callOf, closed, advanced, answered, opened, framed, Outcome, desk}
+use Rattle.desk.proofs.Apart.{outcomeOf, one-bench, its-own, own-share, other-share, same-length, anew}
 use Rattle.isolation.specs.Run.{Call, openingOf, State, outcome, after, ended}
 use Rattle.isolation.specs.Memory.{Remembered, remembered, SilentLeaves, Since, NeverNan, HeardHolds}
 
 -- ---- one call
 
--- not heard
+-- no heard frame
 abbrev Unheard : Reply → Type 0
 Unheard r = (v e : Float) → r ≡ Heard v e → ⊥
 
-done-unheard : Unheard Done
-done-unheard v e h = let z : _≡_ {A = ℕ} 0 1 = cc in omega arith
+-- what lies from the remembered gains on is left alone, unless a frame is heard
+abbrev Leaves : Place → List Float → Framed → Type 0
+Leaves q share f = Unheard (f .reply) → get q (f .share) ≡ get q share
 
-refused-unheard : (n : ℕ) → Unheard (Refused n)
-refused-unheard n v e h = let z : _≡_ {A = ℕ} 0 1 = cc in omega arith
+module _ (b : Bench) (share : List Float) (q : Place) (back : 3194 ≤ q .at) where
+  bad : (reply : Reply) → passed reply ≡ false → Leaves q share (refused reply share)
+  bad reply _ _ = refl
 
-misread-unheard : (n l : ℕ) → Unheard (Misread n l)
-misread-unheard n l v e h = let z : _≡_ {A = ℕ} 0 1 = cc in omega arith
+  frame-leaves : (ask : Ask) → (callOf ask ≡ 0 → ⊥) → Leaves q share (framed ask b share)
+  frame-leaves (opening m) ne = absurd (ne refl)
+  frame-leaves (call1 x w) ne =
+      first-by share (Leaves q share) bad x w (λ whole l _. taken-beside q share x (inl (omega arith), (inl (omega arith), tt)) whole l .same)
+  frame-leaves (call2 x l w s) ne =
+      second-by share (Leaves q share) bad x l w s (λ whole _. noted-beside q share x l (inl (omega arith), (inl (omega arith), (inl (omega arith), tt))) whole .same)
+  frame-leaves (call3 x l m o) ne =
+      third-by share (Leaves q share) bad (b .index) (b .vad) (b .noise) (b .denoise) x l m o (λ _. refl) (λ e m _ _ _ u. absurd (u _ e refl))
+  frame-leaves (call4 x o) ne =
+      fourth-by share (Leaves q share) bad x o (λ whole _. synthesised-beside q share x (inl (omega arith), tt) whole .same)
 
 -- of a record, after a frame call that is not heard: the index
 index-kept : (b : Bench) (p : Bool) (r : Reply) → Unheard r → cond p (advanced r b) b .index ≡ b .index
@@ -59,41 +73,16 @@ index-kept b true (Heard v e) u = absurd (u v e refl)
 index-kept b true (Refused n) u = refl
 index-kept b true (Misread n l) u = refl
 
--- what stands from the gains on, and the index, as they were
-record Left (b : Bench) (share : List Float) (o : Outcome) : Type 0 where
-  places : (q : Place) → 3194 ≤ q .at → get q (o .store) ≡ get q share
-  index : o .answer .bench .index ≡ b .index
+record-kept : (b : Bench) (ask : Ask) (r : Reply) → (callOf ask ≡ 0 → ⊥) → Unheard r → answered ask r b .bench .index ≡ b .index
+record-kept b (opening m) r ne u = absurd (ne refl)
+record-kept b (call1 x w) r ne u = index-kept b (passed r) r u
+record-kept b (call2 x l w s) r ne u = index-kept b (passed r) r u
+record-kept b (call3 x l m o) r ne u = index-kept b (passed r) r u
+record-kept b (call4 x o) r ne u = index-kept b (passed r) r u
 
-module _ (b : Bench) (share : List Float) (whole : length share ≡ SHARE) where
-  by-frame : (ask : Ask) → (callOf ask ≡ 0 → ⊥) → Unheard (framed ask b share .reply) → (q : Place) → 3194 ≤ q .at → get q (framed ask b share .share) ≡ get q share
-  by-frame (opening m) ne u q h = absurd (ne refl)
-  by-frame (call1 x w) ne u q h = first-leaves q h share x w
-  by-frame (call2 x l w s) ne u q h = second-leaves q h share x l w s
-  by-frame (call3 x l m o) ne u q h = ap (get q) (third-heeds share (b .index) (b .vad) (b .noise) (b .denoise) x l m o .still u)
-  by-frame (call4 x o) ne u q h = fourth-leaves q h share x o
-
-  record-kept : (ask : Ask) (r : Reply) → (callOf ask ≡ 0 → ⊥) → Unheard r → answered ask r b .bench .index ≡ b .index
-  record-kept (opening m) r ne u = absurd (ne refl)
-  record-kept (call1 x w) r ne u = index-kept b (passed r) r u
-  record-kept (call2 x l w s) r ne u = index-kept b (passed r) r u
-  record-kept (call3 x l m o) r ne u = index-kept b (passed r) r u
-  record-kept (call4 x o) r ne u = index-kept b (passed r) r u
-
-  leaves : (ask : Ask) → (callOf ask ≡ 0 → ⊥) → Unheard (desk 1 0 b share ask .answer .reply) → Left b share (desk 1 0 b share ask)
-  leaves ask ne = rw (one-bench b share ask whole) (go (eqb number 0))
-    where
-      number : ℕ
-      number = gate 1 (callOf ask) 0 b SHARE
-
-      go : (t : Bool) → Unheard (cond t (framed ask b share) (refused (Refused number) share) .reply)
-          → Left b share (outcomeOf ask b (cond t (framed ask b share) (refused (Refused number) share)))
-      go true u = record { places = by-frame ask ne u; index = record-kept ask (framed ask b share .reply) ne u }
-      go false u = record { places = λ _ _. refl; index = refl }
-
--- ---- the remembered gains
-
+-- no remembered gain is NaN
 abbrev Numbers : List Float → Type 0
-Numbers share = (i : ℕ) → i < 22 → isNan (at (get lastg share) i) ≡ false
+Numbers share = (i : ℕ) → i < 22 → isNan (gainOf share i) ≡ false
 
 wiped : List Float
 wiped = replicate SHARE (f32 0)
@@ -102,67 +91,49 @@ wiped-numbers : Numbers wiped
 unfolding get wiped
 wiped-numbers i h = rw (getD-take, getD-drop, getD-replicate) refl
 
--- heard or not
-heard-or : {A : Type 0} (r : Reply) → ((v e : Float) → r ≡ Heard v e → A) → (Unheard r → A) → A
-heard-or Done f g = g done-unheard
-heard-or Silent f g = g (λ v e h. let z : _≡_ {A = ℕ} 0 1 = cc in omega arith)
-heard-or (Heard v e) f g = f v e refl
-heard-or (Refused n) f g = g (refused-unheard n)
-heard-or (Misread n l) f g = g (misread-unheard n l)
+-- every call holds them: an opening wipes them or leaves them, and the frame calls hold them as `frame` shows
+opened-holds : (share : List Float) (read : Reading) → Holds share (opened read share)
+unfolding wiped
+opened-holds share (Good m) = record { number = λ i h _. wiped-numbers i h; raised = λ i h _ r. absurd (false-true r) }
+opened-holds share (Unread n l) = record { number = λ i h k. k; raised = λ i h _ r. absurd (false-true r) }
 
-module _ (b : Bench) (share : List Float) (whole : length share ≡ SHARE) (numbers : Numbers share) where
-  opens : (read : Reading) → Numbers (opened read share .share)
-  unfolding wiped
-  opens (Good m) = wiped-numbers
-  opens (Unread n l) = numbers
+every-holds : (b : Bench) (share : List Float) (ask : Ask) → Holds share (framed ask b share)
+every-holds b share (opening m) = opened-holds share (readOf m)
+every-holds b share (call1 x w) = first-holds share x w
+every-holds b share (call2 x l w s) = second-holds share x l w s
+every-holds b share (call3 x l m o) = third-holds share (b .index) (b .vad) (b .noise) (b .denoise) x l m o
+every-holds b share (call4 x o) = fourth-holds share x o
 
-  same : {xs : List Float} → get lastg xs ≡ get lastg share → Numbers xs
-  same e i h = rw e (numbers i h)
+-- ---- the same of a desk of one bench
 
-  frames : (ask : Ask) → Numbers (framed ask b share .share)
-  frames (opening m) = opens (readOf m)
-  frames (call1 x w) = same (first-leaves lastg (omega arith) share x w)
-  frames (call2 x l w s) = same (second-leaves lastg (omega arith) share x l w s)
-  frames (call3 x l m o) =
-      let k = third-heeds share (b .index) (b .vad) (b .noise) (b .denoise) x l m o in
-      heard-or (third share (b .index) (b .vad) (b .noise) (b .denoise) x l m o .reply)
-      (λ v e h i band. let g = k .heard v e h in rw (g .1) (never-nan-gain (g .0) (get lastg share) i band (numbers i band)))
-      (λ u. same (ap (get lastg) (k .still u)))
-  frames (call4 x o) = same (fourth-leaves lastg (omega arith) share x o)
+module _ (b : Bench) (share : List Float) (whole : length share ≡ SHARE) (ask : Ask) where
+  number : ℕ
+  number = gate 1 (callOf ask) 0 b SHARE
 
-  stays-number : (ask : Ask) → Numbers (desk 1 0 b share ask .store)
-  stays-number ask = rw (one-bench b share ask whole) (go (eqb (gate 1 (callOf ask) 0 b SHARE) 0))
+  -- a call is refused by the gate, or it is let through
+  by-gate : (P : Outcome → Type 0) → P (outcomeOf ask b (refused (Refused number) share)) → P (outcomeOf ask b (framed ask b share)) → P (desk 1 0 b share ask)
+  unfolding number
+  by-gate P no yes = rw (one-bench b share ask whole) (go (eqb number 0))
     where
-      go : (t : Bool) → Numbers (cond t (framed ask b share) (refused (Refused (gate 1 (callOf ask) 0 b SHARE)) share) .share)
-      go true = frames ask
-      go false = numbers
+      go : (t : Bool) → P (outcomeOf ask b (cond t (framed ask b share) (refused (Refused number) share)))
+      go true = yes
+      go false = no
 
-  -- only call 3 is heard
-  heard-holds-in : (ask : Ask) (v e : Float) → framed ask b share .reply ≡ Heard v e → (i : ℕ) → i < 22
-      → le (f32 0x3F19999A ⊗ at (get lastg share) i) (at (get lastg (framed ask b share .share)) i) ≡ true
-  heard-holds-in (opening m) v e h = absurd (opens-unheard (readOf m) h)
-    where
-      opens-unheard : (read : Reading) → opened read share .reply ≡ Heard v e → ⊥
-      opens-unheard (Good m) = done-unheard v e
-      opens-unheard (Unread n l) = misread-unheard n l v e
-  heard-holds-in (call1 x w) v e h = absurd (first-replies Unheard refused-unheard share done-unheard x w v e h)
-  heard-holds-in (call2 x l w s) v e h = absurd (second-replies Unheard refused-unheard share done-unheard x l w s v e h)
-  heard-holds-in (call3 x l m o) v e h i band =
-      let g = third-heeds share (b .index) (b .vad) (b .noise) (b .denoise) x l m o .heard v e h in
-      rw (g .1) (at-least-held (g .0) (get lastg share) i band (numbers i band))
-  heard-holds-in (call4 x o) v e h = absurd (fourth-replies Unheard refused-unheard share done-unheard x o v e h)
+  leaves : (callOf ask ≡ 0 → ⊥) → Unheard (desk 1 0 b share ask .answer .reply)
+      → ((q : Place) → 3194 ≤ q .at → get q (desk 1 0 b share ask .store) ≡ get q share) × (desk 1 0 b share ask .answer .bench .index ≡ b .index)
+  leaves ne =
+      by-gate (λ o. Unheard (o .answer .reply) → ((q : Place) → 3194 ≤ q .at → get q (o .store) ≡ get q share) × (o .answer .bench .index ≡ b .index))
+      (λ _. (λ _ _. refl, refl))
+      (λ u. (λ q back. frame-leaves b share q back ask ne u, record-kept b ask (framed ask b share .reply) ne u))
 
-  holds : (ask : Ask) (v e : Float) → desk 1 0 b share ask .answer .reply ≡ Heard v e → (i : ℕ) → i < 22
-      → le (f32 0x3F19999A ⊗ at (get lastg share) i) (at (get lastg (desk 1 0 b share ask .store)) i) ≡ true
-  holds ask v e = rw (one-bench b share ask whole) (go (eqb number 0))
-    where
-      number : ℕ
-      number = gate 1 (callOf ask) 0 b SHARE
+  stays-number : Numbers share → Numbers (desk 1 0 b share ask .store)
+  stays-number numbers = by-gate (λ o. Numbers (o .store)) numbers (λ i h. every-holds b share ask .number i h (numbers i h))
 
-      go : (t : Bool) → cond t (framed ask b share) (refused (Refused number) share) .reply ≡ Heard v e → (i : ℕ) → i < 22
-          → le (f32 0x3F19999A ⊗ at (get lastg share) i) (at (get lastg (cond t (framed ask b share) (refused (Refused number) share) .share)) i) ≡ true
-      go true h = heard-holds-in ask v e h
-      go false h = absurd (refused-unheard number v e h)
+  holds : Numbers share → isHeard (desk 1 0 b share ask .answer .reply) ≡ true
+      → (i : ℕ) → i < 22 → le (held (gainOf share i)) (gainOf (desk 1 0 b share ask .store) i) ≡ true
+  holds numbers =
+      by-gate (λ o. isHeard (o .answer .reply) ≡ true → (i : ℕ) → i < 22 → le (held (gainOf share i)) (gainOf (o .store) i) ≡ true)
+      (λ h. absurd (false-true h)) (λ h i band. every-holds b share ask .raised i band (numbers i band) h)
 
 -- ---- any run
 
@@ -190,7 +161,7 @@ module _ (n s : ℕ) (inside : s < n) where
   numbers-after st l c numbers = go (eqb (c .side) s) refl
     where
       go : (t : Bool) → eqb (c .side) s ≡ t → Numbers (share (after n st c))
-      go true e = rw (own st l c (eqb-true (c .side) s e)) (stays-number (st .bench s) (share st) (fits st l) numbers (c .ask))
+      go true e = rw (own st l c (eqb-true (c .side) s e)) (stays-number (st .bench s) (share st) (fits st l) (c .ask) numbers)
       go false e = rw (other-share n (c .side) (st .bench (c .side)) (st .store) (c .ask) l s (eqb-false (c .side) s e)) numbers
 
   numbers-run : (cs : List Call) (st : State) → Whole st → Numbers (share st) → Numbers (share (ended n st cs)) × Whole (ended n st cs)
@@ -207,7 +178,7 @@ module _ (n s : ℕ) (inside : s < n) where
       let b = st₀ .bench s in
       let done = rw (replied st₀ (h .sized) first refl) at (h .opened) in
       let same = anew b (share st₀) wiped (fits st₀ (h .sized)) refl (h .model) done in
-      let numbers : Numbers (desk 1 0 b (share st₀) (opening (h .model)) .store) = rw same (stays-number closed wiped refl wiped-numbers (opening (h .model))) in
+      let numbers : Numbers (desk 1 0 b (share st₀) (opening (h .model)) .store) = rw same (stays-number closed wiped refl (opening (h .model)) wiped-numbers) in
       rw (← h .led)
       (numbers-run (h .calls) (after n st₀ first) (kept st₀ (h .sized) first) (rw (own st₀ (h .sized) first refl) numbers))
 
@@ -218,7 +189,10 @@ silent-leaves n s inside st l c e ne u =
     let xs = get (shareOf s) (st .store) in
     let k = leaves (st .bench s) xs (fits n s inside st l) (c .ask) ne (rw (replied n s inside st l c e) at u) in
     let o = own n s inside st l c e in
-    ?
+    let place : (q : Place) → 3194 ≤ q .at → get q (get (shareOf s) (after n st c .store)) ≡ get q xs = λ q back. ap (get q) o ∙ k .0 q back in
+    let index : after n st c .bench s .index ≡ st .bench s .index =
+    rw (eq-eqb (c .side) s e) (ap (λ (a : Answer). a .bench .index) (replied n s inside st l c e) ∙ k .1) in
+    cc (index, place lastg (omega arith), place cepstralMem (omega arith), place vadState (omega arith), place noiseState (omega arith), place denoiseState (omega arith))
 
 pub never-nan : (n : ℕ) → NeverNan n
 never-nan n s inside st h = since n s inside st h .0
@@ -226,5 +200,6 @@ never-nan n s inside st h = since n s inside st h .0
 pub heard-holds : (n : ℕ) → HeardHolds n
 heard-holds n s inside st h c e v x r i band =
     let k = since n s inside st h in
-    rw (own n s inside st (k .1) c e)
-    (holds (st .bench s) (get (shareOf s) (st .store)) (fits n s inside st (k .1)) (k .0) (c .ask) v x (rw (replied n s inside st (k .1) c e) at r) i band)
+    let xs = get (shareOf s) (st .store) in
+    let heard : isHeard (desk 1 0 (st .bench s) xs (c .ask) .answer .reply) ≡ true = rw (replied n s inside st (k .1) c e) at (rw r refl) in
+    rw (own n s inside st (k .1) c e) (holds (st .bench s) xs (fits n s inside st (k .1)) (c .ask) (k .0) heard i band)
