@@ -14,7 +14,7 @@ use borrow.Author.Tests.{eq-eqb, eqb-true, eqb-false}
 use lib.Dec.{eqb}
 use lib.ListN.{length, replicate, getD-replicate}
 use lib.Seq.{getD-take, getD-drop}
-use lib.Ieee.{Float, isNan, le}
+use lib.Ieee.{Float, isNan, le, ofBits}
 use Rattle.rules.specs.F32.{at, f32}
 use Rattle.rules.specs.Place.{Place, get}
 use Rattle.rules.proofs.Places.{length-get}
@@ -87,9 +87,13 @@ Numbers share = (i : ℕ) → i < 22 → isNan (gainOf share i) ≡ false
 wiped : List Float
 wiped = replicate SHARE (f32 0)
 
+zero-number : isNan (f32 0) ≡ false
+unfolding isNan ofBits
+zero-number = refl
+
 wiped-numbers : Numbers wiped
 unfolding get wiped
-wiped-numbers i h = rw (getD-take, getD-drop, getD-replicate) refl
+wiped-numbers i h = let inside : lastg .at + i < SHARE = omega arith in rw (getD-take, getD-drop, getD-replicate) zero-number
 
 -- every call holds them: an opening wipes them or leaves them, and the frame calls hold them as `frame` shows
 opened-holds : (share : List Float) (read : Reading) → Holds share (opened read share)
@@ -113,11 +117,11 @@ module _ (b : Bench) (share : List Float) (whole : length share ≡ SHARE) (ask 
   -- a call is refused by the gate, or it is let through
   by-gate : (P : Outcome → Type 0) → P (outcomeOf ask b (refused (Refused number) share)) → P (outcomeOf ask b (framed ask b share)) → P (desk 1 0 b share ask)
   unfolding number
-  by-gate P no yes = rw (one-bench b share ask whole) (go (eqb number 0))
+  by-gate P turned let-in = rw (one-bench b share ask whole) (go (eqb number 0))
     where
       go : (t : Bool) → P (outcomeOf ask b (cond t (framed ask b share) (refused (Refused number) share)))
-      go true = yes
-      go false = no
+      go true = let-in
+      go false = turned
 
   leaves : (callOf ask ≡ 0 → ⊥) → Unheard (desk 1 0 b share ask .answer .reply)
       → ((q : Place) → 3194 ≤ q .at → get q (desk 1 0 b share ask .store) ≡ get q share) × (desk 1 0 b share ask .answer .bench .index ≡ b .index)
@@ -201,5 +205,6 @@ pub heard-holds : (n : ℕ) → HeardHolds n
 heard-holds n s inside st h c e v x r i band =
     let k = since n s inside st h in
     let xs = get (shareOf s) (st .store) in
-    let heard : isHeard (desk 1 0 (st .bench s) xs (c .ask) .answer .reply) ≡ true = rw (replied n s inside st (k .1) c e) at (rw r refl) in
+    let told : isHeard (outcome n st c .answer .reply) ≡ true = ap isHeard r in
+    let heard : isHeard (desk 1 0 (st .bench s) xs (c .ask) .answer .reply) ≡ true = rw (replied n s inside st (k .1) c e) at told in
     rw (own n s inside st (k .1) c e) (holds (st .bench s) xs (fits n s inside st (k .1)) (c .ask) (k .0) heard i band)
