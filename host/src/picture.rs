@@ -13,8 +13,8 @@ const TOP: f64 = 46.0;
 /// Columns of a waveform.
 const COLUMNS: usize = 500;
 
-/// The outline of a waveform around `middle`: the largest and the least sample of each column.
-fn outline(samples: &[f32], seconds: f64, middle: f64) -> String {
+/// The outline of a waveform around `middle`: the largest and the least sample of each column. A sample of `peak` fills half a strip.
+fn outline(samples: &[f32], seconds: f64, middle: f64, peak: f32) -> String {
     let (mut upper, mut lower) = (String::new(), Vec::new());
     for column in 0..COLUMNS {
         let at = |c: usize| (c as f64 / COLUMNS as f64 * seconds * f64::from(RATE)) as usize;
@@ -22,7 +22,7 @@ fn outline(samples: &[f32], seconds: f64, middle: f64) -> String {
         let most = part.iter().fold(0.0f32, |a, b| a.max(*b));
         let least = part.iter().fold(0.0f32, |a, b| a.min(*b));
         let x = LEFT + WIDTH * (column as f64 + 0.5) / COLUMNS as f64;
-        let y = |v: f32| middle - f64::from(v) / 32_768.0 * STRIP * 1.5;
+        let y = |v: f32| middle - f64::from((v / peak).clamp(-1.0, 1.0)) * STRIP * 0.48;
         write!(upper, "{x:.1},{:.1} ", y(most)).unwrap();
         lower.push(format!("{x:.1},{:.1}", y(least)));
     }
@@ -63,10 +63,13 @@ pub fn svg(benches: &[Cleaned; 2]) -> String {
     );
     let mut top = TOP;
     for bench in benches {
+        // The loudest sample of the recording is the measure of both strips.
+        let peak = bench.before.iter().fold(1.0f32, |a, b| a.max(b.abs()));
         for (what, samples, colour) in [("before", &bench.before, "#999999"), ("after", &bench.after, "#1f6f8b")] {
             let middle = top + STRIP / 2.0;
             writeln!(text, "<text x=\"8\" y=\"{:.0}\">{} {what}</text>", middle + 4.0, bench.side.name()).unwrap();
-            writeln!(text, "<polygon fill=\"{colour}\" points=\"{}\"/>", outline(samples, seconds, middle)).unwrap();
+            writeln!(text, "<polygon fill=\"{colour}\" points=\"{}\"/>", outline(samples, seconds, middle, peak))
+                .unwrap();
             for (test, shade) in [(is_heard as fn(&Heard) -> bool, "#f2d7a6"), (is_voice, "#c0562f")] {
                 for (from, to) in stretches(&bench.heard, test) {
                     let x = |s: f64| LEFT + WIDTH * (s / seconds).min(1.0);
