@@ -1,0 +1,37 @@
+//! Fixed cases, through the static library.
+
+/// Hidden counts of 1, all weights and biases 0: 392 bytes.
+fn smallest() -> Vec<u8> {
+    let layers = [(42, 1, 0, 43), (1, 1, 0, 9), (44, 1, 0, 138), (44, 1, 0, 138), (1, 22, 1, 44), (1, 1, 1, 2)];
+    layers.iter().flat_map(|l| [vec![l.0, l.1, l.2], vec![0; l.3]].concat()).collect()
+}
+
+#[test]
+fn weights_of_0_give_halves() {
+    let features: Vec<f32> = (0..42).map(|i| 3.5 * i as f32 - 70.0).collect();
+    let (mut gains, mut voice, mut states) = ([9.0; 22], [9.0; 1], [[0.25; 128]; 3]);
+    let [vad, noise, denoise] = &mut states;
+    assert_eq!(smallest().len(), 392);
+    assert_eq!(tuppence::network(&mut gains, &mut voice, vad, noise, denoise, &smallest(), &features), 0);
+    assert_eq!((gains, voice), ([0.5; 22], [0.5]));
+    // The one place of each state that the model has moved half way to 0; the others stay.
+    for state in states {
+        assert_eq!(state[0], 0.125);
+        assert!(state[1..].iter().all(|x| *x == 0.25));
+    }
+}
+
+#[test]
+fn a_lag_of_768_passes_and_769_gives_6() {
+    let (mut store, mut record) = (vec![1.0; 12_288], [0; 5]);
+    let (mut window, mut sums) = ([2.0; 960], [3.0; 22]);
+    assert_eq!(tuppence::open(&mut record, &mut store, 1, &smallest()), 0);
+    assert_eq!(tuppence::call1(&mut record, &mut store, 1, &[100.0; 480], &mut window), 0);
+    let before = (store.clone(), record, window, sums);
+    assert_eq!(tuppence::call2(&mut record, &mut store, 1, &[0.5; 961], 769, &mut window, &mut sums), 6);
+    assert!(before == (store.clone(), record, window, sums));
+    assert_eq!(tuppence::call2(&mut record, &mut store, 1, &[0.5; 961], 768, &mut window, &mut sums), 0);
+    assert_eq!(record, [3, 0, 1, 1, 1]);
+    // The left share was never opened, and is as it was.
+    assert!(store[..6_144].iter().all(|x| *x == 1.0));
+}
