@@ -9,7 +9,7 @@ use Rattle.rules.specs.F32.{f32}
 use Rattle.rules.specs.Place.{Place, Apart, get, put}
 use Rattle.rules.proofs.Places.{length-get, length-put, get-put-apart}
 use Rattle.rules.proofs.Tabs.{length-tab}
-use Rattle.numbers.specs.Filter.{outputs}
+use Rattle.numbers.specs.Filter.{highPass, outputs}
 use Rattle.numbers.proofs.Outputs.{length-outputs}
 use Rattle.bands.proofs.Results.{length-corr}
 use Rattle.model.specs.Model.{readOf}
@@ -21,7 +21,7 @@ use Rattle.features.specs.Features.{remembered}
 use Rattle.features.proofs.Lengths.{length-gained, length-remembered, length-features}
 use Rattle.frame.specs.Share.{SHARE, inputMem, synthesisMem, keptX, keptEx, keptLag, memHpX, lastg, cepstralMem, vadState, noiseState, denoiseState}
 use Rattle.frame.specs.Heard.{scaled, energies, featured, judged, spokenFrom, spoken}
-use Rattle.frame.specs.Frame.{shifted, memoryIn, biquadHp, taken, noted, faded, secondHalf, synthesised}
+use Rattle.frame.specs.Frame.{shifted, memoryIn, taken, noted, faded, secondHalf, synthesised}
 
 -- the place lies apart from each of these
 abbrev pub AllApart : List Place → Place → Type 0
@@ -44,7 +44,7 @@ module _ (q : Place) where
       → Beside q share (taken share samples .share)
   unfolding shifted
   taken-beside share samples apart whole l =
-      let out = outputs biquadHp (memoryIn share) samples in
+      let out = outputs highPass (memoryIn share) samples in
       let new : length (shifted (get inputMem share) out) ≡ 1728 = simp (length-append, length-tab, length-outputs) (omega arith) in
       let one = put-beside inputMem share (shifted (get inputMem share) out) (omega arith) (apart .0) whole new in
       then one (put-beside memHpX (put inputMem share (shifted (get inputMem share) out)) _ (omega arith) (apart .1 .0) (one .size) refl)

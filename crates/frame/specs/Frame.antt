@@ -11,8 +11,7 @@ use Rattle.rules.specs.F32.{_⊕_, _⊘_, at, f32}
 use Rattle.rules.specs.Place.{Place, get, put}
 use Rattle.rules.specs.Refusals.{Row, _when_, first as turned}
 use Rattle.rules.specs.Tab.{tab}
-use Rattle.numbers.specs.Filter.{memoryAfter, outputs}
-use Rattle.numbers.specs.declared.filter.Biquad.{Biquad}
+use Rattle.numbers.specs.Filter.{highPass, memoryAfter, outputs}
 use Rattle.numbers.specs.declared.filter.Memory.{Memory}
 use Rattle.bands.specs.Windowed.{windowed}
 use Rattle.model.specs.Model.{readOf}
@@ -66,18 +65,14 @@ shifted mem samples = tab 1248 (λ i. at mem (i + 480)) ++ samples
 abbrev pub recent : ℕ → Place
 recent lag = record { at = 768 - lag; size = 960 }
 
--- BIQUAD_HP of util.rs
-abbrev pub biquadHp : Biquad
-biquadHp = record { a0 = f32 0xBFFF7C9A; a1 = f32 0x3F7EF9DB; b0 = f32 0xC0000000; b1 = f32 0x3F800000 }
-
 -- the filter's memories, as a share holds them
 abbrev pub memoryIn : List Float → Memory
 memoryIn share = record { m0 = at (get memHpX share) 0; m1 = at (get memHpX share) 1 }
 
 abbrev pub taken : List Float → List Float → Framed
 taken share samples =
-    let mem = shifted (get inputMem share) (outputs biquadHp (memoryIn share) samples) in
-    let next = memoryAfter biquadHp (memoryIn share) samples in
+    let mem = shifted (get inputMem share) (outputs highPass (memoryIn share) samples) in
+    let next = memoryAfter highPass (memoryIn share) samples in
     record {
       reply = Done;
       share = put memHpX (put inputMem share mem) (next .m0 ∷ next .m1 ∷ []);

@@ -5,9 +5,9 @@ ghost use lib.ListN.{length, take};
 ghost use Rattle.rules.specs.F32.{at};
 ghost use Rattle.rules.specs.Place.{get};
 ghost use Rattle.rules.specs.Tab.{tab};
-ghost use Rattle.numbers.specs.Filter.{memoryAfter, outputs};
+ghost use Rattle.numbers.specs.Filter.{highPass, memoryAfter, outputs};
 ghost use Rattle.bands.specs.Windowed.{windowed};
-ghost use Rattle.frame.specs.Frame.{biquadHp, shifted, recent};
+ghost use Rattle.frame.specs.Frame.{shifted, recent};
 use numbers::Biquad;
 use numbers::Memory;
 
@@ -29,10 +29,10 @@ pub(crate) fn take_in(
     window: &mut [f32],
 ) -> Memory
     requires { ⌜ (length (now mem) ≡ 1728) × (length (now samples) ≡ 480) × (length (now window) ≡ 960) ⌝ }
-    ensures { λ r. ⌜ r ≡ memoryAfter biquadHp memory (now (samples .entry)) ⌝ }
-    ensures { λ _. ⌜ now (mem .exit) ≡ shifted (now (mem .entry)) (outputs biquadHp memory (now (samples .entry))) ⌝ }
+    ensures { λ r. ⌜ r ≡ memoryAfter highPass memory (now (samples .entry)) ⌝ }
+    ensures { λ _. ⌜ now (mem .exit) ≡ shifted (now (mem .entry)) (outputs highPass memory (now (samples .entry))) ⌝ }
     ensures { λ _. ⌜ now (window .exit)
-        ≡ windowed (get (recent 0) (shifted (now (mem .entry)) (outputs biquadHp memory (now (samples .entry))))) ⌝ }
+        ≡ windowed (get (recent 0) (shifted (now (mem .entry)) (outputs highPass memory (now (samples .entry))))) ⌝ }
 {
     shift(mem);
     let done = Biquad::BIQUAD_HP.filter(&mut mem[1248..1728], memory, samples);

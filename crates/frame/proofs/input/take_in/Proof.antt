@@ -12,10 +12,10 @@ use Rattle.rules.specs.Place.{get}
 use Rattle.rules.specs.Tab.{tab}
 use Rattle.rules.proofs.Called.{left as fitted}
 use Rattle.rules.proofs.Leaves.{fitting}
-use Rattle.numbers.specs.Filter.{outputs}
+use Rattle.numbers.specs.Filter.{highPass, outputs}
 use Rattle.numbers.specs.declared.filter.Filtered.{Filtered}
 use Rattle.bands.specs.Windowed.{windowed}
-use Rattle.frame.specs.Frame.{biquadHp, shifted, recent}
+use Rattle.frame.specs.Frame.{shifted, recent}
 use Rattle.frame.proofs.input.take_in.Statement.{statement}
 use Rattle.frame.proofs.input.take_in.Tie as tie
 
@@ -38,7 +38,7 @@ returns c =
     let m = s .shift .last .0 in
     let size : length m ≡ 1728 = omega arith in
     let part : length (take 480 (drop 1248 m)) ≡ length (now (a .samples)) = simp (length-take, length-drop) (omega arith) in
-    let mem = placed (now (a .mem)) (outputs biquadHp (a .memory) (now (a .samples))) m size (s .shift .ensures) (fitted (f .filter .ensures) part) in
+    let mem = placed (now (a .mem)) (outputs highPass (a .memory) (now (a .samples))) m size (s .shift .ensures) (fitted (f .filter .ensures) part) in
     let window = fitted (w .apply-window .ensures) (record { into = omega arith; from = simp (length-take, length-drop, length-append) (omega arith) }) in (
       ap (λ (x : Filtered × List Float). x .0 .memory) (fitting (f .filter .ensures) part),
       (mem, window ∙ ap (λ (l : List Float). windowed (take 960 (drop 768 l))) mem),
