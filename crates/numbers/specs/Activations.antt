@@ -63,3 +63,14 @@ Within nan = ⊥
 Within (inf s) = ⊥
 Within (fin true m e) = m ≡ 0
 Within (fin false m e) = m * up e ≤ 8 * down e
+
+-- if t < near { 1.0 } else { 0.0 }
+abbrev pub overshoot : Float → Float → Float
+overshoot t near = cond (lt t near) one (f32 0)
+
+-- the magnitude of what passes the tests
+abbrev pub Inside : Float → Float → Type 0
+Inside x r = lt x eight ≡ true → lt (neg eight) x ≡ true → r ≡ magnitude x
+
+abbrev pub endedBy : Float → Float → Float
+endedBy x inner = cond (lt x eight) (cond (lt (neg eight) x) inner (neg one)) one
