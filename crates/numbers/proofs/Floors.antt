@@ -2,7 +2,7 @@
 use mathlib.Core.Path.{_≡_, refl, sym, ap, subst, _∙_}
 use mathlib.Core.Bool.{Bool, true, false, not, cond, _&&_, true≢false}
 use mathlib.Core.Logic.{_⊎_, inl, inr, ⊎-elim}
-use Prim.Native.Nat.{ℕ, zero, suc, _+_, _-_, _*_, _/_, _%_, _^_, _≤_, _<_, compare}
+use Prim.Native.Nat.{ℕ, zero, suc, _+_, _-_, _*_, _/_, _%_, _^_, _≤_, _<_, compare, suc-le-suc}
 use native.Mathlib.Nat.{le-antisymm, le-of-lt, lt-of-lt-of-le, le-trans, div-lt-iff-lt-mul, le-div-iff-mul-le, div-mul-le-self, mul-one, one-mul, add-mul, suc-mul, mul-pos, mul-assoc, mul-right-comm, mul-le-mul-right, mul-lt-mul-of-pos-right, min-eq-left, eq-or-lt-of-le, le-of-suc-le-suc, not-le-of-lt, lt-of-not-le, div-one, mod-one}
 use native.Mathlib.Omega.{arith}
 use lib.Pow.{pow-mono}
@@ -19,9 +19,9 @@ use lib.Ieee.Back.{round-whole, positive-back}
 use lib.Ieee.Digits.{size-lt, size-reaches, size-le}
 use lib.Ieee.Fits.{round-is, core, up-pos, down-pos, and-l, and-r}
 use lib.Ieee.Nearest.{closest, closest-mono, closest-same}
-use Rattle.numbers.proofs.Within.{Upto, in-table}
+use Rattle.numbers.proofs.Within.{Upto, in-table, half-up, within}
 use mathlib.Core.List.{List}
-use Rattle.numbers.specs.Activations.{magnitude, signOf, near, tansigIn, Inside, endedBy}
+use Rattle.numbers.specs.Activations.{Within, magnitude, signOf, place, near, tansigIn, insideOf, entryIn, followed}
 use Rattle.rules.specs.F32.{f32, _⊕_, _⊖_, _⊗_}
 use Rattle.rules.proofs.Numbers.{casts}
 use Rattle.rules.proofs.Below.{at-each}
@@ -138,15 +138,32 @@ whole-part (fin false m e) h =
     (lowered-is m e (m * up e / down e) below (div-mul-le-self (m * up e) (down e)) (div-lt-iff-lt-mul (down-pos e) .0 next))
 
 -- ---- what the tests leave
-pub ends : (table : List Float) (x size : Float) → Inside x size → endedBy x (signOf x ⊗ near table size) ≡ tansigIn table x
-unfolding tansigIn
-ends table x size h = go (lt x (f32 0x41000000)) refl (lt (neg (f32 0x41000000)) x) refl
+none : Within (f32 0)
+unfolding ofBits
+none = lit≤ tt
+
+pub inside-within : (x : Float) → Within (insideOf x)
+inside-within x = go (lt x (f32 0x41000000)) refl (lt (neg (f32 0x41000000)) x) refl
   where
-    go : (p : Bool) → lt x (f32 0x41000000) ≡ p → (q : Bool) → lt (neg (f32 0x41000000)) x ≡ q
-        → cond p (cond q (signOf x ⊗ near table size) (neg (f32 0x3F800000))) (f32 0x3F800000) ≡ cond p (cond q (signOf x ⊗ near table (magnitude x)) (neg (f32 0x3F800000))) (f32 0x3F800000)
-    go true a true b = ap (λ (s : Float). signOf x ⊗ near table s) (h a b)
-    go true a false b = refl
-    go false a q b = refl
+    go : (p : Bool) → lt x (f32 0x41000000) ≡ p → (q : Bool) → lt (neg (f32 0x41000000)) x ≡ q → Within (cond p (cond q (magnitude x) (f32 0)) (f32 0))
+    go true a true b = within x a b
+    go true a false b = none
+    go false a q b = none
+
+pub ends : (table : List Float) (x : Float) → followed x (entryIn table x) ≡ tansigIn table x
+unfolding tansigIn
+ends table x = go (lt x (f32 0x41000000)) (lt (neg (f32 0x41000000)) x)
+  where
+    go : (p q : Bool)
+        → cond p (cond q (signOf x ⊗ near table (cond p (cond q (magnitude x) (f32 0)) (f32 0))) (neg (f32 0x3F800000))) (f32 0x3F800000)
+        ≡ cond p (cond q (signOf x ⊗ near table (magnitude x)) (neg (f32 0x3F800000))) (f32 0x3F800000)
+    go true true = refl
+    go true false = refl
+    go false q = refl
+
+-- the place of what they leave is one of the table's
+pub listed : (x : Float) → place (insideOf x) < 201
+listed x = suc-le-suc (in-table (f32 0x3F000000 ⊕ f32 0x41C80000 ⊗ insideOf x) (half-up (insideOf x) (inside-within x)))
 
 -- ---- the place as a number
 small-back : (k : ℕ) → k < 201 → T (inSigned binary32 31 (ofInt binary32 (pos k))) × (toSigned 31 (ofInt binary32 (pos k)) ≡ pos k)

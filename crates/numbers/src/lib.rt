@@ -12,7 +12,7 @@ ghost use lib.Ieee.Nearest.{closest};
 ghost use Rattle.numbers.specs.Narrowed.{narrowed, Narrows};
 ghost use Rattle.numbers.specs.Root.{twiceRoot, root, Spans};
 ghost use Rattle.numbers.specs.Larger.{larger, smaller, clamped, rectified};
-ghost use Rattle.numbers.specs.Activations.{Within, magnitude, signOf, place, near, overshoot, Inside, endedBy, tansigIn, sigmoidIn, tansigApprox, sigmoidApprox};
+ghost use Rattle.numbers.specs.Activations.{Within, magnitude, signOf, place, overshoot, insideOf, placeIn, entryIn, endedBy, followed, tansigIn, sigmoidIn, tansigApprox, sigmoidApprox};
 
 pub mod filter;
 pub mod table;
@@ -88,22 +88,9 @@ fn place_of(x: f32) -> f32
     near - too_far(t, near)
 }
 
-// A number from 0 to 8: the table's entry nearest to it, and from there along the curve.
-fn near_in(table: &[f32; 201], size: f32) -> f32
-    requires { ⌜ Within size ⌝ }
-    ensures { λ r. ⌜ r ≡ near (now (table .entry)) size ⌝ }
-{
-    let place = place_of(size);
-    let i = place as i32;
-    let x = size - 0.04 * place;
-    let y = table[i as usize];
-    let dy = 1.0 - y * y;
-    y + x * dy * (1.0 - y * x)
-}
-
 // Without its sign where it lies between -8 and 8, and 0 elsewhere.
 fn inside(x: f32) -> f32
-    ensures { λ r. ⌜ Within r × Inside x r ⌝ }
+    ensures { λ r. ⌜ r ≡ insideOf x ⌝ }
 {
     if x < 8.0 {
         if x > -8.0 {
@@ -127,12 +114,31 @@ fn ended(x: f32, inner: f32) -> f32
     inner
 }
 
-// `tansig_approx` over a lent table. A loop takes `table::all` once: each mention of a table fills it anew.
+// The table's entry at the place of x.
+fn entry_at(table: &[f32; 201], place: f32, x: f32) -> f32
+    requires { ⌜ place ≡ placeIn x ⌝ }
+    ensures { λ r. ⌜ r ≡ entryIn (now (table .entry)) x ⌝ }
+{
+    let i = place as i32;
+    table[i as usize]
+}
+
+// From the table's entry for x along the curve.
+fn follow(x: f32, y: f32) -> f32
+    ensures { λ r. ⌜ r ≡ followed x y ⌝ }
+{
+    let size = inside(x);
+    let rest = size - 0.04 * place_of(size);
+    let dy = 1.0 - y * y;
+    ended(x, sign_of(x) * (y + rest * dy * (1.0 - y * rest)))
+}
+
+// `tansig_approx` over a lent table. A loop takes `table::all` once: each mention of it fills it anew.
 pub fn tansig_in(table: &[f32; 201], x: f32) -> f32
     ensures { λ r. ⌜ r ≡ tansigIn (now (table .entry)) x ⌝ }
 {
-    let size = inside(x);
-    ended(x, sign_of(x) * near_in(table, size))
+    let place = place_of(inside(x));
+    follow(x, entry_at(table, place, x))
 }
 
 pub fn sigmoid_in(table: &[f32; 201], x: f32) -> f32
@@ -145,16 +151,15 @@ pub fn sigmoid_in(table: &[f32; 201], x: f32) -> f32
 pub fn tansig_approx(x: f32) -> f32
     ensures { λ r. ⌜ r ≡ tansigApprox x ⌝ }
 {
-    let table = table::all();
-    tansig_in(&table, x)
+    let i = place_of(inside(x)) as i32;
+    follow(x, table::entry(i as u32))
 }
 
 // The logistic curve, nearly.
 pub fn sigmoid_approx(x: f32) -> f32
     ensures { λ r. ⌜ r ≡ sigmoidApprox x ⌝ }
 {
-    let table = table::all();
-    sigmoid_in(&table, x)
+    0.5 + 0.5 * tansig_approx(0.5 * x)
 }
 
 // Patterns of an `f64`: the leading digit's weight, 896 in the exponent's field, 2^-126, which is the
