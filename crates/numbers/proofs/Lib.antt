@@ -2,6 +2,7 @@ pub mod Closest
 pub mod Conversion
 pub mod Examples
 pub mod Extraction
+pub mod Floors
 pub mod Held
 pub mod Larger
 pub mod NarrowCorrect

@@ -63,3 +63,25 @@ Within nan = ⊥
 Within (inf s) = ⊥
 Within (fin true m e) = m ≡ 0
 Within (fin false m e) = m * up e ≤ 8 * down e
+
+-- if t < near { 1.0 } else { 0.0 }
+abbrev pub overshoot : Float → Float → Float
+overshoot t near = cond (lt t near) one (f32 0)
+
+-- the magnitude of what passes the tests, and 0 elsewhere
+abbrev pub insideOf : Float → Float
+insideOf x = cond (lt x eight) (cond (lt (neg eight) x) (magnitude x) (f32 0)) (f32 0)
+
+-- its place, as a float, and the table's entry there
+abbrev pub placeIn : Float → Float
+placeIn x = ofInt binary32 (pos (place (insideOf x)))
+
+abbrev pub entryIn : List Float → Float → Float
+entryIn table x = at table (place (insideOf x))
+
+abbrev pub endedBy : Float → Float → Float
+endedBy x inner = cond (lt x eight) (cond (lt (neg eight) x) inner (neg one)) one
+
+-- from the entry y along the curve
+abbrev pub followed : Float → Float → Float
+followed x y = endedBy x (signOf x ⊗ curve y (insideOf x ⊖ f32 0x3D23D70A ⊗ placeIn x))

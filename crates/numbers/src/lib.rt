@@ -6,12 +6,13 @@
 //     narrow, sqrt                     `x as f32` of an `f64`, and the square root, from the bits
 ghost use mathlib.Core.Path.{_≡_};
 ghost use Prim.Native.Nat.{_*_, _^_, _<_, _≤_};
-ghost use lib.Ieee.{binary32};
+ghost use lib.IntN.{pos};
+ghost use lib.Ieee.{binary32, ofInt};
 ghost use lib.Ieee.Nearest.{closest};
 ghost use Rattle.numbers.specs.Narrowed.{narrowed, Narrows};
 ghost use Rattle.numbers.specs.Root.{twiceRoot, root, Spans};
 ghost use Rattle.numbers.specs.Larger.{larger, smaller, clamped, rectified};
-ghost use Rattle.numbers.specs.Activations.{Within, magnitude, signOf, place, near, tansigIn, sigmoidIn, tansigApprox, sigmoidApprox};
+ghost use Rattle.numbers.specs.Activations.{Within, magnitude, signOf, place, overshoot, insideOf, placeIn, entryIn, endedBy, followed, tansigIn, sigmoidIn, tansigApprox, sigmoidApprox};
 
 pub mod filter;
 pub mod table;
@@ -70,29 +71,38 @@ fn sign_of(x: f32) -> f32
     if x < 0.0 { -1.0 } else { 1.0 }
 }
 
-// The table's place nearest to x.
-fn place_of(x: f32) -> u64
+// 1 where the other number is above it, and 0 otherwise.
+fn too_far(t: f32, near: f32) -> f32
+    ensures { λ r. ⌜ r ≡ overshoot t near ⌝ }
+{
+    if t < near { 1.0 } else { 0.0 }
+}
+
+// The table's place nearest to x, as a float: with 2^23 added a number keeps no digits behind the point. Without a branch, so that loops over it are vectorised.
+fn place_of(x: f32) -> f32
     requires { ⌜ Within x ⌝ }
-    ensures { λ r. ⌜ (r ≡ place x) × (r ≤ 200) ⌝ }
+    ensures { λ r. ⌜ r ≡ ofInt binary32 (pos (place x)) ⌝ }
 {
-    std::num::truncating_f32_to_u64(0.5 + 25.0 * x)
+    let t = 0.5 + 25.0 * x;
+    let near = t + 8388608.0 - 8388608.0;
+    near - too_far(t, near)
 }
 
-// A number from 0 to 8: the table's entry nearest to it, and from there along the curve.
-fn near_in(table: &[f32; 201], size: f32) -> f32
-    requires { ⌜ Within size ⌝ }
-    ensures { λ r. ⌜ r ≡ near (now (table .entry)) size ⌝ }
+// Without its sign where it lies between -8 and 8, and 0 elsewhere.
+fn inside(x: f32) -> f32
+    ensures { λ r. ⌜ r ≡ insideOf x ⌝ }
 {
-    let i = place_of(size);
-    let x = size - 0.04 * (i as f32);
-    let y = table[i as usize];
-    let dy = 1.0 - y * y;
-    y + x * dy * (1.0 - y * x)
+    if x < 8.0 {
+        if x > -8.0 {
+            return size_of(x);
+        }
+    }
+    0.0
 }
 
-// `tansig_approx` over a lent table. A loop takes `table::all` once: each mention of a table fills it anew.
-pub fn tansig_in(table: &[f32; 201], x: f32) -> f32
-    ensures { λ r. ⌜ r ≡ tansigIn (now (table .entry)) x ⌝ }
+// The number where x lies between -8 and 8, and 1 or -1 elsewhere.
+fn ended(x: f32, inner: f32) -> f32
+    ensures { λ r. ⌜ r ≡ endedBy x inner ⌝ }
 {
     // The tests are reversed to catch NaN.
     if !(x < 8.0) {
@@ -101,7 +111,34 @@ pub fn tansig_in(table: &[f32; 201], x: f32) -> f32
     if !(x > -8.0) {
         return -1.0;
     }
-    sign_of(x) * near_in(table, size_of(x))
+    inner
+}
+
+// The table's entry at the place of x.
+fn entry_at(table: &[f32; 201], place: f32, x: f32) -> f32
+    requires { ⌜ place ≡ placeIn x ⌝ }
+    ensures { λ r. ⌜ r ≡ entryIn (now (table .entry)) x ⌝ }
+{
+    let i = place as i32;
+    table[i as usize]
+}
+
+// From the table's entry for x along the curve.
+fn follow(x: f32, y: f32) -> f32
+    ensures { λ r. ⌜ r ≡ followed x y ⌝ }
+{
+    let size = inside(x);
+    let rest = size - 0.04 * place_of(size);
+    let dy = 1.0 - y * y;
+    ended(x, sign_of(x) * (y + rest * dy * (1.0 - y * rest)))
+}
+
+// `tansig_approx` over a lent table. A loop takes `table::all` once: each mention of it fills it anew.
+pub fn tansig_in(table: &[f32; 201], x: f32) -> f32
+    ensures { λ r. ⌜ r ≡ tansigIn (now (table .entry)) x ⌝ }
+{
+    let place = place_of(inside(x));
+    follow(x, entry_at(table, place, x))
 }
 
 pub fn sigmoid_in(table: &[f32; 201], x: f32) -> f32
@@ -114,16 +151,15 @@ pub fn sigmoid_in(table: &[f32; 201], x: f32) -> f32
 pub fn tansig_approx(x: f32) -> f32
     ensures { λ r. ⌜ r ≡ tansigApprox x ⌝ }
 {
-    let table = table::all();
-    tansig_in(&table, x)
+    let i = place_of(inside(x)) as i32;
+    follow(x, table::entry(i as u32))
 }
 
 // The logistic curve, nearly.
 pub fn sigmoid_approx(x: f32) -> f32
     ensures { λ r. ⌜ r ≡ sigmoidApprox x ⌝ }
 {
-    let table = table::all();
-    sigmoid_in(&table, x)
+    0.5 + 0.5 * tansig_approx(0.5 * x)
 }
 
 // Patterns of an `f64`: the leading digit's weight, 896 in the exponent's field, 2^-126, which is the

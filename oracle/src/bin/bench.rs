@@ -76,7 +76,14 @@ fn of_numbers(rng: &mut Rng) -> Vec<Row> {
     let again = input.clone();
     let (mut out, mut memory) = (vec![0.0; 480], [0.0; 2]);
     let (mut outs, mut memories) = (vec![0.0; 480], [0.0; 2]);
+    let curve = rng.list_of(1000, Mood::Small);
+    let curves = curve.clone();
     vec![
+        row(
+            "tansig, 1,000 numbers",
+            move || curve.iter().fold(0.0, |_, x| black_box(tuppence::tansig(black_box(*x)))),
+            move || curves.iter().fold(0.0, |_, x| black_box(util::tansig_approx(black_box(*x)))),
+        ),
         row(
             "narrow, 1,000 numbers",
             move || xs.iter().fold(0.0, |_, x| black_box(tuppence::narrow(black_box(*x)))),
