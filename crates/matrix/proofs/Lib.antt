@@ -1,4 +1,6 @@
 pub mod Bytes
 pub mod Columns
+pub mod Flipped
 pub mod Lengths
+pub mod Neurons
 pub mod Weights

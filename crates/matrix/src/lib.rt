@@ -4,6 +4,7 @@
 ghost use mathlib.Core.Path.{_≡_};
 ghost use Rattle.matrix.specs.Sums.{MulAdd};
 
+mod lanes;
 pub mod sums;
 
 pub struct SubMatrix<'a> {

@@ -1,6 +1,6 @@
-// The multiply-add over plain slices, column by column as in the Rust.
+// The multiply-add over plain slices.
 ghost use mathlib.Core.Path.{_≡_};
-ghost use Prim.Native.Nat.{_+_, _*_, _≤_};
+ghost use Prim.Native.Nat.{_+_, _*_, _%_, _≤_};
 ghost use lib.Dec.{eqb};
 ghost use lib.ListN.{length};
 ghost use Rattle.matrix.specs.Sums.{ofByte, addColumn, mulAdd, MulAddFits, MulAdd};
@@ -32,8 +32,8 @@ fn add_two(out: &mut [f32], first: &[u8], x: f32, second: &[u8], y: f32)
     }
 }
 
-// The sums of `mul_add`, for lengths that fit.
-fn mul_add_core(out: &mut [f32], weights: &[u8], stride: usize, offset: usize, input: &[f32])
+// The sums of `mul_add` column by column, for lengths that fit.
+fn columns(out: &mut [f32], weights: &[u8], stride: usize, offset: usize, input: &[f32])
     requires { ⌜ MulAddFits (length (now out)) (length (now weights)) stride offset (length (now input)) ⌝ }
     ensures { λ _. ⌜ now (out .exit) ≡ mulAdd (now (out .entry)) (now (weights .entry)) stride offset (now (input .entry)) ⌝ }
 {
@@ -54,6 +54,47 @@ fn mul_add_core(out: &mut [f32], weights: &[u8], stride: usize, offset: usize, i
         let start = i * stride + offset;
         add_column(out, &weights[start..], input[i]);
     }
+}
+
+// How many sums go sixteen at a time.
+fn wide_of(n: usize) -> usize
+    ensures { λ r. ⌜ (r ≤ n) × (r ≤ 128) × (r % 16 ≡ 0) ⌝ }
+{
+    if n < 128 {
+        return n / 16 * 16;
+    }
+    128
+}
+
+// The sums of `mul_add`: as many as there is lent room for sixteen at a time, and the others column by column.
+fn both(
+    out: &mut [f32],
+    kept: &mut [f32],
+    weights: &[u8],
+    stride: usize,
+    offset: usize,
+    input: &[f32],
+)
+    requires { ⌜ (length (now kept) ≤ length (now out)) × (length (now kept) % 16 ≡ 0) × MulAddFits (length (now out)) (length (now weights)) stride offset (length (now input)) ⌝ }
+    ensures { λ _. ⌜ now (out .exit) ≡ mulAdd (now (out .entry)) (now (weights .entry)) stride offset (now (input .entry)) ⌝ }
+{
+    let n = out.len();
+    let m = kept.len();
+    let from = offset + m;
+    crate::lanes::wide(&mut out[0..m], kept, weights, stride, offset, input);
+    if m < n {
+        columns(&mut out[m..n], weights, stride, from, input);
+    }
+}
+
+// The sums of `mul_add`, for lengths that fit.
+fn mul_add_core(out: &mut [f32], weights: &[u8], stride: usize, offset: usize, input: &[f32])
+    requires { ⌜ MulAddFits (length (now out)) (length (now weights)) stride offset (length (now input)) ⌝ }
+    ensures { λ _. ⌜ now (out .exit) ≡ mulAdd (now (out .entry)) (now (weights .entry)) stride offset (now (input .entry)) ⌝ }
+{
+    let m = wide_of(out.len());
+    let mut kept = [0.0f32; 128];
+    both(out, &mut kept[0..m], weights, stride, offset, input);
 }
 
 // Whether len is a * b, a product that may be past the largest usize.

@@ -171,15 +171,23 @@ fn of_pitch(rng: &mut Rng) -> Vec<Row> {
 
 #[cfg(feature = "network")]
 fn of_network(rng: &mut Rng) -> Vec<Row> {
-    let model = models::of_shape(rng, models::USUAL);
+    vec![
+        of_shape(rng, "six layers, 24 24 48 96", models::USUAL),
+        of_shape(rng, "six layers, the largest, 84 1 84 127", models::LARGEST),
+    ]
+}
+
+#[cfg(feature = "network")]
+fn of_shape(rng: &mut Rng, name: &'static str, shape: models::Shape) -> Row {
+    let model = models::of_shape(rng, shape);
     let text: &'static RnnModel = Box::leak(Box::new(RnnModel::from_bytes(&model).unwrap()));
     let frames: Vec<Vec<f32>> = (0..1000).map(|_| rng.list_of(42, Mood::Small)).collect();
     let again = frames.clone();
     let (mut gains, mut voice, mut states) = ([0.0; 22], [0.0], [[0.0; 128]; 3]);
     let (mut gain, mut vad, mut state) = ([0.0; 22], [0.0], rnn::state(text));
     let (mut i, mut j) = (0, 0);
-    vec![row(
-        "six layers, 24 24 48 96",
+    row(
+        name,
         move || {
             let [a, b, c] = &mut states;
             tuppence::network(&mut gains, &mut voice, a, b, c, black_box(&model), &frames[i % 1000]);
@@ -189,7 +197,7 @@ fn of_network(rng: &mut Rng) -> Vec<Row> {
             state.compute(&mut gain, &mut vad, black_box(&again[j % 1000]));
             j += 1;
         },
-    )]
+    )
 }
 
 /// What a frame is given.

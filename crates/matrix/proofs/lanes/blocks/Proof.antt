@@ -1,0 +1,71 @@
+-- `matrix::lanes::blocks` meets its contract. Assumes nothing.
+use mathlib.Core.Path.{_≡_, refl, ap, _∙_}
+use mathlib.Core.List.{_++_}
+use Prim.Native.Nat.{ℕ, _≤_, _<_, _+_, _-_, _%_}
+use native.Mathlib.Omega.{arith}
+use lib.ListN.{length, drop}
+use Rattle.rules.specs.Tab.{tab}
+use Rattle.rules.proofs.Tabs.{tab-none, tab-done}
+use Rattle.matrix.specs.Lanes.{neuron, spot, sixteenSums}
+use Rattle.matrix.proofs.Neurons.{block-kept}
+use Rattle.matrix.proofs.lanes.blocks.Statement.{statement}
+use Rattle.matrix.proofs.lanes.blocks.Tie as tie
+
+abbrev Inv-loop : tie.InvT-loop
+Inv-loop kept₀ out weights stride offset input a₀ kept a =
+    (a ≤ length out) × (a % 16 ≡ 0) × (length kept ≡ length kept₀) × (kept ≡ tab a (λ i. neuron weights stride offset input out (spot i)) ++ drop a kept₀)
+
+abbrev μ-loop : tie.MeasureT-loop
+μ-loop kept₀ out weights stride offset input a₀ kept a = length out - a
+
+more-room : {n a : ℕ} → a < n → a % 16 ≡ 0 → n % 16 ≡ 0 → a + 16 ≤ n
+more-room below even whole = omega arith
+
+-- another sixteen
+room : (c : tie.In-loop Inv-loop μ-loop) → c .before .loop .a + 16 ≤ length (c .before .before .before .before .before .before .args .out .now)
+room c = more-room (c .loop-test .taken) (c .before .loop .inv .1) (c .before .before .before .before .before .before .pre .even)
+
+sums-requires : tie.Need-sums-requires Inv-loop μ-loop
+sums-requires c κs =
+    let pre = c .before .before .before .before .before .before .before .pre in
+    record { inside = omega (arith, room (c .before), pre .fits .rows); whole = pre .fits .columns }
+
+loop-again : tie.Need-loop-again Inv-loop μ-loop
+loop-again c =
+    let start = c .before .before .before .before .before .before .before .before .before .before .before .before .before .before .before .before .before .before .before .before .before .before .before .before in
+    let a = start .args in
+    let l = c .before .before .before .before .before .before .before .before .before .before .before .before .before .before .before .before .before .before .before .loop in
+    let inside = room (c .before .before .before .before .before .before .before .before .before .before .before .before .before .before .before .before .before .before) in
+    let took = c .before .before .before .before .before .before .before .before .before .before .before .before .before .before .before .before .before .take-sixteen in
+    let summed = c .before .before .before .before .before .before .before .before .before .before .before .before .before .before .before .before .sums in
+    let one = c .before .before .before .before .before .before .before .before .before .before .before .before .before .before .give in
+    let two = c .before .before .before .before .before .before .before .before .before .before .give2 in
+    let three = c .before .before .before .before .before .before .give3 in
+    let four = c .before .before .give4 in
+    let same = summed .ensures ∙ ap (sixteenSums (a .weights .now) (a .stride) (a .offset + l .a) (a .input .now) (length (a .input .now))) (took .ensures) in
+    let kept = block-kept (a .weights .now) (a .stride) (a .offset) (a .input .now) (a .out .now) (l .a) (l .inv .1) (a .kept .now) (l .kept) (omega (arith, inside, start .pre .room)) (l .inv .3) same
+    (one .ensures) (two .ensures) (three .ensures) (four .ensures) in
+    (omega (arith, inside), omega (arith, l .inv .1), four .kept .0 ∙ three .kept .0 ∙ two .kept .0 ∙ one .kept .0 ∙ l .inv .2, kept)
+
+pub blocks-spec : {M : Type 1} → statement M
+blocks-spec =
+    tie.close
+    (tie.spec
+    Inv-loop
+    μ-loop
+    (λ c. (omega arith, refl, refl, tab-none _ _))  -- loop-holds
+    (λ c. omega (arith, room c))  -- add-b
+    (λ c. omega (arith, room c))  -- add-c
+    (λ c. omega (arith, room c))  -- add-d
+    (λ c. omega (arith, room c))  -- add-next
+    (λ c. omega (arith, room c, c .before .before .before .before .before .before .pre .fits .rows))  -- add-place
+    (λ c κs. room c)  -- take-sixteen-requires
+    sums-requires
+    (λ c κs. omega (arith, room (c .before .before .before), c .before .before .before .before .before .before .before .before .before .pre .room, c .before .before .before .before .loop .inv .2))  -- give-requires
+    (λ c κs. omega (arith, room (c .before .before .before .before .before .before .before), c .before .before .before .before .before .before .before .before .before .before .before .before .before .pre .room, c .before .before .before .before .before .before .before .before .loop .inv .2, c .before .before .before .give .kept .0))  -- give-requires-2
+    (λ c κs. omega (arith, room (c .before .before .before .before .before .before .before .before .before .before .before), c .before .before .before .before .before .before .before .before .before .before .before .before .before .before .before .before .before .pre .room, c .before .before .before .before .before .before .before .before .before .before .before .before .loop .inv .2, c .before .before .before .give2 .kept .0, c .before .before .before .before .before .before .before .give .kept .0))  -- give-requires-3
+    (λ c κs. omega (arith, room (c .before .before .before .before .before .before .before .before .before .before .before .before .before .before .before), c .before .before .before .before .before .before .before .before .before .before .before .before .before .before .before .before .before .before .before .before .before .pre .room, c .before .before .before .before .before .before .before .before .before .before .before .before .before .before .before .before .loop .inv .2, c .before .before .before .give3 .kept .0, c .before .before .before .before .before .before .before .give2 .kept .0, c .before .before .before .before .before .before .before .before .before .before .before .give .kept .0))  -- give-requires-4
+    (λ c. omega (arith, room (c .before .before .before .before .before .before .before .before .before .before .before .before .before .before .before .before .before .before)))  -- loop-less
+    loop-again
+    (λ c. c .before .loop .inv .2)  -- same-length
+    (λ c. c .before .loop .inv .3 ∙ tab-done _ _ _ _ (omega arith) (omega (arith, c .before .before .before .before .before .before .pre .room))))  -- returns
