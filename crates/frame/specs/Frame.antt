@@ -12,7 +12,7 @@ use Rattle.rules.specs.Place.{Place, get, put}
 use Rattle.rules.specs.Refusals.{Row, _when_, refusing}
 pub use Rattle.rules.specs.Refusals.{wrong}
 use Rattle.rules.specs.Tab.{tab}
-use Rattle.numbers.specs.Filter.{highPass, memoryAfter, outputs}
+use Rattle.numbers.specs.Filter.{highPass, memoryOf, memoryAfter, outputs}
 use Rattle.numbers.specs.declared.filter.Memory.{Memory}
 use Rattle.bands.specs.Windowed.{windowed}
 use Rattle.model.specs.Model.{readOf}
@@ -63,7 +63,7 @@ recent lag = record { at = 768 - lag; size = 960 }
 
 -- the filter's memories, as a share holds them
 abbrev pub memoryIn : List Float → Memory
-memoryIn share = record { m0 = at (get memHpX share) 0; m1 = at (get memHpX share) 1 }
+memoryIn share = memoryOf (get memHpX share)
 
 abbrev pub taken : List Float → List Float → Framed
 taken share samples =

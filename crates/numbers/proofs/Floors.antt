@@ -19,9 +19,10 @@ use lib.Ieee.Back.{round-whole, positive-back}
 use lib.Ieee.Digits.{size-lt, size-reaches, size-le}
 use lib.Ieee.Fits.{round-is, core, up-pos, down-pos, and-l, and-r}
 use lib.Ieee.Nearest.{closest, closest-mono, closest-same}
-use Rattle.numbers.proofs.Within.{Upto, in-table}
+use Rattle.numbers.proofs.UpToEight.{Upto, in-table}
 use mathlib.Core.List.{List}
-use Rattle.numbers.specs.Activations.{magnitude, signOf, near, tansigIn, Inside, endedBy}
+use Rattle.numbers.specs.Activations.{magnitude, signOf, near, tansigIn}
+use Rattle.numbers.specs.Parts.{Inside, endedBy}
 use Rattle.rules.specs.F32.{f32, _⊕_, _⊖_, _⊗_}
 use Rattle.rules.proofs.Numbers.{casts}
 use Rattle.rules.proofs.Below.{at-each}

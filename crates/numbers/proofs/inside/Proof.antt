@@ -6,12 +6,12 @@ use Rattle.rules.specs.F32.{f32}
 use lib.Dec.{lit≤}
 use lib.Ieee.{ofBits}
 use borrow.Author.Needs.{needs}
-use Rattle.numbers.specs.Activations.{Within}
-use Rattle.numbers.proofs.Within.{within}
+use Rattle.numbers.specs.Parts.{UpToEight}
+use Rattle.numbers.proofs.UpToEight.{within}
 use Rattle.numbers.proofs.inside.Statement.{statement}
 use Rattle.numbers.proofs.inside.Tie as tie
 
-none : Within (f32 0)
+none : UpToEight (f32 0)
 unfolding ofBits
 none = lit≤ tt
 

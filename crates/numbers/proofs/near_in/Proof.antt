@@ -4,7 +4,7 @@ use native.Mathlib.Omega.{arith}
 use borrow.Author.Needs.{needs}
 use Rattle.rules.specs.F32.{f32, _⊕_, _⊗_}
 use Rattle.numbers.specs.Activations.{place}
-use Rattle.numbers.proofs.Within.{half-up, in-table}
+use Rattle.numbers.proofs.UpToEight.{half-up, in-table}
 use Rattle.numbers.proofs.Floors.{castable, not-below, number-is}
 use Rattle.numbers.proofs.near_in.Statement.{statement}
 use Rattle.numbers.proofs.near_in.Tie as tie
