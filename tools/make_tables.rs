@@ -3,18 +3,19 @@ use std::fs::write;
 
 fn main() {
     let c = common();
-    table("bands", "window", "Window", "window", "The window's 960 numbers", &c.window);
-    table("bands", "dct_table", "DctTable", "dctTable", "The DCT's 22 rows of 22 numbers", &c.dct_table);
-    table("numbers", "table", "Tansig", "tansig", "The activations' 201 numbers", &TANSIG_TABLE);
+    table("bands", "window", "Window", "window", "The window's 960 numbers, `window` in `common()` of lib.rs", (10, 10), &c.window);
+    table("bands", "dct_table", "DctTable", "dctTable", "The DCT's 22 rows of 22 numbers, `dct_table` in `common()` of lib.rs", (22, 8), &c.dct_table);
+    table("numbers", "table", "Tansig", "tansig", "The activations' 201 numbers, `TANSIG_TABLE` of util.rs", (10, 10), &TANSIG_TABLE);
     println!("wnorm {:08X}", c.wnorm.to_bits());
 }
 
-fn table(krate: &str, module: &str, spec: &str, name: &str, what: &str, numbers: &[f32]) {
+fn table(krate: &str, module: &str, spec: &str, name: &str, what: &str, (row, line): (usize, usize), numbers: &[f32]) {
     let count = numbers.len();
     let constant = if spec == "DctTable" { "DCT_TABLE".into() } else { spec.to_uppercase() };
     let lines: String = numbers.iter().map(|x| if x.fract() == 0.0 { format!("    {x:.1},\n") } else { format!("    {x},\n") }).collect();
     let code = format!(
-        "// {what}. Whoever loops over them takes them once, by `all`: each mention of a constant array fills it anew.
+        "// {what}.
+// Whoever loops over them takes them once, by `all`: each mention of a constant array fills it anew.
 ghost use mathlib.Core.Path.{{_≡_}};
 ghost use Rattle.{krate}.specs.{spec}.{{{name}}};
 
@@ -28,20 +29,23 @@ pub fn all() -> [f32; {count}]
 }}
 "
     );
-    let rows: String = numbers.chunks(10).map(|row| format!("    {} ∷\n", row.iter().map(|x| x.to_bits().to_string()).collect::<Vec<_>>().join(" ∷ "))).collect();
+    // a row begins a line
+    let laid = |part: &[f32]| format!("    {} ∷\n", part.iter().map(|x| format!("0x{:08X}", x.to_bits())).collect::<Vec<_>>().join(" ∷ "));
+    let rows: String = numbers.chunks(row).flat_map(|row| row.chunks(line)).map(laid).collect();
     let text = format!(
-        "-- {what}, as the Rust makes them: by their bit patterns.
+        "-- {what}: by their bit patterns.
 use mathlib.Core.List.{{List, [], _∷_, map}}
 use Prim.Native.Nat.{{ℕ}}
-use lib.Ieee.{{Float, binary32, ofBits}}
+use lib.Ieee.{{Float, ofBits}}
+use Rattle.rules.specs.F32.{{f32}}
 
-unfoldable pub patterns : List ℕ
-patterns =
+unfoldable pub {name}Bits : List ℕ
+{name}Bits =
 {} []
 
 unfoldable pub {name} : List Float
-unfolding patterns ofBits
-{name} = map (ofBits binary32) patterns
+unfolding {name}Bits ofBits
+{name} = map f32 {name}Bits
 ",
         rows.trim_end()
     );

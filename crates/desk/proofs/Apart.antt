@@ -15,8 +15,8 @@ use borrow.Author.Tests.{ltb-true, ltb-false, eqb-true, eq-eqb, ne-eqb}
 use lib.Dec.{eqb, ltb}
 use lib.ListN.{length}
 use lib.Ieee.{Float}
-use Rattle.rules.specs.Place.{Place, Within, Apart, get, put}
-use Rattle.rules.proofs.Places.{length-get, length-put, get-put, get-put-apart, put-get}
+use Rattle.rules.specs.Place.{Place, get, put}
+use Rattle.rules.proofs.Places.{Within, Apart, length-get, length-put, get-put, get-put-apart, put-get}
 use Rattle.rules.proofs.Wholes.{get-whole, put-whole}
 use Rattle.model.specs.Model.{readOf}
 use Rattle.model.specs.declared.Reading.{Reading}

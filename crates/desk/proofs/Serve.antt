@@ -12,7 +12,7 @@ use native.Mathlib.Omega.{arith}
 use borrow.Author.Tests.{eq-eqb, ne-eqb, not-true, not-false}
 use lib.ListN.{length, replicate}
 use lib.Ieee.{Float}
-use Rattle.rules.specs.F32.{f32, zeroed}
+use Rattle.rules.specs.F32.{f32, zeros}
 use Rattle.rules.specs.Place.{Place, get, put}
 use Rattle.rules.proofs.Places.{put-get, length-get}
 use Rattle.model.specs.Model.{readOf}
@@ -100,7 +100,7 @@ module _ (benches side : ℕ) (b : Bench) (store : List Float) (m : List ℕ) (n
       rw (put-get (shareOf side) store) at (left-with (get (shareOf side) store) (sym (kept (readOf m) b (get (shareOf side) store) no)))
 
   pub wiped : (start end : ℕ) (new : List Float) → not p ≡ false → (n ≡ 0 → (start ≡ shareOf side .at) × (end ≡ shareOf side .at + SHARE))
-      → new ≡ zeroed (get (lent start end) store) → Served (desk benches side b store (opening m)) r (put (lent start end) store new) [] []
+      → new ≡ zeros (length (get (lent start end) store)) → Served (desk benches side b store (opening m)) r (put (lent start end) store new) [] []
   wiped start end new h place f =
       let yes : passed (openedOf (readOf m) b .reply) ≡ true = rw (← d, ← a, ← q) (not-false p h) in
       let t = through benches 0 side b (length store) (sym e ∙ z) in

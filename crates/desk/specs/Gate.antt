@@ -4,7 +4,7 @@ use mathlib.Core.Bool.{Bool, cond, not, _&&_}
 use mathlib.Core.List.{List, [], _∷_}
 use mathlib.Core.Path.{_≡_}
 use lib.Dec.{eqb, leb, ltb}
-use Rattle.rules.specs.Refusals.{Row, _when_, first}
+use Rattle.rules.specs.Refusals.{Row, _when_, refusing}
 use Rattle.rules.specs.Place.{Place}
 use Rattle.frame.specs.Share.{SHARE}
 use Rattle.desk.specs.declared.Bench.{Bench}
@@ -48,7 +48,7 @@ refusals benches call side b len =
 
 -- the first number that applies, or 0
 unfoldable pub gate : ℕ → ℕ → ℕ → Bench → ℕ → ℕ
-gate benches call side b len = first (refusals benches call side b len) (λ n. n) 0
+gate benches call side b len = refusing (refusals benches call side b len) (λ n. n) 0
 
 -- ---- for the parts of the code
 

@@ -6,6 +6,7 @@ use lib.Ieee.{Float}
 use Rattle.rules.specs.F32.{at}
 use Rattle.numbers.specs.declared.filter.Biquad.{Biquad}
 use Rattle.numbers.specs.declared.filter.Memory.{Memory}
+pub use Rattle.numbers.specs.Filter.{memoryOf}
 
 pub record FilterFits (output memory coefficients input : ℕ) : Type 0 where
   pub memories : memory ≡ 2
@@ -14,9 +15,6 @@ pub record FilterFits (output memory coefficients input : ℕ) : Type 0 where
 
 abbrev pub biquadOf : List Float → Biquad
 biquadOf xs = record { a0 = at xs 0; a1 = at xs 1; b0 = at xs 2; b1 = at xs 3 }
-
-abbrev pub memoryOf : List Float → Memory
-memoryOf xs = record { m0 = at xs 0; m1 = at xs 1 }
 
 abbrev pub memoryList : Memory → List Float
 memoryList m = m .m0 ∷ m .m1 ∷ []

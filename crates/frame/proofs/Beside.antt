@@ -6,8 +6,8 @@ use mathlib.Core.Path.{_≡_, refl, ap, _∙_}
 use lib.ListN.{length, length-append, replicate}
 use lib.Ieee.{Float}
 use Rattle.rules.specs.F32.{f32}
-use Rattle.rules.specs.Place.{Place, Apart, get, put}
-use Rattle.rules.proofs.Places.{length-get, length-put, get-put-apart}
+use Rattle.rules.specs.Place.{Place, get, put}
+use Rattle.rules.proofs.Places.{Apart, length-get, length-put, get-put-apart}
 use Rattle.rules.proofs.Tabs.{length-tab}
 use Rattle.numbers.specs.Filter.{highPass, outputs}
 use Rattle.numbers.proofs.Outputs.{length-outputs}

@@ -1,6 +1,6 @@
 -- What the four calls of a frame do to one share: the definitions that the calls of `frame` are held to. A share knows of no side.
 use Prim.Native.Nat.{ℕ, _+_, _-_}
-use mathlib.Core.Bool.{Bool, false, cond, not, _&&_, _||_}
+use mathlib.Core.Bool.{Bool, cond, _&&_}
 use mathlib.Core.List.{List, [], _∷_, _++_}
 use mathlib.Core.Path.{_≡_}
 use lib.Dec.{eqb, ltb}
@@ -9,9 +9,10 @@ use lib.ListN.{length}
 use lib.Ieee.{Float, binary32, ofInt}
 use Rattle.rules.specs.F32.{_⊕_, _⊘_, at, f32}
 use Rattle.rules.specs.Place.{Place, get, put}
-use Rattle.rules.specs.Refusals.{Row, _when_, first as turned}
+use Rattle.rules.specs.Refusals.{Row, _when_, refusing}
+pub use Rattle.rules.specs.Refusals.{wrong}
 use Rattle.rules.specs.Tab.{tab}
-use Rattle.numbers.specs.Filter.{highPass, memoryAfter, outputs}
+use Rattle.numbers.specs.Filter.{highPass, memoryOf, memoryAfter, outputs}
 use Rattle.numbers.specs.declared.filter.Memory.{Memory}
 use Rattle.bands.specs.Windowed.{windowed}
 use Rattle.model.specs.Model.{readOf}
@@ -40,14 +41,9 @@ pub record Framed : Type 0 where
 abbrev pub refused : Reply → List Float → Framed
 refused reply share = record { reply = reply; share = share; written = [] }
 
--- whether one of these lengths is not what stands beside it
-abbrev pub wrong : List (ℕ × ℕ) → Bool
-wrong [] = false
-wrong (p ∷ ps) = not (eqb (p .0) (p .1)) || wrong ps
-
 -- the first refusal of a table, or f
 abbrev pub unless : List Row → List Float → Framed → Framed
-unless rows share f = turned rows (λ n. refused (Refused n) share) f
+unless rows share f = refusing rows (λ n. refused (Refused n) share) f
 
 -- what a contract says of a call: its reply, the share, and the answer buffers, which a refusal leaves as they were held
 pub record Worked (f : Framed) (reply : Reply) (share : List Float) (held out : List (List Float)) : Type 0 where
@@ -67,7 +63,7 @@ recent lag = record { at = 768 - lag; size = 960 }
 
 -- the filter's memories, as a share holds them
 abbrev pub memoryIn : List Float → Memory
-memoryIn share = record { m0 = at (get memHpX share) 0; m1 = at (get memHpX share) 1 }
+memoryIn share = memoryOf (get memHpX share)
 
 abbrev pub taken : List Float → List Float → Framed
 taken share samples =

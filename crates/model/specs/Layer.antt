@@ -3,7 +3,7 @@ use Prim.Native.Nat.{ℕ, zero, suc, _+_, _*_}
 use mathlib.Core.List.{List, [], _∷_, _++_}
 use lib.Dec.{eqb, ltb}
 use lib.ListN.{length, take, drop}
-use Rattle.rules.specs.Refusals.{Row, _when_, first}
+use Rattle.rules.specs.Refusals.{Row, _when_, refusing}
 use Rattle.model.specs.declared.Activation.{Activation}
 use Rattle.model.specs.declared.Activation.the-variants.{Tanh, Sigmoid, Relu}
 use Rattle.model.specs.declared.Kind.{Kind}
@@ -73,7 +73,7 @@ pub data Front : Type 0 where
 
 unfoldable pub front : Kind → List ℕ → Front
 front k (i ∷ n ∷ a ∷ s) =
-    first (faults k i n a (length s)) refused
+    refusing (faults k i n a (length s)) refused
     (layer (record { inputs = i; neurons = n; activation = activationOf a; arrays = cut (lengths k i n) s }) (drop (sizeOf k i n) s))
 front k (i ∷ n ∷ []) = refused 11
 front k (i ∷ []) = refused 11

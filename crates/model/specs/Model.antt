@@ -4,7 +4,7 @@ use mathlib.Core.Bool.{Bool, not, _||_}
 use mathlib.Core.List.{List, [], _∷_, _++_}
 use lib.Dec.{eqb}
 use lib.ListN.{length, getD}
-use Rattle.rules.specs.Refusals.{Row, _when_, first}
+use Rattle.rules.specs.Refusals.{Row, _when_, refusing}
 use Rattle.model.specs.Layer.{Layer, bytesOf, Front, layer, refused, front, headerAt}
 use Rattle.model.specs.declared.Activation.the-variants.{Tanh}
 use Rattle.model.specs.declared.Kind.{Kind}
@@ -86,7 +86,7 @@ modelOf hs =
     }
 
 abbrev pub judge : List Row → Model → Reading
-judge rows m = first rows (λ n. Refused n 6) (Good m)
+judge rows m = refusing rows (λ n. Refused n 6) (Good m)
 
 abbrev pub judged : Layers → Reading
 judged (layers ls rest) = let m = modelOf (headersAt 0 ls) in judge (mismatches m (length rest)) m

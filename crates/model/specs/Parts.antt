@@ -1,6 +1,6 @@
 -- What the private functions of the reader promise and ask for.
 use Prim.Native.Nat.{ℕ, _+_, _<_}
-use Rattle.rules.specs.Refusals.{first}
+use Rattle.rules.specs.Refusals.{refusing}
 use Rattle.model.specs.Layer.{sizeOf, activationOf, faults}
 use Rattle.model.specs.declared.Kind.{Kind}
 use Rattle.model.specs.declared.Model.{Model}
@@ -10,7 +10,7 @@ use Rattle.model.specs.declared.Step.the-variants.{Layer, Refused}
 -- a step over a layer with this header, where its arrays start at a place and so many bytes are left for them
 abbrev pub headed : Kind → ℕ → ℕ → ℕ → ℕ → ℕ → Step
 headed k i n a start left =
-    first (faults k i n a left) Refused
+    refusing (faults k i n a left) Refused
     (Layer (record { inputs = i; neurons = n; activation = activationOf a; start = start }) (record { at = start + sizeOf k i n }))
 
 -- counts whose sums do not wrap

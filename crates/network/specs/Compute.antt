@@ -5,7 +5,7 @@ use Prim.Native.Nat.{ℕ, _+_}
 use lib.ListN.{length, take, drop}
 use lib.Ieee.{Float}
 use Rattle.rules.specs.Place.{get}
-use Rattle.rules.specs.Refusals.{Row, _when_, first}
+use Rattle.rules.specs.Refusals.{Row, _when_, refusing}
 use Rattle.model.specs.Array.{placeOf, Within}
 use Rattle.model.specs.Model.{readOf, _≠_}
 use Rattle.model.specs.declared.Kind.{Kind}
@@ -88,7 +88,7 @@ wrongLengths gains voice vad noise denoise features =
 unfoldable pub computed : List Float → List Float → List Float → List Float → List Float → List ℕ → List Float → Outcome
 computed gains voice vad noise denoise model features =
     let held : Computed → Outcome = λ answer. outcome answer gains voice vad noise denoise in
-    first (wrongLengths (length gains) (length voice) (length vad) (length noise) (length denoise) (length features)) (λ n. held (Refused n))
+    refusing (wrongLengths (length gains) (length voice) (length vad) (length noise) (length denoise) (length features)) (λ n. held (Refused n))
     (byReading (readOf model) (λ m. record { answer = Done; left = framed model m vad noise denoise features }) (λ number layer. held (Misread number layer)))
 
 -- ---- for the parts of the code
