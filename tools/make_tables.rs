@@ -6,13 +6,44 @@ fn main() {
     table("bands", "window", "Window", "window", "The window's 960 numbers, `window` in `common()` of lib.rs", (10, 10), &c.window);
     table("bands", "dct_table", "DctTable", "dctTable", "The DCT's 22 rows of 22 numbers, `dct_table` in `common()` of lib.rs", (22, 8), &c.dct_table);
     table("numbers", "table", "Tansig", "tansig", "The activations' 201 numbers, `TANSIG_TABLE` of util.rs", (10, 10), &TANSIG_TABLE);
+    one_by_one("crates/numbers/src/table.rt", "tansig", &TANSIG_TABLE);
     println!("wnorm {:08X}", c.wnorm.to_bits());
+}
+
+fn literal(x: f32) -> String {
+    if x.fract() == 0.0 { format!("{x:.1}") } else { format!("{x}") }
+}
+
+// A function for one number of a table, behind what `table` wrote.
+fn one_by_one(file: &str, name: &str, numbers: &[f32]) {
+    let last = numbers.len() - 1;
+    let arms: String = numbers[..last].iter().enumerate().map(|(i, x)| format!("        {i} => {},\n", literal(*x))).collect();
+    let written = std::fs::read_to_string(file).unwrap();
+    let written = written.replace(
+        "ghost use mathlib.Core.Path.{_≡_};\n",
+        "ghost use mathlib.Core.Path.{_≡_};\nghost use Prim.Native.Nat.{_≤_};\nghost use Rattle.rules.specs.F32.{at};\n",
+    );
+    let code = format!(
+        "{written}
+// One of them: a match is compiled to a table that is never filled.
+pub(crate) fn entry(i: u32) -> f32
+    requires {{ ⌜ i ≤ {last} ⌝ }}
+    ensures {{ λ r. ⌜ r ≡ at {name} i ⌝ }}
+{{
+    match i {{
+{arms}        _ => {},
+    }}
+}}
+",
+        literal(numbers[last])
+    );
+    write(file, code).unwrap();
 }
 
 fn table(krate: &str, module: &str, spec: &str, name: &str, what: &str, (row, line): (usize, usize), numbers: &[f32]) {
     let count = numbers.len();
     let constant = if spec == "DctTable" { "DCT_TABLE".into() } else { spec.to_uppercase() };
-    let lines: String = numbers.iter().map(|x| if x.fract() == 0.0 { format!("    {x:.1},\n") } else { format!("    {x},\n") }).collect();
+    let lines: String = numbers.iter().map(|x| format!("    {},\n", literal(*x))).collect();
     let code = format!(
         "// {what}.
 // Whoever loops over them takes them once, by `all`: each mention of a constant array fills it anew.

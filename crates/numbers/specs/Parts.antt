@@ -5,8 +5,8 @@ use mathlib.Core.Bool.{Bool, true, false, cond}
 use mathlib.Core.List.{List}
 use lib.IntN.{pos}
 use lib.Ieee.{Float, nan, inf, fin, Format, binary32, binary64, up, down, neg, lt, hid, ones, top, ofBits, ofInt}
-use Rattle.rules.specs.F32.{f32}
-use Rattle.numbers.specs.Activations.{one, eight, magnitude}
+use Rattle.rules.specs.F32.{f32, one, at, _⊖_, _⊗_}
+use Rattle.numbers.specs.Activations.{eight, magnitude, signOf, place, curve}
 use Rattle.numbers.specs.Narrowed.{narrowed}
 
 -- neither a NaN nor an infinity, and from 0 to 8, -0 included: what `tansig_approx` looks up
