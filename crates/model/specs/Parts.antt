@@ -1,8 +1,9 @@
 -- What the private functions of the reader promise and ask for.
-use Prim.Native.Nat.{ℕ, _+_, _<_}
+use Prim.Native.Nat.{ℕ, _+_, _≤_, _<_}
 use Rattle.rules.specs.Refusals.{first}
 use Rattle.model.specs.Layer.{sizeOf, activationOf, faults}
 use Rattle.model.specs.declared.Kind.{Kind}
+use Rattle.model.specs.declared.Header.{Header}
 use Rattle.model.specs.declared.Model.{Model}
 use Rattle.model.specs.declared.Step.{Step}
 use Rattle.model.specs.declared.Step.the-variants.{Layer, Refused}
@@ -18,3 +19,11 @@ pub record Few (m : Model) : Type 0 where
   pub dense : m .«input_dense» .neurons < 128
   pub vad : m .«vad_gru» .neurons < 128
   pub noise : m .«noise_gru» .neurons < 128
+
+-- a layer whose header and arrays are within so many bytes
+pub record LiesIn (size : ℕ) (k : Kind) (h : Header) : Type 0 where
+  pub inputs : h .inputs < 128
+  pub neurons : h .neurons < 128
+  pub some : 1 ≤ h .neurons
+  pub start : 3 ≤ h .start
+  pub reach : h .start + sizeOf k (h .inputs) (h .neurons) ≤ size
