@@ -56,15 +56,18 @@ cut (n ∷ ns) s = take n s ∷ cut ns (drop n s)
 abbrev pub bytesOf : Layer → List ℕ
 bytesOf l = l .inputs ∷ l .neurons ∷ activationNumber (l .activation) ∷ joined (l .arrays)
 
--- the refusals of a layer with this header, where so many bytes follow it. A byte above 127 is a negative number (`unsigned`)
-abbrev pub faults : Kind → ℕ → ℕ → ℕ → ℕ → List Row
-faults k i n a left =
+-- the refusals of a header. A byte above 127 is a negative number (`unsigned`)
+abbrev pub headerFaults : ℕ → ℕ → ℕ → List Row
+headerFaults i n a =
     12 when ltb 127 i
     ∷ 13 when ltb 127 n
     ∷ 14 when ltb 2 a
     ∷ 15 when eqb n 0
-    ∷ 16 when ltb left (sizeOf k i n)
     ∷ []
+
+-- and of its layer, where so many bytes follow
+abbrev pub faults : Kind → ℕ → ℕ → ℕ → ℕ → List Row
+faults k i n a left = headerFaults i n a ++ 16 when ltb left (sizeOf k i n) ∷ []
 
 -- read_dense and read_gru: what is made of the layer in front of some bytes and of the bytes behind it, or of a refusal
 unfoldable pub readLayer : {A : Type 0} → Kind → List ℕ → (ℕ → A) → (Layer → List ℕ → A) → A

@@ -1,12 +1,17 @@
 -- What the private functions of the reader promise and ask for.
 use Prim.Native.Nat.{ℕ, _+_, _≤_, _<_}
-use Rattle.rules.specs.Refusals.{first}
+use mathlib.Core.List.{List}
+use Rattle.rules.specs.Refusals.{Row, first}
 use Rattle.model.specs.Layer.{sizeOf, activationOf, faults}
 use Rattle.model.specs.declared.Kind.{Kind}
 use Rattle.model.specs.declared.Header.{Header}
 use Rattle.model.specs.declared.Model.{Model}
 use Rattle.model.specs.declared.Step.{Step}
 use Rattle.model.specs.declared.Step.the-variants.{Layer, Refused}
+
+-- the number that a table gives, or 0
+abbrev pub faultIn : List Row → ℕ
+faultIn rows = first rows (λ n. n) 0
 
 -- a step over a layer with this header, where its arrays start at a place and so many bytes are left for them
 abbrev pub headed : Kind → ℕ → ℕ → ℕ → ℕ → ℕ → Step
