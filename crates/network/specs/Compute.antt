@@ -6,7 +6,8 @@ use lib.ListN.{length, take, drop}
 use lib.Ieee.{Float}
 use Rattle.rules.specs.Place.{get}
 use Rattle.rules.specs.Refusals.{Row, _when_, refusing}
-use Rattle.model.specs.Array.{placeOf, Within}
+use Rattle.model.specs.Array.{placeOf}
+use Rattle.model.specs.Parts.{LiesIn}
 use Rattle.model.specs.Model.{readOf, _≠_}
 use Rattle.model.specs.declared.Kind.{Kind}
 use Rattle.model.specs.declared.Kind.the-variants.{Dense, Gru}
@@ -95,7 +96,7 @@ computed gains voice vad noise denoise model features =
 
 -- a layer with this header, whose arrays lie within so many bytes, on an output and an input of these lengths
 pub record At (kind : Kind) (h : Header) (bytes output input : ℕ) : Type 0 where
-  pub within : Within bytes kind h
+  pub within : LiesIn bytes kind h
   pub neurons : output ≡ h .neurons
   pub inputs : input ≡ h .inputs
 
