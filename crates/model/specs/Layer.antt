@@ -72,7 +72,7 @@ faults k i n a left = headerFaults i n a ++ 16 when ltb left (sizeOf k i n) ∷ 
 -- read_dense and read_gru: what is made of the layer in front of some bytes and of the bytes behind it, or of a refusal
 unfoldable pub readLayer : {A : Type 0} → Kind → List ℕ → (ℕ → A) → (Layer → List ℕ → A) → A
 readLayer k (i ∷ n ∷ a ∷ s) refuse next =
-    first (faults k i n a (length s)) refuse
+    refusing (faults k i n a (length s)) refuse
     (next (record { inputs = i; neurons = n; activation = activationOf a; arrays = cut (lengths k i n) s }) (drop (sizeOf k i n) s))
 readLayer k (i ∷ n ∷ []) refuse next = refuse 11
 readLayer k (i ∷ []) refuse next = refuse 11

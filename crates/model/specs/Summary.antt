@@ -20,4 +20,4 @@ summaryIn (Refused n layer) out = n + 65536 * layer leaving out
 
 -- what is returned, and what the buffer then holds
 unfoldable pub summaryOf : List ℕ → List ℕ → ℕ × List ℕ
-summaryOf s out = first (5 when (length out ≠ 30) ∷ []) (λ n. n leaving out) (summaryIn (readOf s) out)
+summaryOf s out = refusing (5 when (length out ≠ 30) ∷ []) (λ n. n leaving out) (summaryIn (readOf s) out)
