@@ -1,6 +1,10 @@
 -- A share: 6,144 numbers, what the calls of one bench remember. Its fields, place by place.
 use Prim.Native.Nat.{ℕ}
+use mathlib.Core.List.{List, [], _∷_}
+use lib.Ieee.{Float}
+use Rattle.rules.specs.F32.{at}
 use Rattle.rules.specs.Place.{Place}
+use Rattle.numbers.specs.declared.filter.Memory.{Memory}
 
 abbrev pub SHARE : ℕ
 SHARE = 6144
@@ -27,6 +31,13 @@ keptLag = record { at = 3191; size = 1 }
 abbrev pub memHpX : Place
 memHpX = record { at = 3192; size = 2 }
 
+-- these two, as a list and as the filter takes them
+abbrev pub memoryOf : List Float → Memory
+memoryOf xs = record { m0 = at xs 0; m1 = at xs 1 }
+
+abbrev pub memoryList : Memory → List Float
+memoryList m = m .m0 ∷ m .m1 ∷ []
+
 -- `DenoiseState::lastg`, the gains last applied
 abbrev pub lastg : Place
 lastg = record { at = 3194; size = 22 }
@@ -46,5 +57,5 @@ abbrev pub denoiseState : Place
 denoiseState = record { at = 3648; size = 128 }
 
 -- the rest: no call reads it or writes it
-abbrev pub room : Place
-room = record { at = 3776; size = 2368 }
+abbrev pub spare : Place
+spare = record { at = 3776; size = 2368 }
