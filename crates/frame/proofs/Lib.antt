@@ -3,7 +3,6 @@ pub mod Cases
 pub mod Done
 pub mod Held
 pub mod Keeps
-pub mod Replies
 pub mod Settled
 pub mod Sounded
 pub mod Spoken

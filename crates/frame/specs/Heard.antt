@@ -40,13 +40,13 @@ featured share index p ep logs =
     }
 
 -- `process_frame`: self.rnn.compute(&mut g[..], &mut vad_prob[..], self.feat.features())
-pub record Judged : Type 0 where
+pub record Rnn : Type 0 where
   pub share : List Float
   pub gains : List Float
   pub voice : Float
 
-unfoldable pub judged : List Float → List ℕ → Model → List Float → Judged
-judged share bytes m features =
+unfoldable pub rnnOf : List Float → List Float → List ℕ → Model → Rnn
+rnnOf share features bytes m =
     let f = framed bytes m (get vadState share) (get noiseState share) (get denoiseState share) features in
     record {
       share = put denoiseState (put noiseState (put vadState share (f .vad)) (f .noise)) (f .denoise);
@@ -55,10 +55,10 @@ judged share bytes m features =
     }
 
 -- `process_frame`: g[i] = g[i].max(0.6 * self.lastg[i]); self.lastg[i] = g[i]
-abbrev pub raised : List Float → List Float → List Float
-raised share gains = gained gains (get lastg share)
+abbrev pub heldGains : List Float → List Float → List Float
+heldGains share gains = gained gains (get lastg share)
 
--- the whole: the share, the voice, and the spectrum for the inverse. `pitch_filter` has the network's gains, before they are raised
+-- the whole: the share, the voice, and the spectrum for the inverse. `pitch_filter` has the network's gains, before the maximum
 pub record Spoken : Type 0 where
   pub share : List Float
   pub voice : Float
@@ -67,9 +67,9 @@ pub record Spoken : Type 0 where
 unfoldable pub spokenFrom : List Float → ℕ → List Float → List Float → List Float → List ℕ → Model → Spoken
 spokenFrom share index p ep logs bytes m =
     let f = featured share index p ep logs in
-    let n = judged (f .share) bytes m (f .features) in
+    let n = rnnOf (f .share) (f .features) bytes m in
     let x = pitchFiltered (get keptX share) p (n .gains) (f .exp) (get keptEx share) ep in
-    let g = raised (n .share) (n .gains) in
+    let g = heldGains (n .share) (n .gains) in
     record { share = put lastg (n .share) g; voice = n .voice; spectrum = applied x (bandGain g) }
 
 -- p and ep are what the second spectrum gives

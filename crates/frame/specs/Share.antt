@@ -46,5 +46,5 @@ abbrev pub denoiseState : Place
 denoiseState = record { at = 3648; size = 128 }
 
 -- the rest: no call reads it or writes it
-abbrev pub room : Place
-room = record { at = 3776; size = 2368 }
+abbrev pub spare : Place
+spare = record { at = 3776; size = 2368 }

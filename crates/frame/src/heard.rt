@@ -9,9 +9,9 @@ ghost use Rattle.bands.specs.Bands.{bandGain};
 ghost use Rattle.model.specs.Model.{readOf};
 ghost use Rattle.features.specs.Pitch.{pitchFiltered, applied};
 ghost use Rattle.frame.specs.Share.{keptX, keptEx, lastg, vadState, noiseState, denoiseState};
-ghost use Rattle.frame.specs.Heard.{scaled, energies, featured, judged, raised, spokenFrom, spoken};
-ghost use Rattle.frame.specs.Frame.{Worked, listened, counted, checked};
-ghost use Rattle.frame.specs.Parts.{Reads, featuredAs, judgedAs, spokenAs, quiet, replyOf};
+ghost use Rattle.frame.specs.Heard.{scaled, energies, featured, rnnOf, heldGains, spokenFrom, spoken};
+ghost use Rattle.frame.specs.Frame.{Worked, done3, counted};
+ghost use Rattle.frame.specs.Parts.{checked, Reads, featuredAs, rnnAs, spokenAs, quiet, replyOf};
 use crate::Reply;
 use features::Sound;
 use model::Reading;
@@ -122,7 +122,7 @@ fn think_in(
     requires { ⌜ (length (now share) ≡ 6144) × (length (now gains) ≡ 22) × (length (now voice) ≡ 1) × (length (now features) ≡ 42) ⌝ }
     requires { ⌜ (length (now vad) ≡ 128) × (length (now noise) ≡ 128) × (length (now denoise) ≡ 128) ⌝ }
     ensures { λ r. ⌜ Reads (now (model .entry))
-        (λ m. judgedAs (now (share .exit)) (now (gains .exit)) r ≡ judged (now (share .entry)) (now (model .entry)) m (now (features .entry))) ⌝ }
+        (λ m. rnnAs (now (share .exit)) (now (gains .exit)) r ≡ rnnOf (now (share .entry)) (now (features .entry)) (now (model .entry)) m) ⌝ }
 {
     take_states(vad, noise, denoise, share);
     network::compute(gains, voice, vad, noise, denoise, model, features);
@@ -134,7 +134,7 @@ fn think_in(
 fn think(share: &mut [f32], gains: &mut [f32], model: &[u8], features: &[f32]) -> f32
     requires { ⌜ (length (now share) ≡ 6144) × (length (now gains) ≡ 22) × (length (now features) ≡ 42) ⌝ }
     ensures { λ r. ⌜ Reads (now (model .entry))
-        (λ m. judgedAs (now (share .exit)) (now (gains .exit)) r ≡ judged (now (share .entry)) (now (model .entry)) m (now (features .entry))) ⌝ }
+        (λ m. rnnAs (now (share .exit)) (now (gains .exit)) r ≡ rnnOf (now (share .entry)) (now (features .entry)) (now (model .entry)) m) ⌝ }
 {
     let mut voice = [0.0f32; 1];
     let mut vad = [0.0f32; 128];
@@ -171,8 +171,8 @@ fn apply(out: &mut [f32], gains: &[f32])
 // The gains are raised, remembered and applied.
 fn raise(share: &mut [f32], out: &mut [f32], gains: &mut [f32])
     requires { ⌜ (length (now share) ≡ 6144) × (length (now out) ≡ 961) × (length (now gains) ≡ 22) ⌝ }
-    ensures { λ _. ⌜ now (share .exit) ≡ put lastg (now (share .entry)) (raised (now (share .entry)) (now (gains .entry))) ⌝ }
-    ensures { λ _. ⌜ now (out .exit) ≡ applied (now (out .entry)) (bandGain (raised (now (share .entry)) (now (gains .entry)))) ⌝ }
+    ensures { λ _. ⌜ now (share .exit) ≡ put lastg (now (share .entry)) (heldGains (now (share .entry)) (now (gains .entry))) ⌝ }
+    ensures { λ _. ⌜ now (out .exit) ≡ applied (now (out .entry)) (bandGain (heldGains (now (share .entry)) (now (gains .entry)))) ⌝ }
 {
     features::hold_gains(gains, &mut share[3194..3216]);
     apply(out, gains);
@@ -190,10 +190,10 @@ fn shape(
 )
     requires { ⌜ (length (now share) ≡ 6144) × (length (now out) ≡ 961) × (length (now gains) ≡ 22) ⌝ }
     requires { ⌜ (length (now p) ≡ 961) × (length (now exp) ≡ 22) × (length (now ex) ≡ 22) × (length (now ep) ≡ 22) ⌝ }
-    ensures { λ _. ⌜ now (share .exit) ≡ put lastg (now (share .entry)) (raised (now (share .entry)) (now (gains .entry))) ⌝ }
+    ensures { λ _. ⌜ now (share .exit) ≡ put lastg (now (share .entry)) (heldGains (now (share .entry)) (now (gains .entry))) ⌝ }
     ensures { λ _. ⌜ now (out .exit)
         ≡ applied (pitchFiltered (now (out .entry)) (now (p .entry)) (now (gains .entry)) (now (exp .entry)) (now (ex .entry)) (now (ep .entry)))
-        (bandGain (raised (now (share .entry)) (now (gains .entry)))) ⌝ }
+        (bandGain (heldGains (now (share .entry)) (now (gains .entry)))) ⌝ }
 {
     features::pitch_filter(out, p, gains, exp, ex, ep);
     raise(share, out, gains);
@@ -339,7 +339,7 @@ pub(crate) fn listen(
 ) -> Reply
     requires { ⌜ (length (now share) ≡ 6144) × (length (now out) ≡ 961) × (index ≤ 7) × (length (now spectrum) ≡ 961) × (length (now logs) ≡ 22) ⌝ }
     ensures { λ r. ⌜ Reads (now (model .entry)) (λ m. Worked
-        (listened (now (share .entry)) index (now (spectrum .entry)) (now (logs .entry)) (now (model .entry)) m)
+        (done3 (now (share .entry)) index (now (spectrum .entry)) (now (logs .entry)) (now (model .entry)) m)
         r (now (share .exit)) (now (out .entry) ∷ []) (now (out .exit) ∷ [])) ⌝ }
 {
     let sound = features::listen(&share[3169..3191]);

@@ -8,7 +8,7 @@ ghost use lib.Ieee.{binary32, ofInt};
 ghost use Rattle.rules.specs.Place.{put};
 ghost use Rattle.frame.specs.Share.{keptX, keptEx, keptLag};
 ghost use Rattle.frame.specs.Heard.{scaled, energies};
-ghost use Rattle.frame.specs.Frame.{lifted, noted};
+ghost use Rattle.frame.specs.Frame.{plusHundredth, putKept};
 
 // out is the spectrum, each number times `wnorm`.
 pub(crate) fn scale(out: &mut [f32], spectrum: &[f32])
@@ -24,7 +24,7 @@ pub(crate) fn scale(out: &mut [f32], spectrum: &[f32])
 // Adds 0.01 to each energy: what the logarithms are taken of.
 fn lift(ex: &mut [f32])
     requires { ⌜ length (now ex) ≡ 22 ⌝ }
-    ensures { λ _. ⌜ now (ex .exit) ≡ lifted (now (ex .entry)) ⌝ }
+    ensures { λ _. ⌜ now (ex .exit) ≡ plusHundredth (now (ex .entry)) ⌝ }
 {
     for i in 0..22 {
         ex[i] = 0.01 + ex[i];
@@ -53,8 +53,8 @@ fn keep(share: &mut [f32], ex: &[f32], lag: usize)
 // What call 2 does once its window is written.
 pub(crate) fn note(share: &mut [f32], spectrum: &[f32], lag: usize, sums: &mut [f32])
     requires { ⌜ (length (now share) ≡ 6144) × (length (now spectrum) ≡ 961) × (length (now sums) ≡ 22) × (lag ≤ 768) ⌝ }
-    ensures { λ _. ⌜ now (share .exit) ≡ noted (now (share .entry)) (now (spectrum .entry)) lag ⌝ }
-    ensures { λ _. ⌜ now (sums .exit) ≡ lifted (energies (now (spectrum .entry))) ⌝ }
+    ensures { λ _. ⌜ now (share .exit) ≡ putKept (now (share .entry)) (now (spectrum .entry)) lag ⌝ }
+    ensures { λ _. ⌜ now (sums .exit) ≡ plusHundredth (energies (now (spectrum .entry))) ⌝ }
 {
     analyse(share, spectrum, sums);
     keep(share, sums, lag);

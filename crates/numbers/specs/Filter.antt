@@ -10,9 +10,12 @@ use Rattle.numbers.specs.declared.filter.Memory.{Memory}
 use Rattle.numbers.specs.declared.filter.Filtered.{Filtered}
 use Rattle.numbers.specs.Narrowed.{narrowed}
 
--- mem: [f32; 2]
+-- mem: [f32; 2], as the filter takes it and as a list
 abbrev pub memoryOf : List Float → Memory
 memoryOf mem = record { m0 = at mem 0; m1 = at mem 1 }
+
+abbrev pub memoryList : Memory → List Float
+memoryList mem = mem .m0 ∷ mem .m1 ∷ []
 
 -- BIQUAD_HP: a is -1.99599 and 0.99600, and b is -2.0 and 1.0
 abbrev pub highPass : Biquad
