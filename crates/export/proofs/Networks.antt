@@ -4,7 +4,7 @@ use mathlib.Core.List.{List}
 use Prim.Native.Nat.{ℕ, _≤_}
 use Rattle.rules.specs.Leaf.{Leaf, done, refused}
 use lib.Ieee.{Float}
-use Rattle.network.specs.Compute.{Outcome, computed}
+use Rattle.network.specs.Compute.{Computing, computed}
 use Rattle.network.specs.declared.Computed.{Computed}
 use Rattle.network.specs.declared.Computed.the-variants.{Done, Refused, Misread}
 use Rattle.network.proofs.Callers.{Answered, answered}
@@ -20,7 +20,7 @@ small Done h = tt
 small (Refused number) h = tt
 small (Misread number layer) h = h
 
-pub small-answer : (gains voice vad noise denoise : List Float) (model : List ℕ) (features : List Float) {o : Outcome} → o ≡ computed gains voice vad noise denoise model features
+pub small-answer : (gains voice vad noise denoise : List Float) (model : List ℕ) (features : List Float) {o : Computing} → o ≡ computed gains voice vad noise denoise model features
     → Small (o .answer)
 small-answer gains voice vad noise denoise model features e =
     rw e (small (computed gains voice vad noise denoise model features .answer) (answered gains voice vad noise denoise model features))

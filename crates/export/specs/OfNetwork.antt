@@ -1,7 +1,7 @@
 -- What crosses the boundary of `network` as a number: an activation, and a frame's answer.
 use Prim.Native.Nat.{ℕ, _+_, _*_, _≤_}
 use Rattle.rules.specs.Leaf.{_leaving_}
-use Rattle.network.specs.Compute.{Frame, Outcome}
+use Rattle.network.specs.Compute.{Frame, Computing}
 use Rattle.network.specs.declared.Computed.{Computed}
 use Rattle.network.specs.declared.Computed.the-variants.{Done, Refused, Misread}
 
@@ -16,7 +16,7 @@ numberOf (Refused number) = number
 numberOf (Misread number layer) = 7 + 256 * number + 65536 * layer
 
 -- the number, and what the buffers hold
-abbrev pub told : Outcome → ℕ × Frame
+abbrev pub told : Computing → ℕ × Frame
 told o = numberOf (o .answer) leaving o .left
 
 -- ---- for the parts of the code
