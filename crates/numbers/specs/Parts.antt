@@ -3,8 +3,8 @@ use mathlib.Core.Path.{_≡_}
 use Prim.Native.Nat.{ℕ, _+_, _*_, _^_, _≤_, _<_}
 use mathlib.Core.Bool.{Bool, true, false, cond}
 use lib.Ieee.{Float, nan, inf, fin, Format, binary32, binary64, up, down, neg, lt, hid, ones, top, ofBits}
-use Rattle.rules.specs.F32.{f32}
-use Rattle.numbers.specs.Activations.{one, eight, magnitude}
+use Rattle.rules.specs.F32.{f32, one}
+use Rattle.numbers.specs.Activations.{eight, magnitude}
 use Rattle.numbers.specs.Narrowed.{narrowed}
 
 -- neither a NaN nor an infinity, and from 0 to 8, -0 included: what `tansig_approx` looks up
