@@ -3,9 +3,9 @@ use std::fs::write;
 
 fn main() {
     let c = common();
-    table("bands", "window", "Window", "window", "The window's 960 numbers, `window` in `common()` of lib.rs", (10, 10), &c.window);
-    table("bands", "dct_table", "DctTable", "dctTable", "The DCT's 22 rows of 22 numbers, `dct_table` in `common()` of lib.rs", (22, 8), &c.dct_table);
-    table("numbers", "table", "Tansig", "tansig", "The activations' 201 numbers, `TANSIG_TABLE` of util.rs", (10, 10), &TANSIG_TABLE);
+    table("bands", "window", "Window", "window", "The window's 960 numbers, `window` in `common()` of lib.rs", &c.window);
+    table("bands", "dct_table", "DctTable", "dctTable", "The DCT's 22 rows of 22 numbers, `dct_table` in `common()` of lib.rs", &c.dct_table);
+    table("numbers", "table", "Tansig", "tansig", "The activations' 201 numbers, `TANSIG_TABLE` of util.rs", &TANSIG_TABLE);
     one_by_one("crates/numbers/src/table.rt", "tansig", &TANSIG_TABLE);
     println!("wnorm {:08X}", c.wnorm.to_bits());
 }
@@ -40,7 +40,13 @@ pub(crate) fn entry(i: u32) -> f32
     write(file, code).unwrap();
 }
 
-fn table(krate: &str, module: &str, spec: &str, name: &str, what: &str, (row, line): (usize, usize), numbers: &[f32]) {
+// A row of the DCT takes two lines.
+const HALF_ROW: &str = "abbrev halfRow : ℕ → ℕ → ℕ → ℕ → ℕ → ℕ → ℕ → ℕ → ℕ → ℕ → ℕ → List ℕ
+halfRow a b c d e f g h i j k = a ∷ b ∷ c ∷ d ∷ e ∷ f ∷ g ∷ h ∷ i ∷ j ∷ k ∷ []
+
+";
+
+fn table(krate: &str, module: &str, spec: &str, name: &str, what: &str, numbers: &[f32]) {
     let count = numbers.len();
     let constant = if spec == "DctTable" { "DCT_TABLE".into() } else { spec.to_uppercase() };
     let lines: String = numbers.iter().map(|x| format!("    {},\n", literal(*x))).collect();
@@ -60,25 +66,28 @@ pub fn all() -> [f32; {count}]
 }}
 "
     );
-    // a row begins a line
-    let laid = |part: &[f32]| format!("    {} ∷\n", part.iter().map(|x| format!("0x{:08X}", x.to_bits())).collect::<Vec<_>>().join(" ∷ "));
-    let rows: String = numbers.chunks(row).flat_map(|row| row.chunks(line)).map(laid).collect();
+    let bits: Vec<String> = numbers.iter().map(|x| format!("0x{:08X}", x.to_bits())).collect();
+    let (half_row, list) = if spec == "DctTable" {
+        (HALF_ROW, bits.chunks(11).map(|half| format!("    halfRow {}", half.join(" "))).collect::<Vec<_>>().join(" ++\n"))
+    } else {
+        ("", bits.chunks(10).map(|ten| format!("    {} ∷", ten.join(" ∷ "))).collect::<Vec<_>>().join("\n") + " []")
+    };
     let text = format!(
         "-- {what}: by their bit patterns.
-use mathlib.Core.List.{{List, [], _∷_, map}}
+use mathlib.Core.List.{{List, [], _∷_{}, map}}
 use Prim.Native.Nat.{{ℕ}}
 use lib.Ieee.{{Float, ofBits}}
 use Rattle.rules.specs.F32.{{f32}}
 
-unfoldable pub {name}Bits : List ℕ
+{half_row}unfoldable pub {name}Bits : List ℕ
 {name}Bits =
-{} []
+{list}
 
 unfoldable pub {name} : List Float
 unfolding {name}Bits ofBits
 {name} = map f32 {name}Bits
 ",
-        rows.trim_end()
+        if half_row.is_empty() { "" } else { ", _++_" }
     );
     write(format!("crates/{krate}/src/{module}.rt"), code).unwrap();
     write(format!("crates/{krate}/specs/{spec}.antt"), text).unwrap();

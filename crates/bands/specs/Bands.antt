@@ -6,7 +6,7 @@ use lib.IntN.{pos}
 use lib.Ieee.{Float, binary32, ofInt}
 use lib.ListN.{set}
 use Rattle.rules.specs.Loop.{loop}
-use Rattle.rules.specs.F32.{_⊕_, _⊖_, _⊗_, _⊘_, at, natAt, f32, zeros}
+use Rattle.rules.specs.F32.{_⊕_, _⊖_, _⊗_, _⊘_, at, natAt, f32, one, zeros}
 use Rattle.bands.specs.Spectrum.{re, im}
 
 -- EBAND_5MS, and its entries << FRAME_SIZE_SHIFT: band i's bins start at edge i
@@ -32,7 +32,7 @@ unfoldable pub frac : ℕ → ℕ → Float
 frac i j = ofInt binary32 (pos j) ⊘ ofInt binary32 (pos (edge (i + 1) - edge i))
 
 abbrev pub rest : ℕ → ℕ → Float
-rest i j = f32 0x3F800000 ⊖ frac i j
+rest i j = one ⊖ frac i j
 
 -- ---- compute_band_corr
 

@@ -15,10 +15,11 @@ use Rattle.bands.proofs.Results.{length-corr}
 use Rattle.model.specs.Model.{readOf}
 use Rattle.model.specs.declared.Model.{Model}
 use Rattle.model.specs.declared.Reading.the-variants.{Good}
-use Rattle.network.specs.Compute.{Outcome, Lengths, framed}
+use Rattle.network.specs.Compute.{Computing, layersInPlace}
+use Rattle.network.specs.Parts.{Lengths}
 use Rattle.network.proofs.Callers.{computed-done, kept}
-use Rattle.features.specs.Features.{remembered}
-use Rattle.features.proofs.Lengths.{length-gained, length-remembered, length-features}
+use Rattle.features.specs.Features.{withCepstrum}
+use Rattle.features.proofs.Lengths.{length-gained, length-with-cepstrum, length-features}
 use Rattle.frame.specs.Share.{SHARE, inputMem, synthesisMem, keptX, keptEx, keptLag, memHpX, lastg, cepstralMem, vadState, noiseState, denoiseState}
 use Rattle.numbers.specs.Filter.{memoryOf}
 use Rattle.frame.specs.Heard.{scaled, energies, featured, rnnOf, spokenFrom, spoken}
@@ -87,12 +88,12 @@ module _ (q : Place) where
       let a = replicate 1 (f32 0) in
       let fit : Lengths (length g) (length a) (length v) (length n) (length d) (length features) =
       record { gained = refl; voiced = refl; first = lv; second = ln; third = ld; featured = few } in
-      let done = computed-done g a v n d bytes features fit {m = m} {left = framed bytes m v n d features} good refl in
+      let done = computed-done g a v n d bytes features fit {m = m} {left = layersInPlace bytes m v n d features} good refl in
       let k = kept g a v n d bytes features in
       states-beside share _ _ _ apart whole
-      (ap (λ (o : Outcome). length (o .left .vad)) done ∙ k .first ∙ lv)
-      (ap (λ (o : Outcome). length (o .left .noise)) done ∙ k .second ∙ ln)
-      (ap (λ (o : Outcome). length (o .left .denoise)) done ∙ k .third ∙ ld)
+      (ap (λ (o : Computing). length (o .left .vad)) done ∙ k .first ∙ lv)
+      (ap (λ (o : Computing). length (o .left .noise)) done ∙ k .second ∙ ln)
+      (ap (λ (o : Computing). length (o .left .denoise)) done ∙ k .third ∙ ld)
 
   -- before the gains are remembered
   pub sensed-beside : (share : List Float) (index : ℕ) (p ep logs : List Float) (bytes : List ℕ) (m : Model)
@@ -101,9 +102,9 @@ module _ (q : Place) where
   unfolding featured
   sensed-beside share index p ep logs bytes m apart good whole inside =
       let mem = get cepstralMem share in
-      let row = length-remembered mem index logs (length-get cepstralMem share (omega arith)) inside in
-      let one = put-beside cepstralMem share (remembered mem index logs) (omega arith) (apart .0) whole row in
-      then one (rnn-beside (put cepstralMem share (remembered mem index logs)) _ bytes m (apart .1) good (one .size) (length-features _ _ _ _ _))
+      let row = length-with-cepstrum logs mem index (length-get cepstralMem share (omega arith)) inside in
+      let one = put-beside cepstralMem share (withCepstrum logs mem index) (omega arith) (apart .0) whole row in
+      then one (rnn-beside (put cepstralMem share (withCepstrum logs mem index)) _ bytes m (apart .1) good (one .size) (length-features _ _ _ _ _))
 
   pub done3-beside : (share : List Float) (index : ℕ) (spectrum logs : List Float) (bytes : List ℕ) (m : Model)
       → AllApart (lastg ∷ cepstralMem ∷ vadState ∷ noiseState ∷ denoiseState ∷ []) q → readOf bytes ≡ Good m → length share ≡ SHARE → index ≤ 7

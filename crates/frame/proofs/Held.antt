@@ -14,7 +14,7 @@ use Rattle.rules.proofs.Places.{get-put}
 use Rattle.model.specs.Model.{readOf}
 use Rattle.model.specs.declared.Model.{Model}
 use Rattle.model.specs.declared.Reading.the-variants.{Good}
-use Rattle.features.specs.Gains.{held, gained}
+use Rattle.features.specs.Gains.{sixTenths, gained}
 use Rattle.features.proofs.Lengths.{length-gained}
 use Rattle.features.proofs.Remembered.{never-nan, at-least-held}
 use Rattle.frame.specs.declared.Reply.{Reply}
@@ -39,7 +39,7 @@ isHeard (told.Misread n l) = false
 
 pub record Holds (share : List Float) (f : Effect) : Type 0 where
   pub number : (i : ℕ) → i < 22 → isNan (gainOf share i) ≡ false → isNan (gainOf (f .share) i) ≡ false
-  pub raised : (i : ℕ) → i < 22 → isNan (gainOf share i) ≡ false → isHeard (f .reply) ≡ true → le (held (gainOf share i)) (gainOf (f .share) i) ≡ true
+  pub raised : (i : ℕ) → i < 22 → isNan (gainOf share i) ≡ false → isHeard (f .reply) ≡ true → le (sixTenths (gainOf share i)) (gainOf (f .share) i) ≡ true
 
 module _ (share : List Float) where
   same : (f : Effect) → isHeard (f .reply) ≡ false → get lastg (f .share) ≡ get lastg share → Holds share f

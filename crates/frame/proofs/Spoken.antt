@@ -7,7 +7,7 @@ use Rattle.rules.specs.F32.{at}
 use Rattle.rules.specs.Place.{get, put}
 use Rattle.bands.specs.Bands.{bandGain}
 use Rattle.model.specs.declared.Model.{Model}
-use Rattle.network.specs.Compute.{frameOf, framed}
+use Rattle.network.specs.Compute.{frameOf, layersInPlace}
 use Rattle.features.specs.Pitch.{pitchFiltered, applied}
 use Rattle.frame.specs.Share.{keptX, keptEx, lastg, vadState, noiseState, denoiseState}
 use Rattle.frame.specs.Heard.{featured, rnnOf, heldGains, spokenFrom}
@@ -17,7 +17,7 @@ module _ (share : List Float) (bytes : List ℕ) (m : Model) where
   -- the states are done1 out of the share and put back
   pub thought : (features : List Float) {a b c gains voice vad noise denoise after : List Float}
       → a ≡ get vadState share → b ≡ get noiseState share → c ≡ get denoiseState share
-      → frameOf gains voice vad noise denoise ≡ framed bytes m a b c features
+      → frameOf gains voice vad noise denoise ≡ layersInPlace bytes m a b c features
       → after ≡ put denoiseState (put noiseState (put vadState share vad) noise) denoise
       → rnnAs after gains (at voice 0) ≡ rnnOf share features bytes m
   unfolding rnnOf

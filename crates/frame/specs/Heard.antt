@@ -9,10 +9,10 @@ use Rattle.rules.specs.Tab.{tab}
 use Rattle.bands.specs.Bands.{bandCorr, bandGain}
 use Rattle.bands.specs.Norm.{wnorm}
 use Rattle.model.specs.declared.Model.{Model}
-use Rattle.network.specs.Compute.{framed}
+use Rattle.network.specs.Compute.{layersInPlace}
 use Rattle.features.specs.Gains.{gained}
 use Rattle.features.specs.Pitch.{pitchFiltered, applied}
-use Rattle.features.specs.Features.{normalisedCorr, featuresOf, remembered}
+use Rattle.features.specs.Features.{normalisedCorr, featuresOf, withCepstrum}
 use Rattle.frame.specs.Share.{keptX, keptEx, keptLag, lastg, cepstralMem, vadState, noiseState, denoiseState}
 
 -- `transform_input`: *x *= norm
@@ -34,7 +34,7 @@ featured share index p ep logs =
     let exp = normalisedCorr (get keptX share) p (get keptEx share) ep in
     let mem = get cepstralMem share in
     record {
-      share = put cepstralMem share (remembered mem index logs);
+      share = put cepstralMem share (withCepstrum logs mem index);
       features = featuresOf exp (at (get keptLag share) 0) logs mem index;
       exp = exp;
     }
@@ -47,7 +47,7 @@ pub record Rnn : Type 0 where
 
 unfoldable pub rnnOf : List Float → List Float → List ℕ → Model → Rnn
 rnnOf share features bytes m =
-    let f = framed bytes m (get vadState share) (get noiseState share) (get denoiseState share) features in
+    let f = layersInPlace bytes m (get vadState share) (get noiseState share) (get denoiseState share) features in
     record {
       share = put denoiseState (put noiseState (put vadState share (f .vad)) (f .noise)) (f .denoise);
       gains = f .gains;

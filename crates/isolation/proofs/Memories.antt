@@ -21,7 +21,7 @@ use Rattle.rules.proofs.Places.{length-get}
 use Rattle.model.specs.Model.{readOf}
 use Rattle.model.specs.declared.Reading.{Reading}
 use Rattle.model.specs.declared.Reading.the-variants.{Good, Refused as Unread}
-use Rattle.features.specs.Gains.{held}
+use Rattle.features.specs.Gains.{sixTenths}
 use Rattle.frame.specs.Reply.{passed}
 use Rattle.frame.specs.Share.{SHARE, lastg, cepstralMem, vadState, noiseState, denoiseState}
 use Rattle.frame.specs.Frame.{Effect, refusal}
@@ -134,9 +134,9 @@ module _ (b : Record) (share : List Float) (whole : length share ≡ SHARE) (ask
   stays-number numbers = by-gate (λ o. Numbers (o .store)) numbers (λ i h. every-holds b share ask .number i h (numbers i h))
 
   holds : Numbers share → isHeard (desk 1 0 b share ask .answer .reply) ≡ true
-      → (i : ℕ) → i < 22 → le (held (gainOf share i)) (gainOf (desk 1 0 b share ask .store) i) ≡ true
+      → (i : ℕ) → i < 22 → le (sixTenths (gainOf share i)) (gainOf (desk 1 0 b share ask .store) i) ≡ true
   holds numbers =
-      by-gate (λ o. isHeard (o .answer .reply) ≡ true → (i : ℕ) → i < 22 → le (held (gainOf share i)) (gainOf (o .store) i) ≡ true)
+      by-gate (λ o. isHeard (o .answer .reply) ≡ true → (i : ℕ) → i < 22 → le (sixTenths (gainOf share i)) (gainOf (o .store) i) ≡ true)
       (λ h. absurd (false-true h)) (λ h i band. every-holds b share ask .raised i band (numbers i band) h)
 
 -- ---- any run

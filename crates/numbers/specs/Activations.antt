@@ -4,11 +4,8 @@ use mathlib.Core.Bool.{cond}
 use mathlib.Core.List.{List}
 use lib.IntN.{pos}
 use lib.Ieee.{Float, binary32, neg, lt, ofInt, toUnsigned}
-use Rattle.rules.specs.F32.{f32, at, _⊕_, _⊖_, _⊗_}
+use Rattle.rules.specs.F32.{f32, one, at, _⊕_, _⊖_, _⊗_}
 use Rattle.numbers.specs.Tansig.{tansig}
-
-abbrev pub one : Float
-one = f32 0x3F800000
 
 abbrev half : Float
 half = f32 0x3F000000

@@ -79,7 +79,8 @@ fn too_far(t: f32, near: f32) -> f32
     if t < near { 1.0 } else { 0.0 }
 }
 
-// The table's place nearest to x, as a float: with 2^23 added a number keeps no digits behind the point. Without a branch, so that loops over it are vectorised.
+// The table's place nearest to x, as a float: with 2^23 added a number keeps no digits behind the point. Without a branch, so that
+// loops over it are vectorised.
 fn place_of(x: f32) -> f32
     requires { ⌜ UpToEight x ⌝ }
     ensures { λ r. ⌜ r ≡ ofInt binary32 (pos (place x)) ⌝ }

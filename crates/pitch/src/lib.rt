@@ -1,4 +1,5 @@
-// The arithmetic of pitch.rs up to the downsampled signal; the search over lags is in `pitch_search`. A public leaf refuses with 5, and nothing changed, exactly where its lengths do not fit; its core does the work.
+// The arithmetic of pitch.rs up to the downsampled signal; the search over lags is in `pitch_search`. A public leaf refuses with 5,
+// and nothing changed, exactly where its lengths do not fit; its core does the work.
 ghost use mathlib.Core.Path.{_≡_};
 ghost use Prim.Native.Nat.{_+_, _<_, _≤_};
 ghost use lib.Ieee.{neg};
@@ -190,7 +191,8 @@ fn xcorr_fours(xs: &[f32], ys: &[f32], xcorr: &mut [f32])
 // The lags that are left.
 fn xcorr_rest(xs: &[f32], ys: &[f32], xcorr: &mut [f32])
     requires { ⌜ XcorrFits (length (now xs)) (length (now ys)) (length (now xcorr)) ⌝ }
-    requires { ⌜ take (wholeFours (length (now xcorr))) (now xcorr) ≡ tab (wholeFours (length (now xcorr))) (lagOf (now xs) (now ys) (length (now xcorr))) ⌝ }
+    requires { ⌜ take (wholeFours (length (now xcorr))) (now xcorr)
+        ≡ tab (wholeFours (length (now xcorr))) (lagOf (now xs) (now ys) (length (now xcorr))) ⌝ }
     ensures { λ _. ⌜ now (xcorr .exit) ≡ pitchXcorr (now (xs .entry)) (now (ys .entry)) (length (now (xcorr .entry))) ⌝ }
 {
     let n = xcorr.len();

@@ -12,7 +12,7 @@ use Rattle.rules.specs.Leaf.{_leaving_}
 use Rattle.rules.specs.Place.{get, put}
 use Rattle.rules.proofs.Called.{left as fitted}
 use Rattle.rules.proofs.Places.{length-get}
-use Rattle.features.specs.Features.{normalisedCorr, featuresOf, remembered}
+use Rattle.features.specs.Features.{normalisedCorr, featuresOf, withCepstrum}
 use Rattle.frame.specs.Share.{keptX, keptEx, keptLag, cepstralMem}
 use Rattle.frame.specs.Heard.{featured}
 use Rattle.frame.specs.Parts.{featuredAs}
@@ -26,7 +26,7 @@ sensed : (share : List Float) (index : ℕ) (p ep logs : List Float) {x ex : Lis
     → (f leaving e leaving m)
     ≡ (featuresOf (normalisedCorr x p ex ep) lag logs (get cepstralMem share) index
     leaving normalisedCorr x p ex ep
-    leaving remembered (get cepstralMem share) index logs)
+    leaving withCepstrum logs (get cepstralMem share) index)
     → featuredAs (put cepstralMem share m) f e ≡ featured share index p ep logs
 unfolding featured
 sensed share index p ep logs hx hex hlag h =
