@@ -206,7 +206,6 @@ impl Tally {
     }
 
     /// The same, where the signs of the Rust's zeros may be open.
-    #[allow(clippy::too_many_arguments)]
     pub fn leaf_by(
         &mut self,
         by: By,
