@@ -35,7 +35,7 @@ length-blended activation z h state = same-length (blendStep activation z h) (λ
 pub length-gruOf : (weights recurrent bias : List ℕ) (activation : Activation) (input state : List Float)
     → length (gruOf weights recurrent bias activation input state) ≡ length state
 unfolding gruOf
-length-gruOf weights recurrent bias activation input state = length-blended activation _ _ state
+length-gruOf weights recurrent bias activation input state = simp length-blended
 
 length-array : (bytes : List ℕ) (k : Kind) (h : Header) → LiesIn (length bytes) k h → (which : ℕ) → length (array bytes k h which) ≡ placeOf k h which .size
 length-array bytes k h w which = length-get (placeOf k h which) bytes (place-within k h w which)
