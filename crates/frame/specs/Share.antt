@@ -45,6 +45,4 @@ noiseState = record { at = 3520; size = 128 }
 abbrev pub denoiseState : Place
 denoiseState = record { at = 3648; size = 128 }
 
--- the rest: no call reads it or writes it
-abbrev pub spare : Place
-spare = record { at = 3776; size = 2368 }
+-- What is behind them, 2,368 numbers from place 3,776 on, no call reads or writes.
