@@ -28,12 +28,12 @@ recordIn ns =
 abbrev pub sevenOf : ℕ → ℕ → ℕ
 sevenOf number layer = 7 + 256 * number + 65536 * layer
 
-abbrev pub numberOf : Reply → ℕ
-numberOf Done = 0
-numberOf Silent = 0
-numberOf (Heard v e) = 0
-numberOf (Refused n) = n
-numberOf (Misread n l) = sevenOf n l
+abbrev pub replyNumber : Reply → ℕ
+replyNumber Done = 0
+replyNumber Silent = 0
+replyNumber (Heard v e) = 0
+replyNumber (Refused n) = n
+replyNumber (Misread n l) = sevenOf n l
 
 -- call 3 has a buffer more, for its answer as three numbers: heard or not, voice, energy
 abbrev pub heardOf : Reply → List Float
@@ -66,7 +66,7 @@ handedBack o ns = cond (passed (o .answer .reply)) (numbersOf (o .answer .rec)) 
 
 -- what a contract says of a host's call: the number, the record, the store and the buffers afterwards
 pub record Hosted (o : Given) (number : ℕ) (ns ns′ : List ℕ) (store : List Float) (held out : List (List Float)) : Type 0 where
-  pub numbers : number ≡ numberOf (o .answer .reply)
+  pub numbers : number ≡ replyNumber (o .answer .reply)
   pub records : ns′ ≡ handedBack o ns
   pub stores : store ≡ o .store
   pub writes : out ≡ left (o .answer .reply) held (o .written)

@@ -12,7 +12,7 @@ use model::Reading;
 // A side, 0 left and 1 right.
 pub struct Side(pub usize);
 
-// A side's record, which goes in and comes back by value; closed, it is all zeros. It is called `rec`, since `record` is a word of the logic.
+// A side's record, which goes in and comes back by value; closed, it is all zeros. It is called `rec`: `record` is a word of the logic.
 pub struct Record {
     pub due: usize,
     pub index: usize,

@@ -20,7 +20,7 @@ use Rattle.desk.specs.declared.Record.{Record}
 use Rattle.desk.specs.declared.Answer.{Answer}
 use Rattle.desk.specs.Gate.{BENCHES, inRange}
 use Rattle.desk.specs.Desk.{Ask, call3, Given, desk, Served}
-use Rattle.desk.specs.Surface.{RECORD, recordIn, numbersOf, numberOf, heardOf, besides, outOf, hosted, Hosted}
+use Rattle.desk.specs.Surface.{RECORD, recordIn, numbersOf, replyNumber, heardOf, besides, outOf, hosted, Hosted}
 use Rattle.desk.proofs.Ranged.{bounded, range-kept}
 use Rattle.desk.proofs.Replies.{small, no-out}
 use Rattle.export.specs.Parts.{HandsBack}
@@ -52,7 +52,7 @@ module _ (side : ℕ) (ns : List ℕ) (b : Record) (store store′ : List Float)
       })
 
   -- a call with no buffer but its own
-  pub handed : {number : ℕ} {ns′ : List ℕ} → (number ≡ numberOf (given .reply)) × (ns′ ≡ cond (passed (given .reply)) (numbersOf (given .rec)) ns)
+  pub handed : {number : ℕ} {ns′ : List ℕ} → (number ≡ replyNumber (given .reply)) × (ns′ ≡ cond (passed (given .reply)) (numbersOf (given .rec)) ns)
       → besides ask (given .reply) ≡ [] → Hosted (hosted BENCHES side ns store ask) number ns ns′ store′ held out
   unfolding hosted
   handed h none =
@@ -121,7 +121,7 @@ module _ (side : ℕ) (ns : List ℕ) (b : Record) (store store′ x l : List Fl
 
   pub handed-three : {number : ℕ} {ns′ : List ℕ} {answer′ : List Float} → length new ≡ length (get (upTo end) out)
       → answer′ ≡ cond (passed (given .reply)) (heardOf (given .reply)) answer
-      → (number ≡ numberOf (given .reply)) × (ns′ ≡ cond (passed (given .reply)) (numbersOf (given .rec)) ns)
+      → (number ≡ replyNumber (given .reply)) × (ns′ ≡ cond (passed (given .reply)) (numbersOf (given .rec)) ns)
       → Hosted (hosted BENCHES side ns store (call3 x l m (outOf (length answer) (length out)))) number ns ns′ store′
       (out ∷ answer ∷ []) (put (upTo end) out new ∷ answer′ ∷ [])
   unfolding hosted

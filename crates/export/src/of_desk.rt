@@ -1,5 +1,5 @@
-// desk: an opening and the frame calls, for a host that has numbers alone. `record` is a side's record as five numbers: due call, cepstral index
-// and the three GRU counts. `answer` is call 3's answer as three: heard or not, voice, energy. What is returned is 0 or the refusal.
+// desk: an opening and the frame calls, for a host that has numbers alone. `record` is a side's record as five numbers: due call,
+// cepstral index and the three GRU counts. `answer` is call 3's as three: heard or not, voice, energy. Returned is 0 or the refusal.
 ghost use mathlib.Core.Path.{_≡_};
 ghost use mathlib.Core.Bool.{true, cond};
 ghost use mathlib.Core.List.{[], _∷_};
@@ -7,7 +7,7 @@ ghost use lib.ListN.{length};
 ghost use Rattle.frame.specs.Reply.{passed};
 ghost use Rattle.desk.specs.Gate.{BENCHES};
 ghost use Rattle.desk.specs.Desk.{opening, call1, call2, call3, call4};
-ghost use Rattle.desk.specs.Surface.{RECORD, numbersOf, recordIn, numberOf, heardOf, outOf, hosted, Hosted};
+ghost use Rattle.desk.specs.Surface.{RECORD, numbersOf, recordIn, replyNumber, heardOf, outOf, hosted, Hosted};
 ghost use Rattle.desk.proofs.Ranged.{Bounded};
 ghost use Rattle.desk.proofs.Replies.{Small};
 ghost use Rattle.export.specs.Parts.{HandsBack};
@@ -57,7 +57,7 @@ fn put_record(record: &mut [u32], rec: Record)
 // A reply as a number.
 fn number_of(reply: Reply) -> u32
     requires { ⌜ Small reply ⌝ }
-    ensures { λ r. ⌜ r ≡ numberOf reply ⌝ }
+    ensures { λ r. ⌜ r ≡ replyNumber reply ⌝ }
 {
     match reply {
         Reply::Done => 0,
@@ -71,7 +71,7 @@ fn number_of(reply: Reply) -> u32
 // The record of a call that is done is handed back, and the number returned.
 fn hand_back(record: &mut [u32], given: Answer) -> u32
     requires { ⌜ HandsBack (now «record») given ⌝ }
-    ensures { λ r. ⌜ (r ≡ numberOf (given .reply))
+    ensures { λ r. ⌜ (r ≡ replyNumber (given .reply))
         × (now («record» .exit) ≡ cond (passed (given .reply)) (numbersOf (given .rec)) (now («record» .entry))) ⌝ }
 {
     let reply = given.reply;
@@ -218,7 +218,8 @@ pub extern "C" fn tuppence_call3(
 ) -> u32
     ensures { λ r. ⌜ Hosted
         (hosted BENCHES side (now («record» .entry)) (now (store .entry))
-        (call3 (now (spectrum .entry)) (now (logs .entry)) (now (model .entry)) (outOf (length (now (answer .entry))) (length (now (out .entry))))))
+        (call3 (now (spectrum .entry)) (now (logs .entry)) (now (model .entry))
+        (outOf (length (now (answer .entry))) (length (now (out .entry))))))
         r (now («record» .entry)) (now («record» .exit)) (now (store .exit))
         (now (out .entry) ∷ now (answer .entry) ∷ []) (now (out .exit) ∷ now (answer .exit) ∷ []) ⌝ }
 {

@@ -56,7 +56,8 @@ pub extern "C" fn tuppence_gru(
         (length (now (input .entry)))))
         (r leaving now (state .exit))
         (0 leaving gruOf
-        (now (weights .entry)) (now (recurrent .entry)) (now (bias .entry)) (activationOf activation) (now (input .entry)) (now (state .entry)))
+        (now (weights .entry)) (now (recurrent .entry)) (now (bias .entry))
+        (activationOf activation) (now (input .entry)) (now (state .entry)))
         (5 leaving now (state .entry)) ⌝ }
 {
     if 2 < activation {
@@ -95,7 +96,8 @@ pub extern "C" fn tuppence_network(
     model: &[u8],
     features: &[f32],
 ) -> u32
-    ensures { λ r. ⌜ (r leaving frameOf (now (gains .exit)) (now (voice .exit)) (now (vad .exit)) (now (noise .exit)) (now (denoise .exit)))
+    ensures { λ r. ⌜ (r leaving frameOf
+        (now (gains .exit)) (now (voice .exit)) (now (vad .exit)) (now (noise .exit)) (now (denoise .exit)))
         ≡ computedTold (computed
         (now (gains .entry)) (now (voice .entry)) (now (vad .entry)) (now (noise .entry)) (now (denoise .entry))
         (now (model .entry)) (now (features .entry))) ⌝ }

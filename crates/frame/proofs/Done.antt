@@ -1,14 +1,11 @@
 -- What a call gives where it is refused nothing; and call 3, where `out` has no place. Assumes nothing.
-use Prim.Native.Nat.{ℕ, _+_, _≤_, _<_}
+use Prim.Native.Nat.{ℕ, _≤_}
 use mathlib.Core.Bool.{Bool, true, false, cond, _||_}
 use mathlib.Core.List.{List, [], _∷_}
 use mathlib.Core.Path.{_≡_, refl, sym, ap, _∙_}
 use borrow.Author.Tests.{eq-eqb, le-ltb}
 use lib.ListN.{length}
-use lib.Seq.{getD-take, getD-drop}
 use lib.Ieee.{Float}
-use Rattle.rules.specs.F32.{at}
-use Rattle.rules.specs.Place.{Place, get}
 use Rattle.model.specs.Model.{readOf}
 use Rattle.model.specs.declared.Model.{Model}
 use Rattle.model.specs.declared.Reading.{Reading}
@@ -20,11 +17,6 @@ use Rattle.frame.specs.Share.{SHARE}
 use Rattle.frame.specs.Frame.{Effect, Worked, refusal, done1, call1, done2, call2, counted, modelled, done3, call3, done4, call4}
 use Rattle.frame.specs.Parts.{checked}
 use Rattle.frame.proofs.Truth.{true-false, false-true}
-
--- a place, number by number
-pub at-get : (p : Place) (xs : List Float) (i : ℕ) → i < p .size → at (get p xs) i ≡ at xs (p .at + i)
-unfolding get
-at-get p xs i h = rw (getD-take, getD-drop)
 
 module _ (share : List Float) (whole : length share ≡ SHARE) where
   pub call1-done : (samples : List Float) (window : ℕ) → length samples ≡ 480 → window ≡ 960 → call1 share samples window ≡ done1 share samples

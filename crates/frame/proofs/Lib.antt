@@ -4,6 +4,7 @@ pub mod Done
 pub mod Held
 pub mod Keeps
 pub mod Settled
+pub mod Sizes
 pub mod Sounded
 pub mod Spoken
 pub mod Truth

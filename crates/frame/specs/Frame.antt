@@ -98,7 +98,8 @@ done2 share spectrum lag =
 
 unfoldable pub call2 : List Float → List Float → ℕ → ℕ → ℕ → Effect
 call2 share spectrum lag window sums =
-    unless (5 when wrong ((length share, SHARE) ∷ (length spectrum, 961) ∷ (window, 960) ∷ (sums, 22) ∷ []) ∷ 6 when ltb 768 lag ∷ []) share
+    unless
+    (5 when wrong ((length share, SHARE) ∷ (length spectrum, 961) ∷ (window, 960) ∷ (sums, 22) ∷ []) ∷ 6 when ltb 768 lag ∷ []) share
     (done2 share spectrum lag)
 
 -- ---- call 3, from `compute_frame_features` and `process_frame` of denoise.rs
@@ -131,7 +132,8 @@ modelled same (Good m) share f = cond (same m) (f m) (refusal (Refused 8) share)
 
 unfoldable pub call3 : List Float → ℕ → ℕ → ℕ → ℕ → List Float → List Float → List ℕ → ℕ → Effect
 call3 share index vad noise denoise spectrum logs model out =
-    unless (5 when wrong ((length share, SHARE) ∷ (length spectrum, 961) ∷ (length logs, 22) ∷ (out, 961) ∷ []) ∷ 5 when ltb 7 index ∷ []) share
+    unless
+    (5 when wrong ((length share, SHARE) ∷ (length spectrum, 961) ∷ (length logs, 22) ∷ (out, 961) ∷ []) ∷ 5 when ltb 7 index ∷ []) share
     (modelled (counted vad noise denoise) (readOf model) share (done3 share index spectrum logs model))
 
 -- ---- call 4, from `frame_synthesis` of features.rs

@@ -1,5 +1,5 @@
--- A heard frame, stage by stage, from `compute_frame_features` of features.rs and `process_frame` of denoise.rs. A stage takes the share as the
--- stage before it left it.
+-- A heard frame, stage by stage, from `compute_frame_features` of features.rs and `process_frame` of denoise.rs. A stage takes the
+-- share as the stage before it left it.
 use Prim.Native.Nat.{ℕ}
 use mathlib.Core.List.{List}
 use lib.Ieee.{Float}

@@ -1,4 +1,4 @@
--- A share: 6,144 numbers, what the calls of one bench remember. Its fields, place by place.
+-- A share: 6,144 numbers, what the calls of one bench remember. Its fields, place by place; no call touches the rest, from 3,776 on.
 use Prim.Native.Nat.{ℕ}
 use Rattle.rules.specs.Place.{Place}
 
@@ -44,5 +44,3 @@ noiseState = record { at = 3520; size = 128 }
 
 abbrev pub denoiseState : Place
 denoiseState = record { at = 3648; size = 128 }
-
--- What is behind them, 2,368 numbers from place 3,776 on, no call reads or writes.

@@ -11,7 +11,7 @@ ghost use Rattle.frame.specs.Heard.{scaled, energies};
 ghost use Rattle.frame.specs.Frame.{plusHundredth, putKept};
 
 // out is the spectrum, each number times `wnorm`.
-pub(crate) fn scale(out: &mut [f32], spectrum: &[f32])
+fn scale(out: &mut [f32], spectrum: &[f32])
     requires { ⌜ (length (now out) ≡ 961) × (length (now spectrum) ≡ 961) ⌝ }
     ensures { λ _. ⌜ now (out .exit) ≡ scaled (now (spectrum .entry)) ⌝ }
 {
@@ -19,6 +19,16 @@ pub(crate) fn scale(out: &mut [f32], spectrum: &[f32])
     for i in 0..961 {
         out[i] = spectrum[i] * norm;
     }
+}
+
+// p is the spectrum, scaled, and ep its band energies.
+pub(crate) fn transform(p: &mut [f32], ep: &mut [f32], spectrum: &[f32])
+    requires { ⌜ (length (now p) ≡ 961) × (length (now ep) ≡ 22) × (length (now spectrum) ≡ 961) ⌝ }
+    ensures { λ _. ⌜ now (p .exit) ≡ scaled (now (spectrum .entry)) ⌝ }
+    ensures { λ _. ⌜ now (ep .exit) ≡ energies (now (spectrum .entry)) ⌝ }
+{
+    scale(p, spectrum);
+    bands::compute_band_corr(ep, p, p);
 }
 
 // Adds 0.01 to each energy: what the logarithms are taken of.
@@ -37,14 +47,14 @@ fn analyse(share: &mut [f32], spectrum: &[f32], ex: &mut [f32])
     ensures { λ _. ⌜ now (share .exit) ≡ put keptX (now (share .entry)) (scaled (now (spectrum .entry))) ⌝ }
     ensures { λ _. ⌜ now (ex .exit) ≡ energies (now (spectrum .entry)) ⌝ }
 {
-    scale(&mut share[2208..3169], spectrum);
-    bands::compute_band_corr(ex, &share[2208..3169], &share[2208..3169]);
+    transform(&mut share[2208..3169], ex, spectrum);
 }
 
 // The share keeps the band energies and the lag.
 fn keep(share: &mut [f32], ex: &[f32], lag: usize)
     requires { ⌜ (length (now share) ≡ 6144) × (length (now ex) ≡ 22) × (lag ≤ 768) ⌝ }
-    ensures { λ _. ⌜ now (share .exit) ≡ put keptLag (put keptEx (now (share .entry)) (now (ex .entry))) (ofInt binary32 (pos lag) ∷ []) ⌝ }
+    ensures { λ _. ⌜ now (share .exit)
+        ≡ put keptLag (put keptEx (now (share .entry)) (now (ex .entry))) (ofInt binary32 (pos lag) ∷ []) ⌝ }
 {
     rules::copy(&mut share[3169..3191], ex);
     share[3191] = lag as f32;

@@ -98,8 +98,8 @@ pub fn call2(
     Reply::Done
 }
 
-// Call 3: the second spectrum, 22 logarithms and the model in, 961 numbers written; silent, or heard with voice and energy. Of the record it
-// is told the cepstral index and the GRU counts.
+// Call 3: the second spectrum, 22 logarithms and the model in, 961 numbers written; silent, or heard with voice and energy. Of the
+// record it is told the cepstral index and the GRU counts.
 pub fn call3(
     share: &mut [f32],
     index: usize,

@@ -14,7 +14,7 @@ use Rattle.frame.specs.Reply.{passed, left}
 use Rattle.frame.specs.Share.{SHARE}
 use Rattle.desk.specs.declared.Record.{Record}
 use Rattle.desk.specs.Desk.{Ask, Given, desk}
-use Rattle.desk.specs.Surface.{numbersOf, recordIn, numberOf, besides, hosted, handedBack}
+use Rattle.desk.specs.Surface.{numbersOf, recordIn, replyNumber, besides, hosted, handedBack}
 use Rattle.desk.proofs.Settled.{refused-keeps}
 use Rattle.isolation.specs.Run.{Call, State, allClosed, given, after, Received, receive, received, asked, lonely, alone}
 use Rattle.isolation.specs.Host.{HostState, allZeros, hostGiven, Returned, returned, hostAfter, hostReceived, hostAlone, AsCalled}
@@ -25,7 +25,7 @@ abbrev told : Ask → Received → Returned
 told ask r =
     let reply = r .answer .reply in
     record {
-      number = numberOf reply;
+      number = replyNumber reply;
       numbers = numbersOf (r .answer .rec);
       buffers = cond (passed reply) (r .buffers ++ besides ask reply) [];
     }

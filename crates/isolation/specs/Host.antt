@@ -1,5 +1,5 @@
--- The law of isolation as it is called: over what the contracts of `tuppence_open` and `tuppence_call1` to `_call4` cite, `hosted`, where a side's record is
--- a list of numbers. The proof, in proofs/Hosts.antt, reads it off the law over the desk.
+-- The law of isolation as it is called: over what the contracts of `tuppence_open` and `tuppence_call1` to `_call4` cite, `hosted`, where
+-- a side's record is a list of numbers. The proof, in proofs/Hosts.antt, reads it off the law over the desk.
 use Prim.Native.Nat.{ℕ, _*_, _<_}
 use mathlib.Core.Bool.{cond}
 use mathlib.Core.List.{List, [], _∷_, map}
@@ -11,7 +11,7 @@ use Rattle.rules.specs.F32.{f32}
 use Rattle.frame.specs.Reply.{passed, left}
 use Rattle.frame.specs.Share.{SHARE}
 use Rattle.desk.specs.Desk.{Ask, Given, closed}
-use Rattle.desk.specs.Surface.{numbersOf, numberOf, hosted, handedBack}
+use Rattle.desk.specs.Surface.{numbersOf, replyNumber, hosted, handedBack}
 use Rattle.isolation.specs.Run.{Call, asked, lonely}
 
 -- each side's record as it was last received, all zeros at first, and the store
@@ -36,7 +36,7 @@ returned n h c =
     let o = hostGiven n h c in
     let reply = o .answer .reply in
     record {
-      number = numberOf reply;
+      number = replyNumber reply;
       numbers = handedBack o (h .numbers (c .side));
       buffers = cond (passed reply) (left reply (c .held) (o .written)) [];
     }

@@ -1,8 +1,9 @@
 -- What a bench remembers: what is claimed. The proofs are in proofs/Memories.antt.
 --
--- A side remembers the gains last applied, the cepstra with their index, and the states of the three GRUs. Of its own calls only an opening and a heard frame
--- change them: calls 1, 2 and 4 and a silent call 3 leave them alone, so that a silent frame does. From an opening on, whatever calls follow on whatever sides,
--- no remembered gain is NaN, and a heard frame leaves each at least the f32 product of 0.6 and its predecessor.
+-- A side remembers the gains last applied, the cepstra with their index, and the states of the three GRUs. Of its own calls only an
+-- opening and a heard frame change them: calls 1, 2 and 4 and a silent call 3 leave them alone, so that a silent frame does. From an
+-- opening on, whatever calls follow on whatever sides, no remembered gain is NaN, and a heard frame leaves each at least the f32 product
+-- of 0.6 and its predecessor.
 use Prim.Native.Nat.{ℕ, _*_, _<_}
 use mathlib.Core.Bool.{true, false}
 use mathlib.Core.List.{List, _∷_}

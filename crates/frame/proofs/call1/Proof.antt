@@ -13,7 +13,8 @@ use Rattle.numbers.specs.declared.filter.Memory.{Memory}
 use Rattle.frame.specs.Share.{inputMem, memHpX}
 use Rattle.numbers.specs.Filter.{memoryList}
 use Rattle.frame.specs.Frame.{call1}
-use Rattle.frame.proofs.Done.{call1-done, at-get}
+use Rattle.frame.proofs.Done.{call1-done}
+use Rattle.frame.proofs.Sizes.{at-get}
 use Rattle.frame.proofs.call1.Statement.{statement}
 use Rattle.frame.proofs.call1.Tie as tie
 

@@ -1,7 +1,7 @@
 -- `number_of` of a reply meets its contract: each arm, by the case that led there. Assumes nothing.
 use borrow.Author.Needs.{needs}
 use mathlib.Core.Path.{sym, ap, _∙_}
-use Rattle.desk.specs.Surface.{numberOf}
+use Rattle.desk.specs.Surface.{replyNumber}
 use Rattle.export.proofs.of_desk.number_of.Statement.{statement}
 use Rattle.export.proofs.of_desk.number_of.Tie as tie
 
@@ -22,4 +22,4 @@ number-of-spec =
     (λ c. search needs)  -- returns-2
     (λ c. search needs)  -- returns-3
     (λ c. search needs)  -- returns-4
-    (λ c. c .seven .ensures ∙ sym (ap numberOf (c .before .before .reply2 .given .1))))  -- returns-5
+    (λ c. c .seven .ensures ∙ sym (ap replyNumber (c .before .before .reply2 .given .1))))  -- returns-5

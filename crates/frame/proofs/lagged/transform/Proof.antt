@@ -1,4 +1,4 @@
--- `frame::heard::transform` meets its contract: what each call leaves, in a row. Assumes nothing.
+-- `frame::lagged::transform` meets its contract: what each call leaves, in a row. Assumes nothing.
 use mathlib.Core.Path.{ap, _∙_}
 use mathlib.Core.List.{List}
 use native.Mathlib.Omega.{arith}
@@ -7,8 +7,8 @@ use lib.Ieee.{Float}
 use Rattle.rules.proofs.Called.{left as fitted}
 use Rattle.bands.specs.Bands.{bandCorr}
 use Rattle.frame.specs.Heard.{energies}
-use Rattle.frame.proofs.heard.transform.Statement.{statement}
-use Rattle.frame.proofs.heard.transform.Tie as tie
+use Rattle.frame.proofs.lagged.transform.Statement.{statement}
+use Rattle.frame.proofs.lagged.transform.Tie as tie
 
 returns : tie.Need-returns
 unfolding energies
