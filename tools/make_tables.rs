@@ -3,18 +3,56 @@ use std::fs::write;
 
 fn main() {
     let c = common();
-    table("bands", "window", "Window", "window", "The window's 960 numbers", &c.window);
-    table("bands", "dct_table", "DctTable", "dctTable", "The DCT's 22 rows of 22 numbers", &c.dct_table);
-    table("numbers", "table", "Tansig", "tansig", "The activations' 201 numbers", &TANSIG_TABLE);
+    table("bands", "window", "Window", "window", "The window's 960 numbers, `window` in `common()` of lib.rs", &c.window);
+    table("bands", "dct_table", "DctTable", "dctTable", "The DCT's 22 rows of 22 numbers, `dct_table` in `common()` of lib.rs", &c.dct_table);
+    table("numbers", "table", "Tansig", "tansig", "The activations' 201 numbers, `TANSIG_TABLE` of util.rs", &TANSIG_TABLE);
+    one_by_one("crates/numbers/src/table.rt", "tansig", &TANSIG_TABLE);
     println!("wnorm {:08X}", c.wnorm.to_bits());
 }
+
+fn literal(x: f32) -> String {
+    if x.fract() == 0.0 { format!("{x:.1}") } else { format!("{x}") }
+}
+
+// A function for one number of a table, behind what `table` wrote.
+fn one_by_one(file: &str, name: &str, numbers: &[f32]) {
+    let last = numbers.len() - 1;
+    let arms: String = numbers[..last].iter().enumerate().map(|(i, x)| format!("        {i} => {},\n", literal(*x))).collect();
+    let written = std::fs::read_to_string(file).unwrap();
+    let written = written.replace(
+        "ghost use mathlib.Core.Path.{_≡_};\n",
+        "ghost use mathlib.Core.Path.{_≡_};\nghost use Prim.Native.Nat.{_≤_};\nghost use Rattle.rules.specs.F32.{at};\n",
+    );
+    let code = format!(
+        "{written}
+// One of them: a match is compiled to a table that is never filled.
+pub(crate) fn entry(i: u32) -> f32
+    requires {{ ⌜ i ≤ {last} ⌝ }}
+    ensures {{ λ r. ⌜ r ≡ at {name} i ⌝ }}
+{{
+    match i {{
+{arms}        _ => {},
+    }}
+}}
+",
+        literal(numbers[last])
+    );
+    write(file, code).unwrap();
+}
+
+// A row of the DCT takes two lines.
+const HALF_ROW: &str = "abbrev halfRow : ℕ → ℕ → ℕ → ℕ → ℕ → ℕ → ℕ → ℕ → ℕ → ℕ → ℕ → List ℕ
+halfRow a b c d e f g h i j k = a ∷ b ∷ c ∷ d ∷ e ∷ f ∷ g ∷ h ∷ i ∷ j ∷ k ∷ []
+
+";
 
 fn table(krate: &str, module: &str, spec: &str, name: &str, what: &str, numbers: &[f32]) {
     let count = numbers.len();
     let constant = if spec == "DctTable" { "DCT_TABLE".into() } else { spec.to_uppercase() };
-    let lines: String = numbers.iter().map(|x| if x.fract() == 0.0 { format!("    {x:.1},\n") } else { format!("    {x},\n") }).collect();
+    let lines: String = numbers.iter().map(|x| format!("    {},\n", literal(*x))).collect();
     let code = format!(
-        "// {what}. Whoever loops over them takes them once, by `all`: each mention of a constant array fills it anew.
+        "// {what}.
+// Whoever loops over them takes them once, by `all`: each mention of a constant array fills it anew.
 ghost use mathlib.Core.Path.{{_≡_}};
 ghost use Rattle.{krate}.specs.{spec}.{{{name}}};
 
@@ -28,22 +66,28 @@ pub fn all() -> [f32; {count}]
 }}
 "
     );
-    let rows: String = numbers.chunks(10).map(|row| format!("    {} ∷\n", row.iter().map(|x| x.to_bits().to_string()).collect::<Vec<_>>().join(" ∷ "))).collect();
+    let bits: Vec<String> = numbers.iter().map(|x| format!("0x{:08X}", x.to_bits())).collect();
+    let (half_row, list) = if spec == "DctTable" {
+        (HALF_ROW, bits.chunks(11).map(|half| format!("    halfRow {}", half.join(" "))).collect::<Vec<_>>().join(" ++\n"))
+    } else {
+        ("", bits.chunks(10).map(|ten| format!("    {} ∷", ten.join(" ∷ "))).collect::<Vec<_>>().join("\n") + " []")
+    };
     let text = format!(
-        "-- {what}, as the Rust makes them: by their bit patterns.
-use mathlib.Core.List.{{List, [], _∷_, map}}
+        "-- {what}: by their bit patterns.
+use mathlib.Core.List.{{List, [], _∷_{}, map}}
 use Prim.Native.Nat.{{ℕ}}
-use lib.Ieee.{{Float, binary32, ofBits}}
+use lib.Ieee.{{Float, ofBits}}
+use Rattle.rules.specs.F32.{{f32}}
 
-unfoldable pub patterns : List ℕ
-patterns =
-{} []
+{half_row}unfoldable pub {name}Bits : List ℕ
+{name}Bits =
+{list}
 
 unfoldable pub {name} : List Float
-unfolding patterns ofBits
-{name} = map (ofBits binary32) patterns
+unfolding {name}Bits ofBits
+{name} = map f32 {name}Bits
 ",
-        rows.trim_end()
+        if half_row.is_empty() { "" } else { ", _++_" }
     );
     write(format!("crates/{krate}/src/{module}.rt"), code).unwrap();
     write(format!("crates/{krate}/specs/{spec}.antt"), text).unwrap();

@@ -1,18 +1,12 @@
 //! `host clean`: two recordings, one for each bench, cleaned frame by frame over one store.
 
-use crate::recorder::{Heard, Recorder, Side};
+use crate::cleaned::Cleaned;
+use crate::folder::{told, Folder};
+use crate::recorder::{Recorder, Side};
 use crate::refusal::Refusal;
 use crate::{picture, table, wav, FRAME, RATE};
 use std::fs;
 use std::path::{Path, PathBuf};
-
-/// One bench's recording before and after, and what each frame was.
-pub struct Cleaned {
-    pub side: Side,
-    pub before: Vec<f32>,
-    pub after: Vec<f32>,
-    pub heard: Vec<Heard>,
-}
 
 /// The 480 samples of a frame; past the end of the recording they are 0.
 pub fn samples_of(recording: &[f32], frame: usize) -> [f32; FRAME] {
@@ -79,10 +73,6 @@ pub enum Inputs {
     Stereo(PathBuf),
 }
 
-fn told(path: &Path, why: impl std::fmt::Display) -> String {
-    format!("{}: {why}", path.display())
-}
-
 fn bytes_of(path: &Path) -> Result<Vec<u8>, String> {
     fs::read(path).map_err(|why| told(path, why))
 }
@@ -97,48 +87,6 @@ fn channels_of(path: &Path, count: usize) -> Result<Vec<Vec<f32>>, String> {
         return Err(told(path, format!("{wanted} wanted; this has {}", wav.channels.len())));
     }
     Ok(wav.channels)
-}
-
-/// Files that stand whole in a folder, or not at all.
-struct Folder {
-    path: PathBuf,
-    made: bool,
-    written: Vec<PathBuf>,
-}
-
-impl Folder {
-    fn new(path: &Path) -> Result<Folder, String> {
-        let made = !path.exists();
-        fs::create_dir_all(path).map_err(|why| told(path, why))?;
-        Ok(Folder { path: path.to_owned(), made, written: Vec::new() })
-    }
-
-    /// Writes a file beside its place.
-    fn write(&mut self, name: &str, bytes: &[u8]) -> Result<(), String> {
-        let part = self.path.join(format!("{name}.part"));
-        self.written.push(part.clone());
-        fs::write(&part, bytes).map_err(|why| told(&part, why))
-    }
-
-    /// Puts all files into their places.
-    fn keep(mut self) -> Result<(), String> {
-        for part in std::mem::take(&mut self.written) {
-            fs::rename(&part, part.with_extension("")).map_err(|why| told(&part, why))?;
-        }
-        self.made = false;
-        Ok(())
-    }
-}
-
-impl Drop for Folder {
-    fn drop(&mut self) {
-        for part in &self.written {
-            let _ = fs::remove_file(part);
-        }
-        if self.made {
-            let _ = fs::remove_dir(&self.path);
-        }
-    }
 }
 
 /// Writes the two recordings, the table and the picture, and what else there is, by its name.

@@ -1,6 +1,7 @@
 //! `host demo`: two short dictations over a grinder, cleaned with the house model.
 
-use crate::clean::{self, Cleaned};
+use crate::clean;
+use crate::cleaned::Cleaned;
 use crate::{wav, FRAME, RATE};
 use std::f64::consts::TAU;
 use std::path::Path;

@@ -3,7 +3,9 @@
 
 pub mod bench;
 pub mod clean;
+pub mod cleaned;
 pub mod demo;
+pub mod folder;
 pub mod picture;
 pub mod recorder;
 pub mod reference;

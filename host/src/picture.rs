@@ -1,6 +1,6 @@
 //! One picture of both benches before and after, with the heard stretches marked.
 
-use crate::clean::Cleaned;
+use crate::cleaned::Cleaned;
 use crate::recorder::Heard;
 use crate::{FRAME, RATE};
 use std::fmt::Write;
@@ -51,6 +51,16 @@ fn is_voice(heard: &Heard) -> bool {
     matches!(heard, Heard::Voice { probability, .. } if *probability > 0.5)
 }
 
+/// The most labels that stand side by side.
+const LABELS: usize = 15;
+
+/// The seconds that get a label: every one, every second, every fifth, every tenth, and so on.
+fn labelled(seconds: usize) -> impl Iterator<Item = usize> {
+    let steps = (0..).flat_map(|zeros| [1, 2, 5].map(|step| step * 10usize.pow(zeros)));
+    let step = steps.into_iter().find(|step| seconds / step < LABELS).unwrap_or(usize::MAX);
+    (0..=seconds).step_by(step)
+}
+
 /// A strip for each recording, the heard stretches as a bar below it, and where a voice is likely the bar is dark.
 pub fn svg(benches: &[Cleaned; 2]) -> String {
     let seconds = benches.iter().map(|b| b.before.len()).max().unwrap_or(0).max(1) as f64 / f64::from(RATE);
@@ -85,7 +95,7 @@ pub fn svg(benches: &[Cleaned; 2]) -> String {
             top += STRIP + GAP;
         }
     }
-    for second in 0..=seconds as usize {
+    for second in labelled(seconds as usize) {
         let x = LEFT + WIDTH * second as f64 / seconds;
         writeln!(
             text,
@@ -95,4 +105,19 @@ pub fn svg(benches: &[Cleaned; 2]) -> String {
         .unwrap();
     }
     text + "</svg>\n"
+}
+
+#[cfg(test)]
+mod tests {
+    use super::*;
+
+    #[test]
+    fn labels_have_room() {
+        assert!(labelled(14).eq(0..=14));
+        assert!(labelled(600).eq([0, 50, 100, 150, 200, 250, 300, 350, 400, 450, 500, 550, 600]));
+        for seconds in [0, 1, 15, 59, 61, 3_599, 36_000, 4_294_967] {
+            let labels = labelled(seconds).count();
+            assert!((seconds.min(5) + 1..=LABELS).contains(&labels), "{labels} labels for {seconds} seconds");
+        }
+    }
 }

@@ -99,10 +99,11 @@ fn timed<R>(spent: &mut Duration, f: impl FnOnce() -> R) -> R {
 }
 
 impl Recorder {
-    /// Opens a bench: what it held is wiped.
+    /// Opens a bench: what it held is wiped. A refused opening changes nothing.
     pub fn open(&mut self, side: Side, model: &[u8]) -> Result<(), Refusal> {
+        done(tuppence::open(&mut self.records[side as usize], &mut self.store, side as u32, model))?;
         self.finders[side as usize] = PitchFinder::new();
-        done(tuppence::open(&mut self.records[side as usize], &mut self.store, side as u32, model))
+        Ok(())
     }
 
     /// One frame of a bench: 480 samples in, 480 out.

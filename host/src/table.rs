@@ -1,6 +1,6 @@
 //! The table of frames, as CSV.
 
-use crate::clean::Cleaned;
+use crate::cleaned::Cleaned;
 use crate::recorder::Heard;
 use std::fmt::Write;
 

@@ -13,8 +13,16 @@ pub struct Wav {
 #[derive(Debug, PartialEq)]
 pub enum Fault {
     NotWav,
-    Format { tag: u16, bits: u16 },
+    Format {
+        tag: u16,
+        bits: u16,
+    },
     Channels(u16),
+    /// A sample, counted from 0 in its channel, that is NaN or infinite.
+    NotFinite {
+        channel: usize,
+        sample: usize,
+    },
 }
 
 impl fmt::Display for Fault {
@@ -25,6 +33,9 @@ impl fmt::Display for Fault {
                 write!(f, "16-bit PCM or 32-bit float is wanted; this has format {tag} with {bits} bits")
             }
             Fault::Channels(n) => write!(f, "one or two channels are wanted; this has {n}"),
+            Fault::NotFinite { channel, sample } => {
+                write!(f, "sample {sample} of channel {channel} (both counted from 0) is not a finite number")
+            }
         }
     }
 }
@@ -71,6 +82,9 @@ pub fn read(bytes: &[u8]) -> Result<Wav, Fault> {
     };
     let count = usize::from(count);
     let whole = &samples[..samples.len() - samples.len() % count];
+    if let Some(at) = whole.iter().position(|x| !x.is_finite()) {
+        return Err(Fault::NotFinite { channel: at % count, sample: at / count });
+    }
     let channels = (0..count).map(|c| whole.iter().skip(c).step_by(count).copied().collect()).collect();
     Ok(Wav { rate: u32_at(format, 4).unwrap_or(0), channels })
 }
@@ -104,6 +118,25 @@ mod tests {
         let samples = [0.0, 1.4, -1.6, 40_000.0, -40_000.0];
         let wav = read(&write(48_000, &samples)).unwrap();
         assert_eq!(wav, Wav { rate: 48_000, channels: vec![vec![0.0, 1.0, -2.0, 32_767.0, -32_768.0]] });
+    }
+
+    /// A file of 32-bit floats.
+    fn floats(channels: u8, samples: &[f32]) -> Vec<u8> {
+        let mut bytes = write(48_000, &vec![0.0; 2 * samples.len()]);
+        (bytes[20], bytes[22], bytes[34]) = (3, channels, 32);
+        for (to, x) in bytes[44..].chunks_exact_mut(4).zip(samples) {
+            to.copy_from_slice(&x.to_le_bytes());
+        }
+        bytes
+    }
+
+    #[test]
+    fn a_sample_that_is_not_finite_is_named() {
+        assert_eq!(read(&floats(1, &[0.5, -1.0])).unwrap().channels, [[16_384.0, -32_768.0]]);
+        for broken in [f32::NAN, f32::INFINITY, f32::NEG_INFINITY, f32::MAX] {
+            let fault = Fault::NotFinite { channel: 1, sample: 2 };
+            assert_eq!(read(&floats(2, &[0.0, 0.1, 0.2, 0.3, 0.4, broken, 0.6, broken])), Err(fault));
+        }
     }
 
     #[test]

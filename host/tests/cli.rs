@@ -158,6 +158,50 @@ fn an_unwritable_folder() {
 }
 
 #[test]
+fn a_sample_that_is_not_finite() {
+    let given = Given::new("broken");
+    let mut floats = wav::write(48_000, &[0.0; 8]);
+    (floats[20], floats[34]) = (3, 32);
+    floats[44 + 8..44 + 12].copy_from_slice(&f32::NAN.to_le_bytes());
+    given.put("broken.wav", &floats);
+    given.fails(given.clean("left.wav", "broken.wav", "house.rnn", "out"), &["broken.wav", "sample 2", "finite"]);
+}
+
+/// A folder stands in the table's place: the files that were put before it are taken back, and what they replaced is there again.
+#[test]
+fn a_place_that_is_taken() {
+    let given = Given::new("taken");
+    fs::create_dir_all(given.path.join("out/frames.csv/within")).unwrap();
+    given.put("out/left.wav", b"of yesterday");
+    let output = given.clean("left.wav", "right.wav", "house.rnn", "out");
+    assert_eq!(output.status.code(), Some(2));
+    assert!(String::from_utf8(output.stderr).unwrap().contains("frames.csv"));
+    let names: Vec<_> = fs::read_dir(given.path.join("out")).unwrap().map(|e| e.unwrap().file_name()).collect();
+    assert!(names.len() == 2 && given.path.join("out/frames.csv/within").exists(), "{names:?}");
+    assert_eq!(fs::read(given.path.join("out/left.wav")).unwrap(), b"of yesterday");
+}
+
+#[test]
+fn a_second_run_takes_the_place_of_the_first() {
+    let given = Given::new("second");
+    for left in ["right.wav", "left.wav"] {
+        assert!(given.clean(left, "right.wav", "house.rnn", "out").status.success());
+    }
+    assert!(given.clean("left.wav", "right.wav", "house.rnn", "once").status.success());
+    let names = |folder: &str| -> Vec<_> {
+        let mut names: Vec<_> =
+            fs::read_dir(given.path.join(folder)).unwrap().map(|e| e.unwrap().file_name()).collect();
+        names.sort();
+        names
+    };
+    assert_eq!(names("out"), names("once"));
+    for name in names("once") {
+        let read = |folder: &str| fs::read(given.path.join(folder).join(&name)).unwrap();
+        assert!(read("out") == read("once"), "{name:?}");
+    }
+}
+
+#[test]
 fn other_words() {
     let given = Given::new("words");
     for words in [&[][..], &["clean"], &["clean", "--left", "x"], &["demo"], &["wash", "x"]] {

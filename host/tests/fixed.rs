@@ -1,4 +1,9 @@
-//! Fixed cases, through the static library.
+//! Fixed cases, through the static library and the box.
+
+use host::demo::HOUSE;
+use host::recorder::{Recorder, Side};
+use host::refusal::Refusal;
+use host::FRAME;
 
 /// Hidden counts of 1, all weights and biases 0: 392 bytes.
 fn smallest() -> Vec<u8> {
@@ -34,4 +39,30 @@ fn a_lag_of_768_passes_and_769_gives_6() {
     assert_eq!(record, [3, 0, 1, 1, 1]);
     // The left share was never opened, and is as it was.
     assert!(store[..6_144].iter().all(|x| *x == 1.0));
+}
+
+/// Pulses 120 samples apart, of which every other one grows weak: whether the lag stays 120 or becomes 240 hangs on what the finder remembers.
+fn pulses() -> Vec<f32> {
+    let strength = |i: usize| if i >= 9_600 && i / 120 % 2 == 1 { 3_200.0 } else { 8_000.0 };
+    (0..100 * FRAME).map(|i| strength(i) * (1.0 - (i % 120) as f32 / 8.0).max(0.0)).collect()
+}
+
+/// What comes out, with or without an opening after each frame that this model has refused.
+fn disturbed(by: Option<&[u8]>) -> Vec<f32> {
+    let (mut recorder, mut output) = (Recorder::default(), Vec::new());
+    recorder.open(Side::Left, HOUSE).unwrap();
+    for samples in pulses().chunks_exact(FRAME) {
+        let mut out = [0.0; FRAME];
+        recorder.frame(Side::Left, samples, HOUSE, &mut out).unwrap();
+        output.extend(out);
+        if let Some(model) = by {
+            assert_eq!(recorder.open(Side::Left, model), Err(Refusal(7 + 256 * 11)));
+        }
+    }
+    output
+}
+
+#[test]
+fn a_refused_opening_changes_nothing() {
+    assert!(disturbed(Some(b"")) == disturbed(None));
 }

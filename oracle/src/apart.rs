@@ -5,7 +5,7 @@
 use crate::ask::{Ask, Caller, OURS};
 use crate::desk::{DUE, STORE};
 use crate::rng::{Mood, Rng};
-use crate::tally::{Tally, Value};
+use crate::tally::{Given, Tally, Value};
 use crate::Options;
 
 /// What a run has of its own.
@@ -68,7 +68,7 @@ pub fn compare(options: &Options) -> Tally {
         given.extend(ask.given.iter().map(|list| ("given", list.into())));
         tally.judge(
             "apart: what the left receives in one run, and in the other",
-            &given,
+            Given::new(&given),
             &[(&number).into(), (&got).into(), (&a.left).into()],
             &[(&other).into(), (&gots).into(), (&b.left).into()],
         );

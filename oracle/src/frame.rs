@@ -4,7 +4,7 @@ use crate::ask::{Ask, Caller, Surface, OURS};
 use crate::desk::{self, COUNTS, DUE, EX, INDEX, LAG, SHARE, STORE, X};
 use crate::rng::{Mood, Rng};
 use crate::shadow::Shadow;
-use crate::tally::{Tally, Value};
+use crate::tally::{floats, kept, signed, By, Given, Tally, Value};
 use crate::Options;
 
 /// The desk by the text.
@@ -40,10 +40,20 @@ pub fn compare_with(options: &Options, desk: &Surface) -> Tally {
         for world in [&mut ours, &mut rusts] {
             damage.apply(world, side);
         }
-        let before = rusts.clone();
+        let (held, before) = (ours.clone(), rusts.clone());
+        let words = [ask.call, ask.side, ask.lag];
+        let given = given(&words, &ask, &held);
+        let given = Given::new(&given);
         let (number, lent) = ask.put(desk, &mut ours.records[side], &mut ours.store);
         let (want, wanted) = ask.put(&TEXT, &mut rusts.records[side], &mut rusts.store);
-        judge(&mut tally, &ask, &before, (number, &lent, &ours), (want, &wanted, &rusts));
+        let left = all(&number, &lent, &ours, [floats; 2]);
+        let right = match (want, ask.call) {
+            (0, 3) => all(&want, &wanted, &rusts, [floats; 2]),
+            // a maximum, which leaves the signs of zeros open, stands in call 3 alone
+            (0, _) => all(&want, &wanted, &rusts, [signed, floats]),
+            _ => all(&want, &ask.held, &held, [kept; 2]),
+        };
+        tally.judge("frame", given, &left, &right);
         callers[side].answered(&ask, want, &wanted);
         if !matches!(damage, Damage::None) {
             shadows.iter_mut().for_each(Shadow::touched);
@@ -127,23 +137,23 @@ impl Damage {
 /// Numbers at the borders of what a record may hold.
 const RECORD: [u32; 16] = [0, 1, 2, 3, 4, 5, 6, 7, 8, 126, 127, 128, 255, 256, 65_536, u32::MAX];
 
-type Left<'a> = (u32, &'a [Vec<f32>], &'a World);
-
-fn judge(tally: &mut Tally, ask: &Ask, before: &World, ours: Left, rusts: Left) {
-    let words = [ask.call, ask.side, ask.lag];
-    let mut given = vec![("call, side, lag", Value::from(&words[..])), ("model", Value::from(&ask.model))];
+/// All that a call is given.
+fn given<'a>(words: &'a [u32], ask: &'a Ask, world: &'a World) -> Vec<(&'static str, Value<'a>)> {
+    let mut given = vec![("call, side, lag", Value::from(words)), ("model", Value::from(&ask.model))];
     given.extend(ask.given.iter().map(|list| ("given", list.into())));
     given.extend(ask.held.iter().map(|list| ("held", list.into())));
-    given.extend(before.records.iter().map(|record| ("record", record.into())));
-    given.push(("store", (&before.store).into()));
-    fn all<'a>((number, lent, world): &'a Left) -> Vec<Value<'a>> {
-        let mut all = vec![Value::from(number)];
-        all.extend(lent.iter().map(Value::from));
-        all.extend(world.records.iter().map(Value::from));
-        all.push((&world.store).into());
-        all
-    }
-    tally.judge("frame", &given, &all(&ours), &all(&rusts));
+    given.extend(world.records.iter().map(|record| ("record", record.into())));
+    given.push(("store", (&world.store).into()));
+    given
+}
+
+/// All that a call leaves: the number, the answer buffers, the records and the store; and how these buffers and the store are compared.
+fn all<'a>(number: &'a u32, lent: &'a [Vec<f32>], world: &'a World, [by, by_store]: [By; 2]) -> Vec<Value<'a>> {
+    let mut all = vec![Value::from(number)];
+    all.extend(lent.iter().map(|list| by(list)));
+    all.extend(world.records.iter().map(Value::from));
+    all.push(by_store(&world.store));
+    all
 }
 
 #[cfg(test)]

@@ -2,7 +2,8 @@
 //!
 //! Each group makes seeded inputs, lends them to both sides and compares the number returned and every lent buffer
 //! afterwards, refused calls included. What is to be refused is worked out here, from the tables of refusals and not from
-//! either side. All NaNs are taken alike, and both zeros.
+//! either side. All NaNs are taken alike, and both zeros where a maximum leaves their signs open. A refused call must leave
+//! the very bits, and every call its inputs.
 
 pub mod models;
 pub mod reader;

@@ -3,7 +3,7 @@
 use crate::models::{self, LARGEST, SMALLEST, USUAL};
 use crate::reader::{self, Refusal};
 use crate::rng::Rng;
-use crate::tally::Tally;
+use crate::tally::{Given, Tally};
 use crate::{named, values, Options};
 use nnnoiseless_text::{probe::rnn, RnnModel};
 
@@ -31,8 +31,11 @@ pub fn compare(options: &Options) -> Tally {
 
 fn one(tally: &mut Tally, rng: &mut Rng, file: &[u8]) {
     let numbers: Vec<u32> = (0..rng.near(30)).map(|_| rng.bits() as u32).collect();
+    let bytes = file.to_vec();
+    let given = named![numbers, bytes];
+    let given = Given::new(given);
     let mut ours = numbers.clone();
-    let number = tuppence::model(&mut ours, file);
+    let number = tuppence::model(&mut ours, &bytes);
     let (mut wanted, mut want) = (numbers.clone(), 5);
     if numbers.len() == 30 {
         match agreed(file) {
@@ -46,8 +49,7 @@ fn one(tally: &mut Tally, rng: &mut Rng, file: &[u8]) {
             Err(Refusal { number, layer }) => want = number + 65_536 * layer,
         }
     }
-    let bytes = file.to_vec();
-    tally.judge("model", named![numbers, bytes], values![number, ours], values![want, wanted]);
+    tally.judge("model", given, values![number, ours], values![want, wanted]);
 }
 
 /// The table's answer, once it is seen that the Rust accepts the same files, 15 apart, and finds the same layers in them.

@@ -3,7 +3,7 @@
 use crate::models;
 use crate::reader::{self, Refusal};
 use crate::rng::Rng;
-use crate::tally::{Tally, Value};
+use crate::tally::{floats, kept, signed, By, Given, Tally, Value};
 use crate::{named, Options};
 use nnnoiseless_text::probe::rnn::{self, Activation};
 use nnnoiseless_text::RnnModel;
@@ -35,6 +35,15 @@ fn any_activation(rng: &mut Rng) -> u32 {
     }
 }
 
+/// How a layer's numbers are compared: the signs of zeros are open behind `relu`, a maximum.
+fn by(activation: u32) -> By {
+    if activation == 2 {
+        floats
+    } else {
+        signed
+    }
+}
+
 /// A layer's count: mostly small and good.
 fn count(rng: &mut Rng) -> usize {
     match rng.below(60) {
@@ -55,7 +64,8 @@ fn dense(tally: &mut Tally, rng: &mut Rng) {
     let (output, bias, weights) = (rng.list(lens[0]), rng.bytes(lens[1]), rng.bytes(weights));
     let input = rng.list(inputs);
     let kind = activation(activation_number);
-    tally.leaf(
+    tally.leaf_by(
+        by(activation_number),
         "dense",
         named![output, weights, bias, activation_number, input],
         kind.is_some()
@@ -78,7 +88,8 @@ fn gru(tally: &mut Tally, rng: &mut Rng) {
     let (state, input) = (rng.list(len), rng.list(inputs));
     let kind = activation(activation_number);
     let (i, n) = (input.len(), state.len());
-    tally.leaf(
+    tally.leaf_by(
+        by(activation_number),
         "gru",
         named![state, weights, recurrent, bias, activation_number, input],
         kind.is_some() && good(i) && good(n) && [weights.len(), recurrent.len(), bias.len()] == reader::arrays(1, i, n),
@@ -100,19 +111,22 @@ fn network(tally: &mut Tally, rng: &mut Rng) {
     for _ in 0..2 {
         let len = rng.near(42);
         let features = rng.list(len);
+        let names = ["gains", "voice", "vad", "noise", "denoise"];
+        let before = held.clone();
+        let mut given: Vec<(&str, Value)> = names.into_iter().zip(before.iter().map(Value::from)).collect();
+        given.extend(named![model, features]);
+        let given = Given::new(&given);
         let mut ours = held.clone();
         let [gains, voice, vad, noise, denoise] = &mut ours;
         let number = tuppence::network(gains, voice, vad, noise, denoise, &model, &features);
         let mut rusts = held.clone();
         let want = by_text(&mut rusts, &model, text.as_ref(), &features);
-        let names = ["gains", "voice", "vad", "noise", "denoise"];
-        let mut given: Vec<(&str, Value)> = names.into_iter().zip(held.iter().map(Value::from)).collect();
-        given.extend(named![model, features]);
         let mut left = vec![Value::from(&number)];
         left.extend(ours.iter().map(Value::from));
         let mut wanted = vec![Value::from(&want)];
-        wanted.extend(rusts.iter().map(Value::from));
-        tally.judge("network", &given, &left, &wanted);
+        let by = if want == 0 { floats } else { kept };
+        wanted.extend(rusts.iter().map(|list| by(list)));
+        tally.judge("network", given, &left, &wanted);
         held = rusts;
     }
 }

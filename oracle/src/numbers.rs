@@ -1,7 +1,7 @@
 //! util.rs: the functions of one or two numbers, narrowing, and the high-pass filter.
 
 use crate::rng::Rng;
-use crate::tally::{alike, Tally};
+use crate::tally::{exactly, Given, Tally, Value};
 use crate::{named, values, Options};
 use nnnoiseless_text::probe::util;
 
@@ -11,21 +11,22 @@ type One = (&'static str, fn(f32) -> f32, fn(f32) -> f32);
 const ONES: [One; 4] = [
     ("tansig", tuppence::tansig, util::tansig_approx),
     ("sigmoid", tuppence::sigmoid, util::sigmoid_approx),
-    ("relu", tuppence::relu, util::relu),
+    ("relu", tuppence::relu, relu),
     ("sqrt", tuppence::sqrt, f32::sqrt),
 ];
 
-/// The Rust's `clamp`, which panics unless low is at most high; elsewhere its two comparisons.
-fn clamp(x: f32, low: f32, high: f32) -> f32 {
-    if low <= high {
-        x.clamp(low, high)
-    } else if x < low {
-        low
-    } else if x > high {
-        high
+/// `max` and `min` are defined to give the left of two that compare equal. What the compiled Rust gives there is its compiler's
+/// choice.
+fn left_of_equals(a: f32, b: f32, rusts: f32) -> f32 {
+    if a == b {
+        a
     } else {
-        x
+        rusts
     }
+}
+
+fn relu(x: f32) -> f32 {
+    left_of_equals(x, 0.0, util::relu(x))
 }
 
 pub fn compare(options: &Options) -> Tally {
@@ -44,11 +45,16 @@ pub fn compare(options: &Options) -> Tally {
 
 fn one(tally: &mut Tally, (name, ours, rusts): One, x: f32) {
     let (a, b) = (ours(x), rusts(x));
-    if alike(a, b) {
+    if exactly(a, b) {
         tally.compared += 1;
     } else {
-        tally.judge(name, named![x], values![a], values![b]);
+        number(tally, name, named![x], a, b);
     }
+}
+
+/// A number returned. The signs of zeros count.
+fn number(tally: &mut Tally, name: &str, given: &[(&str, Value)], ours: f32, wanted: f32) {
+    tally.judge(name, Given::new(given), values![ours], &[Value::Signed(&[wanted])]);
 }
 
 /// Every f32 there is, on two threads.
@@ -75,12 +81,13 @@ fn sample(tally: &mut Tally, rng: &mut Rng, calls: u64) {
         for f in ONES {
             one(tally, f, if rng.once_in(2) { x } else { step });
         }
-        let (a, b) = (tuppence::max(x, low), x.max(low));
-        tally.judge("max", named![x, low], values![a], values![b]);
-        let (a, b) = (tuppence::min(x, low), x.min(low));
-        tally.judge("min", named![x, low], values![a], values![b]);
-        let (a, b) = (tuppence::clamp(x, low, high), clamp(x, low, high));
-        tally.judge("clamp", named![x, low, high], values![a], values![b]);
+        number(tally, "max", named![x, low], tuppence::max(x, low), left_of_equals(x, low, x.max(low)));
+        number(tally, "min", named![x, low], tuppence::min(x, low), left_of_equals(x, low, x.min(low)));
+        // where low is not at most high, the Rust panics
+        let (low, high) = if low > high { (high, low) } else { (low, high) };
+        if low <= high {
+            number(tally, "clamp", named![x, low, high], tuppence::clamp(x, low, high), x.clamp(low, high));
+        }
     }
 }
 
@@ -99,9 +106,8 @@ fn narrow(tally: &mut Tally, rng: &mut Rng, calls: u64) {
     for _ in 0..calls {
         // below the normal numbers of f32 the middles lie elsewhere
         let x = double(rng) * rng.pick(&[1.0, 1.0, 1.0, f64::powi(2.0, -126), f64::powi(2.0, -140)]);
-        let (a, b) = (tuppence::narrow(x), x as f32);
         let bits = x.to_bits();
-        tally.judge("narrow", named![bits], values![a], values![b]);
+        number(tally, "narrow", named![bits], tuppence::narrow(x), x as f32);
     }
 }
 
@@ -118,16 +124,17 @@ fn filter(tally: &mut Tally, rng: &mut Rng, calls: u64) {
         if len == 4 && rng.once_in(2) {
             coefficients = vec![-1.99599, 0.99600, -2.0, 1.0];
         }
-        let (mut a, mut a_memory) = (output.clone(), memory.clone());
-        let number = tuppence::filter(&mut a, &mut a_memory, &coefficients, &input);
-        let (mut b, mut b_memory, mut want) = (output.clone(), memory.clone(), 5u32);
-        if let ([a0, a1, b0, b1], [m0, m1], true) = (&coefficients[..], &memory[..], input.len() == output.len()) {
-            let mut memory = [*m0, *m1];
-            util::Biquad { a: [*a0, *a1], b: [*b0, *b1] }.filter(&mut b, &mut memory, &input);
-            b_memory = memory.to_vec();
-            want = 0;
-        }
         let given = named![output, memory, coefficients, input];
-        tally.judge("filter", given, values![number, a, a_memory], values![want, b, b_memory]);
+        let given = Given::new(given);
+        let (mut ours, mut ours_memory) = (output.clone(), memory.clone());
+        let number = tuppence::filter(&mut ours, &mut ours_memory, &coefficients, &input);
+        let left = values![number, ours, ours_memory];
+        if let ([a0, a1, b0, b1], [m0, m1], true) = (&coefficients[..], &memory[..], input.len() == output.len()) {
+            let (mut rusts, mut memory) = (output.clone(), [*m0, *m1]);
+            util::Biquad { a: [*a0, *a1], b: [*b0, *b1] }.filter(&mut rusts, &mut memory, &input);
+            tally.judge("filter", given, left, &[(&0u32).into(), Value::Signed(&rusts), Value::Signed(&memory)]);
+        } else {
+            tally.judge("filter", given, left, &[(&5u32).into(), Value::Kept(&output), Value::Kept(&memory)]);
+        }
     }
 }

@@ -1,7 +1,7 @@
 //! pitch.rs: the leaves below the search for a pitch.
 
 use crate::rng::Rng;
-use crate::tally::Tally;
+use crate::tally::{Given, Tally};
 use crate::{named, values, Options};
 use nnnoiseless_text::probe::pitch;
 
@@ -145,6 +145,9 @@ fn random_best_pitch(tally: &mut Tally, rng: &mut Rng) {
 }
 
 fn best_pitch(tally: &mut Tally, pitches: &[u64], xcorr: &[f32], ys: &[f32], len: usize) {
+    let size = len as u64;
+    let given = [("pitches", pitches.into()), ("xcorr", xcorr.into()), ("ys", ys.into()), ("len", (&size).into())];
+    let given = Given::new(&given);
     let (mut a, mut b) = (pitches.to_vec(), pitches.to_vec());
     let number = tuppence::find_best_pitch(&mut a, xcorr, ys, len);
     let mut want = 5u32;
@@ -153,9 +156,7 @@ fn best_pitch(tally: &mut Tally, pitches: &[u64], xcorr: &[f32], ys: &[f32], len
         b = vec![first as u64, second as u64];
         want = 0;
     }
-    let size = len as u64;
-    let given = [("pitches", pitches.into()), ("xcorr", xcorr.into()), ("ys", ys.into()), ("len", (&size).into())];
-    tally.judge("find_best_pitch", &given, values![number, a], values![want, b]);
+    tally.judge("find_best_pitch", given, values![number, a], values![want, b]);
 }
 
 fn fir5(tally: &mut Tally, rng: &mut Rng) {

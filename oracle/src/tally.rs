@@ -2,10 +2,15 @@
 
 use std::fmt::Write;
 
-/// Something that a call was given or left.
+/// Something that a call was given or left. Of floats, what is wanted says how they are compared.
 #[derive(Clone, Copy)]
 pub enum Value<'a> {
+    /// All NaNs alike, and both zeros.
     Floats(&'a [f32]),
+    /// All NaNs alike.
+    Signed(&'a [f32]),
+    /// Bit for bit.
+    Kept(&'a [f32]),
     Words(&'a [u32]),
     Longs(&'a [u64]),
     Bytes(&'a [u8]),
@@ -15,6 +20,11 @@ macro_rules! value {
     ($($variant:ident $t:ty),*) => {$(
         impl<'a> From<&'a [$t]> for Value<'a> {
             fn from(list: &'a [$t]) -> Self {
+                Value::$variant(list)
+            }
+        }
+        impl<'a, const N: usize> From<&'a [$t; N]> for Value<'a> {
+            fn from(list: &'a [$t; N]) -> Self {
                 Value::$variant(list)
             }
         }
@@ -44,6 +54,52 @@ macro_rules! named {
     ($($value:ident),* $(,)?) => { &[$((stringify!($value), $crate::tally::Value::from(&$value))),*] };
 }
 
+/// What a call is given, by name, taken down before the call: whether it was changed can be told afterwards.
+#[derive(Clone, Copy)]
+pub struct Given<'a> {
+    values: &'a [(&'a str, Value<'a>)],
+    sum: u64,
+}
+
+impl<'a> Given<'a> {
+    pub fn new(values: &'a [(&'a str, Value<'a>)]) -> Given<'a> {
+        Given { values, sum: sum(values) }
+    }
+
+    fn changed(&self) -> bool {
+        sum(std::hint::black_box(self.values)) != self.sum
+    }
+}
+
+/// A sum of all numbers that a change of any one of them changes.
+fn sum(values: &[(&str, Value)]) -> u64 {
+    fn of(numbers: impl Iterator<Item = u64>) -> u64 {
+        numbers.zip(0u64..).fold(0, |sum, (x, i)| sum.wrapping_add(x.wrapping_mul(2 * i + 1)))
+    }
+    let each = values.iter().map(|(_, value)| match value {
+        Value::Floats(list) | Value::Signed(list) | Value::Kept(list) => of(list.iter().map(|x| x.to_bits().into())),
+        Value::Words(list) => of(list.iter().map(|x| u64::from(*x))),
+        Value::Longs(list) => of(list.iter().copied()),
+        Value::Bytes(list) => of(list.iter().map(|x| u64::from(*x))),
+    });
+    of(each)
+}
+
+/// A way of comparing, by the kind of value that is wanted.
+pub type By = fn(&[f32]) -> Value;
+
+pub fn floats(list: &[f32]) -> Value<'_> {
+    Value::Floats(list)
+}
+
+pub fn signed(list: &[f32]) -> Value<'_> {
+    Value::Signed(list)
+}
+
+pub fn kept(list: &[f32]) -> Value<'_> {
+    Value::Kept(list)
+}
+
 /// All NaNs alike, and both zeros.
 pub fn alike(a: f32, b: f32) -> bool {
     a == b || (a.is_nan() && b.is_nan())
@@ -57,28 +113,32 @@ pub fn exactly(a: f32, b: f32) -> bool {
 impl Value<'_> {
     fn len(&self) -> usize {
         match self {
-            Value::Floats(list) => list.len(),
+            Value::Floats(list) | Value::Signed(list) | Value::Kept(list) => list.len(),
             Value::Words(list) => list.len(),
             Value::Longs(list) => list.len(),
             Value::Bytes(list) => list.len(),
         }
     }
 
-    /// The first place where two lists differ; the shorter one ends there, if no number does.
-    fn difference(&self, other: &Value) -> Option<usize> {
-        let place = match (self, other) {
+    /// The first place where a list differs from the one that is wanted; the shorter one ends there, if no number does.
+    fn difference(&self, wanted: &Value) -> Option<usize> {
+        let place = match (self, wanted) {
             (Value::Floats(a), Value::Floats(b)) => a.iter().zip(*b).position(|(a, b)| !alike(*a, *b)),
+            (Value::Floats(a), Value::Signed(b)) => a.iter().zip(*b).position(|(a, b)| !exactly(*a, *b)),
+            (Value::Floats(a), Value::Kept(b)) => a.iter().zip(*b).position(|(a, b)| a.to_bits() != b.to_bits()),
             (Value::Words(a), Value::Words(b)) => a.iter().zip(*b).position(|(a, b)| a != b),
             (Value::Longs(a), Value::Longs(b)) => a.iter().zip(*b).position(|(a, b)| a != b),
             (Value::Bytes(a), Value::Bytes(b)) => a.iter().zip(*b).position(|(a, b)| a != b),
             _ => Some(0),
         };
-        place.or((self.len() != other.len()).then(|| self.len().min(other.len())))
+        place.or((self.len() != wanted.len()).then(|| self.len().min(wanted.len())))
     }
 
     fn show(&self, text: &mut String) {
         let words: Box<dyn Iterator<Item = String>> = match self {
-            Value::Floats(list) => Box::new(list.iter().map(|x| format!("{:08x}", x.to_bits()))),
+            Value::Floats(list) | Value::Signed(list) | Value::Kept(list) => {
+                Box::new(list.iter().map(|x| format!("{:08x}", x.to_bits())))
+            }
             Value::Words(list) => Box::new(list.iter().map(u32::to_string)),
             Value::Longs(list) => Box::new(list.iter().map(u64::to_string)),
             Value::Bytes(list) => Box::new(list.iter().map(|x| format!("{x:02x}"))),
@@ -107,22 +167,23 @@ impl Tally {
         Tally { group, compared: 0, differences: 0, shown: String::new() }
     }
 
-    /// One call: what it was given, by name, and what each side answered and left, the number returned first.
-    pub fn judge(&mut self, what: &str, given: &[(&str, Value)], ours: &[Value], rusts: &[Value]) {
+    /// One call: what it was given, and what it answered and left beside what is wanted, the number returned first.
+    pub fn judge(&mut self, what: &str, given: Given, ours: &[Value], wanted: &[Value]) {
         self.compared += 1;
-        assert_eq!(ours.len(), rusts.len());
-        let Some((which, place)) =
-            ours.iter().zip(rusts).enumerate().find_map(|(i, (a, b))| Some((i, a.difference(b)?)))
-        else {
-            return;
+        assert_eq!(ours.len(), wanted.len());
+        let differing = ours.iter().zip(wanted).enumerate().find_map(|(i, (a, b))| Some((i, a.difference(b)?)));
+        let fault = match differing {
+            Some((which, place)) => format!("the answers differ first in list {which}, at place {place}"),
+            None if given.changed() => "what was given is changed".into(),
+            None => return,
         };
         self.differs(|text| {
-            let _ = writeln!(text, "{what}: the answers differ first in list {which}, at place {place}");
-            for (name, value) in given {
+            let _ = writeln!(text, "{what}: {fault}");
+            for (name, value) in given.values {
                 let _ = write!(text, "  {name} ");
                 value.show(text);
             }
-            for (side, values) in [("ours", ours), ("Rust", rusts)] {
+            for (side, values) in [("ours", ours), ("wanted", wanted)] {
                 for value in values {
                     let _ = write!(text, "  {side}: ");
                     value.show(text);
@@ -141,13 +202,28 @@ impl Tally {
         ours: impl FnOnce(&mut [f32]) -> u32,
         rusts: impl FnOnce(&mut [f32]),
     ) {
+        self.leaf_by(signed, what, given, fits, out, ours, rusts);
+    }
+
+    /// The same, where the signs of the Rust's zeros may be open.
+    pub fn leaf_by(
+        &mut self,
+        by: By,
+        what: &str,
+        given: &[(&str, Value)],
+        fits: bool,
+        out: &[f32],
+        ours: impl FnOnce(&mut [f32]) -> u32,
+        rusts: impl FnOnce(&mut [f32]),
+    ) {
+        let given = Given::new(given);
         let (mut mine, mut theirs) = (out.to_vec(), out.to_vec());
-        let (number, mut want) = (ours(&mut mine), 5u32);
+        let number = ours(&mut mine);
         if fits {
             rusts(&mut theirs);
-            want = 0;
         }
-        self.judge(what, given, values![number, mine], values![want, theirs]);
+        let (want, left) = if fits { (0u32, by(&theirs)) } else { (5, Value::Kept(&theirs)) };
+        self.judge(what, given, values![number, mine], &[(&want).into(), left]);
     }
 
     /// A difference that `show` describes.
@@ -188,4 +264,35 @@ pub fn thousands(n: u64) -> String {
         text.push(digit);
     }
     text
+}
+
+#[cfg(test)]
+mod tests {
+    use super::*;
+
+    /// Whether a call that left `ours` where this is wanted counts as a difference.
+    fn differs(ours: &[f32], wanted: Value) -> bool {
+        let mut tally = Tally::new("test");
+        tally.judge("test", Given::new(&[]), &[ours.into()], &[wanted]);
+        tally.differences == 1
+    }
+
+    #[test]
+    fn what_counts_as_a_difference() {
+        let nans = [0x7fc0_0000, 0xffc0_0001].map(f32::from_bits);
+        assert!(differs(&[1.0, 2.0], Value::Floats(&[1.0, 2.5])) && differs(&[1.0], Value::Floats(&[1.0, 1.0])));
+        assert!(!differs(&[0.0, nans[0]], Value::Floats(&[-0.0, nans[1]])));
+        assert!(differs(&[0.0], Value::Signed(&[-0.0])) && !differs(&nans[..1], Value::Signed(&nans[1..])));
+        assert!(differs(&nans[..1], Value::Kept(&nans[1..])) && !differs(&nans, Value::Kept(&nans)));
+    }
+
+    #[test]
+    fn a_changed_input_is_noticed() {
+        let (before, after) = ([1.0, -0.0, 3.0], [1.0, 0.0, 3.0]);
+        let given = Given { sum: Given::new(named![before]).sum, values: named![after] };
+        assert!(given.changed() && !Given::new(named![after]).changed());
+        let mut tally = Tally::new("test");
+        tally.judge("test", given, &[], &[]);
+        assert_eq!(tally.differences, 1);
+    }
 }

@@ -7,10 +7,10 @@ use lib.ListN.{length, length-set, length-replicate, getD-replicate}
 use lib.Seq.{getD-set-other}
 use lib.Ieee.{Float, nan}
 use Rattle.rules.specs.Loop.{loop}
-use Rattle.rules.specs.F32.{at, f32}
+use Rattle.rules.specs.F32.{at, f32, zeros}
 use Rattle.rules.proofs.Runs.{kept}
 use Rattle.rules.proofs.Tabs.{length-tab}
-use Rattle.bands.specs.Bands.{edge, zeros, corrStep, corrBand, bandCorr, gainStep, gainBand, bandGain}
+use Rattle.bands.specs.Bands.{edge, corrStep, corrBand, bandCorr, gainStep, gainBand, bandGain}
 use Rattle.bands.specs.Dct.{dctSum, dctScaled, dctIn, dctOf}
 use Rattle.bands.specs.Windowed.{windowedBy, windowed}
 use Rattle.bands.proofs.Edges.{Edge, edges-rule}
@@ -19,7 +19,6 @@ abbrev Long : ℕ → List Float → Type 0
 Long n xs = length xs ≡ n
 
 zeros-long : (n : ℕ) → Long n (zeros n)
-unfolding zeros
 zeros-long n = length-replicate n (f32 0)
 
 pub length-corr : (x p : List Float) → length (bandCorr x p) ≡ 22
@@ -35,7 +34,6 @@ abbrev Ends : List Float → Type 0
 Ends xs = (length xs ≡ 481) × ((k : ℕ) → 400 ≤ k → k < 481 → at xs k ≡ f32 0)
 
 zeros-end : Ends (zeros 481)
-unfolding zeros
 zeros-end = (zeros-long 481, λ k low high. getD-replicate 481 k (f32 0) nan high)
 
 gain-ends : (bands : List Float) → Ends (bandGain bands)

@@ -2,8 +2,8 @@
 use mathlib.Core.Path.{_≡_, refl}
 use lib.Ieee.{binary64, ofBits, div}
 use Rattle.numbers.specs.Root.{root}
-use Rattle.bands.specs.Scale.{scale}
+use Rattle.bands.specs.Scale.{dctScale}
 
-pub scale-is : scale ≡ ofBits binary64 0x3FD34BF63D156826
-unfolding scale root ofBits div
+pub scale-is : dctScale ≡ ofBits binary64 0x3FD34BF63D156826
+unfolding dctScale root ofBits div
 scale-is = refl

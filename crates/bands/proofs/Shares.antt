@@ -9,9 +9,9 @@ use lib.ListN.{length, set, length-set, length-replicate}
 use lib.Seq.{getD-set-same, getD-set-other, set-getD, set-set, set-comm}
 use lib.Ieee.{Float, nan, binary32, ofInt, ofBits}
 use Rattle.rules.specs.Loop.{loop, range}
-use Rattle.rules.specs.F32.{_⊕_, _⊖_, _⊗_, _⊘_, at, f32, zeroed}
+use Rattle.rules.specs.F32.{_⊕_, _⊖_, _⊗_, _⊘_, at, f32, zeros}
 use Rattle.rules.proofs.Runs.{range-after}
-use Rattle.bands.specs.Bands.{edges, edge, zeros, added, frac, rest, binCorr, corrStep, corrBand}
+use Rattle.bands.specs.Bands.{edges, edge, added, frac, rest, binCorr, corrStep, corrBand}
 use Rattle.bands.proofs.Edges.{Edge, edges-rule}
 
 module _ (out : List Float) (i : ℕ) where
@@ -63,6 +63,5 @@ module _ (x p out : List Float) where
   unfolding loop
   any-band i = range-after (corrStep x p i) 0 (edge (i + 1) - edge i) out (omega arith)
 
-pub zeros-of : (out : List Float) (n : ℕ) → length out ≡ n → zeroed out ≡ zeros n
-unfolding zeros
+pub zeros-of : (out : List Float) (n : ℕ) → length out ≡ n → zeros (length out) ≡ zeros n
 zeros-of out n e = rw e

@@ -2,13 +2,12 @@
 -- Assumes nothing.
 use mathlib.Core.Path.{_≡_, refl}
 use mathlib.Core.Bool.{Bool, true, false}
-use mathlib.Core.List.{map}
 use Prim.Native.Nat.{ℕ, _+_, _-_, _^_, _<_}
 use lib.Dec.{T, leb, ltb, eqb, leb→le, ltb→lt, eqb→eq, lt→ltb}
 use lib.ListN.{length, getD}
-use lib.Ieee.{binary32, ofBits, round}
-use Rattle.bands.specs.Window.{window, patterns}
-use Rattle.bands.specs.WindowRule.{count, counts, entry, squares, Rule}
+use lib.Ieee.{ofBits, round}
+use Rattle.bands.specs.Window.{window, windowBits}
+use Rattle.bands.specs.WindowRule.{count, counts, entry, squares, Rule, Claim}
 use Rattle.rules.proofs.Table.{every, at}
 
 -- b, asked only where a holds
@@ -39,7 +38,7 @@ abbrev below : ℕ → ℕ → Bool
 below i x = given (ltb i 480) (leb (2 ^ 82) (squares i + 2 ^ 59))
 
 length-counts : length counts ≡ 960
-unfolding counts window patterns
+unfolding counts window windowBits
 length-counts = refl
 
 module _ (i : ℕ) (h : i < 960) where
@@ -47,8 +46,8 @@ module _ (i : ℕ) (h : i < 960) where
   holds : (f : ℕ → ℕ → Bool) → T (every f 0 counts) → T (f i (entry i))
   holds f t = at f counts t i (rw length-counts h)
 
-  pub rule : Rule i
-  unfolding counts window patterns count ofBits
+  rule : Rule i
+  unfolding counts window windowBits count ofBits
   rule = record {
     mirror = eqb→eq _ _ (holds mirrored tt);
     positive = ltb→lt _ _ (holds positive tt);
@@ -58,7 +57,6 @@ module _ (i : ℕ) (h : i < 960) where
     near-below = λ b. leb→le _ _ (ask (ltb i 480) _ (holds below tt) (lt→ltb _ _ b));
   }
 
--- counting loses nothing: the float nearest to a count of 2^-41 is the entry itself, at all 960
-pub exact : map (λ (n : ℕ). round binary32 false n (2 ^ 41)) counts ≡ window
-unfolding counts window patterns count ofBits round
-exact = refl
+pub claim : Claim
+unfolding counts window windowBits count ofBits round
+claim = record { ruled = rule; exact = refl }

@@ -4,9 +4,9 @@ use mathlib.Core.List.{List, [], _∷_, map}
 use Prim.Native.Nat.{ℕ, _+_, _-_, _*_}
 use lib.IntN.{pos}
 use lib.Ieee.{Float, binary32, ofInt}
-use lib.ListN.{getD, set, replicate}
+use lib.ListN.{set}
 use Rattle.rules.specs.Loop.{loop}
-use Rattle.rules.specs.F32.{_⊕_, _⊖_, _⊗_, _⊘_, at, f32}
+use Rattle.rules.specs.F32.{_⊕_, _⊖_, _⊗_, _⊘_, at, natAt, f32, one, zeros}
 use Rattle.bands.specs.Spectrum.{re, im}
 
 -- EBAND_5MS, and its entries << FRAME_SIZE_SHIFT: band i's bins start at edge i
@@ -17,11 +17,7 @@ unfoldable pub edges : List ℕ
 edges = map (λ (e : ℕ). e * 4) eband5ms
 
 unfoldable pub edge : ℕ → ℕ
-edge i = getD edges i 0
-
--- for y in out { *y = 0.0 }, of n places
-unfoldable pub zeros : ℕ → List Float
-zeros n = replicate n (f32 0)
+edge i = natAt edges i
 
 -- out[i] += a
 abbrev pub added : List Float → ℕ → Float → List Float
@@ -36,7 +32,7 @@ unfoldable pub frac : ℕ → ℕ → Float
 frac i j = ofInt binary32 (pos j) ⊘ ofInt binary32 (pos (edge (i + 1) - edge i))
 
 abbrev pub rest : ℕ → ℕ → Float
-rest i j = f32 0x3F800000 ⊖ frac i j
+rest i j = one ⊖ frac i j
 
 -- ---- compute_band_corr
 

@@ -8,7 +8,7 @@ use Rattle.rules.specs.Tab.{tab}
 use Rattle.rules.specs.F32.{_⊕_, _⊗_, at, f32}
 use Rattle.numbers.specs.Narrowed.{narrowed}
 use Rattle.bands.specs.DctTable.{dctTable}
-use Rattle.bands.specs.Scale.{scale}
+use Rattle.bands.specs.Scale.{dctScale}
 
 -- sum += x[j] * table[j * NB_BANDS + i]
 abbrev pub dctStep : List Float → List Float → ℕ → ℕ → Float → Float
@@ -16,7 +16,7 @@ dctStep table x i j sum = sum ⊕ at x j ⊗ at table (j * 22 + i)
 
 -- (sum as f64 * scale) as f32; an f32 as an f64 is the same number
 unfoldable pub dctScaled : Float → Float
-dctScaled sum = narrowed (mul binary64 sum scale)
+dctScaled sum = narrowed (mul binary64 sum dctScale)
 
 abbrev pub dctSum : List Float → List Float → ℕ → Float
 dctSum table x i = loop 22 (dctStep table x i) (f32 0)

@@ -1,7 +1,7 @@
 -- `wnorm` of lib.rs, `common`: 1_f32 / window.iter().map(|x| x * x).sum::<f32>(). Rust's f32 sum starts from -0.0.
 use mathlib.Core.List.{List, [], _∷_}
-use lib.Ieee.{Float}
-use Rattle.rules.specs.F32.{_⊕_, _⊗_, _⊘_, f32}
+use lib.Ieee.{Float, neg}
+use Rattle.rules.specs.F32.{_⊕_, _⊗_, _⊘_, f32, one}
 use Rattle.bands.specs.Window.{window}
 
 unfoldable pub sumSquares : Float → List Float → Float
@@ -9,4 +9,4 @@ sumSquares sum [] = sum
 sumSquares sum (x ∷ xs) = sumSquares (sum ⊕ x ⊗ x) xs
 
 unfoldable pub wnorm : Float
-wnorm = f32 0x3F800000 ⊘ sumSquares (f32 0x80000000) window
+wnorm = one ⊘ sumSquares (neg (f32 0)) window

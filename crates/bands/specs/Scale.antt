@@ -2,5 +2,5 @@
 use lib.Ieee.{Float, binary64, ofBits, div}
 use Rattle.numbers.specs.Root.{root}
 
-unfoldable pub scale : Float
-scale = root binary64 (div binary64 (ofBits binary64 0x4000000000000000) (ofBits binary64 0x4036000000000000))
+unfoldable pub dctScale : Float
+dctScale = root binary64 (div binary64 (ofBits binary64 0x4000000000000000) (ofBits binary64 0x4036000000000000))

@@ -1,4 +1,5 @@
-// The DCT's 22 rows of 22 numbers. Whoever loops over them takes them once, by `all`: each mention of a constant array fills it anew.
+// The DCT's 22 rows of 22 numbers, `dct_table` in `common()` of lib.rs.
+// Whoever loops over them takes them once, by `all`: each mention of a constant array fills it anew.
 ghost use mathlib.Core.Path.{_≡_};
 ghost use Rattle.bands.specs.DctTable.{dctTable};
 

@@ -4,9 +4,10 @@
 ghost use mathlib.Core.Path.{_≡_};
 ghost use Prim.Native.Nat.{_+_, _-_, _≤_, _<_};
 ghost use lib.ListN.{length};
+ghost use Rattle.rules.specs.F32.{zeros};
 ghost use Rattle.rules.specs.Leaf.{Leaf, _leaving_};
 ghost use Rattle.rules.specs.Loop.{loop, range};
-ghost use Rattle.bands.specs.Bands.{edges, edge, frac, zeros, binCorr, corrStep, corrBand, bandCorr, BandFits, gainBand, bandGain, GainFits};
+ghost use Rattle.bands.specs.Bands.{edges, edge, binCorr, corrStep, corrBand, bandCorr, BandFits, gainBand, bandGain, GainFits};
 ghost use Rattle.bands.specs.Dct.{dctSum, dctScaled, dctIn, dctOf, DctFits};
 ghost use Rattle.bands.specs.Norm.{wnorm};
 ghost use Rattle.bands.specs.Windowed.{windowedBy, windowed, WindowFits};

@@ -1,4 +1,5 @@
-// The window's 960 numbers. Whoever loops over them takes them once, by `all`: each mention of a constant array fills it anew.
+// The window's 960 numbers, `window` in `common()` of lib.rs.
+// Whoever loops over them takes them once, by `all`: each mention of a constant array fills it anew.
 ghost use mathlib.Core.Path.{_≡_};
 ghost use Rattle.bands.specs.Window.{window};
 

@@ -15,20 +15,20 @@ use borrow.Author.Tests.{ltb-true, ltb-false, eqb-true, eq-eqb, ne-eqb}
 use lib.Dec.{eqb, ltb}
 use lib.ListN.{length}
 use lib.Ieee.{Float}
-use Rattle.rules.specs.Place.{Place, Within, Apart, get, put}
-use Rattle.rules.proofs.Places.{length-get, length-put, get-put, get-put-apart, put-get}
+use Rattle.rules.specs.Place.{Place, get, put}
+use Rattle.rules.proofs.Places.{Within, Apart, length-get, length-put, get-put, get-put-apart, put-get}
 use Rattle.rules.proofs.Wholes.{get-whole, put-whole}
 use Rattle.model.specs.Model.{readOf}
 use Rattle.model.specs.declared.Reading.{Reading}
 use Rattle.model.specs.declared.Reading.the-variants.{Good, Refused as Unread}
 use Rattle.frame.specs.Share.{SHARE}
-use Rattle.frame.specs.Frame.{Framed, refused}
+use Rattle.frame.specs.Frame.{Effect, refusal}
 use Rattle.frame.specs.Reply.{passed}
 use Rattle.frame.specs.declared.Reply.the-variants.{Refused}
-use Rattle.desk.specs.declared.Bench.{Bench}
+use Rattle.desk.specs.declared.Record.{Record}
 use Rattle.desk.specs.declared.Answer.{Answer}
 use Rattle.desk.specs.Gate.{shareOf, gate, inRange, allZero}
-use Rattle.desk.specs.Desk.{Ask, opening, call1, call2, call3, call4, callOf, closed, answered, opened, framed, admitted, Outcome, desk}
+use Rattle.desk.specs.Desk.{Ask, opening, call1, call2, call3, call4, callOf, closed, answered, opened, onShare, admitted, Given, desk}
 use Rattle.desk.proofs.Settled.{admitted-kept}
 use Rattle.desk.proofs.Turned.{through, gate-own, closed-opens}
 
@@ -47,24 +47,24 @@ apart a b ne = ⊎-elim (λ h. inl (omega arith)) (λ h. inr (omega arith)) (lt-
 -- ---- one call on a desk of n benches
 
 -- an outcome on a store that is the share of a side, in the store that the share is a part of
-abbrev pub placed : ℕ → List Float → Outcome → Outcome
+abbrev pub placed : ℕ → List Float → Given → Given
 placed side store o = record { answer = o .answer; store = put (shareOf side) store (o .store); written = o .written }
 
 -- ---- a desk of one bench, whose store is the share
 
 -- what comes of a share, as an outcome
-abbrev pub outcomeOf : Ask → Bench → Framed → Outcome
-outcomeOf ask b f = record { answer = answered ask (f .reply) b; store = f .share; written = f .written }
+abbrev pub givenOf : Record → Ask → Effect → Given
+givenOf b ask f = record { answer = answered b ask (f .reply); store = f .share; written = f .written }
 
-module _ (b : Bench) (xs : List Float) (ask : Ask) (l : length xs ≡ SHARE) where
-  pub one-bench : desk 1 0 b xs ask ≡ outcomeOf ask b (admitted (gate 1 (callOf ask) 0 b SHARE) ask b xs)
+module _ (b : Record) (xs : List Float) (ask : Ask) (l : length xs ≡ SHARE) where
+  pub one-bench : desk 1 0 b xs ask ≡ givenOf b ask (admitted b xs ask (gate 1 0 b SHARE (callOf ask)))
   unfolding desk
   one-bench = rw (l, get-whole xs SHARE l, put-whole xs SHARE l)
 
   pub one-length : length (desk 1 0 b xs ask .store) ≡ SHARE
-  one-length = rw one-bench (admitted-kept b xs (gate 1 (callOf ask) 0 b SHARE) ask .size l)
+  one-length = rw one-bench (admitted-kept b xs ask (gate 1 0 b SHARE (callOf ask)) .size l)
 
-module _ (n side : ℕ) (b : Bench) (store : List Float) (ask : Ask) (l : length store ≡ n * SHARE) where
+module _ (n side : ℕ) (b : Record) (store : List Float) (ask : Ask) (l : length store ≡ n * SHARE) where
   abbrev share : List Float
   share = get (shareOf side) store
 
@@ -78,15 +78,15 @@ module _ (n side : ℕ) (b : Bench) (store : List Float) (ask : Ask) (l : length
     fits : length share ≡ SHARE
     fits = length-get (shareOf side) store within
 
-    asked : desk n side b store ask ≡ placed side store (outcomeOf ask b (admitted (gate 1 (callOf ask) 0 b SHARE) ask b share))
+    asked : desk n side b store ask ≡ placed side store (givenOf b ask (admitted b share ask (gate 1 0 b SHARE (callOf ask))))
     unfolding desk
-    asked = rw (gate-own n (callOf ask) side b (length store) h l)
+    asked = rw (gate-own n side b (length store) (callOf ask) h l)
 
     pub its-own : desk n side b store ask ≡ placed side store (desk 1 0 b share ask)
     its-own = asked ∙ ap (placed side store) (sym (one-bench b share ask fits))
 
     stored : after ≡ put (shareOf side) store (desk 1 0 b share ask .store)
-    stored = ap (λ (o : Outcome). o .store) its-own
+    stored = ap (λ (o : Given). o .store) its-own
 
     whole : length (desk 1 0 b share ask .store) ≡ SHARE
     whole = one-length b share ask fits
@@ -98,8 +98,8 @@ module _ (n side : ℕ) (b : Bench) (store : List Float) (ask : Ask) (l : length
   no-side : n ≤ side → after ≡ store
   unfolding desk
   no-side h =
-      let shut : gate n (callOf ask) side b (length store) ≡ 0 → ⊥ = λ z. omega (arith, through n (callOf ask) side b (length store) z .0) in
-      rw (ne-eqb (gate n (callOf ask) side b (length store)) 0 shut) (put-get (shareOf side) store)
+      let shut : gate n side b (length store) (callOf ask) ≡ 0 → ⊥ = λ z. omega (arith, through n side b (length store) (callOf ask) z .0) in
+      rw (ne-eqb (gate n side b (length store) (callOf ask)) 0 shut) (put-get (shareOf side) store)
 
   pub same-length : length after ≡ length store
   same-length =
@@ -118,32 +118,32 @@ module _ (n side : ℕ) (b : Bench) (store : List Float) (ask : Ask) (l : length
 -- ---- what a share held before an opening is never told
 
 -- two outcomes that answer alike, and leave the same store or a closed record
-pub record Alike (o u : Outcome) : Type 0 where
+pub record Alike (o u : Given) : Type 0 where
   pub answer : o .answer ≡ u .answer
   pub written : o .written ≡ u .written
-  pub store : (o .store ≡ u .store) ⊎ (o .answer .bench .due ≡ 0)
+  pub store : (o .store ≡ u .store) ⊎ (o .answer .rec .due ≡ 0)
 
-module _ (b : Bench) (xs ys : List Float) (l : length xs ≡ SHARE) (k : length ys ≡ SHARE) where
+module _ (b : Record) (xs ys : List Float) (l : length xs ≡ SHARE) (k : length ys ≡ SHARE) where
   pub closed-alike : (ask : Ask) → b .due ≡ 0 → Alike (desk 1 0 b xs ask) (desk 1 0 b ys ask)
   closed-alike ask z = rw (one-bench b xs ask l, one-bench b ys ask k) (go (eqb number 0) refl)
     where
       number : ℕ
-      number = gate 1 (callOf ask) 0 b SHARE
+      number = gate 1 0 b SHARE (callOf ask)
 
-      opens : (read : Reading) (m : List ℕ) → Alike (outcomeOf (opening m) b (opened read xs)) (outcomeOf (opening m) b (opened read ys))
+      opens : (read : Reading) (m : List ℕ) → Alike (givenOf b (opening m) (opened xs read)) (givenOf b (opening m) (opened ys read))
       opens (Good m) _ = record { answer = refl; written = refl; store = inl refl }
       opens (Unread n l) _ = record { answer = refl; written = refl; store = inr z }
 
       -- of a closed side only an opening gets through
-      admit : (a : Ask) → callOf a ≡ 0 → Alike (outcomeOf a b (framed a b xs)) (outcomeOf a b (framed a b ys))
+      admit : (a : Ask) → callOf a ≡ 0 → Alike (givenOf b a (onShare b xs a)) (givenOf b a (onShare b ys a))
       admit (opening m) e = opens (readOf m) m
       admit (call1 x w) e = absurd (omega arith)
       admit (call2 x g w s) e = absurd (omega arith)
       admit (call3 x g m o) e = absurd (omega arith)
       admit (call4 x o) e = absurd (omega arith)
 
-      go : (t : Bool) → eqb number 0 ≡ t → Alike (outcomeOf ask b (admitted number ask b xs)) (outcomeOf ask b (admitted number ask b ys))
-      go true e = rw e (admit ask (closed-opens 1 (callOf ask) 0 b SHARE z (eqb-true number 0 e)))
+      go : (t : Bool) → eqb number 0 ≡ t → Alike (givenOf b ask (admitted b xs ask number)) (givenOf b ask (admitted b ys ask number))
+      go true e = rw e (admit ask (closed-opens 1 0 b SHARE (callOf ask) z (eqb-true number 0 e)))
       go false e = rw e (record { answer = refl; written = refl; store = inr z })
 
   -- the closed record, too, gets through
@@ -152,14 +152,14 @@ module _ (b : Bench) (xs ys : List Float) (l : length xs ≡ SHARE) (k : length 
   anew m = rw (one-bench b xs (opening m) l, one-bench closed ys (opening m) k) (go (eqb number 0))
     where
       number : ℕ
-      number = gate 1 0 0 b SHARE
+      number = gate 1 0 b SHARE 0
 
-      opens : (read : Reading) → readOf m ≡ read → passed (opened read xs .reply) ≡ true
-          → outcomeOf (opening m) b (opened read xs) ≡ outcomeOf (opening m) closed (opened read ys)
+      opens : (read : Reading) → readOf m ≡ read → passed (opened xs read .reply) ≡ true
+          → givenOf b (opening m) (opened xs read) ≡ givenOf closed (opening m) (opened ys read)
       opens (Good m) e h = rw e
       opens (Unread n l) e h = let one : _≡_ {A = ℕ} 0 1 = cc in absurd (omega arith)
 
-      go : (t : Bool) → passed (cond t (opened (readOf m) xs) (refused (Refused number) xs) .reply) ≡ true
-          → outcomeOf (opening m) b (cond t (opened (readOf m) xs) (refused (Refused number) xs)) ≡ outcomeOf (opening m) closed (admitted (gate 1 0 0 closed SHARE) (opening m) closed ys)
+      go : (t : Bool) → passed (cond t (opened xs (readOf m)) (refusal (Refused number) xs) .reply) ≡ true
+          → givenOf b (opening m) (cond t (opened xs (readOf m)) (refusal (Refused number) xs)) ≡ givenOf closed (opening m) (admitted closed ys (opening m) (gate 1 0 closed SHARE 0))
       go true h = opens (readOf m) refl h
       go false h = let one : _≡_ {A = ℕ} 0 1 = cc in absurd (omega arith)

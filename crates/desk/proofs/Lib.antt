@@ -1,5 +1,4 @@
 pub mod Apart
-mod Handed
 pub mod Ranged
 pub mod Replies
 mod Serve

@@ -1,5 +1,8 @@
--- A refused model's number is 11 to 22 and its layer 0 to 6, whatever call brings them. Assumes nothing.
-use Prim.Native.Nat.{ℕ}
+-- What a call may reply.
+--     small     a refused model's number is 11 to 22 and its layer 0 to 6, whatever call brings them
+--     no-out    call 3 with no place for its spectrum is refused
+-- Assumes nothing.
+use Prim.Native.Nat.{ℕ, _≤_}
 use mathlib.Core.Bool.{Bool, true, false, cond}
 use mathlib.Core.List.{List}
 use mathlib.Core.Path.{_≡_, refl, sym}
@@ -11,39 +14,67 @@ use Rattle.model.specs.Model.{readOf}
 use Rattle.model.specs.declared.Reading.{Reading}
 use Rattle.model.specs.declared.Reading.the-variants.{Good, Refused as Unread}
 use Rattle.model.proofs.Bounds.{refused-in}
-use Rattle.frame.specs.declared.Reply.the-variants.{Refused, Misread}
-use Rattle.frame.specs.Frame.{refused}
-use Rattle.frame.proofs.Replies.{first-replies, second-replies, third-replies, fourth-replies}
-use Rattle.desk.specs.declared.Bench.{Bench}
+use Rattle.frame.specs.declared.Reply.{Reply}
+use Rattle.frame.specs.declared.Reply.the-variants.{Done, Silent, Heard, Refused, Misread}
+use Rattle.frame.specs.Frame.{Effect, refusal}
+use Rattle.frame.specs.Reply.{passed}
+use Rattle.frame.proofs.Done.{call3-no-out}
+use Rattle.frame.proofs.Cases.{call1-by, call2-by, call3-by, call4-by}
+use Rattle.desk.specs.declared.Record.{Record}
 use Rattle.desk.specs.Gate.{gate, shareOf}
-use Rattle.desk.specs.Desk.{Ask, opening, call1, call2, call3, call4, callOf, opened, framed, desk}
-use Rattle.desk.specs.Surface.{Small}
+use Rattle.desk.specs.Desk.{Ask, opening, call1, call2, call3, call4, callOf, opened, onShare, desk}
+
+abbrev pub Small : Reply → Type 0
+Small (Misread n l) = (n ≤ 22) × (l ≤ 6)
+Small Done = Unit
+Small Silent = Unit
+Small (Heard v e) = Unit
+Small (Refused n) = Unit
 
 misread : (s : List ℕ) (n l : ℕ) → Unread n l ≡ readOf s → Small (Misread n l)
 misread s n l e = let r = refused-in s e in (r .1, r .2)
 
-opens : (s : List ℕ) (read : Reading) (share : List Float) → read ≡ readOf s → Small (opened read share .reply)
+opens : (s : List ℕ) (read : Reading) (share : List Float) → read ≡ readOf s → Small (opened share read .reply)
 opens s (Good m) share e = tt
 opens s (Unread n l) share e = misread s n l e
 
-module _ (b : Bench) (share : List Float) where
-  frames : (ask : Ask) → Small (framed ask b share .reply)
-  frames (opening m) = opens m (readOf m) share refl
-  frames (call1 x w) = first-replies Small (λ _. tt) share tt x w
-  frames (call2 x l w s) = second-replies Small (λ _. tt) share tt x l w s
-  frames (call3 x l m o) = third-replies Small (λ _. tt) share tt (λ _ _. tt) m (misread m) (b .index) (b .vad) (b .noise) (b .denoise) x l o
-  frames (call4 x o) = fourth-replies Small (λ _. tt) share tt x o
+module _ (b : Record) (share : List Float) where
+  abbrev SmallOf : Effect → Type 0
+  SmallOf f = Small (f .reply)
 
-pub small : (benches side : ℕ) (b : Bench) (store : List Float) (ask : Ask) → Small (desk benches side b store ask .answer .reply)
+  frames : (ask : Ask) → Small (onShare b share ask .reply)
+  frames (opening m) = opens m (readOf m) share refl
+  frames (call1 x w) = call1-by share SmallOf (λ _. tt) x w (λ _ _. tt)
+  frames (call2 x l w s) = call2-by share SmallOf (λ _. tt) x l w s (λ _. tt)
+  frames (call3 x l m o) = call3-by share SmallOf (λ _. tt) (b .index) (b .vad) (b .noise) (b .denoise) x l m o (misread m) tt (λ _ _ _ _ _. tt)
+  frames (call4 x o) = call4-by share SmallOf (λ _. tt) x o (λ _. tt)
+
+pub small : (benches side : ℕ) (b : Record) (store : List Float) (ask : Ask) → Small (desk benches side b store ask .answer .reply)
 unfolding desk
 small benches side b store ask = go (eqb number 0)
   where
     number : ℕ
-    number = gate benches (callOf ask) side b (length store)
+    number = gate benches side b (length store) (callOf ask)
 
     share : List Float
     share = get (shareOf side) store
 
-    go : (t : Bool) → Small (cond t (framed ask b share) (refused (Refused number) share) .reply)
+    go : (t : Bool) → Small (cond t (onShare b share ask) (refusal (Refused number) share) .reply)
     go true = frames b share ask
     go false = tt
+
+pub no-out : (benches side : ℕ) (b : Record) (store spectrum logs : List Float) (model : List ℕ)
+    → passed (desk benches side b store (call3 spectrum logs model 0) .answer .reply) ≡ false
+unfolding desk
+no-out benches side b store spectrum logs model =
+    rw (call3-no-out share (b .index) (b .vad) (b .noise) (b .denoise) spectrum logs model) (go (eqb number 0))
+  where
+    number : ℕ
+    number = gate benches side b (length store) 3
+
+    share : List Float
+    share = get (shareOf side) store
+
+    go : (t : Bool) → passed (cond t (refusal (Refused 5) share) (refusal (Refused number) share) .reply) ≡ false
+    go true = refl
+    go false = refl

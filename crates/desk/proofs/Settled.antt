@@ -17,55 +17,55 @@ use Rattle.model.specs.Model.{readOf}
 use Rattle.model.specs.declared.Reading.{Reading}
 use Rattle.model.specs.declared.Reading.the-variants.{Good, Refused as Unread}
 use Rattle.frame.specs.Share.{SHARE}
-use Rattle.frame.specs.Frame.{Framed, refused}
+use Rattle.frame.specs.Frame.{Effect, refusal}
 use Rattle.frame.specs.Reply.{passed}
 use Rattle.frame.specs.declared.Reply.the-variants.{Refused}
-use Rattle.frame.proofs.Keeps.{Keeps, first-keeps, second-keeps, third-keeps, fourth-keeps}
+use Rattle.frame.proofs.Keeps.{Keeps, call1-keeps, call2-keeps, call3-keeps, call4-keeps}
 use Rattle.desk.specs.declared.Answer.{Answer}
-use Rattle.desk.specs.declared.Bench.{Bench}
+use Rattle.desk.specs.declared.Record.{Record}
 use Rattle.desk.specs.Gate.{shareOf, gate}
-use Rattle.desk.specs.Desk.{Ask, opening, call1, call2, call3, call4, callOf, opened, framed, admitted, Outcome, desk, Served}
+use Rattle.desk.specs.Desk.{Ask, opening, call1, call2, call3, call4, callOf, opened, onShare, admitted, Given, desk, Served}
 use Rattle.desk.specs.Surface.{Hosted}
 
-pub settled : {o : Outcome} {a a′ : Answer} {store store′ : List Float} {held out out′ : List (List Float)}
+pub settled : {o : Given} {a a′ : Answer} {store store′ : List Float} {held out out′ : List (List Float)}
     → Served o a store held out → Served o a′ store′ held out′ → (a ≡ a′) × (store ≡ store′) × (out ≡ out′)
 settled s t = (s .answers ∙ sym (t .answers), s .stores ∙ sym (t .stores), s .writes ∙ sym (t .writes))
 
-pub host-settled : {o : Outcome} {n n′ : ℕ} {given bench bench′ : List ℕ} {store store′ : List Float} {held out out′ : List (List Float)}
-    → Hosted o n given bench store held out → Hosted o n′ given bench′ store′ held out′ → (n ≡ n′) × (bench ≡ bench′) × (store ≡ store′) × (out ≡ out′)
+pub host-settled : {o : Given} {n n′ : ℕ} {ns ms ms′ : List ℕ} {store store′ : List Float} {held out out′ : List (List Float)}
+    → Hosted o n ns ms store held out → Hosted o n′ ns ms′ store′ held out′ → (n ≡ n′) × (ms ≡ ms′) × (store ≡ store′) × (out ≡ out′)
 host-settled s t =
-    (s .numbers ∙ sym (t .numbers), s .benches ∙ sym (t .benches), s .stores ∙ sym (t .stores), s .writes ∙ sym (t .writes))
+    (s .numbers ∙ sym (t .numbers), s .records ∙ sym (t .records), s .stores ∙ sym (t .stores), s .writes ∙ sym (t .writes))
 
 -- what a call keeps of a share of the right length: its length; and, refused, all of it
-pub record Kept (share : List Float) (f : Framed) : Type 0 where
+pub record Kept (share : List Float) (f : Effect) : Type 0 where
   pub size : length share ≡ SHARE → length (f .share) ≡ SHARE
   pub still : passed (f .reply) ≡ false → f .share ≡ share
 
-module _ (b : Bench) (share : List Float) where
-  opened-kept : (m : Reading) → Kept share (opened m share)
+module _ (b : Record) (share : List Float) where
+  opened-kept : (m : Reading) → Kept share (opened share m)
   opened-kept (Good m) = record { size = λ _. refl; still = λ e. let one : _≡_ {A = ℕ} 0 1 = cc in absurd (omega arith) }
   opened-kept (Unread n l) = record { size = λ h. h; still = λ _. refl }
 
-  framed-kept : {f : Framed} → Keeps share f → Kept share f
-  framed-kept k = record { size = λ l. k .size ∙ l; still = k .still }
+  frame-kept : {f : Effect} → Keeps share f → Kept share f
+  frame-kept k = record { size = λ l. k .size ∙ l; still = k .still }
 
-  pub admitted-kept : (number : ℕ) (ask : Ask) → Kept share (admitted number ask b share)
-  admitted-kept number ask = go (eqb number 0)
+  pub admitted-kept : (ask : Ask) (number : ℕ) → Kept share (admitted b share ask number)
+  admitted-kept ask number = go (eqb number 0)
     where
-      kept : (a : Ask) → Kept share (framed a b share)
+      kept : (a : Ask) → Kept share (onShare b share a)
       kept (opening m) = opened-kept (readOf m)
-      kept (call1 x w) = framed-kept (first-keeps share x w)
-      kept (call2 x l w s) = framed-kept (second-keeps share x l w s)
-      kept (call3 x l m o) = framed-kept (third-keeps share (b .index) (b .vad) (b .noise) (b .denoise) x l m o)
-      kept (call4 x o) = framed-kept (fourth-keeps share x o)
+      kept (call1 x w) = frame-kept (call1-keeps share x w)
+      kept (call2 x l w s) = frame-kept (call2-keeps share x l w s)
+      kept (call3 x l m o) = frame-kept (call3-keeps share (b .index) (b .vad) (b .noise) (b .denoise) x l m o)
+      kept (call4 x o) = frame-kept (call4-keeps share x o)
 
-      go : (t : Bool) → Kept share (cond t (framed ask b share) (refused (Refused number) share))
+      go : (t : Bool) → Kept share (cond t (onShare b share ask) (refusal (Refused number) share))
       go true = kept ask
       go false = record { size = λ h. h; still = λ _. refl }
 
-module _ (benches side : ℕ) (b : Bench) (store : List Float) (ask : Ask) where
+module _ (benches side : ℕ) (b : Record) (store : List Float) (ask : Ask) where
   pub refused-keeps : passed (desk benches side b store ask .answer .reply) ≡ false
-      → (desk benches side b store ask .answer .bench ≡ b) × (desk benches side b store ask .store ≡ store)
+      → (desk benches side b store ask .answer .rec ≡ b) × (desk benches side b store ask .store ≡ store)
   unfolding desk
   refused-keeps e =
-      (rw e, ap (put (shareOf side) store) (admitted-kept b (get (shareOf side) store) (gate benches (callOf ask) side b (length store)) ask .still e) ∙ put-get (shareOf side) store)
+      (rw e, ap (put (shareOf side) store) (admitted-kept b (get (shareOf side) store) ask (gate benches side b (length store) (callOf ask)) .still e) ∙ put-get (shareOf side) store)

@@ -13,25 +13,25 @@ use lib.Dec.{eqb, ltb}
 use Rattle.rules.proofs.Cleared.{cleared}
 use Rattle.rules.proofs.Refused.{Clear}
 use Rattle.frame.specs.Share.{SHARE}
-use Rattle.desk.specs.declared.Bench.{Bench}
+use Rattle.desk.specs.declared.Record.{Record}
 use Rattle.desk.specs.Gate.{refusals, gate}
 
-module _ (benches call side : ℕ) (b : Bench) (len : ℕ) where
+module _ (benches side : ℕ) (b : Record) (len call : ℕ) where
   -- no test of the table holds
-  pub none : gate benches call side b len ≡ 0 → Clear (refusals benches call side b len)
+  pub none : gate benches side b len call ≡ 0 → Clear (refusals benches side b len call)
   unfolding gate
-  none e = cleared (refusals benches call side b len) tt e
+  none e = cleared (refusals benches side b len call) tt e
 
-  pub through : gate benches call side b len ≡ 0 → (side < benches) × (len ≡ benches * SHARE)
+  pub through : gate benches side b len call ≡ 0 → (side < benches) × (len ≡ benches * SHARE)
   through e =
       let c = none e in
       (ltb-true side benches (not-false (ltb side benches) (c .0)), eqb-true len (benches * SHARE) (not-false (eqb len (benches * SHARE)) (c .1 .0)))
 
-  pub gate-own : side < benches → len ≡ benches * SHARE → gate benches call side b len ≡ gate 1 call 0 b SHARE
+  pub gate-own : side < benches → len ≡ benches * SHARE → gate benches side b len call ≡ gate 1 0 b SHARE call
   unfolding gate
   gate-own h l = simp (lt-ltb side benches h, eq-eqb len (benches * SHARE) l)
 
-  pub closed-opens : b .due ≡ 0 → gate benches call side b len ≡ 0 → call ≡ 0
+  pub closed-opens : b .due ≡ 0 → gate benches side b len call ≡ 0 → call ≡ 0
   closed-opens z e = go (eqb call 0) refl
     where
       go : (t : Bool) → eqb call 0 ≡ t → call ≡ 0

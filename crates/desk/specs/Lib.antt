@@ -1,3 +1,4 @@
 pub mod Gate
 pub mod Desk
 pub mod Surface
+pub mod Parts

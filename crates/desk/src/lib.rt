@@ -2,19 +2,18 @@
 ghost use mathlib.Core.Path.{_≡_};
 ghost use mathlib.Core.List.{[], _∷_};
 ghost use lib.ListN.{length};
-ghost use Rattle.desk.specs.Gate.{BENCHES, allZero, inCounts, inRange, gate, Admitted};
-ghost use Rattle.desk.specs.Desk.{opening, call1, call2, call3, call4, benchOf, nextIndex, nextDue, toldOf, openedOf, desk, Served};
+ghost use Rattle.desk.specs.Gate.{BENCHES, allZero, inCounts, inRange, gate};
+ghost use Rattle.desk.specs.Desk.{opening, call1, call2, call3, call4, recordOf, nextIndex, nextDue, desk, Served};
+ghost use Rattle.desk.specs.Parts.{Admits, turnedAway, toldOf, openedOf};
 use frame::Lag;
 use frame::Reply;
 use model::Reading;
 
-pub mod host;
-
 // A side, 0 left and 1 right.
 pub struct Side(pub usize);
 
-// A side's record, which goes in and comes back by value; closed, it is all zeros.
-pub struct Bench {
+// A side's record, which goes in and comes back by value; closed, it is all zeros. It is called `rec`: `record` is a word of the logic.
+pub struct Record {
     pub due: usize,
     pub index: usize,
     pub vad: usize,
@@ -25,7 +24,7 @@ pub struct Bench {
 // What a call gives back: its reply, and the record as it now stands.
 pub struct Answer {
     pub reply: Reply,
-    pub bench: Bench,
+    pub rec: Record,
 }
 
 pub const BENCHES: usize = 2;
@@ -34,10 +33,10 @@ pub const BENCHES: usize = 2;
 pub const STORE: usize = BENCHES * frame::SHARE;
 
 // Every record is made here.
-pub fn bench_of(due: usize, index: usize, vad: usize, noise: usize, denoise: usize) -> Bench
-    ensures { λ r. ⌜ r ≡ benchOf due index vad noise denoise ⌝ }
+pub fn record_of(due: usize, index: usize, vad: usize, noise: usize, denoise: usize) -> Record
+    ensures { λ r. ⌜ r ≡ recordOf due index vad noise denoise ⌝ }
 {
-    Bench {
+    Record {
         due,
         index,
         vad,
@@ -47,62 +46,62 @@ pub fn bench_of(due: usize, index: usize, vad: usize, noise: usize, denoise: usi
 }
 
 // Whether the index and the counts of a closed record are all 0.
-fn all_zero(b: Bench) -> bool
-    ensures { λ r. ⌜ r ≡ allZero b ⌝ }
+fn all_zero(rec: Record) -> bool
+    ensures { λ r. ⌜ r ≡ allZero rec ⌝ }
 {
-    if b.index != 0 {
+    if rec.index != 0 {
         return false;
     }
-    if b.vad != 0 {
+    if rec.vad != 0 {
         return false;
     }
-    if b.noise != 0 {
+    if rec.noise != 0 {
         return false;
     }
-    b.denoise == 0
+    rec.denoise == 0
 }
 
 // Whether the GRU counts of an open record are in range.
-fn in_counts(b: Bench) -> bool
-    ensures { λ r. ⌜ r ≡ inCounts b ⌝ }
+fn in_counts(rec: Record) -> bool
+    ensures { λ r. ⌜ r ≡ inCounts rec ⌝ }
 {
-    if b.vad < 1 {
+    if rec.vad < 1 {
         return false;
     }
-    if b.vad > 127 {
+    if rec.vad > 127 {
         return false;
     }
-    if b.noise < 1 {
+    if rec.noise < 1 {
         return false;
     }
-    if b.noise > 127 {
+    if rec.noise > 127 {
         return false;
     }
-    if b.denoise < 1 {
+    if rec.denoise < 1 {
         return false;
     }
-    b.denoise <= 127
+    rec.denoise <= 127
 }
 
 // Whether a record is in range.
-fn in_range(b: Bench) -> bool
-    ensures { λ r. ⌜ r ≡ inRange b ⌝ }
+fn in_range(rec: Record) -> bool
+    ensures { λ r. ⌜ r ≡ inRange rec ⌝ }
 {
-    if b.due == 0 {
-        return all_zero(b);
+    if rec.due == 0 {
+        return all_zero(rec);
     }
-    if b.due > 4 {
+    if rec.due > 4 {
         return false;
     }
-    if b.index > 7 {
+    if rec.index > 7 {
         return false;
     }
-    in_counts(b)
+    in_counts(rec)
 }
 
 // Refusals 1 to 4, or 0: `call` is the call asked for, and 0 an opening.
-fn gate(call: usize, side: Side, bench: Bench, len: usize) -> u32
-    ensures { λ r. ⌜ r ≡ gate BENCHES call (side .0) bench len ⌝ }
+fn gate(side: Side, rec: Record, len: usize, call: usize) -> u32
+    ensures { λ r. ⌜ r ≡ gate BENCHES (side .0) rec len call ⌝ }
 {
     if side.0 >= BENCHES {
         return 1;
@@ -110,16 +109,16 @@ fn gate(call: usize, side: Side, bench: Bench, len: usize) -> u32
     if len != STORE {
         return 2;
     }
-    if !in_range(bench) {
+    if !in_range(rec) {
         return 2;
     }
     if call == 0 {
         return 0;
     }
-    if bench.due == 0 {
+    if rec.due == 0 {
         return 3;
     }
-    if bench.due != call {
+    if rec.due != call {
         return 4;
     }
     0
@@ -132,10 +131,10 @@ struct Admission {
     end: usize,
 }
 
-fn admit(call: usize, side: Side, bench: Bench, len: usize) -> Admission
-    ensures { λ r. ⌜ Admitted BENCHES call (side .0) bench len r ⌝ }
+fn admit(side: Side, rec: Record, len: usize, call: usize) -> Admission
+    ensures { λ r. ⌜ Admits BENCHES (side .0) rec len call r ⌝ }
 {
-    let number = gate(call, side, bench, len);
+    let number = gate(side, rec, len, call);
     if number != 0 {
         return Admission {
             number,
@@ -151,9 +150,19 @@ fn admit(call: usize, side: Side, bench: Bench, len: usize) -> Admission
     }
 }
 
+// The answer of a call that is turned away.
+fn turned_away(rec: Record, number: u32) -> Answer
+    ensures { λ r. ⌜ r ≡ turnedAway rec number ⌝ }
+{
+    Answer {
+        reply: Reply::Refused(number),
+        rec,
+    }
+}
+
 // The cepstral index after a reply: a heard frame moves it on, round and round.
-fn next_index(reply: Reply, index: usize) -> usize
-    ensures { λ r. ⌜ r ≡ nextIndex reply index ⌝ }
+fn next_index(index: usize, reply: Reply) -> usize
+    ensures { λ r. ⌜ r ≡ nextIndex index reply ⌝ }
 {
     match reply {
         Reply::Heard(_, _) => {
@@ -180,32 +189,32 @@ fn next_due(call: usize) -> usize
 }
 
 // The answer to a frame call: where its reply is no refusal, the following call is due.
-fn told(reply: Reply, b: Bench) -> Answer
-    ensures { λ r. ⌜ r ≡ toldOf reply b ⌝ }
+fn told(rec: Record, reply: Reply) -> Answer
+    ensures { λ r. ⌜ r ≡ toldOf rec reply ⌝ }
 {
     if !frame::passed(reply) {
-        return Answer { reply, bench: b };
+        return Answer { reply, rec };
     }
-    let due = next_due(b.due);
-    let index = next_index(reply, b.index);
+    let due = next_due(rec.due);
+    let index = next_index(rec.index, reply);
     Answer {
         reply,
-        bench: bench_of(due, index, b.vad, b.noise, b.denoise),
+        rec: record_of(due, index, rec.vad, rec.noise, rec.denoise),
     }
 }
 
 // The answer to an opening, once the model is read.
-fn opened(read: Reading, b: Bench) -> Answer
-    ensures { λ r. ⌜ r ≡ openedOf read b ⌝ }
+fn opened(rec: Record, read: Reading) -> Answer
+    ensures { λ r. ⌜ r ≡ openedOf rec read ⌝ }
 {
     match read {
         Reading::Refused(number, layer) => Answer {
             reply: Reply::Misread(number, layer),
-            bench: b,
+            rec,
         },
         Reading::Good(m) => Answer {
             reply: Reply::Done,
-            bench: bench_of(
+            rec: record_of(
                 1,
                 0,
                 m.vad_gru.neurons,
@@ -217,19 +226,16 @@ fn opened(read: Reading, b: Bench) -> Answer
 }
 
 // An opening: a model that reads wipes the side's share and makes call 1 due. It has no answer buffer.
-pub fn open(side: Side, bench: Bench, store: &mut [f32], model: &[u8]) -> Answer
+pub fn open(side: Side, rec: Record, store: &mut [f32], model: &[u8]) -> Answer
     ensures { λ r. ⌜ Served
-        (desk BENCHES (side .0) bench (now (store .entry)) (opening (now (model .entry))))
+        (desk BENCHES (side .0) rec (now (store .entry)) (opening (now (model .entry))))
         r (now (store .exit)) [] [] ⌝ }
 {
-    let Admission { number, start, end } = admit(0, side, bench, store.len());
+    let Admission { number, start, end } = admit(side, rec, store.len(), 0);
     if number != 0 {
-        return Answer {
-            reply: Reply::Refused(number),
-            bench,
-        };
+        return turned_away(rec, number);
     }
-    let answer = opened(model::read(model), bench);
+    let answer = opened(rec, model::read(model));
     let reply = answer.reply;
     if !frame::passed(reply) {
         return answer;
@@ -241,31 +247,28 @@ pub fn open(side: Side, bench: Bench, store: &mut [f32], model: &[u8]) -> Answer
 // Call 1: 480 samples in, 960 windowed numbers written.
 pub fn call1(
     side: Side,
-    bench: Bench,
+    rec: Record,
     store: &mut [f32],
     samples: &[f32],
     window: &mut [f32],
 ) -> Answer
     ensures { λ r. ⌜ Served
-        (desk BENCHES (side .0) bench (now (store .entry))
+        (desk BENCHES (side .0) rec (now (store .entry))
         (call1 (now (samples .entry)) (length (now (window .entry)))))
         r (now (store .exit)) (now (window .entry) ∷ []) (now (window .exit) ∷ []) ⌝ }
 {
-    let Admission { number, start, end } = admit(1, side, bench, store.len());
+    let Admission { number, start, end } = admit(side, rec, store.len(), 1);
     if number != 0 {
-        return Answer {
-            reply: Reply::Refused(number),
-            bench,
-        };
+        return turned_away(rec, number);
     }
-    let reply = frame::first(&mut store[start..end], samples, window);
-    told(reply, bench)
+    let reply = frame::call1(&mut store[start..end], samples, window);
+    told(rec, reply)
 }
 
 // Call 2: the first spectrum and a lag in, 960 windowed numbers and 22 sums written.
 pub fn call2(
     side: Side,
-    bench: Bench,
+    rec: Record,
     store: &mut [f32],
     spectrum: &[f32],
     lag: Lag,
@@ -273,25 +276,22 @@ pub fn call2(
     sums: &mut [f32],
 ) -> Answer
     ensures { λ r. ⌜ Served
-        (desk BENCHES (side .0) bench (now (store .entry))
+        (desk BENCHES (side .0) rec (now (store .entry))
         (call2 (now (spectrum .entry)) (lag .0) (length (now (window .entry))) (length (now (sums .entry)))))
         r (now (store .exit)) (now (window .entry) ∷ now (sums .entry) ∷ []) (now (window .exit) ∷ now (sums .exit) ∷ []) ⌝ }
 {
-    let Admission { number, start, end } = admit(2, side, bench, store.len());
+    let Admission { number, start, end } = admit(side, rec, store.len(), 2);
     if number != 0 {
-        return Answer {
-            reply: Reply::Refused(number),
-            bench,
-        };
+        return turned_away(rec, number);
     }
-    let reply = frame::second(&mut store[start..end], spectrum, lag, window, sums);
-    told(reply, bench)
+    let reply = frame::call2(&mut store[start..end], spectrum, lag, window, sums);
+    told(rec, reply)
 }
 
 // Call 3: the second spectrum, 22 logarithms and the model in, 961 numbers written; silent, or heard with voice and energy.
 pub fn call3(
     side: Side,
-    bench: Bench,
+    rec: Record,
     store: &mut [f32],
     spectrum: &[f32],
     logs: &[f32],
@@ -299,51 +299,39 @@ pub fn call3(
     out: &mut [f32],
 ) -> Answer
     ensures { λ r. ⌜ Served
-        (desk BENCHES (side .0) bench (now (store .entry))
+        (desk BENCHES (side .0) rec (now (store .entry))
         (call3 (now (spectrum .entry)) (now (logs .entry)) (now (model .entry)) (length (now (out .entry)))))
         r (now (store .exit)) (now (out .entry) ∷ []) (now (out .exit) ∷ []) ⌝ }
 {
-    let Admission { number, start, end } = admit(3, side, bench, store.len());
+    let Admission { number, start, end } = admit(side, rec, store.len(), 3);
     if number != 0 {
-        return Answer {
-            reply: Reply::Refused(number),
-            bench,
-        };
+        return turned_away(rec, number);
     }
-    let reply = frame::third(
+    let reply = frame::call3(
         &mut store[start..end],
-        bench.index,
-        bench.vad,
-        bench.noise,
-        bench.denoise,
+        rec.index,
+        rec.vad,
+        rec.noise,
+        rec.denoise,
         spectrum,
         logs,
         model,
         out,
     );
-    told(reply, bench)
+    told(rec, reply)
 }
 
 // Call 4: 960 inverse samples in, 480 numbers written.
-pub fn call4(
-    side: Side,
-    bench: Bench,
-    store: &mut [f32],
-    inverse: &[f32],
-    out: &mut [f32],
-) -> Answer
+pub fn call4(side: Side, rec: Record, store: &mut [f32], inverse: &[f32], out: &mut [f32]) -> Answer
     ensures { λ r. ⌜ Served
-        (desk BENCHES (side .0) bench (now (store .entry))
+        (desk BENCHES (side .0) rec (now (store .entry))
         (call4 (now (inverse .entry)) (length (now (out .entry)))))
         r (now (store .exit)) (now (out .entry) ∷ []) (now (out .exit) ∷ []) ⌝ }
 {
-    let Admission { number, start, end } = admit(4, side, bench, store.len());
+    let Admission { number, start, end } = admit(side, rec, store.len(), 4);
     if number != 0 {
-        return Answer {
-            reply: Reply::Refused(number),
-            bench,
-        };
+        return turned_away(rec, number);
     }
-    let reply = frame::fourth(&mut store[start..end], inverse, out);
-    told(reply, bench)
+    let reply = frame::call4(&mut store[start..end], inverse, out);
+    told(rec, reply)
 }

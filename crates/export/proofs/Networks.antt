@@ -4,23 +4,15 @@ use mathlib.Core.List.{List}
 use Prim.Native.Nat.{ℕ, _≤_}
 use Rattle.rules.specs.Leaf.{Leaf, done, refused}
 use lib.Ieee.{Float}
-use Rattle.network.specs.Compute.{Outcome, computed}
-use Rattle.network.specs.declared.Computed.{Computed}
-use Rattle.network.specs.declared.Computed.the-variants.{Done, Refused, Misread}
+use Rattle.network.specs.Compute.{Computing, computed}
 use Rattle.network.proofs.Callers.{Answered, answered}
-use Rattle.export.specs.OfNetwork.{Known, Small}
+use Rattle.export.specs.OfNetwork.{Known}
 
 -- a leaf that was asked with an activation that is known
 pub known : {O Fits : Type 0} {got new old : O} {activation : ℕ} → activation ≤ 2 → Leaf Fits got new old → Leaf (Known activation Fits) got new old
 known h (done f e) = done (record { known = h; fits = f }) e
 known h (refused n e) = refused (λ k. n (k .fits)) e
 
-small : (answer : Computed) → Answered answer → Small answer
-small Done h = tt
-small (Refused number) h = tt
-small (Misread number layer) h = h
-
-pub small-answer : (gains voice vad noise denoise : List Float) (model : List ℕ) (features : List Float) {o : Outcome} → o ≡ computed gains voice vad noise denoise model features
-    → Small (o .answer)
-small-answer gains voice vad noise denoise model features e =
-    rw e (small (computed gains voice vad noise denoise model features .answer) (answered gains voice vad noise denoise model features))
+pub answered-by : (gains voice vad noise denoise : List Float) (model : List ℕ) (features : List Float) {o : Computing}
+    → o ≡ computed gains voice vad noise denoise model features → Answered (o .answer)
+answered-by gains voice vad noise denoise model features e = rw e (answered gains voice vad noise denoise model features)

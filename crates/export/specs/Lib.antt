@@ -1,3 +1,4 @@
 pub mod OfNetwork
 pub mod OfNumbers
 pub mod OfPitch
+pub mod Parts

@@ -1,22 +1,15 @@
--- The filter's coefficients and memories, which cross the boundary as slices.
+-- The filter's coefficients, which cross the boundary as a slice, as its memories do.
 use mathlib.Core.Path.{_≡_}
-use mathlib.Core.List.{List, [], _∷_}
+use mathlib.Core.List.{List}
 use Prim.Native.Nat.{ℕ}
 use lib.Ieee.{Float}
 use Rattle.rules.specs.F32.{at}
 use Rattle.numbers.specs.declared.filter.Biquad.{Biquad}
-use Rattle.numbers.specs.declared.filter.Memory.{Memory}
 
-pub record FilterFits (output memory coefficients input : ℕ) : Type 0 where
+pub record BiquadFits (output memory coefficients input : ℕ) : Type 0 where
   pub memories : memory ≡ 2
   pub four : coefficients ≡ 4
   pub same : output ≡ input
 
 abbrev pub biquadOf : List Float → Biquad
 biquadOf xs = record { a0 = at xs 0; a1 = at xs 1; b0 = at xs 2; b1 = at xs 3 }
-
-abbrev pub memoryOf : List Float → Memory
-memoryOf xs = record { m0 = at xs 0; m1 = at xs 1 }
-
-abbrev pub memoryList : Memory → List Float
-memoryList m = m .m0 ∷ m .m1 ∷ []

@@ -1,8 +1,8 @@
 -- The lengths of the leaves of `pitch` whose answer goes into a lent slice.
 use mathlib.Core.Path.{_≡_}
 use Prim.Native.Nat.{ℕ}
-use Rattle.pitch.specs.Inner.{InnerFits}
-use Rattle.pitch.specs.Best.{BestFits}
+use Rattle.pitch_search.specs.Inner.{InnerFits}
+use Rattle.pitch_search.specs.Best.{BestFits}
 
 pub record SumFits (sum xs ys n : ℕ) : Type 0 where
   pub one : sum ≡ 1

@@ -5,7 +5,8 @@ ghost use Rattle.rules.specs.Leaf.{Leaf, _leaving_};
 ghost use Rattle.model.specs.Layer.{activationOf};
 ghost use Rattle.network.specs.Layers.{denseOf, DenseFits, gruOf, GruFits};
 ghost use Rattle.network.specs.Compute.{frameOf, computed};
-ghost use Rattle.export.specs.OfNetwork.{Known, numberOf, told, Small};
+ghost use Rattle.network.proofs.Callers.{Answered};
+ghost use Rattle.export.specs.OfNetwork.{Known, computedNumber, computedTold};
 use model::Activation;
 use network::Computed;
 
@@ -27,7 +28,9 @@ pub extern "C" fn tuppence_dense(
     activation: u32,
     input: &[f32],
 ) -> u32
-    ensures { λ r. ⌜ Leaf (Known activation (DenseFits (length (now (output .entry))) (length (now (weights .entry))) (length (now (bias .entry))) (length (now (input .entry)))))
+    ensures { λ r. ⌜ Leaf
+        (Known activation (DenseFits
+        (length (now (output .entry))) (length (now (weights .entry))) (length (now (bias .entry))) (length (now (input .entry)))))
         (r leaving now (output .exit))
         (0 leaving denseOf (now (weights .entry)) (now (bias .entry)) (activationOf activation) (now (input .entry)))
         (5 leaving now (output .entry)) ⌝ }
@@ -47,9 +50,14 @@ pub extern "C" fn tuppence_gru(
     activation: u32,
     input: &[f32],
 ) -> u32
-    ensures { λ r. ⌜ Leaf (Known activation (GruFits (length (now (state .entry))) (length (now (weights .entry))) (length (now (recurrent .entry))) (length (now (bias .entry))) (length (now (input .entry)))))
+    ensures { λ r. ⌜ Leaf
+        (Known activation (GruFits
+        (length (now (state .entry))) (length (now (weights .entry))) (length (now (recurrent .entry))) (length (now (bias .entry)))
+        (length (now (input .entry)))))
         (r leaving now (state .exit))
-        (0 leaving gruOf (now (weights .entry)) (now (recurrent .entry)) (now (bias .entry)) (activationOf activation) (now (input .entry)) (now (state .entry)))
+        (0 leaving gruOf
+        (now (weights .entry)) (now (recurrent .entry)) (now (bias .entry))
+        (activationOf activation) (now (input .entry)) (now (state .entry)))
         (5 leaving now (state .entry)) ⌝ }
 {
     if 2 < activation {
@@ -67,13 +75,13 @@ pub extern "C" fn tuppence_gru(
 
 // 0, 5, or 7 with the number and the layer of a model that does not read.
 fn number_of(answer: Computed) -> u32
-    requires { ⌜ Small answer ⌝ }
-    ensures { λ r. ⌜ r ≡ numberOf answer ⌝ }
+    requires { ⌜ Answered answer ⌝ }
+    ensures { λ r. ⌜ r ≡ computedNumber answer ⌝ }
 {
     match answer {
         Computed::Done => 0,
         Computed::Refused(number) => number,
-        Computed::Misread(number, layer) => 7 + 256 * number + 65536 * layer,
+        Computed::Misread(number, layer) => crate::of_model::seven(number, layer),
     }
 }
 
@@ -88,8 +96,11 @@ pub extern "C" fn tuppence_network(
     model: &[u8],
     features: &[f32],
 ) -> u32
-    ensures { λ r. ⌜ (r leaving frameOf (now (gains .exit)) (now (voice .exit)) (now (vad .exit)) (now (noise .exit)) (now (denoise .exit)))
-        ≡ told (computed (now (gains .entry)) (now (voice .entry)) (now (vad .entry)) (now (noise .entry)) (now (denoise .entry)) (now (model .entry)) (now (features .entry))) ⌝ }
+    ensures { λ r. ⌜ (r leaving frameOf
+        (now (gains .exit)) (now (voice .exit)) (now (vad .exit)) (now (noise .exit)) (now (denoise .exit)))
+        ≡ computedTold (computed
+        (now (gains .entry)) (now (voice .entry)) (now (vad .entry)) (now (noise .entry)) (now (denoise .entry))
+        (now (model .entry)) (now (features .entry))) ⌝ }
 {
     let answer = network::compute(gains, voice, vad, noise, denoise, model, features);
     number_of(answer)

@@ -8,7 +8,8 @@ ghost use Rattle.numbers.specs.Filter.{memoryAfter, outputs};
 ghost use Rattle.numbers.specs.Larger.{larger, smaller, clamped, rectified};
 ghost use Rattle.numbers.specs.Narrowed.{narrowed};
 ghost use Rattle.numbers.specs.Root.{root};
-ghost use Rattle.export.specs.OfNumbers.{FilterFits, biquadOf, memoryOf, memoryList};
+ghost use Rattle.numbers.specs.Filter.{memoryOf, memoryList};
+ghost use Rattle.export.specs.OfNumbers.{BiquadFits, biquadOf};
 
 #[no_mangle]
 pub extern "C" fn tuppence_tansig(x: f32) -> f32
@@ -74,7 +75,9 @@ pub extern "C" fn tuppence_filter(
     coefficients: &[f32],
     input: &[f32],
 ) -> u32
-    ensures { λ r. ⌜ Leaf (FilterFits (length (now (output .entry))) (length (now (memory .entry))) (length (now (coefficients .entry))) (length (now (input .entry))))
+    ensures { λ r. ⌜ Leaf
+        (BiquadFits
+        (length (now (output .entry))) (length (now (memory .entry))) (length (now (coefficients .entry))) (length (now (input .entry))))
         (r leaving now (output .exit) leaving now (memory .exit))
         (0 leaving outputs (biquadOf (now (coefficients .entry))) (memoryOf (now (memory .entry))) (now (input .entry))
         leaving memoryList (memoryAfter (biquadOf (now (coefficients .entry))) (memoryOf (now (memory .entry))) (now (input .entry))))

@@ -4,10 +4,10 @@ ghost use mathlib.Core.List.{[], _∷_};
 ghost use Prim.Native.Nat.{_<_};
 ghost use lib.ListN.{length};
 ghost use Rattle.rules.specs.Leaf.{Leaf, _leaving_};
-ghost use Rattle.pitch.specs.Inner.{innerProd};
+ghost use Rattle.pitch_search.specs.Inner.{innerProd};
 ghost use Rattle.pitch.specs.Lpc.{lpcOf};
 ghost use Rattle.pitch.specs.Xcorr.{pitchXcorr, XcorrFits};
-ghost use Rattle.pitch.specs.Best.{best};
+ghost use Rattle.pitch_search.specs.Best.{best};
 ghost use Rattle.pitch.specs.Fir.{fir5};
 ghost use Rattle.pitch.specs.Autocorr.{celtAutocorr, AutocorrFits};
 ghost use Rattle.pitch.specs.Downsample.{downsampled, DownsampleFits};
@@ -24,7 +24,7 @@ pub extern "C" fn tuppence_inner_prod(sum: &mut [f32], xs: &[f32], ys: &[f32], n
     if sum.len() != 1 {
         return 5;
     }
-    let product = pitch::inner_prod(xs, ys, n);
+    let product = pitch_search::inner_prod(xs, ys, n);
     let number = product.number();
     if number != 0 {
         return number;
@@ -63,13 +63,13 @@ pub extern "C" fn tuppence_find_best_pitch(
 ) -> u32
     ensures { λ r. ⌜ Leaf (PitchesFit (length (now (pitches .entry))) (length (now (xcorr .entry))) (length (now (ys .entry))) len)
         (r leaving now (pitches .exit))
-        (0 leaving best (now (xcorr .entry)) (now (ys .entry)) len .pitch1 ∷ best (now (xcorr .entry)) (now (ys .entry)) len .pitch2 ∷ [])
+        (0 leaving best (now (xcorr .entry)) (now (ys .entry)) len .bestPitch ∷ best (now (xcorr .entry)) (now (ys .entry)) len .secondBestPitch ∷ [])
         (5 leaving now (pitches .entry)) ⌝ }
 {
     if pitches.len() != 2 {
         return 5;
     }
-    let found = pitch::find_best_pitch(xcorr, ys, len);
+    let found = pitch_search::find_best_pitch(xcorr, ys, len);
     let number = found.number();
     if number != 0 {
         return number;

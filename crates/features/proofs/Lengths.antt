@@ -8,8 +8,8 @@ use lib.ListN.{length, length-set, length-append, length-drop}
 use Rattle.rules.proofs.Places.{length-put}
 use Rattle.rules.proofs.Tabs.{length-tab}
 use Rattle.bands.proofs.Results.{length-dct}
-use Rattle.features.specs.Cepstra.{row, followLogs, cepstrum, sums, slopes, bends}
-use Rattle.features.specs.Features.{normalised, normalisedCorr, pitchFeatures, remembered, laid, featuresOf}
+use Rattle.features.specs.Cepstra.{row, followLogs, cepstrum, deltas}
+use Rattle.features.specs.Features.{normalised, normalisedCorr, pitchFeatures, withCepstrum, laid, featuresOf}
 use Rattle.features.specs.Gains.{gained}
 use Rattle.features.specs.Pitch.{applied, restored, pitchFiltered}
 
@@ -37,24 +37,16 @@ pub length-cepstrum : (logs : List Float) → length (cepstrum logs) ≡ 22
 unfolding cepstrum
 length-cepstrum logs = simp length-set (length-dct (followLogs logs))
 
-pub length-remembered : (mem : List Float) (index : ℕ) (logs : List Float) → length mem ≡ 176 → index ≤ 7 → length (remembered mem index logs) ≡ 176
-unfolding remembered
-length-remembered mem index logs rows inside = length-put (row index) mem (cepstrum logs) (omega arith) (length-cepstrum logs) ∙ rows
+pub length-deltas : (of : Float → Float → Float → Float) (mem : List Float) (c0 c1 c2 : ℕ) → length (deltas of mem c0 c1 c2) ≡ 6
+unfolding deltas
+length-deltas of mem c0 c1 c2 = length-tab 6 _
 
-module _ (mem : List Float) (c0 c1 c2 : ℕ) where
-  pub length-sums : length (sums mem c0 c1 c2) ≡ 6
-  unfolding sums
-  length-sums = length-tab 6 _
-
-  pub length-slopes : length (slopes mem c0 c2) ≡ 6
-  unfolding slopes
-  length-slopes = length-tab 6 _
-
-  pub length-bends : length (bends mem c0 c1 c2) ≡ 6
-  unfolding bends
-  length-bends = length-tab 6 _
+pub length-with-cepstrum : (logs mem : List Float) (index : ℕ) → length mem ≡ 176 → index ≤ 7 → length (withCepstrum logs mem index) ≡ 176
+unfolding withCepstrum
+length-with-cepstrum logs mem index rows inside =
+    length-put (row index) mem _ (omega arith) (simp (length-append, length-drop, length-deltas, length-cepstrum)) ∙ rows
 
 pub length-features : (exp : List Float) (lag : Float) (logs mem : List Float) (index : ℕ) → length (featuresOf exp lag logs mem index) ≡ 42
 unfolding featuresOf laid
 length-features exp lag logs mem index =
-    simp (length-append, length-drop, length-sums, length-slopes, length-bends, length-pitch, length-cepstrum)
+    simp (length-append, length-drop, length-deltas, length-pitch, length-cepstrum)

@@ -6,16 +6,16 @@ use Prim.Native.Nat.{ℕ, _<_}
 use lib.Ieee.{Float, nan, le, isNan}
 use Rattle.rules.specs.F32.{at}
 use Rattle.rules.proofs.Tabs.{getD-tab}
-use Rattle.features.specs.Gains.{held, raised, gained}
+use Rattle.features.specs.Gains.{sixTenths, atLeast, gained}
 use Rattle.features.proofs.Order.{held-no-nan, larger-no-nan, larger-at-least}
 
 module _ (g last : List Float) (i : ℕ) (band : i < 22) (number : isNan (at last i) ≡ false) where
-  is : at (gained g last) i ≡ raised (at g i) (at last i)
+  is : at (gained g last) i ≡ atLeast (at g i) (at last i)
   unfolding gained
-  is = getD-tab 22 (λ k. raised (at g k) (at last k)) i nan band
+  is = getD-tab 22 (λ k. atLeast (at g k) (at last k)) i nan band
 
   pub never-nan : isNan (at (gained g last) i) ≡ false
   never-nan = rw is (larger-no-nan _ _ (held-no-nan _ number))
 
-  pub at-least-held : le (held (at last i)) (at (gained g last) i) ≡ true
+  pub at-least-held : le (sixTenths (at last i)) (at (gained g last) i) ≡ true
   at-least-held = rw is (larger-at-least _ _ (held-no-nan _ number))

@@ -1,4 +1,5 @@
--- The logarithms' lower bounds, the cepstral memory and what is made of it, from `compute_frame_features` of features.rs. The memory is 8 rows of 22.
+-- The logarithms' lower bounds, the cepstral memory and what is made of it, from `compute_frame_features` of features.rs. The memory
+-- is 8 rows of 22.
 use mathlib.Core.List.{List}
 use mathlib.Core.Bool.{cond}
 use Prim.Native.Nat.{ℕ, _+_, _-_, _*_}
@@ -21,13 +22,13 @@ abbrev pub floorsOf : Float → Float → Floors
 floorsOf logMax follow = record { logMax = logMax; follow = follow }
 
 -- logs[i].max(log_max - 7.0).max(follow - 1.5)
-abbrev pub lifted : Float → Floors → Float
-lifted log s = larger (larger log (s .logMax ⊖ f32 0x40E00000)) (s .follow ⊖ f32 0x3FC00000)
+abbrev pub lyOf : Float → Floors → Float
+lyOf log s = larger (larger log (s .logMax ⊖ f32 0x40E00000)) (s .follow ⊖ f32 0x3FC00000)
 
 -- log_max = log_max.max(ly[i]); follow = (follow - 1.5).max(ly[i])
 unfoldable pub floorStep : List Float → ℕ → Floors → Floors
 floorStep logs i s =
-    let y = lifted (at logs i) s in
+    let y = lyOf (at logs i) s in
     floorsOf (larger (s .logMax) y) (larger (s .follow ⊖ f32 0x3FC00000) y)
 
 abbrev pub floors : List Float → ℕ → Floors
@@ -35,7 +36,7 @@ floors logs i = loop i (floorStep logs) (floorsOf (neg (f32 0x40000000)) (neg (f
 
 -- ly
 unfoldable pub followLogs : List Float → List Float
-followLogs logs = tab 22 (λ i. lifted (at logs i) (floors logs i))
+followLogs logs = tab 22 (λ i. lyOf (at logs i) (floors logs i))
 
 -- features[i] -= v
 abbrev pub lessen : ℕ → Float → List Float → List Float
@@ -56,24 +57,26 @@ cell mem k i = at mem (k * 22 + i)
 unfoldable pub back : ℕ → ℕ → ℕ
 back index k = cond (ltb index k) (8 + index - k) (index - k)
 
--- ceps_0[i] + ceps_1[i] + ceps_2[i]
-unfoldable pub sums : List Float → ℕ → ℕ → ℕ → List Float
-sums mem c0 c1 c2 = tab 6 (λ i. cell mem c0 i ⊕ cell mem c1 i ⊕ cell mem c2 i)
+-- three cepstra at a place: features[i], features[22 + i] and features[28 + i] of them
+abbrev pub smoothed : Float → Float → Float → Float
+smoothed ceps0 ceps1 ceps2 = ceps0 ⊕ ceps1 ⊕ ceps2
 
--- ceps_0[i] - ceps_2[i]
-unfoldable pub slopes : List Float → ℕ → ℕ → List Float
-slopes mem c0 c2 = tab 6 (λ i. cell mem c0 i ⊖ cell mem c2 i)
+abbrev pub slope : Float → Float → Float → Float
+slope ceps0 ceps1 ceps2 = ceps0 ⊖ ceps2
 
--- ceps_0[i] - 2.0 * ceps_1[i] + ceps_2[i]
-unfoldable pub bends : List Float → ℕ → ℕ → ℕ → List Float
-bends mem c0 c1 c2 = tab 6 (λ i. cell mem c0 i ⊖ f32 0x40000000 ⊗ cell mem c1 i ⊕ cell mem c2 i)
+abbrev pub bend : Float → Float → Float → Float
+bend ceps0 ceps1 ceps2 = ceps0 ⊖ f32 0x40000000 ⊗ ceps1 ⊕ ceps2
+
+-- one of the three at the first six places (NB_DELTA_CEPS) of three rows
+unfoldable pub deltas : (Float → Float → Float → Float) → List Float → ℕ → ℕ → ℕ → List Float
+deltas of mem c0 c1 c2 = tab 6 (λ i. of (cell mem c0 i) (cell mem c1 i) (cell mem c2 i))
 
 -- dist += tmp * tmp
-abbrev pub squareStep : List Float → ℕ → ℕ → ℕ → Float → Float
-squareStep mem i j k dist = let tmp = cell mem i k ⊖ cell mem j k in dist ⊕ tmp ⊗ tmp
+abbrev pub distStep : List Float → ℕ → ℕ → ℕ → Float → Float
+distStep mem i j k dist = let tmp = cell mem i k ⊖ cell mem j k in dist ⊕ tmp ⊗ tmp
 
 unfoldable pub distance : List Float → ℕ → ℕ → Float
-distance mem i j = loop 22 (squareStep mem i j) (f32 0)
+distance mem i j = loop 22 (distStep mem i j) (f32 0)
 
 -- if j != i { min_dist = min_dist.min(dist) }, from 1e15
 abbrev pub nearestStep : List Float → ℕ → ℕ → Float → Float

@@ -1,5 +1,5 @@
--- The 42 features of a heard frame, its normalised correlations and the new cepstral memory, from `compute_frame_features` of features.rs. `logs` are the
--- logarithms of 0.01 + ex, and `lag` is the pitch index.
+-- The 42 features of a heard frame, its normalised correlations and the new cepstral memory, from `compute_frame_features` of features.rs.
+-- `logs` are the logarithms of 0.01 + ex, and `lag` is the pitch index.
 use mathlib.Core.Path.{_≡_}
 use mathlib.Core.List.{List, [], _∷_, _++_}
 use Prim.Native.Nat.{ℕ, _≤_}
@@ -11,7 +11,7 @@ use Rattle.rules.specs.Tab.{tab}
 use Rattle.numbers.specs.Root.{root}
 use Rattle.bands.specs.Bands.{bandCorr}
 use Rattle.bands.specs.Dct.{dctOf}
-use Rattle.features.specs.Cepstra.{cepstrum, row, back, sums, slopes, bends, variability}
+use Rattle.features.specs.Cepstra.{cepstrum, row, back, smoothed, slope, bend, deltas, variability}
 
 -- exp[i] /= (0.001 + ex[i] * ep[i]).sqrt()
 unfoldable pub normalised : List Float → List Float → List Float → List Float
@@ -34,18 +34,18 @@ pitchFeatures exp lag =
     ∷ []
 
 -- cepstral_mem[index] becomes the cepstrum
-unfoldable pub remembered : List Float → ℕ → List Float → List Float
-remembered mem index logs = put (row index) mem (cepstrum logs)
+unfoldable pub withCepstrum : List Float → List Float → ℕ → List Float
+withCepstrum logs mem index = put (row index) mem (cepstrum logs)
 
--- features[..42], by places: 0 to 5 the sums, 6 to 21 what the cepstrum has there, 22 to 33 the differences, 34 to 40 the pitch's, 41 the variability
+-- features[..42], by places: 0 to 5 the smoothed, 6 to 21 what the cepstrum has there, 22 to 33 the differences, 34 to 40 the pitch's,
+-- 41 the variability
 unfoldable pub laid : List Float → List Float → List Float → ℕ → List Float
 laid ceps pitch mem index =
-    let c1 = back index 1 in
-    let c2 = back index 2 in
-    sums mem index c1 c2 ++ ceps ++ slopes mem index c2 ++ bends mem index c1 c2 ++ pitch ++ variability mem ∷ []
+    let of : (Float → Float → Float → Float) → List Float = λ f. deltas f mem index (back index 1) (back index 2) in
+    of smoothed ++ ceps ++ of slope ++ of bend ++ pitch ++ variability mem ∷ []
 
 unfoldable pub featuresOf : List Float → Float → List Float → List Float → ℕ → List Float
-featuresOf exp lag logs mem index = laid (drop 6 (cepstrum logs)) (pitchFeatures exp lag) (remembered mem index logs) index
+featuresOf exp lag logs mem index = laid (drop 6 (cepstrum logs)) (pitchFeatures exp lag) (withCepstrum logs mem index) index
 
 -- the lengths and the index
 pub record FeaturesFit (features exp mem index x p ex ep logs : ℕ) : Type 0 where

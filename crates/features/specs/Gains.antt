@@ -8,16 +8,16 @@ use Rattle.rules.specs.Tab.{tab}
 use Rattle.numbers.specs.Larger.{larger}
 
 -- 0.6 * lastg[i]
-abbrev pub held : Float → Float
-held last = f32 0x3F19999A ⊗ last
+abbrev pub sixTenths : Float → Float
+sixTenths last = f32 0x3F19999A ⊗ last
 
 -- g[i].max(0.6 * lastg[i])
-abbrev pub raised : Float → Float → Float
-raised g last = larger g (held last)
+abbrev pub atLeast : Float → Float → Float
+atLeast g last = larger g (sixTenths last)
 
 -- what g and lastg both become
 unfoldable pub gained : List Float → List Float → List Float
-gained g last = tab 22 (λ i. raised (at g i) (at last i))
+gained g last = tab 22 (λ i. atLeast (at g i) (at last i))
 
 -- the lengths
 pub record GainsFit (g last : ℕ) : Type 0 where

@@ -1,5 +1,6 @@
 pub mod Cepstra
 pub mod Features
 pub mod Gains
+pub mod Parts
 pub mod Pitch
 pub mod Silence

@@ -4,19 +4,16 @@ use mathlib.Core.List.{List}
 use mathlib.Core.Bool.{cond}
 use Prim.Native.Nat.{ℕ}
 use lib.Ieee.{Float, binary32, lt}
-use Rattle.rules.specs.F32.{_⊕_, _⊖_, _⊗_, _⊘_, at, f32}
+use Rattle.rules.specs.F32.{_⊕_, _⊖_, _⊗_, _⊘_, at, f32, one}
 use Rattle.rules.specs.Tab.{tab}
 use Rattle.numbers.specs.Larger.{clamped}
 use Rattle.numbers.specs.Root.{root}
 use Rattle.bands.specs.Bands.{bandCorr, bandGain}
 use Rattle.bands.specs.Spectrum.{binOf}
 
-abbrev one : Float
-one = f32 0x3F800000
-
 -- if exp > gain { 1.0 } else { exp_sq * (1.0 - g_sq) / (0.001 + g_sq * (1.0 - exp_sq)) }
 unfoldable pub strength : Float → Float → Float
-strength exp gain =
+strength gain exp =
     let expSq = exp ⊗ exp in
     let gSq = gain ⊗ gain in
     cond (lt gain exp) one (expSq ⊗ (one ⊖ gSq) ⊘ (f32 0x3A83126F ⊕ gSq ⊗ (one ⊖ expSq)))
@@ -27,11 +24,11 @@ ratio ex e = root binary32 (ex ⊘ (f32 0x322BCC77 ⊕ e))
 
 -- r.clamp(0.0, 1.0).sqrt() * (ex / (1e-8 + ep)).sqrt()
 unfoldable pub pitchGain : Float → Float → Float → Float → Float
-pitchGain exp gain ex ep = root binary32 (clamped (strength exp gain) (f32 0) one) ⊗ ratio ex ep
+pitchGain gain exp ex ep = root binary32 (clamped (strength gain exp) (f32 0) one) ⊗ ratio ex ep
 
--- r[i], from the correlations, the network's gains and both energies
+-- r[i], from the network's gains, the correlations and both energies
 unfoldable pub pitchGains : List Float → List Float → List Float → List Float → List Float
-pitchGains exp gains ex ep = tab 22 (λ i. pitchGain (at exp i) (at gains i) (at ex i) (at ep i))
+pitchGains gains exp ex ep = tab 22 (λ i. pitchGain (at gains i) (at exp i) (at ex i) (at ep i))
 
 -- r[i] = (ex[i] / (1e-8 + new_e[i])).sqrt(), where `after` is new_e
 unfoldable pub renormalised : List Float → List Float → List Float
@@ -50,10 +47,10 @@ unfoldable pub restored : List Float → List Float → List Float
 restored x ex = applied x (bandGain (renormalised ex (bandCorr x x)))
 
 unfoldable pub pitchFiltered : List Float → List Float → List Float → List Float → List Float → List Float → List Float
-pitchFiltered x p gains exp ex ep = restored (pitchAdded x p (bandGain (pitchGains exp gains ex ep))) ex
+pitchFiltered x p gains exp ex ep = restored (pitchAdded x p (bandGain (pitchGains gains exp ex ep))) ex
 
 -- the lengths
-pub record FilterFits (x p gains exp ex ep : ℕ) : Type 0 where
+pub record PitchFilterFits (x p gains exp ex ep : ℕ) : Type 0 where
   pub spectrum : x ≡ 961
   pub lagged : p ≡ 961
   pub wanted : gains ≡ 22

@@ -5,7 +5,8 @@ ghost use lib.ListN.{length};
 ghost use Rattle.rules.specs.Place.{put};
 ghost use Rattle.rules.specs.F32.{part};
 ghost use Rattle.features.specs.Features.{laid};
-ghost use Rattle.features.specs.Cepstra.{followLogs, cepstrum, row, back, sums, slopes, bends, distance, nearestStep, nearest, variability};
+ghost use Rattle.features.specs.Cepstra.{followLogs, cepstrum, row, back, deltas, distance, nearestStep, nearest, variability};
+ghost use Rattle.features.specs.Parts.{deltaOf};
 
 // Each band's logarithm, but no lower than 7 below the largest so far, and falling by no more than 1.5 a band.
 fn follow_logs(ly: &mut [f32], logs: &[f32])
@@ -53,30 +54,33 @@ fn row_back(index: usize, k: usize) -> usize
     index - k
 }
 
-fn add_rows(out: &mut [f32], mem: &[f32], c0: usize, c1: usize, c2: usize)
-    requires { ⌜ (length (now out) ≡ 6) × (length (now mem) ≡ 176) × (c0 ≤ 7) × (c1 ≤ 7) × (c2 ≤ 7) ⌝ }
-    ensures { λ _. ⌜ now (out .exit) ≡ sums (now (mem .entry)) c0 c1 c2 ⌝ }
+// What is made of three cepstra at a place.
+enum Delta {
+    Smoothed,
+    Slope,
+    Bend,
+}
+
+fn combine(kind: Delta, ceps0: f32, ceps1: f32, ceps2: f32) -> f32
+    ensures { λ r. ⌜ r ≡ deltaOf kind ceps0 ceps1 ceps2 ⌝ }
 {
-    for i in 0..6 {
-        out[i] = mem[c0 * 22 + i] + mem[c1 * 22 + i] + mem[c2 * 22 + i];
+    match kind {
+        Delta::Smoothed => ceps0 + ceps1 + ceps2,
+        Delta::Slope => ceps0 - ceps2,
+        Delta::Bend => ceps0 - 2.0 * ceps1 + ceps2,
     }
 }
 
-fn slope_rows(out: &mut [f32], mem: &[f32], c0: usize, c2: usize)
-    requires { ⌜ (length (now out) ≡ 6) × (length (now mem) ≡ 176) × (c0 ≤ 7) × (c2 ≤ 7) ⌝ }
-    ensures { λ _. ⌜ now (out .exit) ≡ slopes (now (mem .entry)) c0 c2 ⌝ }
-{
-    for i in 0..6 {
-        out[i] = mem[c0 * 22 + i] - mem[c2 * 22 + i];
-    }
-}
-
-fn bend_rows(out: &mut [f32], mem: &[f32], c0: usize, c1: usize, c2: usize)
+// The first six places of three rows.
+fn delta_rows(out: &mut [f32], kind: Delta, mem: &[f32], c0: usize, c1: usize, c2: usize)
     requires { ⌜ (length (now out) ≡ 6) × (length (now mem) ≡ 176) × (c0 ≤ 7) × (c1 ≤ 7) × (c2 ≤ 7) ⌝ }
-    ensures { λ _. ⌜ now (out .exit) ≡ bends (now (mem .entry)) c0 c1 c2 ⌝ }
+    ensures { λ _. ⌜ now (out .exit) ≡ deltas (deltaOf kind) (now (mem .entry)) c0 c1 c2 ⌝ }
 {
     for i in 0..6 {
-        out[i] = mem[c0 * 22 + i] - 2.0 * mem[c1 * 22 + i] + mem[c2 * 22 + i];
+        let ceps0 = mem[c0 * 22 + i];
+        let ceps1 = mem[c1 * 22 + i];
+        let ceps2 = mem[c2 * 22 + i];
+        out[i] = combine(kind, ceps0, ceps1, ceps2);
     }
 }
 
@@ -131,12 +135,13 @@ fn spectral_variability(mem: &[f32]) -> f32
 // The features that are made of the memory. The cepstrum from its place 6 on, and the pitch's features, stay.
 pub(crate) fn add_deltas(features: &mut [f32], mem: &[f32], index: usize)
     requires { ⌜ (length (now features) ≡ 42) × (length (now mem) ≡ 176) × (index ≤ 7) ⌝ }
-    ensures { λ _. ⌜ now (features .exit) ≡ laid (part 6 22 (now (features .entry))) (part 34 41 (now (features .entry))) (now (mem .entry)) index ⌝ }
+    ensures { λ _. ⌜ now (features .exit)
+        ≡ laid (part 6 22 (now (features .entry))) (part 34 41 (now (features .entry))) (now (mem .entry)) index ⌝ }
 {
     let c1 = row_back(index, 1);
     let c2 = row_back(index, 2);
-    add_rows(&mut features[0..6], mem, index, c1, c2);
-    slope_rows(&mut features[22..28], mem, index, c2);
-    bend_rows(&mut features[28..34], mem, index, c1, c2);
+    delta_rows(&mut features[0..6], Delta::Smoothed, mem, index, c1, c2);
+    delta_rows(&mut features[22..28], Delta::Slope, mem, index, c1, c2);
+    delta_rows(&mut features[28..34], Delta::Bend, mem, index, c1, c2);
     features[41] = spectral_variability(mem);
 }

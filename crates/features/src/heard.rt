@@ -2,7 +2,7 @@
 ghost use mathlib.Core.Path.{_≡_};
 ghost use Prim.Native.Nat.{_≤_};
 ghost use lib.ListN.{length};
-ghost use Rattle.features.specs.Features.{normalised, normalisedCorr, pitchFeatures, remembered, featuresOf};
+ghost use Rattle.features.specs.Features.{normalised, normalisedCorr, pitchFeatures, withCepstrum, featuresOf};
 
 // Each band's correlation, over the root of the product of the two energies.
 fn normalise(exp: &mut [f32], ex: &[f32], ep: &[f32])
@@ -15,7 +15,8 @@ fn normalise(exp: &mut [f32], ex: &[f32], ep: &[f32])
 }
 
 pub(crate) fn correlate(exp: &mut [f32], x: &[f32], p: &[f32], ex: &[f32], ep: &[f32])
-    requires { ⌜ (length (now exp) ≡ 22) × (length (now x) ≡ 961) × (length (now p) ≡ 961) × (length (now ex) ≡ 22) × (length (now ep) ≡ 22) ⌝ }
+    requires { ⌜ (length (now exp) ≡ 22) × (length (now x) ≡ 961) × (length (now p) ≡ 961) × (length (now ex) ≡ 22)
+        × (length (now ep) ≡ 22) ⌝ }
     ensures { λ _. ⌜ now (exp .exit) ≡ normalisedCorr (now (x .entry)) (now (p .entry)) (now (ex .entry)) (now (ep .entry)) ⌝ }
 {
     bands::compute_band_corr(exp, x, p);
@@ -46,9 +47,10 @@ pub(crate) fn fill_features(
     lag: f32,
     logs: &[f32],
 )
-    requires { ⌜ (length (now features) ≡ 42) × (length (now mem) ≡ 176) × (index ≤ 7) × (length (now exp) ≡ 22) × (length (now logs) ≡ 22) ⌝ }
+    requires { ⌜ (length (now features) ≡ 42) × (length (now mem) ≡ 176) × (index ≤ 7) × (length (now exp) ≡ 22)
+        × (length (now logs) ≡ 22) ⌝ }
     ensures { λ _. ⌜ now (features .exit) ≡ featuresOf (now (exp .entry)) lag (now (logs .entry)) (now (mem .entry)) index ⌝ }
-    ensures { λ _. ⌜ now (mem .exit) ≡ remembered (now (mem .entry)) index (now (logs .entry)) ⌝ }
+    ensures { λ _. ⌜ now (mem .exit) ≡ withCepstrum (now (logs .entry)) (now (mem .entry)) index ⌝ }
 {
     pitch_features(&mut features[34..41], exp, lag);
     crate::cepstra::cepstrum_of(&mut features[0..22], logs);

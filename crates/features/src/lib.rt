@@ -4,9 +4,9 @@ ghost use mathlib.Core.Path.{_≡_};
 ghost use lib.ListN.{length};
 ghost use Rattle.rules.specs.Leaf.{Leaf, _leaving_};
 ghost use Rattle.features.specs.Silence.{energy, soundOf};
-ghost use Rattle.features.specs.Features.{normalisedCorr, remembered, featuresOf, FeaturesFit};
+ghost use Rattle.features.specs.Features.{normalisedCorr, withCepstrum, featuresOf, FeaturesFit};
 ghost use Rattle.features.specs.Gains.{gained, GainsFit};
-ghost use Rattle.features.specs.Pitch.{applied, ApplyFits, pitchFiltered, FilterFits};
+ghost use Rattle.features.specs.Pitch.{applied, ApplyFits, pitchFiltered, PitchFilterFits};
 
 mod cepstra;
 mod heard;
@@ -58,11 +58,13 @@ pub fn compute_features(
     logs: &[f32],
 ) -> u32
     ensures { λ r. ⌜ Leaf (FeaturesFit (length (now (features .entry))) (length (now (exp .entry))) (length (now (mem .entry))) index
-        (length (now (x .entry))) (length (now (p .entry))) (length (now (ex .entry))) (length (now (ep .entry))) (length (now (logs .entry))))
+        (length (now (x .entry))) (length (now (p .entry))) (length (now (ex .entry))) (length (now (ep .entry)))
+        (length (now (logs .entry))))
         (r leaving now (features .exit) leaving now (exp .exit) leaving now (mem .exit))
-        (0 leaving featuresOf (normalisedCorr (now (x .entry)) (now (p .entry)) (now (ex .entry)) (now (ep .entry))) lag (now (logs .entry)) (now (mem .entry)) index
+        (0 leaving featuresOf (normalisedCorr (now (x .entry)) (now (p .entry)) (now (ex .entry)) (now (ep .entry))) lag
+        (now (logs .entry)) (now (mem .entry)) index
         leaving normalisedCorr (now (x .entry)) (now (p .entry)) (now (ex .entry)) (now (ep .entry))
-        leaving remembered (now (mem .entry)) index (now (logs .entry)))
+        leaving withCepstrum (now (logs .entry)) (now (mem .entry)) index)
         (5 leaving now (features .entry) leaving now (exp .entry) leaving now (mem .entry)) ⌝ }
 {
     if features.len() != 42 {
@@ -147,10 +149,11 @@ pub fn pitch_filter(
     ex: &[f32],
     ep: &[f32],
 ) -> u32
-    ensures { λ r. ⌜ Leaf (FilterFits (length (now (x .entry))) (length (now (p .entry))) (length (now (gains .entry)))
+    ensures { λ r. ⌜ Leaf (PitchFilterFits (length (now (x .entry))) (length (now (p .entry))) (length (now (gains .entry)))
         (length (now (exp .entry))) (length (now (ex .entry))) (length (now (ep .entry))))
         (r leaving now (x .exit))
-        (0 leaving pitchFiltered (now (x .entry)) (now (p .entry)) (now (gains .entry)) (now (exp .entry)) (now (ex .entry)) (now (ep .entry)))
+        (0 leaving pitchFiltered (now (x .entry)) (now (p .entry)) (now (gains .entry)) (now (exp .entry)) (now (ex .entry))
+        (now (ep .entry)))
         (5 leaving now (x .entry)) ⌝ }
 {
     if x.len() != 961 {

@@ -6,8 +6,8 @@ use mathlib.Core.Path.{_≡_, refl, ap, _∙_}
 use lib.ListN.{length, length-append, replicate}
 use lib.Ieee.{Float}
 use Rattle.rules.specs.F32.{f32}
-use Rattle.rules.specs.Place.{Place, Apart, get, put}
-use Rattle.rules.proofs.Places.{length-get, length-put, get-put-apart}
+use Rattle.rules.specs.Place.{Place, get, put}
+use Rattle.rules.proofs.Places.{Apart, length-get, length-put, get-put-apart}
 use Rattle.rules.proofs.Tabs.{length-tab}
 use Rattle.numbers.specs.Filter.{highPass, outputs}
 use Rattle.numbers.proofs.Outputs.{length-outputs}
@@ -15,13 +15,15 @@ use Rattle.bands.proofs.Results.{length-corr}
 use Rattle.model.specs.Model.{readOf}
 use Rattle.model.specs.declared.Model.{Model}
 use Rattle.model.specs.declared.Reading.the-variants.{Good}
-use Rattle.network.specs.Compute.{Outcome, Lengths, framed}
+use Rattle.network.specs.Compute.{Computing, layersInPlace}
+use Rattle.network.specs.Parts.{Lengths}
 use Rattle.network.proofs.Callers.{computed-done, kept}
-use Rattle.features.specs.Features.{remembered}
-use Rattle.features.proofs.Lengths.{length-gained, length-remembered, length-features}
+use Rattle.features.specs.Features.{withCepstrum}
+use Rattle.features.proofs.Lengths.{length-gained, length-with-cepstrum, length-features}
 use Rattle.frame.specs.Share.{SHARE, inputMem, synthesisMem, keptX, keptEx, keptLag, memHpX, lastg, cepstralMem, vadState, noiseState, denoiseState}
-use Rattle.frame.specs.Heard.{scaled, energies, featured, judged, spokenFrom, spoken}
-use Rattle.frame.specs.Frame.{shifted, memoryIn, taken, noted, faded, secondHalf, synthesised}
+use Rattle.numbers.specs.Filter.{memoryOf}
+use Rattle.frame.specs.Heard.{scaled, energies, featured, rnnOf, spokenFrom, spoken}
+use Rattle.frame.specs.Frame.{shifted, done1, putKept, windowBuf, secondHalf, done4}
 
 -- the place lies apart from each of these
 abbrev pub AllApart : List Place → Place → Type 0
@@ -40,27 +42,27 @@ module _ (q : Place) where
   then : {a b c : List Float} → Beside q a b → Beside q b c → Beside q a c
   then h k = record { size = k .size; same = k .same ∙ h .same }
 
-  pub taken-beside : (share samples : List Float) → AllApart (inputMem ∷ memHpX ∷ []) q → length share ≡ SHARE → length samples ≡ 480
-      → Beside q share (taken share samples .share)
+  pub done1-beside : (share samples : List Float) → AllApart (inputMem ∷ memHpX ∷ []) q → length share ≡ SHARE → length samples ≡ 480
+      → Beside q share (done1 share samples .share)
   unfolding shifted
-  taken-beside share samples apart whole l =
-      let out = outputs highPass (memoryIn share) samples in
+  done1-beside share samples apart whole l =
+      let out = outputs highPass (memoryOf (get memHpX share)) samples in
       let new : length (shifted (get inputMem share) out) ≡ 1728 = simp (length-append, length-tab, length-outputs) (omega arith) in
       let one = put-beside inputMem share (shifted (get inputMem share) out) (omega arith) (apart .0) whole new in
       then one (put-beside memHpX (put inputMem share (shifted (get inputMem share) out)) _ (omega arith) (apart .1 .0) (one .size) refl)
 
-  pub noted-beside : (share spectrum : List Float) (lag : ℕ) → AllApart (keptX ∷ keptEx ∷ keptLag ∷ []) q → length share ≡ SHARE
-      → Beside q share (noted share spectrum lag)
-  unfolding noted energies scaled
-  noted-beside share spectrum lag apart whole =
+  pub done2-beside : (share spectrum : List Float) (lag : ℕ) → AllApart (keptX ∷ keptEx ∷ keptLag ∷ []) q → length share ≡ SHARE
+      → Beside q share (putKept share spectrum lag)
+  unfolding putKept energies scaled
+  done2-beside share spectrum lag apart whole =
       let x = scaled spectrum in
       let one = put-beside keptX share x (omega arith) (apart .0) whole (length-tab 961 _) in
       let two = then one (put-beside keptEx (put keptX share x) (energies spectrum) (omega arith) (apart .1 .0) (one .size) (length-corr x x)) in
       then two (put-beside keptLag (put keptEx (put keptX share x) (energies spectrum)) _ (omega arith) (apart .1 .1 .0) (two .size) refl)
 
-  pub synthesised-beside : (share inverse : List Float) → AllApart (synthesisMem ∷ []) q → length share ≡ SHARE → Beside q share (synthesised share inverse .share)
+  pub done4-beside : (share inverse : List Float) → AllApart (synthesisMem ∷ []) q → length share ≡ SHARE → Beside q share (done4 share inverse .share)
   unfolding secondHalf
-  synthesised-beside share inverse apart whole = put-beside synthesisMem share (secondHalf (faded inverse)) (omega arith) (apart .0) whole (length-tab 480 _)
+  done4-beside share inverse apart whole = put-beside synthesisMem share (secondHalf (windowBuf inverse)) (omega arith) (apart .0) whole (length-tab 480 _)
 
   -- ---- a heard frame
 
@@ -72,10 +74,10 @@ module _ (q : Place) where
       let two = then one (put-beside noiseState (put vadState share v) n (omega arith) (apart .1 .0) (one .size) b) in
       then two (put-beside denoiseState (put noiseState (put vadState share v) n) d (omega arith) (apart .1 .1 .0) (two .size) c)
 
-  judged-beside : (share : List Float) (bytes : List ℕ) (m : Model) (features : List Float) → AllApart (vadState ∷ noiseState ∷ denoiseState ∷ []) q
-      → readOf bytes ≡ Good m → length share ≡ SHARE → length features ≡ 42 → Beside q share (judged share bytes m features .share)
-  unfolding judged
-  judged-beside share bytes m features apart good whole few =
+  rnn-beside : (share features : List Float) (bytes : List ℕ) (m : Model) → AllApart (vadState ∷ noiseState ∷ denoiseState ∷ []) q
+      → readOf bytes ≡ Good m → length share ≡ SHARE → length features ≡ 42 → Beside q share (rnnOf share features bytes m .share)
+  unfolding rnnOf
+  rnn-beside share features bytes m apart good whole few =
       let v = get vadState share in
       let n = get noiseState share in
       let d = get denoiseState share in
@@ -86,28 +88,28 @@ module _ (q : Place) where
       let a = replicate 1 (f32 0) in
       let fit : Lengths (length g) (length a) (length v) (length n) (length d) (length features) =
       record { gained = refl; voiced = refl; first = lv; second = ln; third = ld; featured = few } in
-      let done = computed-done g a v n d bytes features fit {m = m} {left = framed bytes m v n d features} good refl in
+      let done = computed-done g a v n d bytes features fit {m = m} {left = layersInPlace bytes m v n d features} good refl in
       let k = kept g a v n d bytes features in
       states-beside share _ _ _ apart whole
-      (ap (λ (o : Outcome). length (o .left .vad)) done ∙ k .first ∙ lv)
-      (ap (λ (o : Outcome). length (o .left .noise)) done ∙ k .second ∙ ln)
-      (ap (λ (o : Outcome). length (o .left .denoise)) done ∙ k .third ∙ ld)
+      (ap (λ (o : Computing). length (o .left .vad)) done ∙ k .first ∙ lv)
+      (ap (λ (o : Computing). length (o .left .noise)) done ∙ k .second ∙ ln)
+      (ap (λ (o : Computing). length (o .left .denoise)) done ∙ k .third ∙ ld)
 
   -- before the gains are remembered
-  pub thought-beside : (share : List Float) (index : ℕ) (p ep logs : List Float) (bytes : List ℕ) (m : Model)
+  pub sensed-beside : (share : List Float) (index : ℕ) (p ep logs : List Float) (bytes : List ℕ) (m : Model)
       → AllApart (cepstralMem ∷ vadState ∷ noiseState ∷ denoiseState ∷ []) q → readOf bytes ≡ Good m → length share ≡ SHARE → index ≤ 7
-      → let f = featured share index p ep logs in Beside q share (judged (f .share) bytes m (f .features) .share)
+      → let f = featured share index p ep logs in Beside q share (rnnOf (f .share) (f .features) bytes m .share)
   unfolding featured
-  thought-beside share index p ep logs bytes m apart good whole inside =
+  sensed-beside share index p ep logs bytes m apart good whole inside =
       let mem = get cepstralMem share in
-      let row = length-remembered mem index logs (length-get cepstralMem share (omega arith)) inside in
-      let one = put-beside cepstralMem share (remembered mem index logs) (omega arith) (apart .0) whole row in
-      then one (judged-beside (put cepstralMem share (remembered mem index logs)) bytes m _ (apart .1) good (one .size) (length-features _ _ _ _ _))
+      let row = length-with-cepstrum logs mem index (length-get cepstralMem share (omega arith)) inside in
+      let one = put-beside cepstralMem share (withCepstrum logs mem index) (omega arith) (apart .0) whole row in
+      then one (rnn-beside (put cepstralMem share (withCepstrum logs mem index)) _ bytes m (apart .1) good (one .size) (length-features _ _ _ _ _))
 
-  pub spoken-beside : (share : List Float) (index : ℕ) (spectrum logs : List Float) (bytes : List ℕ) (m : Model)
+  pub done3-beside : (share : List Float) (index : ℕ) (spectrum logs : List Float) (bytes : List ℕ) (m : Model)
       → AllApart (lastg ∷ cepstralMem ∷ vadState ∷ noiseState ∷ denoiseState ∷ []) q → readOf bytes ≡ Good m → length share ≡ SHARE → index ≤ 7
       → Beside q share (spoken share index spectrum logs bytes m .share)
   unfolding spokenFrom
-  spoken-beside share index spectrum logs bytes m apart good whole inside =
-      let one = thought-beside share index (scaled spectrum) (energies spectrum) logs bytes m (apart .1) good whole inside in
+  done3-beside share index spectrum logs bytes m apart good whole inside =
+      let one = sensed-beside share index (scaled spectrum) (energies spectrum) logs bytes m (apart .1) good whole inside in
       then one (put-beside lastg _ _ (omega arith) (apart .0) (one .size) (length-gained _ _))

@@ -1,14 +1,11 @@
--- What a call gives where it is refused nothing. Assumes nothing.
-use Prim.Native.Nat.{ℕ, _+_, _≤_, _<_}
-use mathlib.Core.Bool.{Bool, true, false, cond}
+-- What a call gives where it is refused nothing; and call 3, where `out` has no place. Assumes nothing.
+use Prim.Native.Nat.{ℕ, _≤_}
+use mathlib.Core.Bool.{Bool, true, false, cond, _||_}
 use mathlib.Core.List.{List, [], _∷_}
 use mathlib.Core.Path.{_≡_, refl, sym, ap, _∙_}
 use borrow.Author.Tests.{eq-eqb, le-ltb}
 use lib.ListN.{length}
-use lib.Seq.{getD-take, getD-drop}
 use lib.Ieee.{Float}
-use Rattle.rules.specs.F32.{at}
-use Rattle.rules.specs.Place.{Place, get}
 use Rattle.model.specs.Model.{readOf}
 use Rattle.model.specs.declared.Model.{Model}
 use Rattle.model.specs.declared.Reading.{Reading}
@@ -17,45 +14,50 @@ use Rattle.frame.specs.declared.Reply.{Reply}
 use Rattle.frame.specs.declared.Reply.the-variants.{Done, Refused}
 use Rattle.frame.specs.Reply.{passed}
 use Rattle.frame.specs.Share.{SHARE}
-use Rattle.frame.specs.Frame.{Framed, Worked, refused, taken, first, looked, second, counted, checked, modelled, listened, third, synthesised, fourth}
+use Rattle.frame.specs.Frame.{Effect, Worked, refusal, done1, call1, done2, call2, counted, modelled, done3, call3, done4, call4}
+use Rattle.frame.specs.Parts.{checked}
 use Rattle.frame.proofs.Truth.{true-false, false-true}
 
--- a place, number by number
-pub at-get : (p : Place) (xs : List Float) (i : ℕ) → i < p .size → at (get p xs) i ≡ at xs (p .at + i)
-unfolding get
-at-get p xs i h = rw (getD-take, getD-drop)
-
 module _ (share : List Float) (whole : length share ≡ SHARE) where
-  pub first-done : (samples : List Float) (room : ℕ) → length samples ≡ 480 → room ≡ 960 → first share samples room ≡ taken share samples
-  unfolding first
-  first-done samples room a b = simp (eq-eqb _ _ whole, eq-eqb _ _ a, eq-eqb _ _ b)
+  pub call1-done : (samples : List Float) (window : ℕ) → length samples ≡ 480 → window ≡ 960 → call1 share samples window ≡ done1 share samples
+  unfolding call1
+  call1-done samples window a b = simp (eq-eqb _ _ whole, eq-eqb _ _ a, eq-eqb _ _ b)
 
-  pub second-done : (spectrum : List Float) (lag room sums : ℕ) → length spectrum ≡ 961 → room ≡ 960 → sums ≡ 22 → lag ≤ 768
-      → second share spectrum lag room sums ≡ looked share spectrum lag
-  unfolding second
-  second-done spectrum lag room sums a b d h = simp (eq-eqb _ _ whole, eq-eqb _ _ a, eq-eqb _ _ b, eq-eqb _ _ d, le-ltb 768 lag h)
+  pub call2-done : (spectrum : List Float) (lag window sums : ℕ) → length spectrum ≡ 961 → window ≡ 960 → sums ≡ 22 → lag ≤ 768
+      → call2 share spectrum lag window sums ≡ done2 share spectrum lag
+  unfolding call2
+  call2-done spectrum lag window sums a b d h = simp (eq-eqb _ _ whole, eq-eqb _ _ a, eq-eqb _ _ b, eq-eqb _ _ d, le-ltb 768 lag h)
 
-  pub third-done : (index vad noise denoise : ℕ) (spectrum logs : List Float) (model : List ℕ) (room : ℕ)
-      → length spectrum ≡ 961 → length logs ≡ 22 → room ≡ 961 → index ≤ 7
-      → third share index vad noise denoise spectrum logs model room
-      ≡ modelled (counted vad noise denoise) (readOf model) share (listened share index spectrum logs model)
-  unfolding third
-  third-done index vad noise denoise spectrum logs model room a b d h = simp (eq-eqb _ _ whole, eq-eqb _ _ a, eq-eqb _ _ b, eq-eqb _ _ d, le-ltb 7 index h)
+  pub call3-done : (index vad noise denoise : ℕ) (spectrum logs : List Float) (model : List ℕ) (out : ℕ)
+      → length spectrum ≡ 961 → length logs ≡ 22 → out ≡ 961 → index ≤ 7
+      → call3 share index vad noise denoise spectrum logs model out
+      ≡ modelled (counted vad noise denoise) (readOf model) share (done3 share index spectrum logs model)
+  unfolding call3
+  call3-done index vad noise denoise spectrum logs model out a b d h = simp (eq-eqb _ _ whole, eq-eqb _ _ a, eq-eqb _ _ b, eq-eqb _ _ d, le-ltb 7 index h)
 
-  pub fourth-done : (inverse : List Float) (room : ℕ) → length inverse ≡ 960 → room ≡ 480 → fourth share inverse room ≡ synthesised share inverse
-  unfolding fourth
-  fourth-done inverse room a b = simp (eq-eqb _ _ whole, eq-eqb _ _ a, eq-eqb _ _ b)
+  pub call4-done : (inverse : List Float) (out : ℕ) → length inverse ≡ 960 → out ≡ 480 → call4 share inverse out ≡ done4 share inverse
+  unfolding call4
+  call4-done inverse out a b = simp (eq-eqb _ _ whole, eq-eqb _ _ a, eq-eqb _ _ b)
+
+or-true : (a : Bool) → (a || true) ≡ true
+or-true true = refl
+or-true false = refl
+
+pub call3-no-out : (share : List Float) (index vad noise denoise : ℕ) (spectrum logs : List Float) (model : List ℕ)
+    → call3 share index vad noise denoise spectrum logs model 0 ≡ refusal (Refused 5) share
+unfolding call3
+call3-no-out share index vad noise denoise spectrum logs model = simp or-true
 
 -- ---- what the model decides
 
-module _ (same : Model → Bool) (share : List Float) (held : List (List Float)) (f : Model → Framed) where
+module _ (same : Model → Bool) (share : List Float) (held : List (List Float)) (f : Model → Effect) where
   -- it is refused
   pub modelled-no : (r : Reading) {reply : Reply} → reply ≡ checked same r → passed reply ≡ false → Worked (modelled same r share f) reply share held held
   unfolding checked
   modelled-no (Unread n l) e p = rw e (record { replies = refl; shares = refl; writes = refl })
   modelled-no (Good m) {reply} e p = go (same m) e
     where
-      go : (t : Bool) → reply ≡ cond t Done (Refused 8) → Worked (cond t (f m) (refused (Refused 8) share)) reply share held held
+      go : (t : Bool) → reply ≡ cond t Done (Refused 8) → Worked (cond t (f m) (refusal (Refused 8) share)) reply share held held
       go true h = absurd (true-false (sym (ap passed h) ∙ p))
       go false h = rw h (record { replies = refl; shares = refl; writes = refl })
 
@@ -66,6 +68,6 @@ module _ (same : Model → Bool) (share : List Float) (held : List (List Float))
   modelled-yes (Unread n l) e p h = absurd (false-true (sym (ap passed e) ∙ p))
   modelled-yes (Good m) {reply} {answer} {after} {out} e p h = go (same m) e
     where
-      go : (t : Bool) → reply ≡ cond t Done (Refused 8) → Worked (cond t (f m) (refused (Refused 8) share)) answer after held out
+      go : (t : Bool) → reply ≡ cond t Done (Refused 8) → Worked (cond t (f m) (refusal (Refused 8) share)) answer after held out
       go true d = h m refl
       go false d = absurd (false-true (sym (ap passed d) ∙ p))

@@ -14,17 +14,16 @@ use Rattle.rules.proofs.Places.{get-put}
 use Rattle.model.specs.Model.{readOf}
 use Rattle.model.specs.declared.Model.{Model}
 use Rattle.model.specs.declared.Reading.the-variants.{Good}
-use Rattle.features.specs.Gains.{held, gained}
+use Rattle.features.specs.Gains.{sixTenths, gained}
 use Rattle.features.proofs.Lengths.{length-gained}
 use Rattle.features.proofs.Remembered.{never-nan, at-least-held}
 use Rattle.frame.specs.declared.Reply.{Reply}
 use Rattle.frame.specs.declared.Reply.the-variants as told
-use Rattle.frame.specs.Reply.{passed}
 use Rattle.frame.specs.Share.{SHARE, lastg}
-use Rattle.frame.specs.Heard.{scaled, energies, featured, judged, spokenFrom, spoken}
-use Rattle.frame.specs.Frame.{Framed, refused, taken, first, looked, second, silent, heard, third, synthesised, fourth}
-use Rattle.frame.proofs.Beside.{Beside, taken-beside, noted-beside, thought-beside, synthesised-beside}
-use Rattle.frame.proofs.Cases.{first-by, second-by, third-by, fourth-by}
+use Rattle.frame.specs.Heard.{scaled, energies, featured, rnnOf, spokenFrom, spoken}
+use Rattle.frame.specs.Frame.{Effect, refusal, done1, call1, done2, call2, silent, heard, call3, done4, call4}
+use Rattle.frame.proofs.Beside.{Beside, done1-beside, done2-beside, sensed-beside, done4-beside}
+use Rattle.frame.proofs.Cases.{call1-by, call2-by, call3-by, call4-by}
 use Rattle.frame.proofs.Truth.{false-true}
 
 -- a share's remembered gain of band i
@@ -38,23 +37,16 @@ isHeard told.Silent = false
 isHeard (told.Refused n) = false
 isHeard (told.Misread n l) = false
 
-pub record Holds (share : List Float) (f : Framed) : Type 0 where
+pub record Holds (share : List Float) (f : Effect) : Type 0 where
   pub number : (i : ℕ) → i < 22 → isNan (gainOf share i) ≡ false → isNan (gainOf (f .share) i) ≡ false
-  pub raised : (i : ℕ) → i < 22 → isNan (gainOf share i) ≡ false → isHeard (f .reply) ≡ true → le (held (gainOf share i)) (gainOf (f .share) i) ≡ true
+  pub raised : (i : ℕ) → i < 22 → isNan (gainOf share i) ≡ false → isHeard (f .reply) ≡ true → le (sixTenths (gainOf share i)) (gainOf (f .share) i) ≡ true
 
 module _ (share : List Float) where
-  same : (f : Framed) → isHeard (f .reply) ≡ false → get lastg (f .share) ≡ get lastg share → Holds share f
+  same : (f : Effect) → isHeard (f .reply) ≡ false → get lastg (f .share) ≡ get lastg share → Holds share f
   same f e s = record { number = λ i h n. rw s n; raised = λ i h n r. absurd (false-true (rw e at r)) }
 
-  bad : (reply : Reply) → passed reply ≡ false → Holds share (refused reply share)
-  bad reply h = same (refused reply share) (quiet reply h) refl
-    where
-      quiet : (reply : Reply) → passed reply ≡ false → isHeard reply ≡ false
-      quiet (told.Heard v e) h = h
-      quiet told.Done h = refl
-      quiet told.Silent h = refl
-      quiet (told.Refused n) h = refl
-      quiet (told.Misread n l) h = refl
+  bad : (n : ℕ) → Holds share (refusal (told.Refused n) share)
+  bad n = same (refusal (told.Refused n) share) refl refl
 
   -- the gains go in last, over a share whose gains are still the old ones
   spoken-holds : (e : Float) (index : ℕ) (spectrum logs : List Float) (bytes : List ℕ) (m : Model) → readOf bytes ≡ Good m → length share ≡ SHARE → index ≤ 7
@@ -66,38 +58,39 @@ module _ (share : List Float) where
       before : List Float
       before =
           let f = featured share index (scaled spectrum) (energies spectrum) logs in
-          judged (f .share) bytes m (f .features) .share
+          rnnOf (f .share) (f .features) bytes m .share
 
       old : Beside lastg share before
       old =
-          thought-beside lastg share index (scaled spectrum) (energies spectrum) logs bytes m
+          sensed-beside lastg share index (scaled spectrum) (energies spectrum) logs bytes m
           (inr (omega arith), (inr (omega arith), (inr (omega arith), (inr (omega arith), tt)))) good whole inside
 
       gains : List Float
       gains =
           let f = featured share index (scaled spectrum) (energies spectrum) logs in
-          judged (f .share) bytes m (f .features) .gains
+          rnnOf (f .share) (f .features) bytes m .gains
 
       is : get lastg (put lastg before (gained gains (get lastg before))) ≡ gained gains (get lastg share)
       is = get-put lastg before (gained gains (get lastg before)) (omega (arith, old .size)) (length-gained gains (get lastg before)) ∙ ap (gained gains) (old .same)
 
-  pub first-holds : (samples : List Float) (window : ℕ) → Holds share (first share samples window)
-  first-holds samples window =
-      first-by share (Holds share) bad samples window
-      (λ whole l. same (taken share samples) refl (taken-beside lastg share samples (inl (omega arith), (inl (omega arith), tt)) whole l .same))
+  pub call1-holds : (samples : List Float) (window : ℕ) → Holds share (call1 share samples window)
+  call1-holds samples window =
+      call1-by share (Holds share) bad samples window
+      (λ whole l. same (done1 share samples) refl (done1-beside lastg share samples (inl (omega arith), (inl (omega arith), tt)) whole l .same))
 
-  pub second-holds : (spectrum : List Float) (lag window sums : ℕ) → Holds share (second share spectrum lag window sums)
-  second-holds spectrum lag window sums =
-      second-by share (Holds share) bad spectrum lag window sums
-      (λ whole. same (looked share spectrum lag) refl (noted-beside lastg share spectrum lag (inl (omega arith), (inl (omega arith), (inl (omega arith), tt))) whole .same))
+  pub call2-holds : (spectrum : List Float) (lag window sums : ℕ) → Holds share (call2 share spectrum lag window sums)
+  call2-holds spectrum lag window sums =
+      call2-by share (Holds share) bad spectrum lag window sums
+      (λ whole. same (done2 share spectrum lag) refl (done2-beside lastg share spectrum lag (inl (omega arith), (inl (omega arith), (inl (omega arith), tt))) whole .same))
 
-  pub third-holds : (index vad noise denoise : ℕ) (spectrum logs : List Float) (model : List ℕ) (out : ℕ)
-      → Holds share (third share index vad noise denoise spectrum logs model out)
-  third-holds index vad noise denoise spectrum logs model out =
-      third-by share (Holds share) bad index vad noise denoise spectrum logs model out (same (silent share) refl refl)
+  pub call3-holds : (index vad noise denoise : ℕ) (spectrum logs : List Float) (model : List ℕ) (out : ℕ)
+      → Holds share (call3 share index vad noise denoise spectrum logs model out)
+  call3-holds index vad noise denoise spectrum logs model out =
+      call3-by share (Holds share) bad index vad noise denoise spectrum logs model out
+      (λ n l _. same (refusal (told.Misread n l) share) refl refl) (same (silent share) refl refl)
       (λ e m good whole inside. spoken-holds e index spectrum logs model m good whole inside)
 
-  pub fourth-holds : (inverse : List Float) (out : ℕ) → Holds share (fourth share inverse out)
-  fourth-holds inverse out =
-      fourth-by share (Holds share) bad inverse out
-      (λ whole. same (synthesised share inverse) refl (synthesised-beside lastg share inverse (inl (omega arith), tt) whole .same))
+  pub call4-holds : (inverse : List Float) (out : ℕ) → Holds share (call4 share inverse out)
+  call4-holds inverse out =
+      call4-by share (Holds share) bad inverse out
+      (λ whole. same (done4 share inverse) refl (done4-beside lastg share inverse (inl (omega arith), tt) whole .same))

@@ -3,8 +3,8 @@ pub mod Cases
 pub mod Done
 pub mod Held
 pub mod Keeps
-pub mod Replies
 pub mod Settled
+pub mod Sizes
 pub mod Sounded
 pub mod Spoken
 pub mod Truth

@@ -14,7 +14,7 @@ use Rattle.model.specs.declared.Model.{Model}
 use Rattle.frame.specs.declared.Reply.the-variants.{Silent}
 use Rattle.frame.specs.Share.{keptX, keptEx}
 use Rattle.frame.specs.Heard.{Spoken, spoken}
-use Rattle.frame.specs.Frame.{Worked, sounded, listened}
+use Rattle.frame.specs.Frame.{Worked, sounded, done3}
 use Rattle.frame.specs.Parts.{spokenAs, quiet, replyOf}
 use Rattle.frame.proofs.Truth.{true-false, false-true}
 
@@ -32,8 +32,8 @@ module _ (share : List Float) (index : ℕ) (spectrum logs : List Float) (bytes 
   whole = spoken share index spectrum logs bytes m
 
   pub is-silent : {s : Sound} {out : List Float} → s ≡ soundOf (energy (get keptEx share)) → quiet s ≡ true → out ≡ get keptX share
-      → Worked (listened share index spectrum logs bytes m) Silent share held (out ∷ [])
-  unfolding listened
+      → Worked (done3 share index spectrum logs bytes m) Silent share held (out ∷ [])
+  unfolding done3
   is-silent {s} {out} e q x = rw (← e) (go s q)
     where
       go : (s : Sound) → quiet s ≡ true → Worked (sounded s share whole) Silent share held (out ∷ [])
@@ -42,8 +42,8 @@ module _ (share : List Float) (index : ℕ) (spectrum logs : List Float) (bytes 
       go (sound.Refused n) h = absurd (false-true h)
 
   pub is-heard : {s : Sound} {after out : List Float} {voice : Float} → s ≡ soundOf (energy (get keptEx share)) → quiet s ≡ false
-      → spokenAs after voice out ≡ whole → Worked (listened share index spectrum logs bytes m) (replyOf s voice) after held (out ∷ [])
-  unfolding listened
+      → spokenAs after voice out ≡ whole → Worked (done3 share index spectrum logs bytes m) (replyOf s voice) after held (out ∷ [])
+  unfolding done3
   is-heard {s} {after} {out} {voice} e q x = rw (← e, ← x) (go s e q)
     where
       go : (s : Sound) → s ≡ soundOf (energy (get keptEx share)) → quiet s ≡ false

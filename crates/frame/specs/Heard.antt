@@ -1,5 +1,5 @@
--- A heard frame, stage by stage, from `compute_frame_features` of features.rs and `process_frame` of denoise.rs. A stage takes the share as the
--- stage before it left it.
+-- A heard frame, stage by stage, from `compute_frame_features` of features.rs and `process_frame` of denoise.rs. A stage takes the
+-- share as the stage before it left it.
 use Prim.Native.Nat.{ℕ}
 use mathlib.Core.List.{List}
 use lib.Ieee.{Float}
@@ -9,10 +9,10 @@ use Rattle.rules.specs.Tab.{tab}
 use Rattle.bands.specs.Bands.{bandCorr, bandGain}
 use Rattle.bands.specs.Norm.{wnorm}
 use Rattle.model.specs.declared.Model.{Model}
-use Rattle.network.specs.Compute.{framed}
+use Rattle.network.specs.Compute.{layersInPlace}
 use Rattle.features.specs.Gains.{gained}
 use Rattle.features.specs.Pitch.{pitchFiltered, applied}
-use Rattle.features.specs.Features.{normalisedCorr, featuresOf, remembered}
+use Rattle.features.specs.Features.{normalisedCorr, featuresOf, withCepstrum}
 use Rattle.frame.specs.Share.{keptX, keptEx, keptLag, lastg, cepstralMem, vadState, noiseState, denoiseState}
 
 -- `transform_input`: *x *= norm
@@ -34,20 +34,20 @@ featured share index p ep logs =
     let exp = normalisedCorr (get keptX share) p (get keptEx share) ep in
     let mem = get cepstralMem share in
     record {
-      share = put cepstralMem share (remembered mem index logs);
+      share = put cepstralMem share (withCepstrum logs mem index);
       features = featuresOf exp (at (get keptLag share) 0) logs mem index;
       exp = exp;
     }
 
 -- `process_frame`: self.rnn.compute(&mut g[..], &mut vad_prob[..], self.feat.features())
-pub record Judged : Type 0 where
+pub record Rnn : Type 0 where
   pub share : List Float
   pub gains : List Float
   pub voice : Float
 
-unfoldable pub judged : List Float → List ℕ → Model → List Float → Judged
-judged share bytes m features =
-    let f = framed bytes m (get vadState share) (get noiseState share) (get denoiseState share) features in
+unfoldable pub rnnOf : List Float → List Float → List ℕ → Model → Rnn
+rnnOf share features bytes m =
+    let f = layersInPlace bytes m (get vadState share) (get noiseState share) (get denoiseState share) features in
     record {
       share = put denoiseState (put noiseState (put vadState share (f .vad)) (f .noise)) (f .denoise);
       gains = f .gains;
@@ -55,10 +55,10 @@ judged share bytes m features =
     }
 
 -- `process_frame`: g[i] = g[i].max(0.6 * self.lastg[i]); self.lastg[i] = g[i]
-abbrev pub raised : List Float → List Float → List Float
-raised share gains = gained gains (get lastg share)
+abbrev pub heldGains : List Float → List Float → List Float
+heldGains share gains = gained gains (get lastg share)
 
--- the whole: the share, the voice, and the spectrum for the inverse. `pitch_filter` has the network's gains, before they are raised
+-- the whole: the share, the voice, and the spectrum for the inverse. `pitch_filter` has the network's gains, before the maximum
 pub record Spoken : Type 0 where
   pub share : List Float
   pub voice : Float
@@ -67,9 +67,9 @@ pub record Spoken : Type 0 where
 unfoldable pub spokenFrom : List Float → ℕ → List Float → List Float → List Float → List ℕ → Model → Spoken
 spokenFrom share index p ep logs bytes m =
     let f = featured share index p ep logs in
-    let n = judged (f .share) bytes m (f .features) in
+    let n = rnnOf (f .share) (f .features) bytes m in
     let x = pitchFiltered (get keptX share) p (n .gains) (f .exp) (get keptEx share) ep in
-    let g = raised (n .share) (n .gains) in
+    let g = heldGains (n .share) (n .gains) in
     record { share = put lastg (n .share) g; voice = n .voice; spectrum = applied x (bandGain g) }
 
 -- p and ep are what the second spectrum gives

@@ -1,17 +1,23 @@
 -- For the parts of the code: what a function leaves, as one value of the stage's definition.
 use Prim.Native.Nat.{ℕ}
-use mathlib.Core.Bool.{Bool, true, false}
+use mathlib.Core.Bool.{Bool, true, false, cond}
 use mathlib.Core.List.{List}
 use mathlib.Core.Path.{_≡_}
 use lib.Ieee.{Float}
 use Rattle.model.specs.Model.{readOf}
 use Rattle.model.specs.declared.Model.{Model}
-use Rattle.model.specs.declared.Reading.the-variants.{Good}
+use Rattle.model.specs.declared.Reading.{Reading}
+use Rattle.model.specs.declared.Reading.the-variants.{Good, Refused as Unread}
 use Rattle.features.specs.declared.Sound.{Sound}
 use Rattle.features.specs.declared.Sound.the-variants as sound
-use Rattle.frame.specs.Heard.{Featured, Judged, Spoken}
+use Rattle.frame.specs.Heard.{Featured, Rnn, Spoken}
 use Rattle.frame.specs.declared.Reply.{Reply}
-use Rattle.frame.specs.declared.Reply.the-variants.{Silent, Heard, Refused}
+use Rattle.frame.specs.declared.Reply.the-variants.{Done, Silent, Heard, Refused, Misread}
+
+-- refusals 7 and 8, or done
+unfoldable pub checked : (Model → Bool) → Reading → Reply
+checked same (Unread n l) = Misread n l
+checked same (Good m) = cond (same m) Done (Refused 8)
 
 -- what holds of the model, where its bytes read
 abbrev pub Reads : List ℕ → (Model → Type 0) → Type 0
@@ -20,8 +26,8 @@ Reads bytes P = (m : Model) → readOf bytes ≡ Good m → P m
 abbrev pub featuredAs : List Float → List Float → List Float → Featured
 featuredAs share features exp = record { share = share; features = features; exp = exp }
 
-abbrev pub judgedAs : List Float → List Float → Float → Judged
-judgedAs share gains voice = record { share = share; gains = gains; voice = voice }
+abbrev pub rnnAs : List Float → List Float → Float → Rnn
+rnnAs share gains voice = record { share = share; gains = gains; voice = voice }
 
 abbrev pub spokenAs : List Float → Float → List Float → Spoken
 spokenAs share voice spectrum = record { share = share; voice = voice; spectrum = spectrum }

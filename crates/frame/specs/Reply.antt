@@ -1,18 +1,9 @@
 -- What the replies mean.
-use Prim.Native.Nat.{ℕ}
 use mathlib.Core.Bool.{Bool, true, false, cond}
 use mathlib.Core.List.{List}
 use lib.Ieee.{Float}
 use Rattle.frame.specs.declared.Reply.{Reply}
 use Rattle.frame.specs.declared.Reply.the-variants.{Done, Silent, Heard, Refused, Misread}
-
--- the number that a reply stands for; 0 is done
-abbrev pub numberOf : Reply → ℕ
-numberOf Done = 0
-numberOf Silent = 0
-numberOf (Heard v e) = 0
-numberOf (Refused n) = n
-numberOf (Misread n l) = 7
 
 -- whether a reply is no refusal
 abbrev pub passed : Reply → Bool

@@ -1,4 +1,4 @@
--- A share: 6,144 numbers, what the calls of one bench remember. Its fields, place by place.
+-- A share: 6,144 numbers, what the calls of one bench remember. Its fields, place by place; no call touches the rest, from 3,776 on.
 use Prim.Native.Nat.{ℕ}
 use Rattle.rules.specs.Place.{Place}
 
@@ -44,7 +44,3 @@ noiseState = record { at = 3520; size = 128 }
 
 abbrev pub denoiseState : Place
 denoiseState = record { at = 3648; size = 128 }
-
--- the rest: no call reads it or writes it
-abbrev pub room : Place
-room = record { at = 3776; size = 2368 }

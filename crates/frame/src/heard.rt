@@ -9,9 +9,9 @@ ghost use Rattle.bands.specs.Bands.{bandGain};
 ghost use Rattle.model.specs.Model.{readOf};
 ghost use Rattle.features.specs.Pitch.{pitchFiltered, applied};
 ghost use Rattle.frame.specs.Share.{keptX, keptEx, lastg, vadState, noiseState, denoiseState};
-ghost use Rattle.frame.specs.Heard.{scaled, energies, featured, judged, raised, spokenFrom, spoken};
-ghost use Rattle.frame.specs.Frame.{Worked, listened, counted, checked};
-ghost use Rattle.frame.specs.Parts.{Reads, featuredAs, judgedAs, spokenAs, quiet, replyOf};
+ghost use Rattle.frame.specs.Heard.{scaled, energies, featured, rnnOf, heldGains, spokenFrom, spoken};
+ghost use Rattle.frame.specs.Frame.{Worked, done3, counted};
+ghost use Rattle.frame.specs.Parts.{checked, Reads, featuredAs, rnnAs, spokenAs, quiet, replyOf};
 use crate::Reply;
 use features::Sound;
 use model::Reading;
@@ -41,16 +41,6 @@ pub(crate) fn check(model: &[u8], vad: usize, noise: usize, denoise: usize) -> R
     ensures { λ r. ⌜ r ≡ checked (counted vad noise denoise) (readOf (now (model .entry))) ⌝ }
 {
     judge(model::read(model), vad, noise, denoise)
-}
-
-// p is the spectrum, scaled, and ep its band energies.
-fn transform(p: &mut [f32], ep: &mut [f32], spectrum: &[f32])
-    requires { ⌜ (length (now p) ≡ 961) × (length (now ep) ≡ 22) × (length (now spectrum) ≡ 961) ⌝ }
-    ensures { λ _. ⌜ now (p .exit) ≡ scaled (now (spectrum .entry)) ⌝ }
-    ensures { λ _. ⌜ now (ep .exit) ≡ energies (now (spectrum .entry)) ⌝ }
-{
-    crate::lagged::scale(p, spectrum);
-    bands::compute_band_corr(ep, p, p);
 }
 
 // The features, the correlations and the new cepstrum; x and ex are as the share keeps them.
@@ -102,7 +92,8 @@ fn take_states(vad: &mut [f32], noise: &mut [f32], denoise: &mut [f32], share: &
 fn put_states(share: &mut [f32], vad: &[f32], noise: &[f32], denoise: &[f32])
     requires { ⌜ (length (now share) ≡ 6144) × (length (now vad) ≡ 128) × (length (now noise) ≡ 128) × (length (now denoise) ≡ 128) ⌝ }
     ensures { λ _. ⌜ now (share .exit)
-        ≡ put denoiseState (put noiseState (put vadState (now (share .entry)) (now (vad .entry))) (now (noise .entry))) (now (denoise .entry)) ⌝ }
+        ≡ put denoiseState (put noiseState (put vadState (now (share .entry)) (now (vad .entry))) (now (noise .entry)))
+        (now (denoise .entry)) ⌝ }
 {
     rules::copy(&mut share[3392..3520], vad);
     rules::copy(&mut share[3520..3648], noise);
@@ -122,7 +113,8 @@ fn think_in(
     requires { ⌜ (length (now share) ≡ 6144) × (length (now gains) ≡ 22) × (length (now voice) ≡ 1) × (length (now features) ≡ 42) ⌝ }
     requires { ⌜ (length (now vad) ≡ 128) × (length (now noise) ≡ 128) × (length (now denoise) ≡ 128) ⌝ }
     ensures { λ r. ⌜ Reads (now (model .entry))
-        (λ m. judgedAs (now (share .exit)) (now (gains .exit)) r ≡ judged (now (share .entry)) (now (model .entry)) m (now (features .entry))) ⌝ }
+        (λ m. rnnAs (now (share .exit)) (now (gains .exit)) r
+        ≡ rnnOf (now (share .entry)) (now (features .entry)) (now (model .entry)) m) ⌝ }
 {
     take_states(vad, noise, denoise, share);
     network::compute(gains, voice, vad, noise, denoise, model, features);
@@ -130,11 +122,13 @@ fn think_in(
     voice[0]
 }
 
-// The network, over the states in the share: the gains, and the voice. Three parts of one slice can't be lent at once, so the states are copied.
+// The network, over the states in the share: the gains, and the voice. Three parts of one slice can't be lent at once, so the states
+// are copied.
 fn think(share: &mut [f32], gains: &mut [f32], model: &[u8], features: &[f32]) -> f32
     requires { ⌜ (length (now share) ≡ 6144) × (length (now gains) ≡ 22) × (length (now features) ≡ 42) ⌝ }
     ensures { λ r. ⌜ Reads (now (model .entry))
-        (λ m. judgedAs (now (share .exit)) (now (gains .exit)) r ≡ judged (now (share .entry)) (now (model .entry)) m (now (features .entry))) ⌝ }
+        (λ m. rnnAs (now (share .exit)) (now (gains .exit)) r
+        ≡ rnnOf (now (share .entry)) (now (features .entry)) (now (model .entry)) m) ⌝ }
 {
     let mut voice = [0.0f32; 1];
     let mut vad = [0.0f32; 128];
@@ -171,8 +165,8 @@ fn apply(out: &mut [f32], gains: &[f32])
 // The gains are raised, remembered and applied.
 fn raise(share: &mut [f32], out: &mut [f32], gains: &mut [f32])
     requires { ⌜ (length (now share) ≡ 6144) × (length (now out) ≡ 961) × (length (now gains) ≡ 22) ⌝ }
-    ensures { λ _. ⌜ now (share .exit) ≡ put lastg (now (share .entry)) (raised (now (share .entry)) (now (gains .entry))) ⌝ }
-    ensures { λ _. ⌜ now (out .exit) ≡ applied (now (out .entry)) (bandGain (raised (now (share .entry)) (now (gains .entry)))) ⌝ }
+    ensures { λ _. ⌜ now (share .exit) ≡ put lastg (now (share .entry)) (heldGains (now (share .entry)) (now (gains .entry))) ⌝ }
+    ensures { λ _. ⌜ now (out .exit) ≡ applied (now (out .entry)) (bandGain (heldGains (now (share .entry)) (now (gains .entry)))) ⌝ }
 {
     features::hold_gains(gains, &mut share[3194..3216]);
     apply(out, gains);
@@ -190,10 +184,11 @@ fn shape(
 )
     requires { ⌜ (length (now share) ≡ 6144) × (length (now out) ≡ 961) × (length (now gains) ≡ 22) ⌝ }
     requires { ⌜ (length (now p) ≡ 961) × (length (now exp) ≡ 22) × (length (now ex) ≡ 22) × (length (now ep) ≡ 22) ⌝ }
-    ensures { λ _. ⌜ now (share .exit) ≡ put lastg (now (share .entry)) (raised (now (share .entry)) (now (gains .entry))) ⌝ }
+    ensures { λ _. ⌜ now (share .exit) ≡ put lastg (now (share .entry)) (heldGains (now (share .entry)) (now (gains .entry))) ⌝ }
     ensures { λ _. ⌜ now (out .exit)
-        ≡ applied (pitchFiltered (now (out .entry)) (now (p .entry)) (now (gains .entry)) (now (exp .entry)) (now (ex .entry)) (now (ep .entry)))
-        (bandGain (raised (now (share .entry)) (now (gains .entry)))) ⌝ }
+        ≡ applied
+        (pitchFiltered (now (out .entry)) (now (p .entry)) (now (gains .entry)) (now (exp .entry)) (now (ex .entry)) (now (ep .entry)))
+        (bandGain (heldGains (now (share .entry)) (now (gains .entry)))) ⌝ }
 {
     features::pitch_filter(out, p, gains, exp, ex, ep);
     raise(share, out, gains);
@@ -212,7 +207,8 @@ fn speak_in(
     logs: &[f32],
     model: &[u8],
 ) -> f32
-    requires { ⌜ (length (now share) ≡ 6144) × (length (now features) ≡ 42) × (length (now exp) ≡ 22) × (length (now gains) ≡ 22) × (index ≤ 7) ⌝ }
+    requires { ⌜ (length (now share) ≡ 6144) × (length (now features) ≡ 42) × (length (now exp) ≡ 22)
+        × (length (now gains) ≡ 22) × (index ≤ 7) ⌝ }
     requires { ⌜ (length (now p) ≡ 961) × (length (now ep) ≡ 22) × (length (now logs) ≡ 22) ⌝ }
     requires { ⌜ (now out ≡ get keptX (now share)) × (now ex ≡ get keptEx (now share)) ⌝ }
     ensures { λ r. ⌜ Reads (now (model .entry)) (λ m. spokenAs (now (share .exit)) r (now (out .exit))
@@ -269,13 +265,14 @@ fn hear_in(
     logs: &[f32],
     model: &[u8],
 ) -> f32
-    requires { ⌜ (length (now share) ≡ 6144) × (now out ≡ get keptX (now share)) × (index ≤ 7) × (length (now spectrum) ≡ 961) × (length (now logs) ≡ 22) ⌝ }
+    requires { ⌜ (length (now share) ≡ 6144) × (now out ≡ get keptX (now share)) × (index ≤ 7)
+        × (length (now spectrum) ≡ 961) × (length (now logs) ≡ 22) ⌝ }
     requires { ⌜ (length (now p) ≡ 961) × (length (now ex) ≡ 22) × (length (now ep) ≡ 22) ⌝ }
     ensures { λ r. ⌜ Reads (now (model .entry)) (λ m. spokenAs (now (share .exit)) r (now (out .exit))
         ≡ spoken (now (share .entry)) index (now (spectrum .entry)) (now (logs .entry)) (now (model .entry)) m) ⌝ }
 {
     rules::copy(ex, &share[3169..3191]);
-    transform(p, ep, spectrum);
+    crate::lagged::transform(p, ep, spectrum);
     speak(share, out, index, p, ex, ep, logs, model)
 }
 
@@ -288,7 +285,8 @@ fn hear(
     logs: &[f32],
     model: &[u8],
 ) -> f32
-    requires { ⌜ (length (now share) ≡ 6144) × (now out ≡ get keptX (now share)) × (index ≤ 7) × (length (now spectrum) ≡ 961) × (length (now logs) ≡ 22) ⌝ }
+    requires { ⌜ (length (now share) ≡ 6144) × (now out ≡ get keptX (now share)) × (index ≤ 7)
+        × (length (now spectrum) ≡ 961) × (length (now logs) ≡ 22) ⌝ }
     ensures { λ r. ⌜ Reads (now (model .entry)) (λ m. spokenAs (now (share .exit)) r (now (out .exit))
         ≡ spoken (now (share .entry)) index (now (spectrum .entry)) (now (logs .entry)) (now (model .entry)) m) ⌝ }
 {
@@ -337,9 +335,10 @@ pub(crate) fn listen(
     logs: &[f32],
     model: &[u8],
 ) -> Reply
-    requires { ⌜ (length (now share) ≡ 6144) × (length (now out) ≡ 961) × (index ≤ 7) × (length (now spectrum) ≡ 961) × (length (now logs) ≡ 22) ⌝ }
+    requires { ⌜ (length (now share) ≡ 6144) × (length (now out) ≡ 961) × (index ≤ 7)
+        × (length (now spectrum) ≡ 961) × (length (now logs) ≡ 22) ⌝ }
     ensures { λ r. ⌜ Reads (now (model .entry)) (λ m. Worked
-        (listened (now (share .entry)) index (now (spectrum .entry)) (now (logs .entry)) (now (model .entry)) m)
+        (done3 (now (share .entry)) index (now (spectrum .entry)) (now (logs .entry)) (now (model .entry)) m)
         r (now (share .exit)) (now (out .entry) ∷ []) (now (out .exit) ∷ [])) ⌝ }
 {
     let sound = features::listen(&share[3169..3191]);

@@ -8,10 +8,10 @@ ghost use lib.Ieee.{binary32, ofInt};
 ghost use Rattle.rules.specs.Place.{put};
 ghost use Rattle.frame.specs.Share.{keptX, keptEx, keptLag};
 ghost use Rattle.frame.specs.Heard.{scaled, energies};
-ghost use Rattle.frame.specs.Frame.{lifted, noted};
+ghost use Rattle.frame.specs.Frame.{plusHundredth, putKept};
 
 // out is the spectrum, each number times `wnorm`.
-pub(crate) fn scale(out: &mut [f32], spectrum: &[f32])
+fn scale(out: &mut [f32], spectrum: &[f32])
     requires { ⌜ (length (now out) ≡ 961) × (length (now spectrum) ≡ 961) ⌝ }
     ensures { λ _. ⌜ now (out .exit) ≡ scaled (now (spectrum .entry)) ⌝ }
 {
@@ -21,10 +21,20 @@ pub(crate) fn scale(out: &mut [f32], spectrum: &[f32])
     }
 }
 
+// p is the spectrum, scaled, and ep its band energies.
+pub(crate) fn transform(p: &mut [f32], ep: &mut [f32], spectrum: &[f32])
+    requires { ⌜ (length (now p) ≡ 961) × (length (now ep) ≡ 22) × (length (now spectrum) ≡ 961) ⌝ }
+    ensures { λ _. ⌜ now (p .exit) ≡ scaled (now (spectrum .entry)) ⌝ }
+    ensures { λ _. ⌜ now (ep .exit) ≡ energies (now (spectrum .entry)) ⌝ }
+{
+    scale(p, spectrum);
+    bands::compute_band_corr(ep, p, p);
+}
+
 // Adds 0.01 to each energy: what the logarithms are taken of.
 fn lift(ex: &mut [f32])
     requires { ⌜ length (now ex) ≡ 22 ⌝ }
-    ensures { λ _. ⌜ now (ex .exit) ≡ lifted (now (ex .entry)) ⌝ }
+    ensures { λ _. ⌜ now (ex .exit) ≡ plusHundredth (now (ex .entry)) ⌝ }
 {
     for i in 0..22 {
         ex[i] = 0.01 + ex[i];
@@ -37,14 +47,14 @@ fn analyse(share: &mut [f32], spectrum: &[f32], ex: &mut [f32])
     ensures { λ _. ⌜ now (share .exit) ≡ put keptX (now (share .entry)) (scaled (now (spectrum .entry))) ⌝ }
     ensures { λ _. ⌜ now (ex .exit) ≡ energies (now (spectrum .entry)) ⌝ }
 {
-    scale(&mut share[2208..3169], spectrum);
-    bands::compute_band_corr(ex, &share[2208..3169], &share[2208..3169]);
+    transform(&mut share[2208..3169], ex, spectrum);
 }
 
 // The share keeps the band energies and the lag.
 fn keep(share: &mut [f32], ex: &[f32], lag: usize)
     requires { ⌜ (length (now share) ≡ 6144) × (length (now ex) ≡ 22) × (lag ≤ 768) ⌝ }
-    ensures { λ _. ⌜ now (share .exit) ≡ put keptLag (put keptEx (now (share .entry)) (now (ex .entry))) (ofInt binary32 (pos lag) ∷ []) ⌝ }
+    ensures { λ _. ⌜ now (share .exit)
+        ≡ put keptLag (put keptEx (now (share .entry)) (now (ex .entry))) (ofInt binary32 (pos lag) ∷ []) ⌝ }
 {
     rules::copy(&mut share[3169..3191], ex);
     share[3191] = lag as f32;
@@ -53,8 +63,8 @@ fn keep(share: &mut [f32], ex: &[f32], lag: usize)
 // What call 2 does once its window is written.
 pub(crate) fn note(share: &mut [f32], spectrum: &[f32], lag: usize, sums: &mut [f32])
     requires { ⌜ (length (now share) ≡ 6144) × (length (now spectrum) ≡ 961) × (length (now sums) ≡ 22) × (lag ≤ 768) ⌝ }
-    ensures { λ _. ⌜ now (share .exit) ≡ noted (now (share .entry)) (now (spectrum .entry)) lag ⌝ }
-    ensures { λ _. ⌜ now (sums .exit) ≡ lifted (energies (now (spectrum .entry))) ⌝ }
+    ensures { λ _. ⌜ now (share .exit) ≡ putKept (now (share .entry)) (now (spectrum .entry)) lag ⌝ }
+    ensures { λ _. ⌜ now (sums .exit) ≡ plusHundredth (energies (now (spectrum .entry))) ⌝ }
 {
     analyse(share, spectrum, sums);
     keep(share, sums, lag);

@@ -2,7 +2,7 @@
 ghost use mathlib.Core.Path.{_≡_};
 ghost use mathlib.Core.List.{[], _∷_};
 ghost use lib.ListN.{length};
-ghost use Rattle.frame.specs.Frame.{Worked, first, second, third, fourth};
+ghost use Rattle.frame.specs.Frame.{Worked, call1, call2, call3, call4};
 ghost use Rattle.frame.specs.Reply.{passed};
 
 mod heard;
@@ -41,8 +41,8 @@ pub struct Lag(pub usize);
 pub const SHARE: usize = 6144;
 
 // Call 1: 480 samples in, 960 windowed numbers written.
-pub fn first(share: &mut [f32], samples: &[f32], window: &mut [f32]) -> Reply
-    ensures { λ r. ⌜ Worked (first (now (share .entry)) (now (samples .entry)) (length (now (window .entry))))
+pub fn call1(share: &mut [f32], samples: &[f32], window: &mut [f32]) -> Reply
+    ensures { λ r. ⌜ Worked (call1 (now (share .entry)) (now (samples .entry)) (length (now (window .entry))))
         r (now (share .exit)) (now (window .entry) ∷ []) (now (window .exit) ∷ []) ⌝ }
 {
     if share.len() != SHARE {
@@ -65,7 +65,7 @@ pub fn first(share: &mut [f32], samples: &[f32], window: &mut [f32]) -> Reply
 }
 
 // Call 2: the first spectrum and the lag in, 960 windowed numbers and 22 sums written.
-pub fn second(
+pub fn call2(
     share: &mut [f32],
     spectrum: &[f32],
     lag: Lag,
@@ -73,7 +73,7 @@ pub fn second(
     sums: &mut [f32],
 ) -> Reply
     ensures { λ r. ⌜ Worked
-        (second (now (share .entry)) (now (spectrum .entry)) (lag .0) (length (now (window .entry))) (length (now (sums .entry))))
+        (call2 (now (share .entry)) (now (spectrum .entry)) (lag .0) (length (now (window .entry))) (length (now (sums .entry))))
         r (now (share .exit)) (now (window .entry) ∷ now (sums .entry) ∷ []) (now (window .exit) ∷ now (sums .exit) ∷ []) ⌝ }
 {
     if share.len() != SHARE {
@@ -98,9 +98,9 @@ pub fn second(
     Reply::Done
 }
 
-// Call 3: the second spectrum, 22 logarithms and the model in, 961 numbers written; silent, or heard with voice and energy. Of the record it
-// is told the cepstral index and the GRU counts.
-pub fn third(
+// Call 3: the second spectrum, 22 logarithms and the model in, 961 numbers written; silent, or heard with voice and energy. Of the
+// record it is told the cepstral index and the GRU counts.
+pub fn call3(
     share: &mut [f32],
     index: usize,
     vad: usize,
@@ -112,7 +112,8 @@ pub fn third(
     out: &mut [f32],
 ) -> Reply
     ensures { λ r. ⌜ Worked
-        (third (now (share .entry)) index vad noise denoise (now (spectrum .entry)) (now (logs .entry)) (now (model .entry)) (length (now (out .entry))))
+        (call3 (now (share .entry)) index vad noise denoise
+        (now (spectrum .entry)) (now (logs .entry)) (now (model .entry)) (length (now (out .entry))))
         r (now (share .exit)) (now (out .entry) ∷ []) (now (out .exit) ∷ []) ⌝ }
 {
     if share.len() != SHARE {
@@ -138,8 +139,8 @@ pub fn third(
 }
 
 // Call 4: 960 inverse samples in, 480 numbers written.
-pub fn fourth(share: &mut [f32], inverse: &[f32], out: &mut [f32]) -> Reply
-    ensures { λ r. ⌜ Worked (fourth (now (share .entry)) (now (inverse .entry)) (length (now (out .entry))))
+pub fn call4(share: &mut [f32], inverse: &[f32], out: &mut [f32]) -> Reply
+    ensures { λ r. ⌜ Worked (call4 (now (share .entry)) (now (inverse .entry)) (length (now (out .entry))))
         r (now (share .exit)) (now (out .entry) ∷ []) (now (out .exit) ∷ []) ⌝ }
 {
     if share.len() != SHARE {

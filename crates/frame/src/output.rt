@@ -3,7 +3,7 @@ ghost use mathlib.Core.Path.{_≡_};
 ghost use lib.ListN.{length};
 ghost use Rattle.rules.specs.F32.{_⊘_, at, f32};
 ghost use Rattle.rules.specs.Tab.{tab};
-ghost use Rattle.frame.specs.Frame.{faded, overlapped, secondHalf};
+ghost use Rattle.frame.specs.Frame.{windowBuf, overlapped, secondHalf};
 
 // out is the inverse, each number over 2.
 fn halve(out: &mut [f32], inverse: &[f32])
@@ -29,8 +29,8 @@ fn overlap(kept: &mut [f32], buf: &[f32], out: &mut [f32])
 
 fn synthesise_in(buf: &mut [f32], kept: &mut [f32], inverse: &[f32], out: &mut [f32])
     requires { ⌜ (length (now buf) ≡ 960) × (length (now kept) ≡ 480) × (length (now inverse) ≡ 960) × (length (now out) ≡ 480) ⌝ }
-    ensures { λ _. ⌜ now (kept .exit) ≡ secondHalf (faded (now (inverse .entry))) ⌝ }
-    ensures { λ _. ⌜ now (out .exit) ≡ overlapped (faded (now (inverse .entry))) (now (kept .entry)) ⌝ }
+    ensures { λ _. ⌜ now (kept .exit) ≡ secondHalf (windowBuf (now (inverse .entry))) ⌝ }
+    ensures { λ _. ⌜ now (out .exit) ≡ overlapped (windowBuf (now (inverse .entry))) (now (kept .entry)) ⌝ }
 {
     halve(buf, inverse);
     bands::apply_window_in_place(buf);
@@ -39,8 +39,8 @@ fn synthesise_in(buf: &mut [f32], kept: &mut [f32], inverse: &[f32], out: &mut [
 
 pub(crate) fn synthesise(kept: &mut [f32], inverse: &[f32], out: &mut [f32])
     requires { ⌜ (length (now kept) ≡ 480) × (length (now inverse) ≡ 960) × (length (now out) ≡ 480) ⌝ }
-    ensures { λ _. ⌜ now (kept .exit) ≡ secondHalf (faded (now (inverse .entry))) ⌝ }
-    ensures { λ _. ⌜ now (out .exit) ≡ overlapped (faded (now (inverse .entry))) (now (kept .entry)) ⌝ }
+    ensures { λ _. ⌜ now (kept .exit) ≡ secondHalf (windowBuf (now (inverse .entry))) ⌝ }
+    ensures { λ _. ⌜ now (out .exit) ≡ overlapped (windowBuf (now (inverse .entry))) (now (kept .entry)) ⌝ }
 {
     let mut buf = [0.0f32; 960];
     synthesise_in(&mut buf, kept, inverse, out);

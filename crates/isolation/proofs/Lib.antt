@@ -1,2 +1,3 @@
+pub mod Hosts
 pub mod Isolated
 pub mod Memories

@@ -9,8 +9,8 @@ use Rattle.rules.specs.F32.{f32}
 use Rattle.frame.specs.Reply.{passed, left}
 use Rattle.frame.specs.Share.{SHARE}
 use Rattle.desk.specs.declared.Answer.{Answer}
-use Rattle.desk.specs.declared.Bench.{Bench}
-use Rattle.desk.specs.Desk.{Ask, opening, Outcome, closed, desk}
+use Rattle.desk.specs.declared.Record.{Record}
+use Rattle.desk.specs.Desk.{Ask, opening, Given, closed, desk}
 
 -- a call as the host makes it: on a side, with its arguments, and with answer buffers that held anything
 pub record Call : Type 0 where
@@ -24,35 +24,35 @@ openingOf side model = record { side = side; ask = opening model; held = [] }
 
 -- each side's record as it was last received, and the store
 pub record State : Type 0 where
-  pub bench : ℕ → Bench
+  pub rec : ℕ → Record
   pub store : List Float
 
 abbrev pub allClosed : List Float → State
-allClosed store = record { bench = λ _. closed; store = store }
+allClosed store = record { rec = λ _. closed; store = store }
 
 -- what a call gives is what the desk's contracts say, with the side's record as it was last received
-abbrev pub outcome : ℕ → State → Call → Outcome
-outcome n st c = desk n (c .side) (st .bench (c .side)) (st .store) (c .ask)
+abbrev pub given : ℕ → State → Call → Given
+given n st c = desk n (c .side) (st .rec (c .side)) (st .store) (c .ask)
 
 -- only calls touch the records and the store
 abbrev pub after : ℕ → State → Call → State
 after n st c =
-    let o = outcome n st c in
-    record { bench = λ s. cond (eqb (c .side) s) (o .answer .bench) (st .bench s); store = o .store }
+    let o = given n st c in
+    record { rec = λ s. cond (eqb (c .side) s) (o .answer .rec) (st .rec s); store = o .store }
 
 -- the records and the store when a run is over
 unfoldable pub ended : ℕ → State → List Call → State
 ended n st [] = st
 ended n st (c ∷ cs) = ended n (after n st c) cs
 
--- what the side of a call receives: the answer, that is the reply (done, silent, heard with voice and energy, or a refusal's number, with 7 the model's
--- number and layer) and the record; and every number of every buffer that was lent to the call. A refused call leaves the buffers as they were held:
--- what it receives is the answer alone.
+-- what the side of a call receives: the answer, that is the reply (done, silent, heard with voice and energy, or a refusal's number, with
+-- 7 the model's number and layer) and the record; and every number of every buffer that was lent to the call. A refused call leaves the
+-- buffers as they were held: what it receives is the answer alone.
 pub record Received : Type 0 where
   pub answer : Answer
   pub buffers : List (List Float)
 
-abbrev pub receive : Outcome → List (List Float) → Received
+abbrev pub receive : Given → List (List Float) → Received
 receive o held =
     let reply = o .answer .reply in
     record { answer = o .answer; buffers = cond (passed reply) (left reply held (o .written)) [] }
@@ -62,7 +62,7 @@ unfoldable pub received : ℕ → ℕ → State → List Call → List Received
 received n s st [] = []
 received n s st (c ∷ cs) =
     let rest = received n s (after n st c) cs in
-    cond (eqb (c .side) s) (receive (outcome n st c) (c .held) ∷ rest) rest
+    cond (eqb (c .side) s) (receive (given n st c) (c .held) ∷ rest) rest
 
 -- what is asked of side s in a run: its own calls, in order
 unfoldable pub asked : ℕ → List Call → List Ask

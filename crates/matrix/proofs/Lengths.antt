@@ -14,4 +14,4 @@ length-addColumn out col x = same-length (columnStep col x) (λ j s. simp length
 pub length-mulAdd : (out : List Float) (weights : List ℕ) (stride offset : ℕ) (input : List Float) → length (mulAdd out weights stride offset input) ≡ length out
 unfolding mulAdd
 length-mulAdd out weights stride offset input =
-    same-length (mulStep weights stride offset input) (λ i s. length-addColumn s (part (i * stride + offset) (length weights) weights) (at input i)) (length input) out
+    same-length (mulStep weights stride offset input) (λ i s. length-addColumn s (part (i * stride + offset) (i * stride + stride) weights) (at input i)) (length input) out

@@ -13,11 +13,11 @@ use Rattle.rules.specs.Loop.{loop}
 use Rattle.rules.specs.Tab.{tab}
 use Rattle.rules.proofs.Loops.{more}
 use Rattle.rules.proofs.Lengths.{same-length}
-use Rattle.rules.proofs.Numbers.{row-fits}
 use Rattle.rules.proofs.Tabs.{length-tab, getD-tab, tab-four-more}
 use Rattle.matrix.specs.Sums.{ofByte, columnStep, addColumn, mulStep, mulAdd, MulAddFits}
-use Rattle.matrix.specs.Lanes.{added, plusFour, plusSixteen, sixteenSums, fourAt, sixteenAt, neuron, spot, storeFour}
+use Rattle.matrix.specs.Parts.{addedAt, plusFour, plusSixteen, sixteenSums, fourAt, sixteenAt, neuron, spot, storeFour}
 use Rattle.matrix.specs.declared.lanes.Sixteen.{Sixteen}
+use Rattle.matrix.proofs.Columns.{byte-of}
 use Rattle.matrix.proofs.Lengths.{length-addColumn, length-mulAdd}
 
 -- ---- a loop over places, at one of them
@@ -50,34 +50,31 @@ at-addColumn out col x j h = behind (λ k a. a ⊕ ofByte (getD col k 0) ⊗ x) 
 
 module _ (weights : List ℕ) (stride offset : ℕ) (input out : List Float) where
   columns-long : (n : ℕ) → length (loop n (mulStep weights stride offset input) out) ≡ length out
-  columns-long n = same-length (mulStep weights stride offset input) (λ i s. length-addColumn s (part (i * stride + offset) (length weights) weights) (at input i)) n out
+  columns-long n =
+      same-length (mulStep weights stride offset input)
+      (λ i s. length-addColumn s (part (i * stride + offset) (i * stride + stride) weights) (at input i)) n out
 
   at-columns : (j n : ℕ) → j < length out → MulAddFits (length out) (length weights) stride offset (length input) → n ≤ length input
-      → at (loop n (mulStep weights stride offset input) out) j ≡ loop n (λ i. added weights (i * stride + offset + j) (at input i)) (at out j)
+      → at (loop n (mulStep weights stride offset input) out) j ≡ loop n (λ i. addedAt weights (i * stride + offset + j) (at input i)) (at out j)
   unfolding loop
   at-columns j zero h fits r = refl
   at-columns j (suc n) h fits r =
       let l = loop n (mulStep weights stride offset input) out in
-      let row : n * stride + stride ≤ stride * length input = row-fits {i = n} r stride in
-      let all = fits .columns in
       let rows = fits .rows in
-      let room : j < length weights - (n * stride + offset) = omega arith in
-      let byte : getD (part (n * stride + offset) (length weights) weights) j 0 ≡ getD weights (n * stride + offset + j) 0
-      = getD-take (length weights - (n * stride + offset)) (drop (n * stride + offset) weights) j 0 room ∙ getD-drop (n * stride + offset) weights j 0 in
-      at-addColumn l (part (n * stride + offset) (length weights) weights) (at input n) j (rw (columns-long n) h)
-      ∙ rw (byte, at-columns j n h fits (omega arith))
+      at-addColumn l (part (n * stride + offset) (n * stride + stride) weights) (at input n) j (rw (columns-long n) h)
+      ∙ rw (byte-of weights (n * stride + offset) (n * stride + stride) j (omega arith), at-columns j n h fits (omega arith))
 
   at-mulAdd : (j : ℕ) → j < length out → MulAddFits (length out) (length weights) stride offset (length input)
-      → at (mulAdd out weights stride offset input) j ≡ neuron weights stride offset input out j
+      → at (mulAdd out weights stride offset input) j ≡ neuron out weights stride offset input j
   unfolding mulAdd neuron
   at-mulAdd j h fits = at-columns j (length input) h fits (omega arith)
 
   pub mulAdd-tab : MulAddFits (length out) (length weights) stride offset (length input)
-      → mulAdd out weights stride offset input ≡ tab (length out) (neuron weights stride offset input out)
+      → mulAdd out weights stride offset input ≡ tab (length out) (neuron out weights stride offset input)
   mulAdd-tab fits =
       let long = length-mulAdd out weights stride offset input in
-      ext-getD nan (mulAdd out weights stride offset input) (tab (length out) (neuron weights stride offset input out)) (long ∙ sym (length-tab (length out) _))
-      (λ i h. let b : i < length out = rw long at h in at-mulAdd i b fits ∙ sym (getD-tab (length out) (neuron weights stride offset input out) i nan b))
+      ext-getD nan (mulAdd out weights stride offset input) (tab (length out) (neuron out weights stride offset input)) (long ∙ sym (length-tab (length out) _))
+      (λ i h. let b : i < length out = rw long at h in at-mulAdd i b fits ∙ sym (getD-tab (length out) (neuron out weights stride offset input) i nan b))
 
 -- ---- a part of what a loop carries
 seen : {S T : Type 0} (π : S → T) (f : ℕ → S → S) (g : ℕ → T → T) → ((i : ℕ) (s : S) → π (f i s) ≡ g i (π s)) → (n : ℕ) (s : S) → π (loop n f s) ≡ loop n g (π s)
@@ -104,18 +101,18 @@ module _ (weights : List ℕ) (stride offset : ℕ) (input out : List Float) (a 
   block = sixteenSums weights stride (offset + a) input (length input) (sixteenAt out a)
 
   -- sum d of sixteen, at e R of the weights from R on
-  pub lane : (π : Sixteen → Float) (e : ℕ → ℕ) (d i : ℕ) → ((r : ℕ) → e r ≡ r + d) → ((r : ℕ) (x : Float) (s : Sixteen) → π (plusSixteen weights r x s) ≡ added weights (e r) x (π s))
+  pub lane : (π : Sixteen → Float) (e : ℕ → ℕ) (d i : ℕ) → ((r : ℕ) → e r ≡ r + d) → ((r : ℕ) (x : Float) (s : Sixteen) → π (plusSixteen weights r x s) ≡ addedAt weights (e r) x (π s))
       → π (sixteenAt out a) ≡ at out (e a) → spot i ≡ a + d
-      → π block ≡ neuron weights stride offset input out (spot i)
+      → π block ≡ neuron out weights stride offset input (spot i)
   unfolding sixteenSums neuron
   lane π e d i moved turn start here =
       let place : e a ≡ spot i = moved a ∙ sym here in
-      seen π (λ k. plusSixteen weights (k * stride + (offset + a)) (at input k)) (λ k. added weights (k * stride + offset + spot i) (at input k))
+      seen π (λ k. plusSixteen weights (k * stride + (offset + a)) (at input k)) (λ k. addedAt weights (k * stride + offset + spot i) (at input k))
       (λ k s.
       let same : e (k * stride + (offset + a)) ≡ k * stride + offset + spot i = moved (k * stride + (offset + a)) ∙ omega arith in
-      turn (k * stride + (offset + a)) (at input k) s ∙ ap (λ (p : ℕ). added weights p (at input k) (π s)) same)
+      turn (k * stride + (offset + a)) (at input k) s ∙ ap (λ (p : ℕ). addedAt weights p (at input k) (π s)) same)
       (length input) (sixteenAt out a)
-      ∙ ap (loop (length input) (λ k. added weights (k * stride + offset + spot i) (at input k))) (start ∙ ap (at out) place)
+      ∙ ap (loop (length input) (λ k. addedAt weights (k * stride + offset + spot i) (at input k))) (start ∙ ap (at out) place)
 
 -- ---- lists that four stores lengthen, and lists of the same values
 pub four-stored : (f : ℕ → Float) (d m : List Float) (i : ℕ) {v w x y : Float} {next : List Float} → m ≡ tab i f ++ drop i d → i + 4 ≤ length d
@@ -146,7 +143,7 @@ block-ordered kept out now a even room e s₁ s₂ s₃ s₄ =
 -- and sixteen kept as they were computed
 module _ (weights : List ℕ) (stride offset : ℕ) (input out : List Float) (a : ℕ) (even : a % 16 ≡ 0) where
   abbrev spotted : ℕ → Float
-  spotted i = neuron weights stride offset input out (spot i)
+  spotted i = neuron out weights stride offset input (spot i)
 
   abbrev b : Sixteen
   b = block weights stride offset input out a
@@ -200,20 +197,20 @@ both-orders f kept n whole k e =
 
 -- sums from m on are those of the rest, at an offset that is m more
 pub from-there : (weights : List ℕ) (stride offset m : ℕ) (input out : List Float) (j : ℕ)
-    → neuron weights stride (offset + m) input (drop m out) j ≡ neuron weights stride offset input out (m + j)
+    → neuron (drop m out) weights stride (offset + m) input j ≡ neuron out weights stride offset input (m + j)
 unfolding neuron
 from-there weights stride offset m input out j =
-    seen (λ (a : Float). a) (λ i. added weights (i * stride + (offset + m) + j) (at input i)) (λ i. added weights (i * stride + offset + (m + j)) (at input i))
-    (λ i a. let same : i * stride + (offset + m) + j ≡ i * stride + offset + (m + j) = omega arith in ap (λ (p : ℕ). added weights p (at input i) a) same)
+    seen (λ (a : Float). a) (λ i. addedAt weights (i * stride + (offset + m) + j) (at input i)) (λ i. addedAt weights (i * stride + offset + (m + j)) (at input i))
+    (λ i a. let same : i * stride + (offset + m) + j ≡ i * stride + offset + (m + j) = omega arith in ap (λ (p : ℕ). addedAt weights p (at input i) a) same)
     (length input) (at (drop m out) j)
-    ∙ ap (loop (length input) (λ i. added weights (i * stride + offset + (m + j)) (at input i))) (getD-drop m out j nan)
+    ∙ ap (loop (length input) (λ i. addedAt weights (i * stride + offset + (m + j)) (at input i))) (getD-drop m out j nan)
 
 -- the first m sums are those of the front
 pub at-front : (weights : List ℕ) (stride offset m : ℕ) (input out : List Float) (j : ℕ) → j < m
-    → neuron weights stride offset input (take m out) j ≡ neuron weights stride offset input out j
+    → neuron (take m out) weights stride offset input j ≡ neuron out weights stride offset input j
 unfolding neuron
 at-front weights stride offset m input out j h =
-    ap (loop (length input) (λ i. added weights (i * stride + offset + j) (at input i))) (getD-take m out j nan h)
+    ap (loop (length input) (λ i. addedAt weights (i * stride + offset + j) (at input i))) (getD-take m out j nan h)
 
 pub tab-append : (m k : ℕ) (f : ℕ → Float) → tab m f ++ tab k (λ j. f (m + j)) ≡ tab (m + k) f
 unfolding tab
@@ -222,9 +219,9 @@ tab-append m (suc k) f = rw (add-suc, ← tab-append m k f) (sym (append-assoc (
 
 -- ---- the front by sixteens, and the rest column by column
 module _ (weights : List ℕ) (stride offset : ℕ) (input out : List Float) (m k : ℕ) (same : k ≡ m) (inside : m ≤ length out) (front : List Float)
-    (wide : front ≡ tab (length (take k out)) (neuron weights stride offset input (take k out))) where
+    (wide : front ≡ tab (length (take k out)) (neuron (take k out) weights stride offset input)) where
   abbrev sum : ℕ → Float
-  sum = neuron weights stride offset input out
+  sum = neuron out weights stride offset input
 
   abbrev later : List Float
   later = take (length out - m) (drop m (front ++ drop k out))
@@ -232,7 +229,7 @@ module _ (weights : List ℕ) (stride offset : ℕ) (input out : List Float) (m 
   front-is : front ≡ tab m sum
   front-is =
       let long : length (take k out) ≡ m = rw same (length-take-le m out inside) in
-      wide ∙ rw (long, same) (tab-same m (neuron weights stride offset input (take m out)) sum (λ j h. at-front weights stride offset m input out j h))
+      wide ∙ rw (long, same) (tab-same m (neuron (take m out) weights stride offset input) sum (λ j h. at-front weights stride offset m input out j h))
 
   front-long : length front ≡ m
   front-long = ap length front-is ∙ length-tab m sum
@@ -254,7 +251,7 @@ module _ (weights : List ℕ) (stride offset : ℕ) (input out : List Float) (m 
       e
       ∙ ap (λ (l : List Float). mulAdd l weights stride (offset + m) input) rest-is
       ∙ mulAdd-tab weights stride (offset + m) input (drop m out) fit
-      ∙ rw long (tab-same (length out - m) (neuron weights stride (offset + m) input (drop m out)) (λ j. sum (m + j)) (λ j h. from-there weights stride offset m input out j))
+      ∙ rw long (tab-same (length out - m) (neuron (drop m out) weights stride (offset + m) input) (λ j. sum (m + j)) (λ j h. from-there weights stride offset m input out j))
 
   pub both-parts : {left : List Float} → MulAddFits (length out) (length weights) stride offset (length input) → left ≡ mulAdd later weights stride (offset + m) input
       → take m (front ++ drop k out) ++ (left ++ drop (length out - m) (drop m (front ++ drop k out))) ≡ mulAdd out weights stride offset input

@@ -3,11 +3,12 @@
 // by side as they were computed, and put in order by a second pass.
 ghost use mathlib.Core.Path.{_≡_};
 ghost use Prim.Native.Nat.{_+_, _*_, _/_, _%_, _≤_};
-ghost use lib.ListN.{length, getD};
-ghost use Rattle.rules.specs.F32.{at};
+ghost use lib.ListN.{length};
+ghost use Rattle.rules.specs.F32.{at, natAt};
 ghost use Rattle.rules.specs.Tab.{tab};
 ghost use Rattle.matrix.specs.Sums.{ofByte};
-ghost use Rattle.matrix.specs.Lanes.{Bytes, plusFour, plusSixteen, fourAt, sixteenAt, sixteenSums, neuron, spot, storeFour, Rows, Blocks};
+ghost use Rattle.matrix.specs.Parts.{Bytes, plusFour, plusSixteen, fourAt, sixteenAt, sixteenSums};
+ghost use Rattle.matrix.specs.Parts.{neuron, spot, storeFour, Rows, Blocks};
 use crate::sums::weight;
 
 // Four neighbouring sums, and four of these.
@@ -35,7 +36,8 @@ fn joined(b0: u8, b1: u8, b2: u8, b3: u8) -> u32
 // A function by itself: so it is one load before its bytes are asked for.
 fn word(weights: &[u8], place: usize) -> u32
     requires { ⌜ place + 4 ≤ length (now weights) ⌝ }
-    ensures { λ r. ⌜ Bytes r (getD (now (weights .entry)) place 0) (getD (now (weights .entry)) (place + 1) 0) (getD (now (weights .entry)) (place + 2) 0) (getD (now (weights .entry)) (place + 3) 0) ⌝ }
+    ensures { λ r. ⌜ Bytes r (natAt (now (weights .entry)) place) (natAt (now (weights .entry)) (place + 1))
+        (natAt (now (weights .entry)) (place + 2)) (natAt (now (weights .entry)) (place + 3)) ⌝ }
 {
     joined(
         weights[place],
@@ -152,7 +154,9 @@ fn blocks(
     input: &[f32],
 )
     requires { ⌜ Blocks (length (now kept)) (length (now out)) (length (now weights)) stride offset (length (now input)) ⌝ }
-    ensures { λ _. ⌜ now (kept .exit) ≡ tab (length (now (out .entry))) (λ i. neuron (now (weights .entry)) stride offset (now (input .entry)) (now (out .entry)) (spot i)) ⌝ }
+    ensures { λ _. ⌜ now (kept .exit)
+        ≡ tab (length (now (out .entry))) (λ i. neuron (now (out .entry)) (now (weights .entry)) stride offset (now (input .entry))
+        (spot i)) ⌝ }
 {
     let mut a = 0usize;
     while a < out.len() {
@@ -173,7 +177,8 @@ fn blocks(
 // Four of them in order again: they stand four apart.
 fn back(out: &mut [f32], place: usize, kept: &[f32], from: usize)
     requires { ⌜ (place + 4 ≤ length (now out)) × (from + 13 ≤ length (now kept)) ⌝ }
-    ensures { λ _. ⌜ now (out .exit) ≡ storeFour (now (out .entry)) place (at (now (kept .entry)) from) (at (now (kept .entry)) (from + 4)) (at (now (kept .entry)) (from + 8)) (at (now (kept .entry)) (from + 12)) ⌝ }
+    ensures { λ _. ⌜ now (out .exit) ≡ storeFour (now (out .entry)) place (at (now (kept .entry)) from) (at (now (kept .entry)) (from + 4))
+        (at (now (kept .entry)) (from + 8)) (at (now (kept .entry)) (from + 12)) ⌝ }
 {
     give(
         out,
@@ -212,7 +217,8 @@ pub(crate) fn wide(
     input: &[f32],
 )
     requires { ⌜ Blocks (length (now kept)) (length (now out)) (length (now weights)) stride offset (length (now input)) ⌝ }
-    ensures { λ _. ⌜ now (out .exit) ≡ tab (length (now (out .entry))) (neuron (now (weights .entry)) stride offset (now (input .entry)) (now (out .entry))) ⌝ }
+    ensures { λ _. ⌜ now (out .exit)
+        ≡ tab (length (now (out .entry))) (neuron (now (out .entry)) (now (weights .entry)) stride offset (now (input .entry))) ⌝ }
 {
     blocks(kept, &out[..], weights, stride, offset, input);
     ordered(out, &kept[..]);

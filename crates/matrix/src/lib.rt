@@ -26,7 +26,9 @@ pub fn matrix<'a>(weights: &'a [u8], stride: usize, offset: usize) -> SubMatrix<
 impl<'a> SubMatrix<'a> {
     // output[j] += data[i * stride + offset + j] * input[i], for each i in order; 5, and output as it was, where lengths do not fit.
     pub fn mul_add(self, output: &mut [f32], input: &[f32]) -> u32
-        ensures { λ r. ⌜ MulAdd (now (self .entry .data)) (self .entry .stride) (self .entry .offset) (now (input .entry)) (now (output .entry)) r (now (output .exit)) ⌝ }
+        ensures { λ r. ⌜ MulAdd (now (output .entry)) (now (self .entry .data)) (self .entry .stride) (self .entry .offset)
+            (now (input .entry))
+            r (now (output .exit)) ⌝ }
     {
         sums::mul_add(output, self.data, self.stride, self.offset, input)
     }
@@ -40,7 +42,7 @@ pub fn mul_add_at(
     output: &mut [f32],
     input: &[f32],
 ) -> u32
-    ensures { λ r. ⌜ MulAdd (now (weights .entry)) stride offset (now (input .entry)) (now (output .entry)) r (now (output .exit)) ⌝ }
+    ensures { λ r. ⌜ MulAdd (now (output .entry)) (now (weights .entry)) stride offset (now (input .entry)) r (now (output .exit)) ⌝ }
 {
     matrix(weights, stride, offset).mul_add(output, input)
 }

@@ -75,7 +75,8 @@ fn both(
     offset: usize,
     input: &[f32],
 )
-    requires { ⌜ (length (now kept) ≤ length (now out)) × (length (now kept) % 16 ≡ 0) × MulAddFits (length (now out)) (length (now weights)) stride offset (length (now input)) ⌝ }
+    requires { ⌜ (length (now kept) ≤ length (now out)) × (length (now kept) % 16 ≡ 0)
+        × MulAddFits (length (now out)) (length (now weights)) stride offset (length (now input)) ⌝ }
     ensures { λ _. ⌜ now (out .exit) ≡ mulAdd (now (out .entry)) (now (weights .entry)) stride offset (now (input .entry)) ⌝ }
 {
     let n = out.len();
@@ -112,7 +113,7 @@ fn is_product(len: usize, a: usize, b: usize) -> bool
 
 // out[j] += weights[i * stride + offset + j] * input[i], for each i in order; 5, and out as it was, where lengths do not fit.
 pub fn mul_add(out: &mut [f32], weights: &[u8], stride: usize, offset: usize, input: &[f32]) -> u32
-    ensures { λ r. ⌜ MulAdd (now (weights .entry)) stride offset (now (input .entry)) (now (out .entry)) r (now (out .exit)) ⌝ }
+    ensures { λ r. ⌜ MulAdd (now (out .entry)) (now (weights .entry)) stride offset (now (input .entry)) r (now (out .exit)) ⌝ }
 {
     if stride < offset {
         return 5;

@@ -2,12 +2,11 @@
 use mathlib.Core.Path.{_≡_, refl, sym, subst}
 use mathlib.Core.List.{List, [], _∷_}
 use Prim.Native.Nat.{ℕ, zero, suc, _+_, _*_, _-_, _≤_, _<_, _^_}
-use native.Mathlib.Nat.{le-refl, add-mul}
+use native.Mathlib.Nat.{add-mul}
 use native.Mathlib.Numerals.{add-one}
 use native.Mathlib.Omega.{arith}
-use lib.ListN.{length, getD, length-append, List·getD-eq-default}
+use lib.ListN.{length, getD, length-append}
 use Rattle.rules.proofs.Rows.{by-each}
-use Rattle.model.specs.declared.Activation.{Activation}
 use Rattle.model.specs.declared.Kind.{Kind}
 use Rattle.model.specs.declared.Kind.the-variants.{Dense, Gru}
 use Rattle.model.specs.declared.Header.{Header}
@@ -16,12 +15,13 @@ use Rattle.model.specs.declared.Found.{Found}
 use Rattle.model.specs.declared.Found.the-variants.{At, Nothing}
 use Rattle.model.specs.declared.Reading.{Reading}
 use Rattle.model.specs.declared.Reading.the-variants.{Good, Refused}
-use Rattle.model.specs.Layer.{lengths, sizeOf, numberOf, bytesOf, Layer, faults, Front, layer, refused, front}
-use Rattle.model.specs.Model.{kinds, fileOf, Layers, layers, refusedAt, before, onward, inRow, headersAt, modelOf, mismatches, judged, readOf}
-use Rattle.model.specs.Array.{foundIn, lineIn, Within}
+use Rattle.model.specs.Layer.{lengths, sizeOf, Layer}
+use Rattle.model.specs.Model.{kinds, headersAt, modelOf, mismatches, readOf}
+use Rattle.model.specs.Array.{foundIn, lineIn}
+use Rattle.model.specs.Parts.{LiesIn}
 use Rattle.model.proofs.Layer.{product}
-use Rattle.model.proofs.Inverse.{length-joined, number-small, Fits, FitAll}
-use Rattle.model.proofs.File.{Written, WrittenIf, writes-back}
+use Rattle.model.proofs.Inverse.{length-joined, number-small, fileOf, FitAll, Number, AllCome, layers, refusal, row-comes}
+use Rattle.model.proofs.File.{Written, writes-back}
 use Rattle.model.proofs.Places.{within}
 use Rattle.model.proofs.Shapes.{Shaped, shape}
 
@@ -75,7 +75,7 @@ largest s {m} e = of m (rw (← e) at (writes-back s))
     of m w = rw (w .holds .file) (largest-file (length s) (w .contents) (w .holds .fit) (subst (Shaped (length s)) (sym (w .model)) (shape s m w)))
 
 -- a layer that is found is within 157,285 bytes
-found-small : (s : List ℕ) (j : ℕ) {k : Kind} {h : Header} → At k h ≡ foundIn (readOf s) j → Within 157285 k h
+found-small : (s : List ℕ) (j : ℕ) {k : Kind} {h : Header} → At k h ≡ foundIn (readOf s) j → LiesIn 157285 k h
 found-small s j {k} {h} e = within s j e (of (readOf s) refl e)
   where
     of : (r : Reading) → r ≡ readOf s → At k h ≡ foundIn r j → length s ≤ 157285
@@ -104,48 +104,26 @@ line-small s j n = rw (add-one n) (of (foundIn (readOf s) j) refl n)
 
 abbrev InTable : Reading → Type 0
 InTable (Good m) = Unit
-InTable (Refused n j) = (11 ≤ n) × (n ≤ 22) × (j ≤ 6)
-
-abbrev InFront : Front → Type 0
-InFront (layer l rest) = Unit
-InFront (refused n) = (11 ≤ n) × (n ≤ 22)
-
-front-in : (k : Kind) (s : List ℕ) → InFront (front k s)
-unfolding front
-front-in k (i ∷ n ∷ a ∷ s) =
-    by-each refused _ InFront (faults k i n a (length s))
-    ((omega arith, omega arith), ((omega arith, omega arith), ((omega arith, omega arith), ((omega arith, omega arith), ((omega arith, omega arith), tt))))) tt
-front-in k (i ∷ n ∷ []) = (omega arith, omega arith)
-front-in k (i ∷ []) = (omega arith, omega arith)
-front-in k [] = (omega arith, omega arith)
-
-abbrev InLayers : ℕ → Layers → Type 0
-InLayers m (layers ls rest) = Unit
-InLayers m (refusedAt n j) = (11 ≤ n) × (n ≤ 22) × (j < m)
-
-row-in : (j : ℕ) (ks : List Kind) (s : List ℕ) → InLayers (j + length ks) (inRow j ks s)
-unfolding inRow
-row-in j [] s = tt
-row-in j (k ∷ ks) s = after (front k s) (front-in k s) (row-in (suc j) ks)
-  where
-    passed : (l : Layer) (x : Layers) → InLayers (suc j + length ks) x → InLayers (j + suc (length ks)) (before l x)
-    passed l (layers ls rest) h = tt
-    passed l (refusedAt n m) h = (h .0, h .1, omega (arith, h .2))
-
-    after : (f : Front) → InFront f → ((r : List ℕ) → InLayers (suc j + length ks) (inRow (suc j) ks r)) → InLayers (j + suc (length ks)) (onward j f (inRow (suc j) ks))
-    after (layer l r) h g = passed l (inRow (suc j) ks r) (g r)
-    after (refused n) h g = (h .0, h .1, omega arith)
+InTable (Refused n j) = Number n × (j ≤ 6)
 
 reading-in : (s : List ℕ) → InTable (readOf s)
 unfolding readOf
-reading-in s = of (inRow 0 kinds s) (row-in 0 kinds s)
+reading-in s = of (row-comes 0 kinds s)
   where
-    of : (x : Layers) → InLayers 6 x → InTable (judged x)
-    of (layers ls rest) h =
+    of : AllCome 0 kinds s → InTable (readOf s)
+    of (layers ls rest fit is gives) =
         let m = modelOf (headersAt 0 ls) in
-        by-each (λ n. Refused n 6) (Good m) InTable (mismatches m (length rest)) ((omega arith, omega arith, omega arith), ((omega arith, omega arith, omega arith), ((omega arith, omega arith, omega arith), ((omega arith, omega arith, omega arith), ((omega arith, omega arith, omega arith), ((omega arith, omega arith, omega arith), tt)))))) tt
-    of (refusedAt n j) h = (h .0, h .1, omega (arith, h .2))
+        let last : (n : ℕ) → Number n → Number n × (6 ≤ 6) = λ n small. (small, omega arith) in
+        rw (gives _ Refused _)
+        (by-each (λ n. Refused n 6) (Good m) InTable (mismatches m (length rest)) (
+          last 17 (omega arith, omega arith),
+          (
+            last 18 (omega arith, omega arith),
+            (last 19 (omega arith, omega arith), (last 20 (omega arith, omega arith), (last 21 (omega arith, omega arith), (last 22 (omega arith, omega arith), tt)))),
+          ),
+        ) tt)
+    of (refusal n j small below gives) = rw (gives _ Refused _) (small, omega arith)
 
 -- a refusal is one of 11 to 22, and its layer one of 0 to 6
 pub refused-in : (s : List ℕ) {n j : ℕ} → Refused n j ≡ readOf s → (11 ≤ n) × (n ≤ 22) × (j ≤ 6)
-refused-in s e = rw (← e) at (reading-in s)
+refused-in s e = let r = rw (← e) at (reading-in s) in (r .0 .0, r .0 .1, r .1)

@@ -15,8 +15,8 @@ use Rattle.model.specs.declared.Reading.{Reading}
 use Rattle.model.specs.declared.Reading.the-variants.{Good, Refused}
 use Rattle.rules.proofs.Refused.{Clear, clear, by-rows}
 use Rattle.model.specs.Layer.{Layer}
-use Rattle.model.specs.Model.{kinds, fileOf, Layers, layers, refusedAt, inRow, headersAt, modelOf, mismatches, judged, readOf}
-use Rattle.model.proofs.Inverse.{FitAll, AllFrom, row-reads, row-writes}
+use Rattle.model.specs.Model.{kinds, readLayers, headersAt, modelOf, mismatches, readOf}
+use Rattle.model.proofs.Inverse.{fileOf, FitAll, AllCome, layers, refusal, row-reads, row-comes}
 
 -- six layers that go together, and their file
 pub record Holds (ls : List Layer) (s : List ℕ) : Type 0 where
@@ -29,15 +29,13 @@ pub reads-back : (ls : List Layer) (s : List ℕ) → Holds ls s → readOf s �
 unfolding readOf
 reads-back ls s h =
     let m = modelOf (headersAt 0 ls) in
-    let row : inRow 0 kinds s ≡ layers ls [] = rw (h .file, ← append-nil (fileOf ls)) (row-reads 0 kinds ls [] (h .fit)) in
-    rw row (clear (λ n. Refused n 6) (Good m) (mismatches m 0) (h .match))
+    rw (h .file, ← append-nil (fileOf ls)) (row-reads 0 kinds ls [] (h .fit) Refused _ ∙ clear (λ n. Refused n 6) (Good m) (mismatches m 0) (h .match))
 
 -- layers that share a file are the same: no count, activation, weight or bias is lost
 pub same-layers : (ls ls′ : List Layer) → FitAll kinds ls → FitAll kinds ls′ → fileOf ls ≡ fileOf ls′ → ls ≡ ls′
 same-layers ls ls′ h h′ e =
-    let both : layers ls [] ≡ layers ls′ [] =
-    sym (row-reads 0 kinds ls [] h) ∙ ap (λ (s : List ℕ). inRow 0 kinds (s ++ [])) e ∙ row-reads 0 kinds ls′ [] h′ in
-    cc
+    let read : (s : List ℕ) → List Layer = λ s. readLayers 0 kinds (s ++ []) (λ n j. []) (λ ls rest. ls) in
+    sym (row-reads 0 kinds ls [] h _ _) ∙ ap read e ∙ row-reads 0 kinds ls′ [] h′ _ _
 
 -- what reads is written back
 pub record Written (s : List ℕ) (m : Model) : Type 0 where
@@ -55,11 +53,12 @@ none-left (x ∷ rest) e = absurd (let z = eqb-true (length (x ∷ rest)) 0 (not
 
 pub writes-back : (s : List ℕ) → WrittenIf s (readOf s)
 unfolding readOf
-writes-back s = of (inRow 0 kinds s) (row-writes 0 kinds s)
+writes-back s = of (row-comes 0 kinds s)
   where
-    of : (x : Layers) → AllFrom kinds s x → WrittenIf s (judged x)
-    of (refusedAt n j) h = tt
-    of (layers ls rest) h =
+    of : AllCome 0 kinds s → WrittenIf s (readOf s)
+    of (refusal n j small below gives) = rw (gives _ Refused _) tt
+    of (layers ls rest fit is gives) =
         let m = modelOf (headersAt 0 ls) in
-        by-rows (λ n. Refused n 6) (Good m) (WrittenIf s) (mismatches m (length rest)) (λ n. tt) (λ c.
-        record { contents = ls; model = refl; holds = record { fit = h .0; match = (refl, c .1); file = h .1 ∙ rw (none-left rest (c .0)) (append-nil (fileOf ls)) } })
+        rw (gives _ Refused _)
+        (by-rows (λ n. Refused n 6) (Good m) (WrittenIf s) (mismatches m (length rest)) (λ n. tt) (λ c.
+        record { contents = ls; model = refl; holds = record { fit = fit; match = (refl, c .1); file = is ∙ rw (none-left rest (c .0)) (append-nil (fileOf ls)) } }))

@@ -1,9 +1,10 @@
 -- Reading and writing are each the other's inverse, for one layer and for layers in a row. Assumes nothing.
---     front-reads, row-reads       the bytes of layers that fit read as these layers
---     front-writes, row-writes     what reads is the bytes of its layers, and they fit
+--     layer-reads, row-reads     the bytes of layers that fit read as these layers
+--     layer-comes, row-comes     what reads is the bytes of its layers, and they fit; what does not is refused, whatever is made of it
 use mathlib.Core.Path.{_≡_, refl, sym, ap, _∙_}
+use mathlib.Core.Bool.{true, false}
 use mathlib.Core.List.{List, [], _∷_, _++_, append-assoc}
-use Prim.Native.Nat.{ℕ, zero, suc, _+_, _≤_}
+use Prim.Native.Nat.{ℕ, zero, suc, _+_, _≤_, _<_}
 use native.Mathlib.Omega.{arith}
 use borrow.Author.Tests.{le-ltb, ne-eqb, ltb-false, eqb-false}
 use lib.ListN.{length, drop, length-append, length-take, length-drop, take-append-drop}
@@ -11,9 +12,11 @@ use lib.Seq.{take-append-seam, drop-append-seam}
 use Rattle.model.specs.declared.Activation.{Activation}
 use Rattle.model.specs.declared.Activation.the-variants.{Tanh, Sigmoid, Relu}
 use Rattle.model.specs.declared.Kind.{Kind}
-use Rattle.rules.proofs.Refused.{clear, by-rows}
-use Rattle.model.specs.Layer.{lengths, sum, sizeOf, activationOf, numberOf, joined, cut, bytesOf, Layer, faults, Front, layer, refused, front}
-use Rattle.model.specs.Model.{fileOf, Layers, layers, refusedAt, before, onward, inRow}
+use Rattle.rules.specs.Refusals.{Row, _when_, refusing}
+use Rattle.rules.proofs.Refused.{Clear, clear}
+use Rattle.rules.proofs.Rows.{Each}
+use Rattle.model.specs.Layer.{lengths, sum, sizeOf, activationOf, activationNumber, joined, cut, bytesOf, Layer, faults, readLayer}
+use Rattle.model.specs.Model.{readLayers}
 use Rattle.model.proofs.Layer.{joined-cut}
 
 -- arrays of these lengths
@@ -36,18 +39,18 @@ sized-cut : (ns s : List ℕ) → sum ns ≤ length s → Sized ns (cut ns s)
 sized-cut [] s h = tt
 sized-cut (n ∷ ns) s h = (simp length-take (omega arith), sized-cut ns (drop n s) (simp length-drop (omega arith)))
 
-number-of : (a : ℕ) → a ≤ 2 → numberOf (activationOf a) ≡ a
+number-of : (a : ℕ) → a ≤ 2 → activationNumber (activationOf a) ≡ a
 number-of zero h = refl
 number-of (suc zero) h = refl
 number-of (suc (suc zero)) h = refl
 number-of (suc (suc (suc a))) h = absurd (omega arith)
 
-activation-of : (a : Activation) → activationOf (numberOf a) ≡ a
+activation-of : (a : Activation) → activationOf (activationNumber a) ≡ a
 activation-of Tanh = refl
 activation-of Sigmoid = refl
 activation-of Relu = refl
 
-pub number-small : (a : Activation) → numberOf a ≤ 2
+pub number-small : (a : Activation) → activationNumber a ≤ 2
 number-small Tanh = omega arith
 number-small Sigmoid = omega arith
 number-small Relu = omega arith
@@ -59,32 +62,63 @@ pub record Fits (k : Kind) (l : Layer) : Type 0 where
   pub some : l .neurons ≡ 0 → ⊥
   pub arrays : Sized (lengths k (l .inputs) (l .neurons)) (l .arrays)
 
-pub front-reads : (k : Kind) (l : Layer) (rest : List ℕ) → Fits k l → front k (bytesOf l ++ rest) ≡ layer l rest
-unfolding front
-front-reads k l rest h =
+pub layer-reads : {A : Type 0} (k : Kind) (l : Layer) (rest : List ℕ) → Fits k l → (refuse : ℕ → A) (next : Layer → List ℕ → A)
+    → readLayer k (bytesOf l ++ rest) refuse next ≡ next l rest
+unfolding readLayer
+layer-reads k l rest h refuse next =
     let n = lengths k (l .inputs) (l .neurons) in
     let tail = joined (l .arrays) ++ rest in
     let long = length-joined n (l .arrays) (h .arrays) in
-    let room : sum n ≤ length tail = simp length-append (omega (arith, long)) in
-    clear refused _ (faults k (l .inputs) (l .neurons) (numberOf (l .activation)) (length tail))
-    (le-ltb _ _ (h .inputs), (le-ltb _ _ (h .neurons), (le-ltb _ _ (number-small (l .activation)), (ne-eqb _ _ (h .some), (le-ltb _ _ room, tt)))))
+    let enough : sum n ≤ length tail = simp length-append (omega (arith, long)) in
+    clear refuse _ (faults k (l .inputs) (l .neurons) (activationNumber (l .activation)) (length tail))
+    (le-ltb _ _ (h .inputs), (le-ltb _ _ (h .neurons), (le-ltb _ _ (number-small (l .activation)), (ne-eqb _ _ (h .some), (le-ltb _ _ enough, tt)))))
     ∙ rw (activation-of (l .activation), cut-joined n (l .arrays) rest (h .arrays), ← long, drop-append-seam (joined (l .arrays)) rest)
 
--- a layer that was read fits, and it and what is left are the bytes
-abbrev pub From : Kind → List ℕ → Front → Type 0
-From k s (layer l rest) = Fits k l × (s ≡ bytesOf l ++ rest)
-From k s (refused n) = Unit
+-- a number of the table
+abbrev pub Number : ℕ → Type 0
+Number n = (11 ≤ n) × (n ≤ 22)
 
-pub front-writes : (k : Kind) (s : List ℕ) → From k s (front k s)
-unfolding front
-front-writes k (i ∷ n ∷ a ∷ s) = by-rows refused _ (From k (i ∷ n ∷ a ∷ s)) (faults k i n a (length s)) (λ n. tt) (λ h.
-    let fits : sizeOf k i n ≤ length s = ltb-false _ _ (h .1 .1 .1 .1 .0) in (
-      record { inputs = ltb-false _ _ (h .0); neurons = ltb-false _ _ (h .1 .0); some = eqb-false _ _ (h .1 .1 .1 .0); arrays = sized-cut (lengths k i n) s fits },
-      simp (number-of a (ltb-false _ _ (h .1 .1 .0)), joined-cut, take-append-drop),
-    ))
-front-writes k (i ∷ n ∷ []) = tt
-front-writes k (i ∷ []) = tt
-front-writes k [] = tt
+-- what a table of refusals comes to: no test holds, or one row's number is given, whatever is made of it
+data Chosen (rows : List Row) : Type 1 where
+  none : Clear rows → Chosen rows
+  row : (n : ℕ) → Number n → ((A : Type 0) (refuse : ℕ → A) (right : A) → refusing rows refuse right ≡ refuse n) → Chosen rows
+
+chosen : (rows : List Row) → Each Number rows → Chosen rows
+chosen [] all = none tt
+chosen (n when true ∷ rows) all = row n (all .0) (λ A refuse right. refl)
+chosen (n when false ∷ rows) all = of (chosen rows (all .1))
+  where
+    of : Chosen rows → Chosen (n when false ∷ rows)
+    of (none c) = none (refl, c)
+    of (row m small gives) = row m small gives
+
+-- what reading a layer comes to: a layer that fits, it and what is behind it being the bytes; or a refusal
+pub data Comes (k : Kind) (s : List ℕ) : Type 1 where
+  layer : (l : Layer) (rest : List ℕ) → Fits k l → s ≡ bytesOf l ++ rest
+      → ((A : Type 0) (refuse : ℕ → A) (next : Layer → List ℕ → A) → readLayer k s refuse next ≡ next l rest) → Comes k s
+  refusal : (n : ℕ) → Number n → ((A : Type 0) (refuse : ℕ → A) (next : Layer → List ℕ → A) → readLayer k s refuse next ≡ refuse n) → Comes k s
+
+pub layer-comes : (k : Kind) (s : List ℕ) → Comes k s
+unfolding readLayer
+layer-comes k (i ∷ n ∷ a ∷ s) = of (chosen (faults k i n a (length s)) ((omega arith, omega arith), ((omega arith, omega arith), ((omega arith, omega arith), ((omega arith, omega arith), ((omega arith, omega arith), tt))))))
+  where
+    of : Chosen (faults k i n a (length s)) → Comes k (i ∷ n ∷ a ∷ s)
+    of (none h) =
+        let fits : sizeOf k i n ≤ length s = ltb-false _ _ (h .1 .1 .1 .1 .0) in
+        layer (record { inputs = i; neurons = n; activation = activationOf a; arrays = cut (lengths k i n) s }) (drop (sizeOf k i n) s)
+        (record { inputs = ltb-false _ _ (h .0); neurons = ltb-false _ _ (h .1 .0); some = eqb-false _ _ (h .1 .1 .1 .0); arrays = sized-cut (lengths k i n) s fits })
+        (simp (number-of a (ltb-false _ _ (h .1 .1 .0)), joined-cut, take-append-drop))
+        (λ A refuse next. clear refuse _ (faults k i n a (length s)) h)
+    of (row m small gives) = refusal m small (λ A refuse next. gives A refuse _)
+layer-comes k (i ∷ n ∷ []) = refusal 11 (omega arith, omega arith) (λ A refuse next. refl)
+layer-comes k (i ∷ []) = refusal 11 (omega arith, omega arith) (λ A refuse next. refl)
+layer-comes k [] = refusal 11 (omega arith, omega arith) (λ A refuse next. refl)
+
+-- ---- layers in a row
+
+abbrev pub fileOf : List Layer → List ℕ
+fileOf [] = []
+fileOf (l ∷ ls) = bytesOf l ++ fileOf ls
 
 -- layers of these kinds that a file can hold
 abbrev pub FitAll : List Kind → List Layer → Type 0
@@ -93,25 +127,33 @@ FitAll [] (l ∷ ls) = ⊥
 FitAll (k ∷ ks) [] = ⊥
 FitAll (k ∷ ks) (l ∷ ls) = Fits k l × FitAll ks ls
 
-pub row-reads : (j : ℕ) (ks : List Kind) (ls : List Layer) (rest : List ℕ) → FitAll ks ls → inRow j ks (fileOf ls ++ rest) ≡ layers ls rest
-unfolding inRow
-row-reads j [] [] rest h = refl
-row-reads j (k ∷ ks) (l ∷ ls) rest h =
-    rw (append-assoc (bytesOf l) (fileOf ls) rest, front-reads k l (fileOf ls ++ rest) (h .0), row-reads (suc j) ks ls rest (h .1))
+pub row-reads : {A : Type 0} (j : ℕ) (ks : List Kind) (ls : List Layer) (rest : List ℕ) → FitAll ks ls
+    → (refuse : ℕ → ℕ → A) (next : List Layer → List ℕ → A) → readLayers j ks (fileOf ls ++ rest) refuse next ≡ next ls rest
+unfolding readLayers
+row-reads j [] [] rest h refuse next = refl
+row-reads j (k ∷ ks) (l ∷ ls) rest h refuse next =
+    rw (append-assoc (bytesOf l) (fileOf ls) rest)
+    (layer-reads k l (fileOf ls ++ rest) (h .0) _ _ ∙ row-reads (suc j) ks ls rest (h .1) refuse (λ ls. next (l ∷ ls)))
 
-abbrev pub AllFrom : List Kind → List ℕ → Layers → Type 0
-AllFrom ks s (layers ls rest) = FitAll ks ls × (s ≡ fileOf ls ++ rest)
-AllFrom ks s (refusedAt n j) = Unit
+-- and what reading layers in a row comes to
+pub data AllCome (j : ℕ) (ks : List Kind) (s : List ℕ) : Type 1 where
+  layers : (ls : List Layer) (rest : List ℕ) → FitAll ks ls → s ≡ fileOf ls ++ rest
+      → ((A : Type 0) (refuse : ℕ → ℕ → A) (next : List Layer → List ℕ → A) → readLayers j ks s refuse next ≡ next ls rest) → AllCome j ks s
+  refusal : (n i : ℕ) → Number n → i < j + length ks
+      → ((A : Type 0) (refuse : ℕ → ℕ → A) (next : List Layer → List ℕ → A) → readLayers j ks s refuse next ≡ refuse n i) → AllCome j ks s
 
-pub row-writes : (j : ℕ) (ks : List Kind) (s : List ℕ) → AllFrom ks s (inRow j ks s)
-unfolding inRow
-row-writes j [] s = (tt, refl)
-row-writes j (k ∷ ks) s = after (front k s) (front-writes k s) (row-writes (suc j) ks)
+pub row-comes : (j : ℕ) (ks : List Kind) (s : List ℕ) → AllCome j ks s
+unfolding readLayers
+row-comes j [] s = layers [] s tt refl (λ A refuse next. refl)
+row-comes j (k ∷ ks) s = of (layer-comes k s) (row-comes (suc j) ks)
   where
-    then : (l : Layer) (r : List ℕ) → Fits k l × (s ≡ bytesOf l ++ r) → (x : Layers) → AllFrom ks r x → AllFrom (k ∷ ks) s (before l x)
-    then l r h (layers ls rest) g = ((h .0, g .0), h .1 ∙ ap (_++_ (bytesOf l)) (g .1) ∙ sym (append-assoc (bytesOf l) (fileOf ls) rest))
-    then l r h (refusedAt n m) g = tt
-
-    after : (f : Front) → From k s f → ((r : List ℕ) → AllFrom ks r (inRow (suc j) ks r)) → AllFrom (k ∷ ks) s (onward j f (inRow (suc j) ks))
-    after (layer l r) h g = then l r h (inRow (suc j) ks r) (g r)
-    after (refused n) h g = tt
+    of : Comes k s → ((r : List ℕ) → AllCome (suc j) ks r) → AllCome j (k ∷ ks) s
+    of (refusal n small gives) others = refusal n j small (omega arith) (λ A refuse next. gives A (λ n. refuse n j) _)
+    of (layer l r fits is gives) others = then (others r)
+      where
+        then : AllCome (suc j) ks r → AllCome j (k ∷ ks) s
+        then (layers ls rest all are give) =
+            layers (l ∷ ls) rest (fits, all) (is ∙ ap (_++_ (bytesOf l)) are ∙ sym (append-assoc (bytesOf l) (fileOf ls) rest))
+            (λ A refuse next. gives A (λ n. refuse n j) _ ∙ give A refuse (λ ls. next (l ∷ ls)))
+        then (refusal n i small below give) =
+            refusal n i small (omega arith) (λ A refuse next. gives A (λ n. refuse n j) _ ∙ give A refuse (λ ls. next (l ∷ ls)))

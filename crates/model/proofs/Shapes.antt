@@ -1,6 +1,6 @@
 -- What holds of each model that reads: its layers lie within the file, and their counts go together. Assumes nothing.
 use mathlib.Core.Path.{_≡_, refl, subst}
-use mathlib.Core.Bool.{Bool, true, false, not, _||_}
+use mathlib.Core.Bool.{Bool, true, false, _||_}
 use mathlib.Core.List.{List}
 use Prim.Native.Nat.{ℕ, _+_}
 use native.Mathlib.Nat.{le-refl}
@@ -13,18 +13,18 @@ use Rattle.model.specs.declared.Kind.the-variants.{Dense, Gru}
 use Rattle.model.specs.declared.Model.{Model}
 use Rattle.model.specs.declared.Reading.the-variants.{Good}
 use Rattle.model.specs.Model.{_≠_, mismatches, readOf}
-use Rattle.model.specs.Array.{Within}
-use Rattle.model.proofs.File.{Written, WrittenIf, writes-back}
+use Rattle.model.specs.Parts.{LiesIn}
+use Rattle.model.proofs.File.{Written, writes-back}
 use Rattle.model.proofs.Places.{found-within}
 
 -- a model of a file of this size
 pub record Shaped (size : ℕ) (m : Model) : Type 0 where
-  pub layer0 : Within size Dense (m .«input_dense»)
-  pub layer1 : Within size Gru (m .«vad_gru»)
-  pub layer2 : Within size Gru (m .«noise_gru»)
-  pub layer3 : Within size Gru (m .«denoise_gru»)
-  pub layer4 : Within size Dense (m .«denoise_output»)
-  pub layer5 : Within size Dense (m .«vad_output»)
+  pub layer0 : LiesIn size Dense (m .«input_dense»)
+  pub layer1 : LiesIn size Gru (m .«vad_gru»)
+  pub layer2 : LiesIn size Gru (m .«noise_gru»)
+  pub layer3 : LiesIn size Gru (m .«denoise_gru»)
+  pub layer4 : LiesIn size Dense (m .«denoise_output»)
+  pub layer5 : LiesIn size Dense (m .«vad_output»)
   pub features : m .«input_dense» .inputs ≡ 42
   pub gains : m .«denoise_output» .neurons ≡ 22
   pub voice : m .«vad_output» .neurons ≡ 1

@@ -3,7 +3,7 @@ use Prim.Native.Nat.{ℕ, zero, suc, _+_, _*_}
 use mathlib.Core.List.{List, [], _∷_, _++_}
 use lib.Dec.{eqb, ltb}
 use lib.ListN.{length, take, drop}
-use Rattle.rules.specs.Refusals.{Row, _when_, first}
+use Rattle.rules.specs.Refusals.{Row, _when_, refusing}
 use Rattle.model.specs.declared.Activation.{Activation}
 use Rattle.model.specs.declared.Activation.the-variants.{Tanh, Sigmoid, Relu}
 use Rattle.model.specs.declared.Kind.{Kind}
@@ -31,10 +31,10 @@ activationOf zero = Tanh
 activationOf (suc zero) = Sigmoid
 activationOf (suc (suc n)) = Relu
 
-abbrev pub numberOf : Activation → ℕ
-numberOf Tanh = 0
-numberOf Sigmoid = 1
-numberOf Relu = 2
+abbrev pub activationNumber : Activation → ℕ
+activationNumber Tanh = 0
+activationNumber Sigmoid = 1
+activationNumber Relu = 2
 
 -- a layer as data
 pub record Layer : Type 0 where
@@ -54,38 +54,33 @@ cut (n ∷ ns) s = take n s ∷ cut ns (drop n s)
 
 -- a layer as it stands in a file
 abbrev pub bytesOf : Layer → List ℕ
-bytesOf l = l .inputs ∷ l .neurons ∷ numberOf (l .activation) ∷ joined (l .arrays)
+bytesOf l = l .inputs ∷ l .neurons ∷ activationNumber (l .activation) ∷ joined (l .arrays)
 
--- the refusals of a layer with this header, where so many bytes follow it. A byte above 127 is a negative number (`unsigned`)
-abbrev pub faults : Kind → ℕ → ℕ → ℕ → ℕ → List Row
-faults k i n a left =
+-- the refusals of a header. A byte above 127 is a negative number (`unsigned`)
+abbrev pub headerFaults : ℕ → ℕ → ℕ → List Row
+headerFaults i n a =
     12 when ltb 127 i
     ∷ 13 when ltb 127 n
     ∷ 14 when ltb 2 a
     ∷ 15 when eqb n 0
-    ∷ 16 when ltb left (sizeOf k i n)
     ∷ []
 
--- the layer in front of some bytes with the bytes behind it, or a refusal
-pub data Front : Type 0 where
-  layer : Layer → List ℕ → Front
-  refused : ℕ → Front
+-- and of its layer, where so many bytes follow
+abbrev pub faults : Kind → ℕ → ℕ → ℕ → ℕ → List Row
+faults k i n a left = headerFaults i n a ++ 16 when ltb left (sizeOf k i n) ∷ []
 
-unfoldable pub front : Kind → List ℕ → Front
-front k (i ∷ n ∷ a ∷ s) =
-    first (faults k i n a (length s)) refused
-    (layer (record { inputs = i; neurons = n; activation = activationOf a; arrays = cut (lengths k i n) s }) (drop (sizeOf k i n) s))
-front k (i ∷ n ∷ []) = refused 11
-front k (i ∷ []) = refused 11
-front k [] = refused 11
+-- read_dense and read_gru: what is made of the layer in front of some bytes and of the bytes behind it, or of a refusal
+unfoldable pub readLayer : {A : Type 0} → Kind → List ℕ → (ℕ → A) → (Layer → List ℕ → A) → A
+readLayer k (i ∷ n ∷ a ∷ s) refuse next =
+    refusing (faults k i n a (length s)) refuse
+    (next (record { inputs = i; neurons = n; activation = activationOf a; arrays = cut (lengths k i n) s }) (drop (sizeOf k i n) s))
+readLayer k (i ∷ n ∷ []) refuse next = refuse 11
+readLayer k (i ∷ []) refuse next = refuse 11
+readLayer k [] refuse next = refuse 11
 
--- its header, where it stands at a place of the file
+-- a layer's header, where it stands at a place of the file
 abbrev pub headerAt : ℕ → Layer → Header
 headerAt at l = record { inputs = l .inputs; neurons = l .neurons; activation = l .activation; start = at + 3 }
-
-abbrev pub stepOf : ℕ → Front → Step
-stepOf at (layer l rest) = step.Layer (headerAt at l) (record { at = at + length (bytesOf l) })
-stepOf at (refused n) = step.Refused n
 
 -- where reading starts
 abbrev pub origin : Cursor
@@ -93,4 +88,4 @@ origin = record { at = 0 }
 
 -- what reading a layer at a place gives
 unfoldable pub stepAt : Kind → List ℕ → ℕ → Step
-stepAt k s at = stepOf at (front k (drop at s))
+stepAt k s at = readLayer k (drop at s) step.Refused (λ l rest. step.Layer (headerAt at l) (record { at = at + length (bytesOf l) }))

@@ -1,11 +1,11 @@
 -- A model file: six layers in a row (rnn.rs, `from_bytes_impl`).
 use Prim.Native.Nat.{ℕ, suc, _+_}
 use mathlib.Core.Bool.{Bool, not, _||_}
-use mathlib.Core.List.{List, [], _∷_, _++_}
+use mathlib.Core.List.{List, [], _∷_}
 use lib.Dec.{eqb}
 use lib.ListN.{length, getD}
-use Rattle.rules.specs.Refusals.{Row, _when_, first}
-use Rattle.model.specs.Layer.{Layer, bytesOf, Front, layer, refused, front, headerAt}
+use Rattle.rules.specs.Refusals.{Row, _when_, refusing}
+use Rattle.model.specs.Layer.{Layer, bytesOf, readLayer, headerAt}
 use Rattle.model.specs.declared.Activation.the-variants.{Tanh}
 use Rattle.model.specs.declared.Kind.{Kind}
 use Rattle.model.specs.declared.Kind.the-variants.{Dense, Gru}
@@ -18,33 +18,13 @@ use Rattle.model.specs.declared.Reading.the-variants.{Good, Refused}
 abbrev pub kinds : List Kind
 kinds = Dense ∷ Gru ∷ Gru ∷ Gru ∷ Dense ∷ Dense ∷ []
 
-abbrev pub kindAt : ℕ → Kind
-kindAt j = getD kinds j Dense
+-- let (layer, bytes) = read(bytes)?; for each kind in a row, the first of them layer j
+unfoldable pub readLayers : {A : Type 0} → ℕ → List Kind → List ℕ → (ℕ → ℕ → A) → (List Layer → List ℕ → A) → A
+readLayers j [] s refuse next = next [] s
+readLayers j (k ∷ ks) s refuse next =
+    readLayer k s (λ n. refuse n j) (λ l rest. readLayers (suc j) ks rest refuse (λ ls. next (l ∷ ls)))
 
--- layers as they stand in a file
-abbrev pub fileOf : List Layer → List ℕ
-fileOf [] = []
-fileOf (l ∷ ls) = bytesOf l ++ fileOf ls
-
--- layers in a row with the bytes behind them, or a refusal with its layer
-pub data Layers : Type 0 where
-  layers : List Layer → List ℕ → Layers
-  refusedAt : ℕ → ℕ → Layers
-
-abbrev pub before : Layer → Layers → Layers
-before l (layers ls rest) = layers (l ∷ ls) rest
-before l (refusedAt n j) = refusedAt n j
-
-abbrev pub onward : ℕ → Front → (List ℕ → Layers) → Layers
-onward j (layer l rest) next = before l (next rest)
-onward j (refused n) next = refusedAt n j
-
--- the layers of these kinds in front of some bytes, the first of them layer j
-unfoldable pub inRow : ℕ → List Kind → List ℕ → Layers
-inRow j [] s = layers [] s
-inRow j (k ∷ ks) s = onward j (front k s) (inRow (suc j) ks)
-
--- their headers, the first of them at a place of the file
+-- the headers of layers in a row, the first of them at a place of the file
 abbrev pub headersAt : ℕ → List Layer → List Header
 headersAt at [] = []
 headersAt at (l ∷ ls) = headerAt at l ∷ headersAt (at + length (bytesOf l)) ls
@@ -85,13 +65,10 @@ modelOf hs =
       «vad_output» = headerIn hs 5;
     }
 
-abbrev pub judge : List Row → Model → Reading
-judge rows m = first rows (λ n. Refused n 6) (Good m)
-
-abbrev pub judged : Layers → Reading
-judged (layers ls rest) = let m = modelOf (headersAt 0 ls) in judge (mismatches m (length rest)) m
-judged (refusedAt n j) = Refused n j
+-- the model, unless a row refuses it
+abbrev pub goodUnless : List Row → Model → Reading
+goodUnless rows m = refusing rows (λ n. Refused n 6) (Good m)
 
 -- what reading a file gives
 unfoldable pub readOf : List ℕ → Reading
-readOf s = judged (inRow 0 kinds s)
+readOf s = readLayers 0 kinds s Refused (λ ls rest. let m = modelOf (headersAt 0 ls) in goodUnless (mismatches m (length rest)) m)

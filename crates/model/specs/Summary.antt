@@ -3,7 +3,7 @@ use Prim.Native.Nat.{ℕ, _+_, _*_, _/_, _%_}
 use mathlib.Core.List.{List, [], _∷_}
 use lib.ListN.{length, getD}
 use Rattle.rules.specs.Leaf.{_leaving_}
-use Rattle.rules.specs.Refusals.{_when_, first}
+use Rattle.rules.specs.Refusals.{_when_, refusing}
 use Rattle.rules.specs.Tab.{tab}
 use Rattle.model.specs.Model.{_≠_, readOf}
 use Rattle.model.specs.Array.{foundIn, lineIn}
@@ -14,10 +14,10 @@ use Rattle.model.specs.declared.Reading.the-variants.{Good, Refused}
 unfoldable pub numberIn : Reading → ℕ → ℕ
 numberIn r i = let layer = i / 5 in getD (lineIn (foundIn r layer) layer) (i % 5 + 1) 0
 
-abbrev pub told : Reading → List ℕ → ℕ × List ℕ
-told (Good m) out = 0 leaving tab 30 (numberIn (Good m))
-told (Refused n layer) out = n + 65536 * layer leaving out
+abbrev pub summaryIn : Reading → List ℕ → ℕ × List ℕ
+summaryIn (Good m) out = 0 leaving tab 30 (numberIn (Good m))
+summaryIn (Refused n layer) out = n + 65536 * layer leaving out
 
 -- what is returned, and what the buffer then holds
 unfoldable pub summaryOf : List ℕ → List ℕ → ℕ × List ℕ
-summaryOf s out = first (5 when (length out ≠ 30) ∷ []) (λ n. n leaving out) (told (readOf s) out)
+summaryOf s out = refusing (5 when (length out ≠ 30) ∷ []) (λ n. n leaving out) (summaryIn (readOf s) out)

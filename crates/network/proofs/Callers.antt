@@ -6,51 +6,39 @@
 --     answered             a refusal is 5, and a model's refusal one of its table
 -- Assumes nothing.
 use mathlib.Core.Path.{_≡_, refl, sym, ap, _∙_}
-use mathlib.Core.Bool.{not, false}
-use mathlib.Core.List.{List, _++_}
+use mathlib.Core.Bool.{false}
+use mathlib.Core.List.{List, [], _∷_, _++_}
 use Prim.Native.Nat.{ℕ, _≤_}
-use borrow.Author.Tests.{eq-eqb, eqb-true, not-false}
-use lib.Dec.{eqb}
 use native.Mathlib.Omega.{arith}
 use lib.ListN.{length, take, drop, length-append, length-take, length-drop}
 use lib.Ieee.{Float}
-use Rattle.rules.specs.Refusals.{Row}
-use Rattle.rules.proofs.Refused.{Clear, clear, by-rows}
-use Rattle.rules.proofs.OneNumber.{refuses}
+use Rattle.rules.specs.Refusals.{Row, _when_, wrong}
+use Rattle.rules.proofs.Refused.{clear, by-rows, Right, right, none-wrong, one-wrong}
 use Rattle.rules.proofs.Rows.{by-each}
-use Rattle.model.specs.Model.{readOf, _≠_}
+use Rattle.model.specs.Model.{readOf}
 use Rattle.model.specs.declared.Model.{Model}
 use Rattle.model.specs.declared.Reading.{Reading}
 use Rattle.model.specs.declared.Reading.the-variants as read
-use Rattle.network.specs.Compute.{Frame, frameOf, sixLayers, framed, Outcome, outcome, byReading, wrongLengths, computed, Lengths}
+use Rattle.network.specs.Compute.{Frame, frameOf, sixLayers, layersInPlace, Computing, computing, byReading, computed}
+use Rattle.network.specs.Parts.{Lengths}
 use Rattle.model.proofs.Bounds.{refused-in}
 use Rattle.network.specs.declared.Computed.{Computed}
 use Rattle.network.specs.declared.Computed.the-variants.{Done, Refused, Misread}
 use Rattle.network.proofs.Fitting.{few, voice-fits, gains-fit}
 use Rattle.network.proofs.Lengths.{length-denseAt, length-gruAt}
 
-equal : (a b : ℕ) → a ≡ b → (a ≠ b) ≡ false
-equal a b e = ap not (eq-eqb a b e)
-
-same : (a b : ℕ) → (a ≠ b) ≡ false → a ≡ b
-same a b e = eqb-true a b (not-false (eqb a b) e)
-
--- no row's test holds exactly where the lengths fit
+-- no length is wrong exactly where the lengths fit
 module _ (gains voice vad noise denoise features : ℕ) where
-  fit-clear : Lengths gains voice vad noise denoise features → Clear (wrongLengths gains voice vad noise denoise features)
-  fit-clear h =
-      (equal gains 22 (h .gained), (equal voice 1 (h .voiced), (equal vad 128 (h .first), (equal noise 128 (h .second), (equal denoise 128 (h .third), (equal features 42 (h .featured), tt))))))
+  abbrev sizes : List (ℕ × ℕ)
+  sizes = (gains, 22) ∷ (voice, 1) ∷ (vad, 128) ∷ (noise, 128) ∷ (denoise, 128) ∷ (features, 42) ∷ []
 
-  clear-fit : Clear (wrongLengths gains voice vad noise denoise features) → Lengths gains voice vad noise denoise features
-  clear-fit c =
-      record {
-        gained = same gains 22 (c .0);
-        voiced = same voice 1 (c .1 .0);
-        first = same vad 128 (c .1 .1 .0);
-        second = same noise 128 (c .1 .1 .1 .0);
-        third = same denoise 128 (c .1 .1 .1 .1 .0);
-        featured = same features 42 (c .1 .1 .1 .1 .1 .0);
-      }
+  none : Lengths gains voice vad noise denoise features → wrong sizes ≡ false
+  none h = none-wrong sizes (h .gained, (h .voiced, (h .first, (h .second, (h .third, (h .featured, tt))))))
+
+  fit-of : Right sizes → Lengths gains voice vad noise denoise features
+  fit-of r =
+      let s = r .1 .1 in
+      record { gained = r .0; voiced = r .1 .0; first = s .0; second = s .1 .0; third = s .1 .1 .0; featured = s .1 .1 .1 .0 }
 
 -- the numbers and the layers that an answer can have
 abbrev pub Answered : Computed → Type 0
@@ -62,38 +50,42 @@ module _ (gains voice vad noise denoise : List Float) (model : List ℕ) (featur
   abbrev pub Fit : Type 0
   Fit = Lengths (length gains) (length voice) (length vad) (length noise) (length denoise) (length features)
 
+  abbrev lengths : List (ℕ × ℕ)
+  lengths = sizes (length gains) (length voice) (length vad) (length noise) (length denoise) (length features)
+
   abbrev rows : List Row
-  rows = wrongLengths (length gains) (length voice) (length vad) (length noise) (length denoise) (length features)
+  rows = 5 when wrong lengths ∷ []
 
-  abbrev refuse : ℕ → Outcome
-  refuse n = outcome (Refused n) gains voice vad noise denoise
+  fits : Right lengths → Fit
+  fits = fit-of (length gains) (length voice) (length vad) (length noise) (length denoise) (length features)
 
-  abbrev past : Outcome
+  abbrev refuse : ℕ → Computing
+  refuse n = computing (Refused n) gains voice vad noise denoise
+
+  abbrev past : Computing
   past =
-      byReading (readOf model) (λ m. record { answer = Done; left = framed model m vad noise denoise features })
-      (λ number layer. outcome (Misread number layer) gains voice vad noise denoise)
+      byReading (readOf model) (λ m. record { answer = Done; left = layersInPlace model m vad noise denoise features })
+      (λ number layer. computing (Misread number layer) gains voice vad noise denoise)
 
-  pub computed-wrong : (Fit → ⊥) → outcome (Refused 5) gains voice vad noise denoise ≡ computed gains voice vad noise denoise model features
+  pub computed-wrong : (Fit → ⊥) → computing (Refused 5) gains voice vad noise denoise ≡ computed gains voice vad noise denoise model features
   unfolding computed
-  computed-wrong wrong =
-      sym (refuses refuse past 5 rows (refl, (refl, (refl, (refl, (refl, (refl, tt))))))
-      (λ c. wrong (clear-fit (length gains) (length voice) (length vad) (length noise) (length denoise) (length features) c)))
+  computed-wrong misfit = rw (one-wrong lengths (λ r. misfit (fits r)))
 
   passed : Fit → past ≡ computed gains voice vad noise denoise model features
   unfolding computed
-  passed fit = sym (clear refuse past rows (fit-clear (length gains) (length voice) (length vad) (length noise) (length denoise) (length features) fit))
+  passed fit = sym (clear refuse past rows (none (length gains) (length voice) (length vad) (length noise) (length denoise) (length features) fit, tt))
 
   pub computed-misread : Fit → {number layer : ℕ} → readOf model ≡ read.Refused number layer
-      → outcome (Misread number layer) gains voice vad noise denoise ≡ computed gains voice vad noise denoise model features
+      → computing (Misread number layer) gains voice vad noise denoise ≡ computed gains voice vad noise denoise model features
   computed-misread fit {number} {layer} e = sym (ap (λ (r : Reading). byReading r good bad) e) ∙ passed fit
     where
-      good : Model → Outcome
-      good m = record { answer = Done; left = framed model m vad noise denoise features }
+      good : Model → Computing
+      good m = record { answer = Done; left = layersInPlace model m vad noise denoise features }
 
-      bad : ℕ → ℕ → Outcome
-      bad number layer = outcome (Misread number layer) gains voice vad noise denoise
+      bad : ℕ → ℕ → Computing
+      bad number layer = computing (Misread number layer) gains voice vad noise denoise
 
-  pub computed-done : Fit → {m : Model} {left : Frame} → readOf model ≡ read.Good m → left ≡ framed model m vad noise denoise features
+  pub computed-done : Fit → {m : Model} {left : Frame} → readOf model ≡ read.Good m → left ≡ layersInPlace model m vad noise denoise features
       → record { answer = Done; left = left } ≡ computed gains voice vad noise denoise model features
   computed-done fit e l = rw (← passed fit, e, l)
 
@@ -112,8 +104,8 @@ module _ (gains voice vad noise denoise : List Float) (model : List ℕ) (featur
   moved : (n : ℕ) (state new : List Float) → n ≤ length state → length new ≡ length (take n state) → length (new ++ drop n state) ≡ length state
   moved n state new h e = simp (length-append, length-drop, e, length-take) (omega arith)
 
-  done-kept : Fit → (m : Model) → readOf model ≡ read.Good m → Kept (framed model m vad noise denoise features)
-  unfolding framed sixLayers
+  done-kept : Fit → (m : Model) → readOf model ≡ read.Good m → Kept (layersInPlace model m vad noise denoise features)
+  unfolding layersInPlace sixLayers
   done-kept fit m good =
       let few = few model m good in
       let voiced = voice-fits model m good refl refl refl refl .answer in
@@ -129,21 +121,19 @@ module _ (gains voice vad noise denoise : List Float) (model : List ℕ) (featur
 
   pub kept : Kept (computed gains voice vad noise denoise model features .left)
   unfolding computed
-  kept =
-      by-rows refuse past (λ o. Kept (o .left)) rows (λ n. as-held) (λ c.
-      of (clear-fit (length gains) (length voice) (length vad) (length noise) (length denoise) (length features) c) (readOf model) refl)
+  kept = by-rows refuse past (λ o. Kept (o .left)) rows (λ n. as-held) (λ c. of (fits (right lengths (c .0))) (readOf model) refl)
     where
       of : Fit → (r : Reading) → readOf model ≡ r
-          → Kept (byReading r (λ m. record { answer = Done; left = framed model m vad noise denoise features }) (λ number layer. outcome (Misread number layer) gains voice vad noise denoise) .left)
+          → Kept (byReading r (λ m. record { answer = Done; left = layersInPlace model m vad noise denoise features }) (λ number layer. computing (Misread number layer) gains voice vad noise denoise) .left)
       of fit (read.Good m) e = done-kept fit m e
       of fit (read.Refused number layer) e = as-held
 
   -- what it answers: a refusal is 5, and a model's refusal one of its table
   pub answered : Answered (computed gains voice vad noise denoise model features .answer)
   unfolding computed
-  answered = by-each refuse past (λ o. Answered (o .answer)) rows (refl, (refl, (refl, (refl, (refl, (refl, tt)))))) (of (readOf model) refl)
+  answered = by-each refuse past (λ o. Answered (o .answer)) rows (refl, tt) (of (readOf model) refl)
     where
       of : (r : Reading) → readOf model ≡ r
-          → Answered (byReading r (λ m. record { answer = Done; left = framed model m vad noise denoise features }) (λ number layer. outcome (Misread number layer) gains voice vad noise denoise) .answer)
+          → Answered (byReading r (λ m. record { answer = Done; left = layersInPlace model m vad noise denoise features }) (λ number layer. computing (Misread number layer) gains voice vad noise denoise) .answer)
       of (read.Good m) e = tt
       of (read.Refused number layer) e = let b = refused-in model (sym e) in (b .1, b .2)

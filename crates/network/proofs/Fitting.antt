@@ -8,7 +8,7 @@ use Rattle.model.specs.Model.{readOf}
 use Rattle.model.specs.declared.Model.{Model}
 use Rattle.model.specs.declared.Reading.the-variants.{Good}
 use Rattle.model.proofs.Shapes.{shaped}
-use Rattle.network.specs.Compute.{VoiceFits, GainsFit}
+use Rattle.network.specs.Parts.{VoiceFits, DenoiseFits}
 
 module _ (bytes : List ℕ) (m : Model) (good : readOf bytes ≡ Good m) where
   pub voice-fits : {hidden vad voice features : ℕ} → hidden ≡ m .«input_dense» .neurons → vad ≡ m .«vad_gru» .neurons → voice ≡ 1 → features ≡ 42
@@ -22,7 +22,7 @@ module _ (bytes : List ℕ) (m : Model) (good : readOf bytes ≡ Good m) where
       }
 
   pub gains-fit : {hidden vad noise denoise gains features : ℕ} → hidden ≡ m .«input_dense» .neurons → vad ≡ m .«vad_gru» .neurons
-      → noise ≡ m .«noise_gru» .neurons → denoise ≡ m .«denoise_gru» .neurons → gains ≡ 22 → features ≡ 42 → GainsFit m (length bytes) hidden vad noise denoise gains features
+      → noise ≡ m .«noise_gru» .neurons → denoise ≡ m .«denoise_gru» .neurons → gains ≡ 22 → features ≡ 42 → DenoiseFits m (length bytes) hidden vad noise denoise gains features
   gains-fit a b c d g f =
       let s = shaped bytes (sym good) in
       record {

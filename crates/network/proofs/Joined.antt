@@ -9,13 +9,14 @@ use Rattle.rules.specs.Loop.{loop}
 use Rattle.rules.specs.F32.{part}
 use Rattle.rules.proofs.Called.{left}
 use Rattle.matrix.specs.Sums.{mulAdd, MulAddFits, MulAdd}
-use Rattle.network.specs.Layers.{copied, activateStep, denseOf, gateSums, updateStep, resetStep, blendStep, gruOf, DenseArrays, GruArrays, GateFits}
-use Rattle.network.specs.Compute.{Frame, denseAt, gruAt, frameOf, sixLayers, framed}
+use Rattle.network.specs.Layers.{copied, activateStep, denseOf, gateSums, updateStep, resetStep, blendStep, gruOf, DenseArrays, GruArrays}
+use Rattle.network.specs.Parts.{GateFits}
+use Rattle.network.specs.Compute.{Frame, denseAt, gruAt, frameOf, sixLayers, layersInPlace}
 use Rattle.model.specs.declared.Activation.{Activation}
 use Rattle.model.specs.declared.Model.{Model}
 
 pub dense-joined : (weights bias : List ℕ) (activation : Activation) (input : List Float) {n k : ℕ} {a b r : List Float}
-    → DenseArrays n (length weights) (length bias) (length input) → a ≡ copied bias → length a ≡ n → MulAdd weights n 0 input a k b → length b ≡ length a
+    → DenseArrays n (length weights) (length bias) (length input) → a ≡ copied bias → length a ≡ n → MulAdd a weights n 0 input k b → length b ≡ length a
     → r ≡ loop (length b) (activateStep activation) b → r ≡ denseOf weights bias activation input
 unfolding denseOf
 dense-joined weights bias activation input {n} {k} {a} {b} arrays e la add lb e′ =
@@ -24,7 +25,7 @@ dense-joined weights bias activation input {n} {k} {a} {b} arrays e la add lb e�
 
 pub sums-joined : (weights recurrent bias : List ℕ) (input state : List Float) (n offset : ℕ) {k l : ℕ} {a b r : List Float}
     → GateFits n (length weights) (length recurrent) (length bias) offset (length input) (length state) → a ≡ copied (part offset (offset + n) bias) → length a ≡ n
-    → MulAdd weights (3 * n) offset input a k b → length b ≡ length a → MulAdd recurrent (3 * n) offset state b l r
+    → MulAdd a weights (3 * n) offset input k b → length b ≡ length a → MulAdd b recurrent (3 * n) offset state l r
     → r ≡ gateSums weights recurrent bias input n offset state
 unfolding gateSums
 sums-joined weights recurrent bias input state n offset {k} {l} {a} {b} fits e la add lb again =
@@ -55,10 +56,10 @@ unfolding sixLayers
 six-joined bytes m vad noise denoise features eh ea ev en ed eg = rw (eg, ev, ed, en, ea, eh)
 
 -- the first places of each state were lent, a, b and c of them
-pub framed-joined : (bytes : List ℕ) (m : Model) (vad noise denoise features : List Float) (a b c : ℕ) {gains voice vad′ noise′ denoise′ : List Float}
+pub in-place-joined : (bytes : List ℕ) (m : Model) (vad noise denoise features : List Float) (a b c : ℕ) {gains voice vad′ noise′ denoise′ : List Float}
     → a ≡ m .«vad_gru» .neurons → b ≡ m .«noise_gru» .neurons → c ≡ m .«denoise_gru» .neurons
     → frameOf gains voice vad′ noise′ denoise′ ≡ sixLayers bytes m (take a vad) (take b noise) (take c denoise) features
-    → frameOf gains voice (vad′ ++ drop a vad) (noise′ ++ drop b noise) (denoise′ ++ drop c denoise) ≡ framed bytes m vad noise denoise features
-unfolding framed
-framed-joined bytes m vad noise denoise features a b c ea eb ec e =
+    → frameOf gains voice (vad′ ++ drop a vad) (noise′ ++ drop b noise) (denoise′ ++ drop c denoise) ≡ layersInPlace bytes m vad noise denoise features
+unfolding layersInPlace
+in-place-joined bytes m vad noise denoise features a b c ea eb ec e =
     ap (λ (f : Frame). frameOf (f .gains) (f .voice) (f .vad ++ drop a vad) (f .noise ++ drop b noise) (f .denoise ++ drop c denoise)) e ∙ rw (ea, eb, ec)

@@ -9,9 +9,10 @@ use Rattle.rules.proofs.Lengths.{same-length}
 use Rattle.rules.proofs.Places.{length-get}
 use Rattle.matrix.specs.Sums.{ofByte, mulAdd}
 use Rattle.matrix.proofs.Lengths.{length-mulAdd}
-use Rattle.network.specs.Layers.{copied, activateStep, gateSums, updateStep, resetStep, blendStep, denseOf, gruOf}
+use Rattle.network.specs.Layers.{copied, activateStep, blendStep, denseOf, gruOf}
 use Rattle.network.specs.Compute.{array, denseAt, gruAt}
-use Rattle.model.specs.Array.{placeOf, Within}
+use Rattle.model.specs.Array.{placeOf}
+use Rattle.model.specs.Parts.{LiesIn}
 use Rattle.model.specs.declared.Activation.{Activation}
 use Rattle.model.specs.declared.Kind.{Kind}
 use Rattle.model.specs.declared.Kind.the-variants.{Dense, Gru}
@@ -28,22 +29,20 @@ length-denseOf weights bias activation input =
     ∙ length-mulAdd (copied bias) weights (length bias) 0 input
     ∙ length-copied bias
 
+length-blended : (activation : Activation) (z h state : List Float) → length (loop (length state) (blendStep activation z h) state) ≡ length state
+length-blended activation z h state = same-length (blendStep activation z h) (λ j s. simp length-set) (length state) state
+
 pub length-gruOf : (weights recurrent bias : List ℕ) (activation : Activation) (input state : List Float)
     → length (gruOf weights recurrent bias activation input state) ≡ length state
 unfolding gruOf
-length-gruOf weights recurrent bias activation input state =
-    let n = length state in
-    let sums = gateSums weights recurrent bias input n in
-    let z = loop n updateStep (sums 0 state) in
-    let r = loop n (resetStep state) (sums n state) in
-    same-length (blendStep activation z (sums (2 * n) r)) (λ j s. simp length-set) n state
+length-gruOf weights recurrent bias activation input state = simp length-blended
 
-length-array : (bytes : List ℕ) (k : Kind) (h : Header) → Within (length bytes) k h → (which : ℕ) → length (array bytes k h which) ≡ placeOf k h which .size
+length-array : (bytes : List ℕ) (k : Kind) (h : Header) → LiesIn (length bytes) k h → (which : ℕ) → length (array bytes k h which) ≡ placeOf k h which .size
 length-array bytes k h w which = length-get (placeOf k h which) bytes (place-within k h w which)
 
 -- the layers of a model
 module _ (bytes : List ℕ) (h : Header) (input : List Float) where
-  pub length-denseAt : Within (length bytes) Dense h → length (denseAt bytes h input) ≡ h .neurons
+  pub length-denseAt : LiesIn (length bytes) Dense h → length (denseAt bytes h input) ≡ h .neurons
   unfolding denseAt
   length-denseAt w = length-denseOf (array bytes Dense h 0) (array bytes Dense h 2) (h .activation) input ∙ length-array bytes Dense h w 2
 

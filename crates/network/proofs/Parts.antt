@@ -14,7 +14,8 @@ use Rattle.model.specs.declared.Kind.{Kind}
 use Rattle.model.specs.declared.Kind.the-variants.{Dense, Gru}
 use Rattle.model.specs.declared.Header.{Header}
 use Rattle.network.specs.Layers.{denseOf, gruOf, DenseArrays, GruArrays}
-use Rattle.network.specs.Compute.{array, denseAt, gruAt, At}
+use Rattle.network.specs.Compute.{array, denseAt, gruAt}
+use Rattle.network.specs.Parts.{LayerFits}
 
 cut-length : (bytes : List ℕ) (a n : ℕ) → a + n ≤ length bytes → length (part a (a + n) bytes) ≡ n
 cut-length bytes a n h = simp (length-take, length-drop) (omega arith)
@@ -36,14 +37,14 @@ module _ (bytes : List ℕ) (h : Header) where
   abbrev s : ℕ
   s = h .start
 
-  pub dense-arrays : {output input : ℕ} → At Dense h (length bytes) output input
+  pub dense-arrays : {output input : ℕ} → LayerFits Dense h (length bytes) output input
       → DenseArrays output (length (part s (s + i * n) bytes)) (length (part (s + i * n) (s + i * n + n) bytes)) input
   dense-arrays at =
       let w = cut-length bytes s (i * n) (omega (arith, at .within .reach)) in
       let b = cut-length bytes (s + i * n) n (omega (arith, at .within .reach)) in
       record { weighted = w ∙ rw (at .neurons, at .inputs) (mul-comm i n); biased = b ∙ sym (at .neurons) }
 
-  pub gru-arrays : {output input : ℕ} → At Gru h (length bytes) output input
+  pub gru-arrays : {output input : ℕ} → LayerFits Gru h (length bytes) output input
       → GruArrays output (length (part s (s + 3 * i * n) bytes)) (length (part (s + 3 * i * n) (s + 3 * i * n + 3 * n * n) bytes))
       (length (part (s + 3 * i * n + 3 * n * n) (s + 3 * i * n + 3 * n * n + 3 * n) bytes)) input
   gru-arrays at =

@@ -1,13 +1,12 @@
 -- `RnnState::compute` of rnn.rs: the six layers for one frame, on a model's bytes.
 use mathlib.Core.List.{List, [], _∷_, _++_}
-use mathlib.Core.Path.{_≡_}
-use Prim.Native.Nat.{ℕ, _+_}
+use Prim.Native.Nat.{ℕ}
 use lib.ListN.{length, take, drop}
 use lib.Ieee.{Float}
 use Rattle.rules.specs.Place.{get}
-use Rattle.rules.specs.Refusals.{Row, _when_, first}
-use Rattle.model.specs.Array.{placeOf, Within}
-use Rattle.model.specs.Model.{readOf, _≠_}
+use Rattle.rules.specs.Refusals.{_when_, refusing, wrong}
+use Rattle.model.specs.Array.{placeOf}
+use Rattle.model.specs.Model.{readOf}
 use Rattle.model.specs.declared.Kind.{Kind}
 use Rattle.model.specs.declared.Kind.the-variants.{Dense, Gru}
 use Rattle.model.specs.declared.Header.{Header}
@@ -50,8 +49,8 @@ sixLayers bytes m vad noise denoise features =
     frameOf (denseAt bytes (m .«denoise_output») denoise′) (denseAt bytes (m .«vad_output») vad′) vad′ noise′ denoise′
 
 -- of 128 places of a state the layer has the first, one for each neuron; the others keep their values
-unfoldable pub framed : List ℕ → Model → List Float → List Float → List Float → List Float → Frame
-framed bytes m vad noise denoise features =
+unfoldable pub layersInPlace : List ℕ → Model → List Float → List Float → List Float → List Float → Frame
+layersInPlace bytes m vad noise denoise features =
     let a = m .«vad_gru» .neurons in
     let b = m .«noise_gru» .neurons in
     let c = m .«denoise_gru» .neurons in
@@ -61,59 +60,25 @@ framed bytes m vad noise denoise features =
 -- ---- the call
 
 -- what it returns, and what it leaves in the buffers that it was lent
-pub record Outcome : Type 0 where
+pub record Computing : Type 0 where
   pub answer : Computed
   pub left : Frame
 
-abbrev pub outcome : Computed → List Float → List Float → List Float → List Float → List Float → Outcome
-outcome answer gains voice vad noise denoise =
+abbrev pub computing : Computed → List Float → List Float → List Float → List Float → List Float → Computing
+computing answer gains voice vad noise denoise =
     record { answer = answer; left = frameOf gains voice vad noise denoise }
 
-abbrev pub byReading : Reading → (Model → Outcome) → (ℕ → ℕ → Outcome) → Outcome
+abbrev pub byReading : Reading → (Model → Computing) → (ℕ → ℕ → Computing) → Computing
 byReading (read.Good m) good bad = good m
 byReading (read.Refused number layer) good bad = bad number layer
 
--- the rows of a wrong length, from the lengths
-abbrev pub wrongLengths : ℕ → ℕ → ℕ → ℕ → ℕ → ℕ → List Row
-wrongLengths gains voice vad noise denoise features =
-    5 when (gains ≠ 22)
-    ∷ 5 when (voice ≠ 1)
-    ∷ 5 when (vad ≠ 128)
-    ∷ 5 when (noise ≠ 128)
-    ∷ 5 when (denoise ≠ 128)
-    ∷ 5 when (features ≠ 42)
-    ∷ []
-
 -- a model that does not read comes back as its number and layer, after the lengths; a refusal leaves all as it was
-unfoldable pub computed : List Float → List Float → List Float → List Float → List Float → List ℕ → List Float → Outcome
+unfoldable pub computed : List Float → List Float → List Float → List Float → List Float → List ℕ → List Float → Computing
 computed gains voice vad noise denoise model features =
-    let held : Computed → Outcome = λ answer. outcome answer gains voice vad noise denoise in
-    first (wrongLengths (length gains) (length voice) (length vad) (length noise) (length denoise) (length features)) (λ n. held (Refused n))
-    (byReading (readOf model) (λ m. record { answer = Done; left = framed model m vad noise denoise features }) (λ number layer. held (Misread number layer)))
-
--- ---- for the parts of the code
-
--- a layer with this header, whose arrays lie within so many bytes, on an output and an input of these lengths
-pub record At (kind : Kind) (h : Header) (bytes output input : ℕ) : Type 0 where
-  pub within : Within bytes kind h
-  pub neurons : output ≡ h .neurons
-  pub inputs : input ≡ h .inputs
-
--- the layers of a model that reads, on lengths that are theirs
-pub record VoiceFits (m : Model) (bytes hidden vad voice features : ℕ) : Type 0 where
-  pub front : At Dense (m .«input_dense») bytes hidden features
-  pub state : At Gru (m .«vad_gru») bytes vad hidden
-  pub answer : At Dense (m .«vad_output») bytes voice vad
-
-pub record GainsFit (m : Model) (bytes hidden vad noise denoise gains features : ℕ) : Type 0 where
-  pub noisy : At Gru (m .«noise_gru») bytes noise (hidden + vad + features)
-  pub clean : At Gru (m .«denoise_gru») bytes denoise (vad + noise + features)
-  pub answer : At Dense (m .«denoise_output») bytes gains denoise
-
-pub record Lengths (gains voice vad noise denoise features : ℕ) : Type 0 where
-  pub gained : gains ≡ 22
-  pub voiced : voice ≡ 1
-  pub first : vad ≡ 128
-  pub second : noise ≡ 128
-  pub third : denoise ≡ 128
-  pub featured : features ≡ 42
+    let refused : Computed → Computing = λ answer. computing answer gains voice vad noise denoise in
+    let lengths : List (ℕ × ℕ)
+    = (length gains, 22) ∷ (length voice, 1) ∷ (length vad, 128)
+    ∷ (length noise, 128) ∷ (length denoise, 128) ∷ (length features, 42) ∷ [] in
+    refusing (5 when wrong lengths ∷ []) (λ n. refused (Refused n))
+    (byReading (readOf model) (λ m. record { answer = Done; left = layersInPlace model m vad noise denoise features })
+    (λ number layer. refused (Misread number layer)))

@@ -5,7 +5,7 @@ use mathlib.Core.List.{List, map}
 use lib.ListN.{length, set}
 use lib.Ieee.{Float}
 use Rattle.rules.specs.Loop.{loop}
-use Rattle.rules.specs.F32.{f32, at, part, _⊕_, _⊖_, _⊗_}
+use Rattle.rules.specs.F32.{f32, one, at, part, _⊕_, _⊖_, _⊗_}
 use Rattle.numbers.specs.Larger.{rectified}
 use Rattle.numbers.specs.Activations.{tansigApprox, sigmoidApprox}
 use Rattle.matrix.specs.Sums.{ofByte, mulAdd}
@@ -13,8 +13,8 @@ use Rattle.model.specs.declared.Activation.{Activation}
 use Rattle.model.specs.declared.Activation.the-variants.{Tanh, Sigmoid, Relu}
 
 -- WEIGHTS_SCALE, 1.0 / 256.0
-abbrev pub scale : Float
-scale = f32 0x3B800000
+abbrev pub weightsScale : Float
+weightsScale = f32 0x3B800000
 
 abbrev pub activated : Activation → Float → Float
 activated Tanh x = tansigApprox x
@@ -29,7 +29,7 @@ copied bytes = map ofByte bytes
 
 -- *out = activation(*out * WEIGHTS_SCALE)
 abbrev pub activateStep : Activation → ℕ → List Float → List Float
-activateStep activation j out = set out j (activated activation (at out j ⊗ scale))
+activateStep activation j out = set out j (activated activation (at out j ⊗ weightsScale))
 
 unfoldable pub denseOf : List ℕ → List ℕ → Activation → List Float → List Float
 unfolding mulAdd loop
@@ -48,16 +48,16 @@ gateSums weights recurrent bias input n offset state =
 
 -- *z = sigmoid_approx(WEIGHTS_SCALE * *z)
 abbrev pub updateStep : ℕ → List Float → List Float
-updateStep j z = set z j (sigmoidApprox (scale ⊗ at z j))
+updateStep j z = set z j (sigmoidApprox (weightsScale ⊗ at z j))
 
 -- *r = s * sigmoid_approx(WEIGHTS_SCALE * *r)
 abbrev pub resetStep : List Float → ℕ → List Float → List Float
-resetStep state j r = set r j (at state j ⊗ sigmoidApprox (scale ⊗ at r j))
+resetStep state j r = set r j (at state j ⊗ sigmoidApprox (weightsScale ⊗ at r j))
 
 -- *s = z * *s + (1.0 - z) * activation(WEIGHTS_SCALE * h)
 abbrev pub blendStep : Activation → List Float → List Float → ℕ → List Float → List Float
 blendStep activation z h j state =
-    set state j (at z j ⊗ at state j ⊕ (f32 0x3F800000 ⊖ at z j) ⊗ activated activation (scale ⊗ at h j))
+    set state j (at z j ⊗ at state j ⊕ (one ⊖ at z j) ⊗ activated activation (weightsScale ⊗ at h j))
 
 -- both gates read the old state
 unfoldable pub gruOf : List ℕ → List ℕ → List ℕ → Activation → List Float → List Float → List Float
@@ -94,17 +94,3 @@ pub record GruFits (state weights recurrent bias input : ℕ) : Type 0 where
   pub neurons : Count state
   pub inputs : Count input
   pub arrays : GruArrays state weights recurrent bias input
-
--- ---- for the parts of the code
-
--- the sums of one gate, over `state` or over the reset gates
-pub record GateFits (out weights recurrent bias offset input state : ℕ) : Type 0 where
-  pub inside : offset + out ≤ 3 * out
-  pub weighted : weights ≡ 3 * out * input
-  pub recurs : recurrent ≡ 3 * out * state
-  pub biased : bias ≡ 3 * out
-
-pub record ScratchFits (state z r h : ℕ) : Type 0 where
-  pub update : z ≡ state
-  pub reset : r ≡ state
-  pub new : h ≡ state

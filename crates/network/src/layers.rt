@@ -4,7 +4,9 @@ ghost use Prim.Native.Nat.{_+_, _*_, _≤_};
 ghost use lib.ListN.{length};
 ghost use Rattle.rules.specs.Loop.{loop};
 ghost use Rattle.numbers.specs.Tansig.{tansig};
-ghost use Rattle.network.specs.Layers.{copied, activated, activateStep, updateStep, resetStep, blendStep, gateSums, denseOf, DenseArrays, gruOf, GruArrays, GateFits, ScratchFits};
+ghost use Rattle.network.specs.Layers.{copied, activated, activateStep, updateStep, resetStep, blendStep, gateSums};
+ghost use Rattle.network.specs.Layers.{denseOf, DenseArrays, gruOf, GruArrays};
+ghost use Rattle.network.specs.Parts.{GateFits, ScratchFits};
 use model::Activation;
 
 const WEIGHTS_SCALE: f32 = 1.0 / 256.0;
@@ -47,7 +49,8 @@ pub(crate) fn dense(
     activation: Activation,
     input: &[f32],
 )
-    requires { ⌜ (now table ≡ tansig) × DenseArrays (length (now output)) (length (now weights)) (length (now bias)) (length (now input)) ⌝ }
+    requires { ⌜ (now table ≡ tansig) × DenseArrays (length (now output)) (length (now weights)) (length (now bias))
+        (length (now input)) ⌝ }
     ensures { λ _. ⌜ now (output .exit) ≡ denseOf (now (weights .entry)) (now (bias .entry)) activation (now (input .entry)) ⌝ }
 {
     let n = output.len();
@@ -79,7 +82,8 @@ fn reset(r: &mut [f32], state: &[f32], table: &[f32; 201])
 // The new state, from the update gates and the candidates' sums.
 fn blend(state: &mut [f32], z: &[f32], h: &[f32], activation: Activation, table: &[f32; 201])
     requires { ⌜ (length (now z) ≡ length (now state)) × (length (now h) ≡ length (now state)) × (now table ≡ tansig) ⌝ }
-    ensures { λ _. ⌜ now (state .exit) ≡ loop (length (now (state .entry))) (blendStep activation (now (z .entry)) (now (h .entry))) (now (state .entry)) ⌝ }
+    ensures { λ _. ⌜ now (state .exit) ≡ loop (length (now (state .entry))) (blendStep activation (now (z .entry)) (now (h .entry)))
+        (now (state .entry)) ⌝ }
 {
     for j in 0..state.len() {
         let keep = z[j];
@@ -98,8 +102,10 @@ fn gate_sums(
     input: &[f32],
     state: &[f32],
 )
-    requires { ⌜ GateFits (length (now out)) (length (now weights)) (length (now recurrent)) (length (now bias)) offset (length (now input)) (length (now state)) ⌝ }
-    ensures { λ _. ⌜ now (out .exit) ≡ gateSums (now (weights .entry)) (now (recurrent .entry)) (now (bias .entry)) (now (input .entry)) (length (now (out .entry))) offset (now (state .entry)) ⌝ }
+    requires { ⌜ GateFits (length (now out)) (length (now weights)) (length (now recurrent)) (length (now bias)) offset
+        (length (now input)) (length (now state)) ⌝ }
+    ensures { λ _. ⌜ now (out .exit) ≡ gateSums (now (weights .entry)) (now (recurrent .entry)) (now (bias .entry)) (now (input .entry))
+        (length (now (out .entry))) offset (now (state .entry)) ⌝ }
 {
     let n = out.len();
     let stride = 3 * n;
@@ -122,9 +128,11 @@ pub(crate) fn gru(
     activation: Activation,
     input: &[f32],
 )
-    requires { ⌜ GruArrays (length (now state)) (length (now weights)) (length (now recurrent)) (length (now bias)) (length (now input)) ⌝ }
+    requires { ⌜ GruArrays (length (now state)) (length (now weights)) (length (now recurrent)) (length (now bias))
+        (length (now input)) ⌝ }
     requires { ⌜ (now table ≡ tansig) × ScratchFits (length (now state)) (length (now z)) (length (now r)) (length (now h)) ⌝ }
-    ensures { λ _. ⌜ now (state .exit) ≡ gruOf (now (weights .entry)) (now (recurrent .entry)) (now (bias .entry)) activation (now (input .entry)) (now (state .entry)) ⌝ }
+    ensures { λ _. ⌜ now (state .exit) ≡ gruOf (now (weights .entry)) (now (recurrent .entry)) (now (bias .entry)) activation
+        (now (input .entry)) (now (state .entry)) ⌝ }
 {
     let n = state.len();
     let last = 2 * n;
@@ -146,8 +154,10 @@ pub(crate) fn gru_alone(
     activation: Activation,
     input: &[f32],
 )
-    requires { ⌜ (now table ≡ tansig) × (length (now state) ≤ 128) × GruArrays (length (now state)) (length (now weights)) (length (now recurrent)) (length (now bias)) (length (now input)) ⌝ }
-    ensures { λ _. ⌜ now (state .exit) ≡ gruOf (now (weights .entry)) (now (recurrent .entry)) (now (bias .entry)) activation (now (input .entry)) (now (state .entry)) ⌝ }
+    requires { ⌜ (now table ≡ tansig) × (length (now state) ≤ 128)
+        × GruArrays (length (now state)) (length (now weights)) (length (now recurrent)) (length (now bias)) (length (now input)) ⌝ }
+    ensures { λ _. ⌜ now (state .exit) ≡ gruOf (now (weights .entry)) (now (recurrent .entry)) (now (bias .entry)) activation
+        (now (input .entry)) (now (state .entry)) ⌝ }
 {
     let n = state.len();
     let mut z = [0.0f32; 128];

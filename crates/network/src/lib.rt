@@ -3,7 +3,7 @@
 ghost use mathlib.Core.Path.{_≡_};
 ghost use lib.ListN.{length};
 ghost use Rattle.rules.specs.Leaf.{Leaf, _leaving_};
-ghost use Rattle.network.specs.Compute.{outcome, computed};
+ghost use Rattle.network.specs.Compute.{computing, computed};
 ghost use Rattle.network.specs.Layers.{denseOf, DenseFits, gruOf, GruFits};
 
 mod layers;
@@ -20,7 +20,8 @@ pub fn dense(
     activation: Activation,
     input: &[f32],
 ) -> u32
-    ensures { λ r. ⌜ Leaf (DenseFits (length (now (output .entry))) (length (now (weights .entry))) (length (now (bias .entry))) (length (now (input .entry))))
+    ensures { λ r. ⌜ Leaf (DenseFits (length (now (output .entry))) (length (now (weights .entry))) (length (now (bias .entry)))
+        (length (now (input .entry))))
         (r leaving now (output .exit))
         (0 leaving denseOf (now (weights .entry)) (now (bias .entry)) activation (now (input .entry)))
         (5 leaving now (output .entry)) ⌝ }
@@ -59,9 +60,11 @@ pub fn gru(
     activation: Activation,
     input: &[f32],
 ) -> u32
-    ensures { λ r. ⌜ Leaf (GruFits (length (now (state .entry))) (length (now (weights .entry))) (length (now (recurrent .entry))) (length (now (bias .entry))) (length (now (input .entry))))
+    ensures { λ r. ⌜ Leaf (GruFits (length (now (state .entry))) (length (now (weights .entry))) (length (now (recurrent .entry)))
+        (length (now (bias .entry))) (length (now (input .entry))))
         (r leaving now (state .exit))
-        (0 leaving gruOf (now (weights .entry)) (now (recurrent .entry)) (now (bias .entry)) activation (now (input .entry)) (now (state .entry)))
+        (0 leaving gruOf (now (weights .entry)) (now (recurrent .entry)) (now (bias .entry)) activation (now (input .entry))
+        (now (state .entry)))
         (5 leaving now (state .entry)) ⌝ }
 {
     let n = state.len();
@@ -111,8 +114,9 @@ pub fn compute(
     model: &[u8],
     features: &[f32],
 ) -> Computed
-    ensures { λ r. ⌜ outcome r (now (gains .exit)) (now (voice .exit)) (now (vad .exit)) (now (noise .exit)) (now (denoise .exit))
-        ≡ computed (now (gains .entry)) (now (voice .entry)) (now (vad .entry)) (now (noise .entry)) (now (denoise .entry)) (now (model .entry)) (now (features .entry)) ⌝ }
+    ensures { λ r. ⌜ computing r (now (gains .exit)) (now (voice .exit)) (now (vad .exit)) (now (noise .exit)) (now (denoise .exit))
+        ≡ computed (now (gains .entry)) (now (voice .entry)) (now (vad .entry)) (now (noise .entry)) (now (denoise .entry))
+        (now (model .entry)) (now (features .entry)) ⌝ }
 {
     if gains.len() != 22 {
         return Computed::Refused(5);

@@ -7,7 +7,8 @@ ghost use Rattle.numbers.specs.Tansig.{tansig};
 ghost use Rattle.model.specs.declared.Kind.the-variants.{Dense, Gru};
 ghost use Rattle.model.specs.declared.Reading.the-variants.{Good};
 ghost use Rattle.model.specs.Model.{readOf};
-ghost use Rattle.network.specs.Compute.{denseAt, gruAt, frameOf, sixLayers, framed, At, VoiceFits, GainsFit, Lengths};
+ghost use Rattle.network.specs.Compute.{denseAt, gruAt, frameOf, sixLayers, layersInPlace};
+ghost use Rattle.network.specs.Parts.{LayerFits, VoiceFits, DenoiseFits, Lengths};
 use crate::layers;
 use model::Header;
 use model::Model;
@@ -34,7 +35,7 @@ fn join(buf: &mut [f32], first: &[f32], second: &[f32], third: &[f32])
 }
 
 fn dense(output: &mut [f32], table: &[f32; 201], bytes: &[u8], h: Header, input: &[f32])
-    requires { ⌜ (now table ≡ tansig) × At Dense h (length (now bytes)) (length (now output)) (length (now input)) ⌝ }
+    requires { ⌜ (now table ≡ tansig) × LayerFits Dense h (length (now bytes)) (length (now output)) (length (now input)) ⌝ }
     ensures { λ _. ⌜ now (output .exit) ≡ denseAt (now (bytes .entry)) h (now (input .entry)) ⌝ }
 {
     let start = h.start;
@@ -52,7 +53,7 @@ fn dense(output: &mut [f32], table: &[f32; 201], bytes: &[u8], h: Header, input:
 }
 
 fn gru(state: &mut [f32], table: &[f32; 201], bytes: &[u8], h: Header, input: &[f32])
-    requires { ⌜ (now table ≡ tansig) × At Gru h (length (now bytes)) (length (now state)) (length (now input)) ⌝ }
+    requires { ⌜ (now table ≡ tansig) × LayerFits Gru h (length (now bytes)) (length (now state)) (length (now input)) ⌝ }
     ensures { λ _. ⌜ now (state .exit) ≡ gruAt (now (bytes .entry)) h (now (input .entry)) (now (state .entry)) ⌝ }
 {
     let start = h.start;
@@ -83,8 +84,10 @@ fn gru_in(
     third: &[f32],
 )
     requires { ⌜ length (now buf) ≡ length (now first) + length (now second) + length (now third) ⌝ }
-    requires { ⌜ (now table ≡ tansig) × At Gru h (length (now bytes)) (length (now state)) (length (now first) + length (now second) + length (now third)) ⌝ }
-    ensures { λ _. ⌜ now (state .exit) ≡ gruAt (now (bytes .entry)) h (now (first .entry) ++ now (second .entry) ++ now (third .entry)) (now (state .entry)) ⌝ }
+    requires { ⌜ (now table ≡ tansig) × LayerFits Gru h (length (now bytes)) (length (now state))
+        (length (now first) + length (now second) + length (now third)) ⌝ }
+    ensures { λ _. ⌜ now (state .exit) ≡ gruAt (now (bytes .entry)) h (now (first .entry) ++ now (second .entry) ++ now (third .entry))
+        (now (state .entry)) ⌝ }
 {
     join(buf, first, second, third);
     gru(state, table, bytes, h, &buf[..]);
@@ -99,8 +102,10 @@ fn gru_over(
     second: &[f32],
     third: &[f32],
 )
-    requires { ⌜ (now table ≡ tansig) × At Gru h (length (now bytes)) (length (now state)) (length (now first) + length (now second) + length (now third)) ⌝ }
-    ensures { λ _. ⌜ now (state .exit) ≡ gruAt (now (bytes .entry)) h (now (first .entry) ++ now (second .entry) ++ now (third .entry)) (now (state .entry)) ⌝ }
+    requires { ⌜ (now table ≡ tansig) × LayerFits Gru h (length (now bytes)) (length (now state))
+        (length (now first) + length (now second) + length (now third)) ⌝ }
+    ensures { λ _. ⌜ now (state .exit) ≡ gruAt (now (bytes .entry)) h (now (first .entry) ++ now (second .entry) ++ now (third .entry))
+        (now (state .entry)) ⌝ }
 {
     let n = first.len() + second.len() + third.len();
     let mut buf = [0.0f32; 128];
@@ -117,7 +122,8 @@ fn voice_of(
     m: Model,
     features: &[f32],
 )
-    requires { ⌜ (now table ≡ tansig) × VoiceFits m (length (now bytes)) (length (now hidden)) (length (now vad)) (length (now voice)) (length (now features)) ⌝ }
+    requires { ⌜ (now table ≡ tansig) × VoiceFits m (length (now bytes)) (length (now hidden)) (length (now vad)) (length (now voice))
+        (length (now features)) ⌝ }
     ensures { λ _. ⌜ (now (hidden .exit) ≡ denseAt (now (bytes .entry)) (m .«input_dense») (now (features .entry)))
         × (now (vad .exit) ≡ gruAt (now (bytes .entry)) (m .«vad_gru») (now (hidden .exit)) (now (vad .entry)))
         × (now (voice .exit) ≡ denseAt (now (bytes .entry)) (m .«vad_output») (now (vad .exit))) ⌝ }
@@ -142,9 +148,12 @@ fn gains_of(
     vad: &[f32],
     features: &[f32],
 )
-    requires { ⌜ (now table ≡ tansig) × GainsFit m (length (now bytes)) (length (now hidden)) (length (now vad)) (length (now noise)) (length (now denoise)) (length (now gains)) (length (now features)) ⌝ }
-    ensures { λ _. ⌜ (now (noise .exit) ≡ gruAt (now (bytes .entry)) (m .«noise_gru») (now (hidden .entry) ++ now (vad .entry) ++ now (features .entry)) (now (noise .entry)))
-        × (now (denoise .exit) ≡ gruAt (now (bytes .entry)) (m .«denoise_gru») (now (vad .entry) ++ now (noise .exit) ++ now (features .entry)) (now (denoise .entry)))
+    requires { ⌜ (now table ≡ tansig) × DenoiseFits m (length (now bytes)) (length (now hidden)) (length (now vad)) (length (now noise))
+        (length (now denoise)) (length (now gains)) (length (now features)) ⌝ }
+    ensures { λ _. ⌜ (now (noise .exit) ≡ gruAt (now (bytes .entry)) (m .«noise_gru»)
+        (now (hidden .entry) ++ now (vad .entry) ++ now (features .entry)) (now (noise .entry)))
+        × (now (denoise .exit) ≡ gruAt (now (bytes .entry)) (m .«denoise_gru»)
+        (now (vad .entry) ++ now (noise .exit) ++ now (features .entry)) (now (denoise .entry)))
         × (now (gains .exit) ≡ denseAt (now (bytes .entry)) (m .«denoise_output») (now (denoise .exit))) ⌝ }
 {
     let noise_gru = m.noise_gru;
@@ -176,7 +185,8 @@ fn frame_in(
     features: &[f32],
 )
     requires { ⌜ VoiceFits m (length (now bytes)) (length (now hidden)) (length (now vad)) (length (now voice)) (length (now features)) ⌝ }
-    requires { ⌜ GainsFit m (length (now bytes)) (length (now hidden)) (length (now vad)) (length (now noise)) (length (now denoise)) (length (now gains)) (length (now features)) ⌝ }
+    requires { ⌜ DenoiseFits m (length (now bytes)) (length (now hidden)) (length (now vad)) (length (now noise)) (length (now denoise))
+        (length (now gains)) (length (now features)) ⌝ }
     ensures { λ _. ⌜ frameOf (now (gains .exit)) (now (voice .exit)) (now (vad .exit)) (now (noise .exit)) (now (denoise .exit))
         ≡ sixLayers (now (bytes .entry)) m (now (vad .entry)) (now (noise .entry)) (now (denoise .entry)) (now (features .entry)) ⌝ }
 {
@@ -207,9 +217,10 @@ pub(crate) fn frame(
     features: &[f32],
 )
     requires { ⌜ readOf (now bytes) ≡ Good m ⌝ }
-    requires { ⌜ Lengths (length (now gains)) (length (now voice)) (length (now vad)) (length (now noise)) (length (now denoise)) (length (now features)) ⌝ }
+    requires { ⌜ Lengths (length (now gains)) (length (now voice)) (length (now vad)) (length (now noise)) (length (now denoise))
+        (length (now features)) ⌝ }
     ensures { λ _. ⌜ frameOf (now (gains .exit)) (now (voice .exit)) (now (vad .exit)) (now (noise .exit)) (now (denoise .exit))
-        ≡ framed (now (bytes .entry)) m (now (vad .entry)) (now (noise .entry)) (now (denoise .entry)) (now (features .entry)) ⌝ }
+        ≡ layersInPlace (now (bytes .entry)) m (now (vad .entry)) (now (noise .entry)) (now (denoise .entry)) (now (features .entry)) ⌝ }
 {
     let n0 = m.input_dense.neurons;
     let n1 = m.vad_gru.neurons;

@@ -9,10 +9,9 @@ use Prim.Native.Nat.{ℕ}
 use lib.Ieee.{Float, nan, binary32, binary64, isNan, lt, toBits, ofBits, neg, add, sub, mul, ofInt, toUnsigned}
 use Rattle.rules.specs.F32.{f32}
 use Rattle.rules.specs.Loop.{loop}
-use Rattle.rules.specs.Tab.{tab}
 use Rattle.numbers.specs.declared.filter.Memory.{Memory}
 use Rattle.numbers.specs.Activations.{tansigIn, sigmoidIn, tansigApprox, sigmoidApprox}
-use Rattle.numbers.specs.Filter.{highPass, turn, memoryAfter, outputs}
+use Rattle.numbers.specs.Filter.{highPass, filterStep, filtered, memoryAfter, outputs}
 use Rattle.numbers.specs.Larger.{larger, smaller, clamped, rectified}
 use Rattle.numbers.specs.Narrowed.{narrowed}
 use Rattle.numbers.specs.Root.{root}
@@ -60,11 +59,11 @@ start = record { m0 = f32 0; m1 = f32 0 }
 abbrev samples : List Float
 samples = f32 0x4040_0000 ∷ f32 0x40A0_0000 ∷ f32 0x40E0_0000 ∷ []
 
-filtered :
+three-samples :
     (outputs highPass start samples ≡ (f32 0x4040_0000 ∷ f32 0x409F_9D74 ∷ f32 0x40DE_F95B ∷ []))
     × (memoryAfter highPass start samples ≡ record { m0 = f32 0xBD76_188C; m1 = f32 0x3D75_7C71 })
-unfolding outputs turn tab loop narrowed ofBits add sub mul
-filtered = (refl, refl)
+unfolding filtered filterStep loop narrowed ofBits add sub mul
+three-samples = (refl, refl)
 
 -- of 0 and -0 the left one, and the other where one is a NaN; a NaN is not brought between two numbers
 picks :

@@ -19,9 +19,10 @@ use lib.Ieee.Back.{round-whole, positive-back}
 use lib.Ieee.Digits.{size-lt, size-reaches, size-le}
 use lib.Ieee.Fits.{round-is, core, up-pos, down-pos, and-l, and-r}
 use lib.Ieee.Nearest.{closest, closest-mono, closest-same}
-use Rattle.numbers.proofs.Within.{Upto, in-table, half-up, within}
+use Rattle.numbers.proofs.UpToEight.{Upto, in-table, half-up, within}
 use mathlib.Core.List.{List}
-use Rattle.numbers.specs.Activations.{Within, magnitude, signOf, place, near, tansigIn, insideOf, entryIn, followed}
+use Rattle.numbers.specs.Activations.{magnitude, signOf, place, near, tansigIn}
+use Rattle.numbers.specs.Parts.{UpToEight, insideOf, entryIn, followed}
 use Rattle.rules.specs.F32.{f32, _⊕_, _⊖_, _⊗_}
 use Rattle.rules.proofs.Numbers.{casts}
 use Rattle.rules.proofs.Below.{at-each}
@@ -138,14 +139,14 @@ whole-part (fin false m e) h =
     (lowered-is m e (m * up e / down e) below (div-mul-le-self (m * up e) (down e)) (div-lt-iff-lt-mul (down-pos e) .0 next))
 
 -- ---- what the tests leave
-none : Within (f32 0)
+none : UpToEight (f32 0)
 unfolding ofBits
 none = lit≤ tt
 
-pub inside-within : (x : Float) → Within (insideOf x)
+pub inside-within : (x : Float) → UpToEight (insideOf x)
 inside-within x = go (lt x (f32 0x41000000)) refl (lt (neg (f32 0x41000000)) x) refl
   where
-    go : (p : Bool) → lt x (f32 0x41000000) ≡ p → (q : Bool) → lt (neg (f32 0x41000000)) x ≡ q → Within (cond p (cond q (magnitude x) (f32 0)) (f32 0))
+    go : (p : Bool) → lt x (f32 0x41000000) ≡ p → (q : Bool) → lt (neg (f32 0x41000000)) x ≡ q → UpToEight (cond p (cond q (magnitude x) (f32 0)) (f32 0))
     go true a true b = within x a b
     go true a false b = none
     go false a q b = none

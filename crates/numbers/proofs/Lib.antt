@@ -14,4 +14,4 @@ pub mod RootCorrect
 pub mod Rooted
 pub mod Special
 pub mod Squares
-pub mod Within
+pub mod UpToEight

@@ -1,20 +1,16 @@
 -- `tansig_approx` and `sigmoid_approx` of util.rs.
-use mathlib.Core.Path.{_≡_}
-use Prim.Native.Nat.{ℕ, _*_, _≤_}
-use mathlib.Core.Bool.{true, false, cond}
+use Prim.Native.Nat.{ℕ}
+use mathlib.Core.Bool.{cond}
 use mathlib.Core.List.{List}
 use lib.IntN.{pos}
-use lib.Ieee.{Float, nan, inf, fin, binary32, up, down, neg, lt, ofInt, toUnsigned}
-use Rattle.rules.specs.F32.{f32, at, _⊕_, _⊖_, _⊗_}
+use lib.Ieee.{Float, binary32, neg, lt, ofInt, toUnsigned}
+use Rattle.rules.specs.F32.{f32, one, at, _⊕_, _⊖_, _⊗_}
 use Rattle.numbers.specs.Tansig.{tansig}
-
-abbrev one : Float
-one = f32 0x3F800000
 
 abbrev half : Float
 half = f32 0x3F000000
 
-abbrev eight : Float
+abbrev pub eight : Float
 eight = f32 0x41000000
 
 -- x.floor(), as a whole number, for an x from 0 to below 2 ^ 64
@@ -54,34 +50,3 @@ tansigApprox x = tansigIn tansig x
 
 abbrev pub sigmoidApprox : Float → Float
 sigmoidApprox x = sigmoidIn tansig x
-
--- ---- for the parts of the code
-
--- neither a NaN nor an infinity, and from 0 to 8, -0 included: what `tansig_approx` looks up
-abbrev pub Within : Float → Type 0
-Within nan = ⊥
-Within (inf s) = ⊥
-Within (fin true m e) = m ≡ 0
-Within (fin false m e) = m * up e ≤ 8 * down e
-
--- if t < near { 1.0 } else { 0.0 }
-abbrev pub overshoot : Float → Float → Float
-overshoot t near = cond (lt t near) one (f32 0)
-
--- the magnitude of what passes the tests, and 0 elsewhere
-abbrev pub insideOf : Float → Float
-insideOf x = cond (lt x eight) (cond (lt (neg eight) x) (magnitude x) (f32 0)) (f32 0)
-
--- its place, as a float, and the table's entry there
-abbrev pub placeIn : Float → Float
-placeIn x = ofInt binary32 (pos (place (insideOf x)))
-
-abbrev pub entryIn : List Float → Float → Float
-entryIn table x = at table (place (insideOf x))
-
-abbrev pub endedBy : Float → Float → Float
-endedBy x inner = cond (lt x eight) (cond (lt (neg eight) x) inner (neg one)) one
-
--- from the entry y along the curve
-abbrev pub followed : Float → Float → Float
-followed x y = endedBy x (signOf x ⊗ curve y (insideOf x ⊖ f32 0x3D23D70A ⊗ placeIn x))

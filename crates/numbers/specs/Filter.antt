@@ -1,16 +1,21 @@
 -- `Biquad::filter` of util.rs, in `f64`. Every `f32` is an `f64`, so `x as f64` is x itself; `x as f32` is `narrowed`.
 use Prim.Native.Nat.{ℕ}
-use mathlib.Core.List.{List}
+use mathlib.Core.List.{List, [], _∷_, _++_}
 use lib.ListN.{length}
 use lib.Ieee.{Float, binary64, add, sub, mul}
 use Rattle.rules.specs.F32.{f32, at}
 use Rattle.rules.specs.Loop.{loop}
-use Rattle.rules.specs.Tab.{tab}
 use Rattle.numbers.specs.declared.filter.Biquad.{Biquad}
 use Rattle.numbers.specs.declared.filter.Memory.{Memory}
 use Rattle.numbers.specs.declared.filter.Filtered.{Filtered}
-use Rattle.numbers.specs.declared.filter.Turned.{Turned}
 use Rattle.numbers.specs.Narrowed.{narrowed}
+
+-- mem: [f32; 2], as the filter takes it and as a list
+abbrev pub memoryOf : List Float → Memory
+memoryOf mem = record { m0 = at mem 0; m1 = at mem 1 }
+
+abbrev pub memoryList : Memory → List Float
+memoryList mem = mem .m0 ∷ mem .m1 ∷ []
 
 -- BIQUAD_HP: a is -1.99599 and 0.99600, and b is -2.0 and 1.0
 abbrev pub highPass : Biquad
@@ -27,41 +32,34 @@ x -₆₄ y = sub binary64 x y
 abbrev _*₆₄_ : Float → Float → Float
 x *₆₄ y = mul binary64 x y
 
--- let y64 = x64 + mem[0] as f64;
--- mem[0] = (mem[1] as f64 + (b0 * x64 - a0 * y64)) as f32;
--- mem[1] = (b1 * x64 - a1 * y64) as f32;
--- *y = y64 as f32;
-unfoldable pub turn : Biquad → Memory → Float → Turned
+-- for (&x, y) in input.iter().zip(output) {
+--     let x64 = x as f64;
+--     let y64 = x64 + mem[0] as f64;
+--     mem[0] = (mem[1] as f64 + (b0 * x64 - a0 * y64)) as f32;
+--     mem[1] = (b1 * x64 - a1 * y64) as f32;
+--     *y = y64 as f32;
+-- }
+-- The loop carries mem and what it has stored of the output.
+unfoldable pub filterStep : Biquad → List Float → ℕ → Memory × List Float → Memory × List Float
 unfolding narrowed
-turn k mem x =
-    let y64 = x +₆₄ mem .m0 in
-    record {
-      memory = record {
-        m0 = narrowed (mem .m1 +₆₄ (k .b0 *₆₄ x -₆₄ k .a0 *₆₄ y64));
-        m1 = narrowed (k .b1 *₆₄ x -₆₄ k .a1 *₆₄ y64);
-      };
-      y = narrowed y64;
-    }
+filterStep k input i s =
+    let mem = s .0 in
+    let x64 = at input i in
+    let y64 = x64 +₆₄ mem .m0 in
+    let m0 = narrowed (mem .m1 +₆₄ (k .b0 *₆₄ x64 -₆₄ k .a0 *₆₄ y64)) in
+    let m1 = narrowed (k .b1 *₆₄ x64 -₆₄ k .a1 *₆₄ y64) in
+    (record { m0 = m0; m1 = m1 }, s .1 ++ (narrowed y64 ∷ []))
 
--- what sample i makes of the memories
-abbrev pub remember : Biquad → List Float → ℕ → Memory → Memory
-remember k input i mem = turn k mem (at input i) .memory
+unfoldable pub filtered : Biquad → Memory → List Float → Memory × List Float
+unfolding loop filterStep
+filtered k mem input = loop (length input) (filterStep k input) (mem, [])
 
--- the memories after the first i samples
-abbrev pub memoryAt : Biquad → Memory → List Float → ℕ → Memory
-memoryAt k mem input i = loop i (remember k input) mem
-
+-- mem and the output afterwards
 abbrev pub memoryAfter : Biquad → Memory → List Float → Memory
-memoryAfter k mem input = memoryAt k mem input (length input)
+memoryAfter k mem input = filtered k mem input .0
 
--- the output at sample i
-abbrev pub outputAt : Biquad → Memory → List Float → ℕ → Float
-outputAt k mem input i = turn k (memoryAt k mem input i) (at input i) .y
-
--- what `output` holds afterwards
-unfoldable pub outputs : Biquad → Memory → List Float → List Float
-unfolding tab
-outputs k mem input = tab (length input) (outputAt k mem input)
+abbrev pub outputs : Biquad → Memory → List Float → List Float
+outputs k mem input = filtered k mem input .1
 
 -- what the filter returns
 abbrev pub answer : ℕ → Memory → Filtered

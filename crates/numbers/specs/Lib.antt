@@ -2,5 +2,6 @@ pub mod Activations
 pub mod Filter
 pub mod Larger
 pub mod Narrowed
+pub mod Parts
 pub mod Root
 pub mod Tansig

@@ -1,8 +1,9 @@
 // The high-pass filter of util.rs. It works in `f64` and rounds what it stores.
 ghost use mathlib.Core.Path.{_≡_};
+ghost use mathlib.Core.List.{[], _∷_};
 ghost use lib.ListN.{length};
 ghost use Rattle.rules.specs.Leaf.{Leaf, _leaving_};
-ghost use Rattle.numbers.specs.Filter.{turn, memoryAfter, outputs, answer};
+ghost use Rattle.numbers.specs.Filter.{memoryAfter, outputs, answer};
 
 // The coefficients of y[n] = x[n] + b0 * x[n-1] + b1 * x[n-2] - a0 * y[n-1] - a1 * y[n-2].
 pub struct Biquad {
@@ -60,9 +61,9 @@ impl Biquad {
         }
     }
 
-    // One sample. What is fed back is `y64`, before it is rounded.
+    // The filter over one sample. What is fed back is `y64`, before it is rounded.
     fn turn(self, memory: Memory, x: f32) -> Turned
-        ensures { λ r. ⌜ r ≡ turn self memory x ⌝ }
+        ensures { λ r. ⌜ (r .memory ≡ memoryAfter self memory (x ∷ [])) × (r .y ∷ [] ≡ outputs self memory (x ∷ [])) ⌝ }
     {
         let x64 = wide(x);
         let y64 = x64 + wide(memory.m0);

@@ -9,10 +9,11 @@ ghost use Prim.Native.Nat.{_*_, _^_, _<_, _≤_};
 ghost use lib.IntN.{pos};
 ghost use lib.Ieee.{binary32, ofInt};
 ghost use lib.Ieee.Nearest.{closest};
-ghost use Rattle.numbers.specs.Narrowed.{narrowed, Narrows};
-ghost use Rattle.numbers.specs.Root.{twiceRoot, root, Spans};
+ghost use Rattle.numbers.specs.Narrowed.{narrowed};
+ghost use Rattle.numbers.specs.Root.{twiceRoot, root};
 ghost use Rattle.numbers.specs.Larger.{larger, smaller, clamped, rectified};
-ghost use Rattle.numbers.specs.Activations.{Within, magnitude, signOf, place, overshoot, insideOf, placeIn, entryIn, endedBy, followed, tansigIn, sigmoidIn, tansigApprox, sigmoidApprox};
+ghost use Rattle.numbers.specs.Activations.{magnitude, signOf, place, tansigIn, sigmoidIn, tansigApprox, sigmoidApprox};
+ghost use Rattle.numbers.specs.Parts.{UpToEight, overshoot, insideOf, placeIn, entryIn, endedBy, followed, Narrows, Spans};
 
 pub mod filter;
 pub mod table;
@@ -78,9 +79,10 @@ fn too_far(t: f32, near: f32) -> f32
     if t < near { 1.0 } else { 0.0 }
 }
 
-// The table's place nearest to x, as a float: with 2^23 added a number keeps no digits behind the point. Without a branch, so that loops over it are vectorised.
+// The table's place nearest to x, as a float: with 2^23 added a number keeps no digits behind the point. Without a branch, so that
+// loops over it are vectorised.
 fn place_of(x: f32) -> f32
-    requires { ⌜ Within x ⌝ }
+    requires { ⌜ UpToEight x ⌝ }
     ensures { λ r. ⌜ r ≡ ofInt binary32 (pos (place x)) ⌝ }
 {
     let t = 0.5 + 25.0 * x;

@@ -8,7 +8,7 @@ use lib.IntN.{pos}
 use lib.Ieee.{Float, binary32, ofInt}
 use Rattle.rules.specs.Loop.{loop}
 use Rattle.rules.specs.Tab.{tab}
-use Rattle.rules.specs.F32.{_⊕_, _⊖_, _⊗_, _⊘_, at, f32}
+use Rattle.rules.specs.F32.{_⊕_, _⊖_, _⊗_, _⊘_, at, f32, one}
 use Rattle.pitch.specs.Autocorr.{celtAutocorr}
 use Rattle.pitch.specs.Fir.{fir5}
 use Rattle.pitch.specs.Lpc.{lpcOf}
@@ -40,11 +40,11 @@ fadeStep i tmp = tmp ⊗ f32 0x3F666666
 
 unfoldable pub fade : ℕ → Float
 unfolding loop
-fade n = loop n fadeStep (f32 0x3F800000)
+fade n = loop n fadeStep one
 
 -- tmp *= 0.9; lpc_coeffs[i] *= tmp
-unfoldable pub faded : List Float → List Float
-faded lpc = tab 4 (λ i. at lpc i ⊗ fade (i + 1))
+unfoldable pub fadedLpc : List Float → List Float
+fadedLpc lpc = tab 4 (λ i. at lpc i ⊗ fade (i + 1))
 
 -- lpc_coeffs2: a zero is added
 abbrev pub withZero : List Float → List Float
@@ -53,7 +53,7 @@ withZero lpc =
     (at lpc 0 ⊕ w) ∷ (at lpc 1 ⊕ w ⊗ at lpc 0) ∷ (at lpc 2 ⊕ w ⊗ at lpc 1) ∷ (at lpc 3 ⊕ w ⊗ at lpc 2) ∷ w ⊗ at lpc 3 ∷ []
 
 unfoldable pub coefficients : List Float → List Float
-coefficients low = withZero (faded (lpcOf 4 (floored (celtAutocorr low))))
+coefficients low = withZero (fadedLpc (lpcOf 4 (floored (celtAutocorr low))))
 
 unfoldable pub downsampled : List Float → List Float
 downsampled x = fir5 (halved x) (coefficients (halved x))

@@ -3,9 +3,9 @@ use mathlib.Core.List.{List}
 use mathlib.Core.Bool.{cond}
 use Prim.Native.Nat.{ℕ, _+_, _-_, _/_}
 use lib.Ieee.{Float, neg, eq, lt}
-use lib.ListN.{length, set, replicate}
+use lib.ListN.{length, set}
 use Rattle.rules.specs.Loop.{loop, walk, Flow, go, stop, value}
-use Rattle.rules.specs.F32.{_⊕_, _⊖_, _⊗_, _⊘_, at, f32}
+use Rattle.rules.specs.F32.{_⊕_, _⊖_, _⊗_, _⊘_, at, f32, zeros}
 
 -- for j in 0..i { rr += lpc[j] * ac[i - j] }
 abbrev pub recurrenceStep : List Float → List Float → ℕ → ℕ → Float → Float
@@ -39,14 +39,14 @@ lagNext ac i s =
     state (mirror (set (s .lpc) i r) r i) (s .error ⊖ r ⊗ r ⊗ s .error)
 
 -- the loop is left once the gain is 30 dB: 0x3A83126F is 0.001
-abbrev pub lagStep : List Float → ℕ → Lpc → Flow Lpc
-lagStep ac i s =
+abbrev pub lpcStep : List Float → ℕ → Lpc → Flow Lpc
+lpcStep ac i s =
     let next = lagNext ac i s in
     cond (lt (next .error) (f32 0x3A83126F ⊗ at ac 0)) (stop next) (go next)
 
 abbrev pub lagsOf : List Float → List Float → List Float
-lagsOf lpc ac = value (walk (length lpc) (lagStep ac) (state lpc (at ac 0))) .lpc
+lagsOf lpc ac = value (walk (length lpc) (lpcStep ac) (state lpc (at ac 0))) .lpc
 
 -- the coefficients of p lags
 unfoldable pub lpcOf : ℕ → List Float → List Float
-lpcOf p ac = let none = replicate p (f32 0) in cond (eq (at ac 0) (f32 0)) none (lagsOf none ac)
+lpcOf p ac = let none = zeros p in cond (eq (at ac 0) (f32 0)) none (lagsOf none ac)

@@ -1,4 +1,5 @@
-// The arithmetic of pitch.rs. A public leaf refuses with 5, and nothing changed, exactly where its lengths do not fit; its core does the work.
+// The arithmetic of pitch.rs up to the downsampled signal; the search over lags is in `pitch_search`. A public leaf refuses with 5,
+// and nothing changed, exactly where its lengths do not fit; its core does the work.
 ghost use mathlib.Core.Path.{_≡_};
 ghost use Prim.Native.Nat.{_+_, _<_, _≤_};
 ghost use lib.Ieee.{neg};
@@ -6,13 +7,11 @@ ghost use lib.ListN.{length, take};
 ghost use Rattle.rules.specs.F32.{f32};
 ghost use Rattle.rules.specs.Leaf.{Leaf, _leaving_};
 ghost use Rattle.rules.specs.Tab.{tab};
-ghost use Rattle.pitch.specs.Best.{squares, consider, slide, best, bestOf, pitchesNumber, firstOf, secondOf, BestFits};
 ghost use Rattle.pitch.specs.Autocorr.{tailOf, addTails, celtAutocorr, AutocorrFits};
 ghost use Rattle.pitch.specs.Fir.{fir5};
-ghost use Rattle.pitch.specs.Downsample.{halvedAt, halved, flooredAt, floored, faded, coefficients, downsampled, DownsampleFits};
+ghost use Rattle.pitch.specs.Downsample.{halvedAt, halved, flooredAt, floored, fadedLpc, coefficients, downsampled, DownsampleFits};
 ghost use Rattle.pitch.specs.Lpc.{recurrence, mirror, state, lagNext, lagsOf, lpcOf};
 ghost use Rattle.pitch.specs.Xcorr.{corr, wholeFours, lagOf, pitchXcorr, XcorrFits};
-ghost use Rattle.pitch.specs.Inner.{innerProd, numberOf, sumOf, InnerFits};
 
 // The filter of `fir5_in_place`, for five coefficients.
 fn fir5_core(xs: &mut [f32], num: &[f32])
@@ -53,71 +52,6 @@ pub fn fir5_in_place(xs: &mut [f32], num: &[f32]) -> u32
     }
     fir5_core(xs, num);
     0
-}
-
-// The sum of `inner_prod`, for an n that fits.
-fn inner_prod_core(xs: &[f32], ys: &[f32], n: usize) -> f32
-    requires { ⌜ InnerFits (length (now xs)) (length (now ys)) n ⌝ }
-    ensures { λ r. ⌜ r ≡ innerProd (now (xs .entry)) (now (ys .entry)) n ⌝ }
-{
-    let mut sum0 = 0.0f32;
-    let mut sum1 = 0.0f32;
-    let mut sum2 = 0.0f32;
-    let mut sum3 = 0.0f32;
-    for k in 0..n / 4 {
-        let i = 4 * k;
-        sum0 = sum0 + xs[i] * ys[i];
-        sum1 = sum1 + xs[i + 1] * ys[i + 1];
-        sum2 = sum2 + xs[i + 2] * ys[i + 2];
-        sum3 = sum3 + xs[i + 3] * ys[i + 3];
-    }
-    let mut sum = sum0 + sum1 + sum2 + sum3;
-    for j in n - n % 4..n {
-        sum = sum + xs[j] * ys[j];
-    }
-    sum
-}
-
-// The answer of `inner_prod`: the sum, or the number of the refusal.
-pub enum Product {
-    Sum(f32),
-    Refused(u32),
-}
-
-impl Product {
-    // 0, or the number of the refusal.
-    pub fn number(self) -> u32
-        ensures { λ r. ⌜ r ≡ numberOf self ⌝ }
-    {
-        match self {
-            Product::Sum(_) => 0,
-            Product::Refused(number) => number,
-        }
-    }
-
-    // The sum, 0 where it was refused.
-    pub fn sum(self) -> f32
-        ensures { λ r. ⌜ r ≡ sumOf self ⌝ }
-    {
-        match self {
-            Product::Sum(sum) => sum,
-            Product::Refused(_) => 0.0,
-        }
-    }
-}
-
-// The inner product of xs[..n] and ys[..n].
-pub fn inner_prod(xs: &[f32], ys: &[f32], n: usize) -> Product
-    ensures { λ r. ⌜ Leaf (InnerFits (length (now (xs .entry))) (length (now (ys .entry))) n)
-        r (Product.Sum (innerProd (now (xs .entry)) (now (ys .entry)) n)) (Product.Refused 5) ⌝ }
-{
-    if xs.len() < n {
-        return Product::Refused(5);
-    }
-    if ys.len() < n {
-        return Product::Refused(5);
-    }
-    Product::Sum(inner_prod_core(xs, ys, n))
 }
 
 // The sum of lpc[j] * ac[i - j] over the j below i.
@@ -257,7 +191,8 @@ fn xcorr_fours(xs: &[f32], ys: &[f32], xcorr: &mut [f32])
 // The lags that are left.
 fn xcorr_rest(xs: &[f32], ys: &[f32], xcorr: &mut [f32])
     requires { ⌜ XcorrFits (length (now xs)) (length (now ys)) (length (now xcorr)) ⌝ }
-    requires { ⌜ take (wholeFours (length (now xcorr))) (now xcorr) ≡ tab (wholeFours (length (now xcorr))) (lagOf (now xs) (now ys) (length (now xcorr))) ⌝ }
+    requires { ⌜ take (wholeFours (length (now xcorr))) (now xcorr)
+        ≡ tab (wholeFours (length (now xcorr))) (lagOf (now xs) (now ys) (length (now xcorr))) ⌝ }
     ensures { λ _. ⌜ now (xcorr .exit) ≡ pitchXcorr (now (xs .entry)) (now (ys .entry)) (length (now (xcorr .entry))) ⌝ }
 {
     let n = xcorr.len();
@@ -297,142 +232,6 @@ pub fn pitch_xcorr(xs: &[f32], ys: &[f32], xcorr: &mut [f32]) -> u32
     }
     pitch_xcorr_core(xs, ys, xcorr);
     0
-}
-
-// 1.0 and the squares of ys[..len].
-fn norm(ys: &[f32], len: usize) -> f32
-    requires { ⌜ len ≤ length (now ys) ⌝ }
-    ensures { λ r. ⌜ r ≡ squares (now (ys .entry)) len ⌝ }
-{
-    let mut sum = 1.0f32;
-    for i in 0..len {
-        sum = sum + ys[i] * ys[i];
-    }
-    sum
-}
-
-// What `find_best_pitch` carries from lag to lag: the best lag has 1, the second best 2.
-struct Best {
-    num1: f32,
-    num2: f32,
-    den1: f32,
-    den2: f32,
-    pitch1: usize,
-    pitch2: usize,
-    norm: f32,
-}
-
-// The two best, with lag i among them.
-fn consider_lag(b: Best, corr: f32, i: usize) -> Best
-    ensures { λ r. ⌜ r ≡ consider corr i b ⌝ }
-{
-    if corr > 0.0 {
-        let num = corr * corr;
-        if num * b.den2 > b.num2 * b.norm {
-            if num * b.den1 > b.num1 * b.norm {
-                return Best {
-                    num1: num,
-                    num2: b.num1,
-                    den1: b.norm,
-                    den2: b.den1,
-                    pitch1: i,
-                    pitch2: b.pitch1,
-                    norm: b.norm,
-                };
-            }
-            return Best {
-                num1: b.num1,
-                num2: num,
-                den1: b.den1,
-                den2: b.norm,
-                pitch1: b.pitch1,
-                pitch2: i,
-                norm: b.norm,
-            };
-        }
-    }
-    b
-}
-
-// The window of the norm moves on from lag i.
-fn slide_norm(b: Best, ys: &[f32], i: usize, len: usize) -> Best
-    requires { ⌜ i + len < length (now ys) ⌝ }
-    ensures { λ r. ⌜ r ≡ slide (now (ys .entry)) len i b ⌝ }
-{
-    let mut next = b;
-    next.norm = numbers::max(b.norm + (ys[i + len] * ys[i + len] - ys[i] * ys[i]), 1.0);
-    next
-}
-
-fn find_best_pitch_core(xcorr: &[f32], ys: &[f32], len: usize) -> Best
-    requires { ⌜ BestFits (length (now xcorr)) (length (now ys)) len ⌝ }
-    ensures { λ r. ⌜ r ≡ best (now (xcorr .entry)) (now (ys .entry)) len ⌝ }
-{
-    let mut b = Best {
-        num1: -1.0,
-        num2: -1.0,
-        den1: 0.0,
-        den2: 0.0,
-        pitch1: 0,
-        pitch2: 1,
-        norm: norm(ys, len),
-    };
-    for i in 0..xcorr.len() {
-        b = slide_norm(consider_lag(b, xcorr[i], i), ys, i, len);
-    }
-    b
-}
-
-// The answer of `find_best_pitch`: the best lag and the second best, or the number of the refusal.
-pub enum Pitches {
-    Best(usize, usize),
-    Refused(u32),
-}
-
-impl Pitches {
-    // 0, or the number of the refusal.
-    pub fn number(self) -> u32
-        ensures { λ r. ⌜ r ≡ pitchesNumber self ⌝ }
-    {
-        match self {
-            Pitches::Best(_, _) => 0,
-            Pitches::Refused(number) => number,
-        }
-    }
-
-    // The best lag and the second best, 0 where they were refused.
-    pub fn first(self) -> usize
-        ensures { λ r. ⌜ r ≡ firstOf self ⌝ }
-    {
-        match self {
-            Pitches::Best(first, _) => first,
-            Pitches::Refused(_) => 0,
-        }
-    }
-
-    pub fn second(self) -> usize
-        ensures { λ r. ⌜ r ≡ secondOf self ⌝ }
-    {
-        match self {
-            Pitches::Best(_, second) => second,
-            Pitches::Refused(_) => 0,
-        }
-    }
-}
-
-// The lags with the largest and the second largest normalised correlation.
-pub fn find_best_pitch(xcorr: &[f32], ys: &[f32], len: usize) -> Pitches
-    ensures { λ r. ⌜ Leaf (BestFits (length (now (xcorr .entry))) (length (now (ys .entry))) len)
-        r (bestOf (now (xcorr .entry)) (now (ys .entry)) len) (Pitches.Refused 5) ⌝ }
-{
-    if ys.len() < len {
-        return Pitches::Refused(5);
-    }
-    if ys.len() - len < xcorr.len() {
-        return Pitches::Refused(5);
-    }
-    let b = find_best_pitch_core(xcorr, ys, len);
-    Pitches::Best(b.pitch1, b.pitch2)
 }
 
 // The products at lag k that `pitch_xcorr` leaves out: those from `from` on.
@@ -526,7 +325,7 @@ fn floor(ac: &mut [f32])
 // Each coefficient times one power of 0.9 more.
 fn fade_coefficients(lpc: &mut [f32])
     requires { ⌜ length (now lpc) ≡ 4 ⌝ }
-    ensures { λ _. ⌜ now (lpc .exit) ≡ faded (now (lpc .entry)) ⌝ }
+    ensures { λ _. ⌜ now (lpc .exit) ≡ fadedLpc (now (lpc .entry)) ⌝ }
 {
     let mut tmp = 1.0f32;
     for i in 0..4 {

@@ -43,6 +43,11 @@ pub mod probe {
         layer.compute(state, input)
     }
 
+    /// `SubMatrix::mul_add`.
+    pub fn mul_add(data: &[u8], stride: usize, offset: usize, output: &mut [f32], input: &[f32]) {
+        super::SubMatrix { data: super::to_i8(data), stride, offset }.mul_add(output, input)
+    }
+
     /// A layer as the text read it.
     pub struct Layer<'a> {
         pub inputs: usize,

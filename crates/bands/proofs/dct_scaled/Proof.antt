@@ -7,7 +7,7 @@ use lib.Ieee.Compare.{differs-from-itself}
 use borrow.Author.Needs.{needs}
 use Rattle.numbers.specs.Narrowed.{narrowed}
 use Rattle.numbers.proofs.NoNan.{real-of}
-use Rattle.bands.specs.Scale.{scale}
+use Rattle.bands.specs.Scale.{dctScale}
 use Rattle.bands.specs.Dct.{dctScaled}
 use Rattle.bands.proofs.Scale.{scale-is}
 use Rattle.bands.proofs.dct_scaled.Statement.{statement}

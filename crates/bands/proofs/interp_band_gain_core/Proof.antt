@@ -6,7 +6,8 @@ use denote.Ref.{now}
 use lib.ListN.{length}
 use Rattle.rules.specs.Loop.{loop}
 use Rattle.rules.proofs.Loops.{turns, begin, more, ended}
-use Rattle.bands.specs.Bands.{edges, zeros, gainBand, bandGain}
+use Rattle.rules.specs.F32.{zeros}
+use Rattle.bands.specs.Bands.{edges, gainBand, bandGain}
 use Rattle.bands.proofs.Shares.{zeros-of}
 use Rattle.bands.proofs.interp_band_gain_core.Statement.{statement}
 use Rattle.bands.proofs.interp_band_gain_core.Tie as tie

@@ -1,4 +1,4 @@
--- `desk::call1` meets its contract: the gate turns it away, or the side's share is lent to `frame::first`. Assumes nothing.
+-- `desk::call1` meets its contract: the gate turns it away, or the side's share is lent to `frame::call1`. Assumes nothing.
 use borrow.Author.Needs.{needs}
 use Rattle.rules.specs.Place.{get, put}
 use Rattle.desk.proofs.Serve.{turned-away, served}
@@ -11,12 +11,13 @@ call1-spec =
     tie.close
     (tie.spec
     (λ c κs. search needs)  -- admit-requires
+    (λ c κs. search needs)  -- turned-away-requires
     (λ c. search turned-away)  -- returns
-    (λ c. search needs)  -- mul-first
-    (λ c. search needs)  -- sub-first
-    (λ c. search needs)  -- part-first-start
-    (λ c. search needs)  -- part-first-end
-    (λ c κs. search needs)  -- first-requires
+    (λ c. search needs)  -- mul-call1
+    (λ c. search needs)  -- sub-call1
+    (λ c. search needs)  -- part-call1-start
+    (λ c. search needs)  -- part-call1-end
+    (λ c κs. search needs)  -- call1-requires
     (λ c κs. search needs)  -- told-requires
     (λ c. search needs)  -- same-length
     (λ c. search needs)  -- same-length-2

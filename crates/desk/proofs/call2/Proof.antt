@@ -1,4 +1,4 @@
--- `desk::call2` meets its contract: the gate turns it away, or the side's share is lent to `frame::second`. Assumes nothing.
+-- `desk::call2` meets its contract: the gate turns it away, or the side's share is lent to `frame::call2`. Assumes nothing.
 use borrow.Author.Needs.{needs}
 use Rattle.rules.specs.Place.{get, put}
 use Rattle.desk.proofs.Serve.{turned-away, served}
@@ -11,12 +11,13 @@ call2-spec =
     tie.close
     (tie.spec
     (λ c κs. search needs)  -- admit-requires
+    (λ c κs. search needs)  -- turned-away-requires
     (λ c. search turned-away)  -- returns
-    (λ c. search needs)  -- mul-second
-    (λ c. search needs)  -- sub-second
-    (λ c. search needs)  -- part-second-start
-    (λ c. search needs)  -- part-second-end
-    (λ c κs. search needs)  -- second-requires
+    (λ c. search needs)  -- mul-call2
+    (λ c. search needs)  -- sub-call2
+    (λ c. search needs)  -- part-call2-start
+    (λ c. search needs)  -- part-call2-end
+    (λ c κs. search needs)  -- call2-requires
     (λ c κs. search needs)  -- told-requires
     (λ c. search needs)  -- same-length
     (λ c. search needs)  -- same-length-2

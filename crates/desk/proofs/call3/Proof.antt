@@ -1,4 +1,4 @@
--- `desk::call3` meets its contract: the gate turns it away, or the side's share is lent to `frame::third`. Assumes nothing.
+-- `desk::call3` meets its contract: the gate turns it away, or the side's share is lent to `frame::call3`. Assumes nothing.
 use borrow.Author.Needs.{needs}
 use Rattle.rules.specs.Place.{get, put}
 use Rattle.desk.proofs.Serve.{turned-away, served}
@@ -11,12 +11,13 @@ call3-spec =
     tie.close
     (tie.spec
     (λ c κs. search needs)  -- admit-requires
+    (λ c κs. search needs)  -- turned-away-requires
     (λ c. search turned-away)  -- returns
-    (λ c. search needs)  -- mul-third
-    (λ c. search needs)  -- sub-third
-    (λ c. search needs)  -- part-third-start
-    (λ c. search needs)  -- part-third-end
-    (λ c κs. search needs)  -- third-requires
+    (λ c. search needs)  -- mul-call3
+    (λ c. search needs)  -- sub-call3
+    (λ c. search needs)  -- part-call3-start
+    (λ c. search needs)  -- part-call3-end
+    (λ c κs. search needs)  -- call3-requires
     (λ c κs. search needs)  -- told-requires
     (λ c. search needs)  -- same-length
     (λ c. search needs)  -- same-length-2

@@ -1,4 +1,4 @@
--- `desk::call4` meets its contract: the gate turns it away, or the side's share is lent to `frame::fourth`. Assumes nothing.
+-- `desk::call4` meets its contract: the gate turns it away, or the side's share is lent to `frame::call4`. Assumes nothing.
 use borrow.Author.Needs.{needs}
 use Rattle.rules.specs.Place.{get, put}
 use Rattle.desk.proofs.Serve.{turned-away, served}
@@ -11,12 +11,13 @@ call4-spec =
     tie.close
     (tie.spec
     (λ c κs. search needs)  -- admit-requires
+    (λ c κs. search needs)  -- turned-away-requires
     (λ c. search turned-away)  -- returns
-    (λ c. search needs)  -- mul-fourth
-    (λ c. search needs)  -- sub-fourth
-    (λ c. search needs)  -- part-fourth-start
-    (λ c. search needs)  -- part-fourth-end
-    (λ c κs. search needs)  -- fourth-requires
+    (λ c. search needs)  -- mul-call4
+    (λ c. search needs)  -- sub-call4
+    (λ c. search needs)  -- part-call4-start
+    (λ c. search needs)  -- part-call4-end
+    (λ c κs. search needs)  -- call4-requires
     (λ c κs. search needs)  -- told-requires
     (λ c. search needs)  -- same-length
     (λ c. search needs)  -- same-length-2

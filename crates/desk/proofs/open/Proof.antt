@@ -11,6 +11,7 @@ open-spec =
     tie.close
     (tie.spec
     (λ c κs. search needs)  -- admit-requires
+    (λ c κs. search needs)  -- turned-away-requires
     (λ c. search turned-away)  -- returns
     (λ c κs. search needs)  -- read-requires
     (λ c κs. search needs)  -- opened-requires

@@ -12,5 +12,5 @@ told-spec =
     (λ c. search (tests, answered-no (c .before .passed .ensures) (c .if1 .taken)))  -- returns
     (λ c κs. search needs)  -- next-due-requires
     (λ c κs. search needs)  -- next-index-requires
-    (λ c κs. search needs)  -- bench-of-requires
-    (λ c. search (tests, answered-yes (c .before .before .before .before .passed .ensures) (c .before .before .before .if1 .left), c .before .before .next-due .ensures, c .before .next-index .ensures, c .bench-of .ensures)))  -- returns-2
+    (λ c κs. search needs)  -- record-of-requires
+    (λ c. search (tests, answered-yes (c .before .before .before .before .passed .ensures) (c .before .before .before .if1 .left), c .before .before .next-due .ensures, c .before .next-index .ensures, c .record-of .ensures)))  -- returns-2

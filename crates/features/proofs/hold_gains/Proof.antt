@@ -7,13 +7,13 @@ use Rattle.rules.specs.F32.{at}
 use Rattle.rules.specs.Leaf.{done, refused}
 use Rattle.rules.proofs.Leaves.{leave-both}
 use Rattle.rules.proofs.Filling.{Filling, fills, filling-more, filling-ended, filling-ahead}
-use Rattle.features.specs.Gains.{raised, gained}
+use Rattle.features.specs.Gains.{atLeast, gained}
 use Rattle.features.proofs.hold_gains.Statement.{statement}
 use Rattle.features.proofs.hold_gains.Tie as tie
 
 abbrev Inv-loop : tie.InvT-loop
 Inv-loop g₀ last₀ i₀ g last i =
-    (i ≤ 22) × Filling (λ k. raised (at g₀ k) (at last₀ k)) g₀ i g × Filling (λ k. raised (at g₀ k) (at last₀ k)) last₀ i last
+    (i ≤ 22) × Filling (λ k. atLeast (at g₀ k) (at last₀ k)) g₀ i g × Filling (λ k. atLeast (at g₀ k) (at last₀ k)) last₀ i last
 
 abbrev μ-loop : tie.MeasureT-loop
 μ-loop g₀ last₀ i₀ g last i = 22 - i

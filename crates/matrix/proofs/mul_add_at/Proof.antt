@@ -55,7 +55,7 @@ module _ {M : Type 1} (𝓤 : URA M) (H : Heap 𝓤) (𝓜 : Model 𝓤 H) (𝓖
     Made h = (h .data ≡ x) × (h .stride ≡ m) × (h .offset ≡ n)
 
     abbrev Said : SubMatrix → ℕ → List Float → Type 0
-    Said h r ws = MulAdd (now (h .data)) (h .stride) (h .offset) (now z) (now y) r ws
+    Said h r ws = MulAdd (now y) (now (h .data)) (h .stride) (h .offset) (now z) r ws
 
     -- what the slices own
     abbrev Weights : Fml

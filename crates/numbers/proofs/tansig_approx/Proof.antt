@@ -2,7 +2,7 @@
 use mathlib.Core.Path.{_≡_}
 use native.Mathlib.Omega.{arith}
 use borrow.Author.Needs.{needs}
-use Rattle.numbers.specs.Activations.{placeIn}
+use Rattle.numbers.specs.Parts.{placeIn}
 use Rattle.numbers.proofs.Floors.{inside-within, ends, listed, castable, not-below, number-is}
 use Rattle.numbers.proofs.tansig_approx.Statement.{statement}
 use Rattle.numbers.proofs.tansig_approx.Tie as tie

@@ -10,7 +10,7 @@ use Rattle.rules.specs.F32.{at, _⊗_}
 use Rattle.rules.specs.Tab.{tab}
 use Rattle.rules.proofs.Loops.{turns, begin, more}
 use Rattle.rules.proofs.Tabs.{tab-none, tab-more, tab-still, tab-done}
-use Rattle.pitch.specs.Downsample.{fade, fadeStep, faded}
+use Rattle.pitch.specs.Downsample.{fade, fadeStep, fadedLpc}
 use Rattle.pitch.proofs.fade_coefficients.Statement.{statement}
 use Rattle.pitch.proofs.fade_coefficients.Tie as tie
 
@@ -31,7 +31,7 @@ again c =
     (omega arith, l .inv .1, simp length-set (l .inv .2), next, tab-more _ _ _ _ _ (l .inv .4) (rw (ahead, ← next)) (omega arith))
 
 returns : tie.Need-returns Inv-loop μ-loop
-unfolding faded
+unfolding fadedLpc
 returns c = let l = c .before .loop in l .inv .4 ∙ tab-done _ _ _ 4 (omega arith) (omega arith)
 
 holds : tie.Need-loop-holds Inv-loop μ-loop

@@ -7,11 +7,11 @@ use lib.Ieee.{Float}
 use lib.ListN.{length}
 use Rattle.pitch.specs.Autocorr.{celtAutocorr}
 use Rattle.pitch.specs.Lpc.{lpcOf}
-use Rattle.pitch.specs.Downsample.{floored, faded, withZero, coefficients}
+use Rattle.pitch.specs.Downsample.{floored, fadedLpc, withZero, coefficients}
 use Rattle.pitch.proofs.flatten_in.Statement.{statement}
 use Rattle.pitch.proofs.flatten_in.Tie as tie
 
-in-turn : (low : List Float) (n : ℕ) {ac ac′ c c′ : List Float} → n ≡ 4 → ac ≡ celtAutocorr low → ac′ ≡ floored ac → c ≡ lpcOf n ac′ → c′ ≡ faded c
+in-turn : (low : List Float) (n : ℕ) {ac ac′ c c′ : List Float} → n ≡ 4 → ac ≡ celtAutocorr low → ac′ ≡ floored ac → c ≡ lpcOf n ac′ → c′ ≡ fadedLpc c
     → withZero c′ ≡ coefficients low
 unfolding coefficients
 in-turn low n four a f l d = rw (d, l, f, a, four)

@@ -9,18 +9,20 @@ use lib.Ieee.{Float}
 use Rattle.rules.specs.Leaf.{done, refused}
 use Rattle.rules.proofs.Stores.{all-stored}
 use Rattle.numbers.proofs.Outputs.{filters}
-use Rattle.export.specs.OfNumbers.{FilterFits, biquadOf, memoryOf}
+use Rattle.numbers.specs.Filter.{memoryOf, memoryList}
+use Rattle.export.specs.OfNumbers.{BiquadFits, biquadOf}
 use Rattle.export.proofs.of_numbers.tuppence_filter.Statement.{statement}
 use Rattle.export.proofs.of_numbers.tuppence_filter.Tie as tie
 
 returns-4 : tie.Need-returns-4
 returns-4 c =
-    let a = c .before .before .before .before .before .before .before .before .before .before .before .before .before .before .before .before .before .args in
-    let fits : FilterFits (length (now (a .output))) (length (now (a .memory))) (length (now (a .coefficients))) (length (now (a .input))) =
+    let called = c .before .before in
+    let a = called .before .before .before .before .before .before .before .before .before .before .before .before .before .before .before .args in
+    let fits : BiquadFits (length (now (a .output))) (length (now (a .memory))) (length (now (a .coefficients))) (length (now (a .input))) =
     record { memories = omega arith; four = omega arith; same = omega arith } in
-    let m = c .before .before .filter .result .memory in
-    let f = filters (biquadOf (now (a .coefficients))) (memoryOf (now (a .memory))) (now (a .input)) (c .before .before .filter .ensures) (fits .same) in
-    done fits (rw (all-stored (now (a .memory)) (m .m0 ∷ m .m1 ∷ []) (fits .memories), f .0, f .1))
+    let m = called .filter .result .memory in
+    let f = filters (biquadOf (now (a .coefficients))) (memoryOf (now (a .memory))) (now (a .input)) (called .filter .ensures) (fits .same) in
+    done fits (rw (all-stored (now (a .memory)) (memoryList m) (fits .memories), f .0, f .1))
 
 pub tuppence-filter-spec : {M : Type 1} → statement M
 tuppence-filter-spec =

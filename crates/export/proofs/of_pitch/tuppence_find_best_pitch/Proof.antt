@@ -8,7 +8,7 @@ use denote.Ref.{now}
 use lib.ListN.{length, set, length-set}
 use Rattle.rules.specs.Leaf.{done, refused}
 use Rattle.rules.proofs.Leaves.{leaves}
-use Rattle.pitch.specs.Best.{pitchesNumber, firstOf, secondOf}
+use Rattle.pitch_search.specs.Best.{pitchesNumber, firstOf, secondOf}
 use Rattle.export.proofs.Answers.{turned-down, taken-up}
 use Rattle.export.proofs.of_pitch.tuppence_find_best_pitch.Statement.{statement}
 use Rattle.export.proofs.of_pitch.tuppence_find_best_pitch.Tie as tie

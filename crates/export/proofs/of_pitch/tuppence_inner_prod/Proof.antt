@@ -8,7 +8,7 @@ use lib.Ieee.{Float}
 use lib.ListN.{length, set}
 use Rattle.rules.specs.Leaf.{done, refused}
 use Rattle.rules.proofs.Leaves.{leaves}
-use Rattle.pitch.specs.Inner.{numberOf, sumOf}
+use Rattle.pitch_search.specs.Inner.{productNumber, sumOf}
 use Rattle.export.proofs.Answers.{turned-down, taken-up}
 use Rattle.export.proofs.of_pitch.tuppence_inner_prod.Statement.{statement}
 use Rattle.export.proofs.of_pitch.tuppence_inner_prod.Tie as tie
@@ -21,13 +21,13 @@ stored (x ∷ y ∷ xs) h e = absurd (omega arith)
 returns-2 : tie.Need-returns-2
 returns-2 c =
     let number = c .before .number .ensures in
-    let t = turned-down numberOf (c .before .before .inner-prod .ensures) refl (λ z. c .if2 .taken (number ∙ z)) in
+    let t = turned-down productNumber (c .before .before .inner-prod .ensures) refl (λ z. c .if2 .taken (number ∙ z)) in
     refused (λ fits. t .0 (fits .inner)) (rw (number ∙ t .1))
 
 returns-3 : tie.Need-returns-3
 returns-3 c =
     let asked = c .before .before in
-    let t = taken-up numberOf (asked .before .inner-prod .ensures) (λ z. omega arith) (sym (asked .number .ensures) ∙ c .before .if2 .left) in
+    let t = taken-up productNumber (asked .before .inner-prod .ensures) (λ z. omega arith) (sym (asked .number .ensures) ∙ c .before .if2 .left) in
     let sum = now (asked .before .before .before .before .before .before .args .sum) in
     let one : length sum ≡ 1 = omega arith in
     done (record { one = one; inner = t .0 }) (leaves (stored sum one (c .sum .ensures ∙ ap sumOf (t .1))))

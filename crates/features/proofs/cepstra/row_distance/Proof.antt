@@ -3,12 +3,12 @@ use mathlib.Core.Path.{_≡_}
 use Prim.Native.Nat.{_≤_, _-_}
 use Rattle.rules.specs.Loop.{loop}
 use Rattle.rules.proofs.Loops.{turns}
-use Rattle.features.specs.Cepstra.{squareStep, distance}
+use Rattle.features.specs.Cepstra.{distStep, distance}
 use Rattle.features.proofs.cepstra.row_distance.Statement.{statement}
 use Rattle.features.proofs.cepstra.row_distance.Tie as tie
 
 abbrev Inv-loop : tie.InvT-loop
-Inv-loop mem i j dist₀ k₀ dist k = (k ≤ 22) × (dist ≡ loop k (squareStep mem i j) dist₀)
+Inv-loop mem i j dist₀ k₀ dist k = (k ≤ 22) × (dist ≡ loop k (distStep mem i j) dist₀)
 
 abbrev μ-loop : tie.MeasureT-loop
 μ-loop mem i j dist₀ k₀ dist k = 22 - k

@@ -9,7 +9,7 @@ use lib.ListN.{length}
 use Rattle.rules.specs.F32.{part}
 use Rattle.rules.specs.Place.{put}
 use Rattle.features.specs.Cepstra.{row, cepstrum}
-use Rattle.features.specs.Features.{pitchFeatures, remembered, laid, featuresOf}
+use Rattle.features.specs.Features.{pitchFeatures, withCepstrum, laid, featuresOf}
 use Rattle.features.proofs.Lengths.{length-pitch, length-cepstrum}
 use Rattle.features.proofs.Places.{place, ceps-read, ceps-stays, pitch-stays}
 use Rattle.features.proofs.heard.fill_features.Statement.{statement}
@@ -24,12 +24,12 @@ together : (l pitch ceps new out exp : List Float) (lag : Float) (logs mem : Lis
     → ceps ≡ cepstrum logs
     → new ≡ put (row index) mem (part 0 22 (plain l pitch ceps))
     → out ≡ laid (part 6 22 (plain l pitch ceps)) (part 34 41 (plain l pitch ceps)) new index
-    → (out ≡ featuresOf exp lag logs mem index) × (new ≡ remembered mem index logs)
-unfolding featuresOf remembered
+    → (out ≡ featuresOf exp lag logs mem index) × (new ≡ withCepstrum logs mem index)
+unfolding featuresOf withCepstrum
 together l pitch ceps new out exp lag logs mem index all p q n o =
     let seven : length pitch ≡ 7 = rw p (length-pitch exp lag) in
     let bands : length ceps ≡ 22 = rw q (length-cepstrum logs) in
-    let new-is : new ≡ remembered mem index logs = n ∙ rw (ceps-read l pitch ceps all seven bands, q) in
+    let new-is : new ≡ withCepstrum logs mem index = n ∙ rw (ceps-read l pitch ceps all seven bands, q) in
     (o ∙ rw (ceps-stays l pitch ceps all seven bands, pitch-stays l pitch ceps all seven bands, p, q, new-is), new-is)
 
 returns : tie.Need-returns

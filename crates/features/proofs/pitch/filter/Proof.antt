@@ -10,7 +10,7 @@ use Rattle.features.proofs.pitch.filter.Statement.{statement}
 use Rattle.features.proofs.pitch.filter.Tie as tie
 
 together : (x p gains exp ex ep r rf y out : List Float)
-    → r ≡ pitchGains exp gains ex ep → rf ≡ bandGain r → y ≡ pitchAdded x p rf → out ≡ restored y ex → out ≡ pitchFiltered x p gains exp ex ep
+    → r ≡ pitchGains gains exp ex ep → rf ≡ bandGain r → y ≡ pitchAdded x p rf → out ≡ restored y ex → out ≡ pitchFiltered x p gains exp ex ep
 unfolding pitchFiltered
 together x p gains exp ex ep r rf y out a b c d = cc
 

@@ -8,7 +8,7 @@ use Rattle.features.proofs.pitch.gains_of.Statement.{statement}
 use Rattle.features.proofs.pitch.gains_of.Tie as tie
 
 abbrev Inv-loop : tie.InvT-loop
-Inv-loop r₀ exp gains ex ep i₀ r i = (i ≤ 22) × Filling (λ k. pitchGain (at exp k) (at gains k) (at ex k) (at ep k)) r₀ i r
+Inv-loop r₀ exp gains ex ep i₀ r i = (i ≤ 22) × Filling (λ k. pitchGain (at gains k) (at exp k) (at ex k) (at ep k)) r₀ i r
 
 abbrev μ-loop : tie.MeasureT-loop
 μ-loop r₀ exp gains ex ep i₀ r i = 22 - i

@@ -1,16 +1,14 @@
 -- `frame::heard::hear_in` meets its contract: what each call leaves, in a row. Assumes nothing.
-use mathlib.Core.Path.{_≡_, ap₂, _∙_}
+use mathlib.Core.Path.{sym, ap₂, _∙_}
 use mathlib.Core.List.{List}
 use native.Mathlib.Omega.{arith}
 use borrow.Author.Needs.{needs}
 use denote.Ref.{now}
-use lib.ListN.{length, take, drop}
 use lib.Ieee.{Float}
 use Rattle.rules.specs.Place.{get}
 use Rattle.rules.proofs.Called.{left as fitted}
-use Rattle.rules.proofs.Places.{length-get}
-use Rattle.frame.specs.Share.{keptEx}
 use Rattle.frame.specs.Heard.{spokenFrom}
+use Rattle.frame.proofs.Sizes.{ex-size}
 use Rattle.frame.proofs.heard.hear_in.Statement.{statement}
 use Rattle.frame.proofs.heard.hear_in.Tie as tie
 
@@ -21,8 +19,8 @@ speak-requires c κs =
     let k = x .before .before .before .before .before in
     let start = k .before .before .before .before .before .before .before .before .before .before .before .before in
     let pre = start .pre in
-    let size = length-get keptEx (now (start .args .share)) (omega (arith, pre)) in
-    (omega (arith, pre, x .transform .kept), (pre .0 .1, fitted (k .copy .ensures) (omega (arith, pre, size))))
+    let ex = fitted (k .copy .ensures) (pre .1 .1 ∙ sym (ex-size (now (start .args .share)) (pre .0 .0))) in
+    (omega (arith, pre, x .transform .kept), (pre .0 .1, ex))
 
 returns : tie.Need-returns
 returns c m good =

@@ -1,15 +1,12 @@
 -- `frame::heard::listen` meets its contract. Assumes nothing.
 use mathlib.Core.Path.{_≡_, sym, _∙_}
 use mathlib.Core.List.{[], _∷_}
-use native.Mathlib.Omega.{arith}
 use borrow.Author.Needs.{needs}
 use denote.Ref.{now}
-use lib.ListN.{length}
 use Rattle.rules.specs.Place.{get}
 use Rattle.rules.proofs.Called.{left as fitted}
 use Rattle.rules.proofs.Leaves.{fitting}
-use Rattle.rules.proofs.Places.{length-get}
-use Rattle.frame.specs.Share.{keptX, keptEx}
+use Rattle.frame.proofs.Sizes.{x-size, ex-size}
 use Rattle.frame.proofs.Sounded.{is-silent, is-heard}
 use Rattle.frame.proofs.heard.listen.Statement.{statement}
 use Rattle.frame.proofs.heard.listen.Tie as tie
@@ -19,10 +16,11 @@ unfolding get
 returns c m good =
     let k = c .before .before .before .before in
     let l = k .before .before .before .before in
-    let a = l .before .before .before .before .before .before .before .before .args in
+    let start = l .before .before .before .before .before .before .before .before in
+    let a = start .args in
     let share = now (a .share) in
-    let x = fitted (k .copy .ensures) (omega (arith, length-get keptX share (omega arith))) in
-    let sound = fitting (l .listen .ensures) (length-get keptEx share (omega arith)) in
+    let x = fitted (k .copy .ensures) (start .pre .1 ∙ sym (x-size share (start .pre .0))) in
+    let sound = fitting (l .listen .ensures) (ex-size share (start .pre .0)) in
     is-silent share (a .index) (now (a .spectrum)) (now (a .logs)) (now (a .model)) m (now (a .out) ∷ []) sound (sym (c .before .is-quiet .ensures) ∙ c .if1 .taken) x
 
 hear-requires : tie.Need-hear-requires
@@ -31,8 +29,7 @@ hear-requires c κs =
     let k = c .before .before .before .before .before .before in
     let start = k .before .before .before .before .before .before .before .before .before .before .before .before in
     let pre = start .pre in
-    let size = length-get keptX (now (start .args .share)) (omega (arith, pre)) in
-    (pre .0, fitted (k .copy .ensures) (omega (arith, pre, size)), pre .2, pre .3, pre .4)
+    (pre .0, fitted (k .copy .ensures) (pre .1 ∙ sym (x-size (now (start .args .share)) (pre .0))), pre .2, pre .3, pre .4)
 
 returns-2 : tie.Need-returns-2
 unfolding get
@@ -43,9 +40,10 @@ returns-2 c m good =
     let start = l .before .before .before .before .before .before .before .before in
     let a = start .args in
     let share = now (a .share) in
-    let sound = fitting (l .listen .ensures) (length-get keptEx share (omega (arith, start .pre))) in
-    let said = is-heard share (a .index) (now (a .spectrum)) (now (a .logs)) (now (a .model)) m (now (a .out) ∷ []) sound (sym (i .before .is-quiet .ensures) ∙ i .if1 .left) (h .hear .ensures m good) in
-    rw (c .reply-of .ensures) said
+    let sound = fitting (l .listen .ensures) (ex-size share (start .pre .0)) in
+    let loud = sym (i .before .is-quiet .ensures) ∙ i .if1 .left in
+    rw (c .reply-of .ensures)
+    (is-heard share (a .index) (now (a .spectrum)) (now (a .logs)) (now (a .model)) m (now (a .out) ∷ []) sound loud (h .hear .ensures m good))
 
 pub listen-spec : {M : Type 1} → statement M
 listen-spec =

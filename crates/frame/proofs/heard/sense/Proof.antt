@@ -2,7 +2,6 @@
 use Prim.Native.Nat.{ℕ}
 use mathlib.Core.Path.{_≡_, ap, _∙_}
 use mathlib.Core.List.{List}
-use native.Mathlib.Omega.{arith}
 use borrow.Author.Needs.{needs}
 use denote.Ref.{now}
 use lib.ListN.{length}
@@ -11,12 +10,11 @@ use Rattle.rules.specs.F32.{at}
 use Rattle.rules.specs.Leaf.{_leaving_}
 use Rattle.rules.specs.Place.{get, put}
 use Rattle.rules.proofs.Called.{left as fitted}
-use Rattle.rules.proofs.Places.{length-get}
-use Rattle.features.specs.Features.{normalisedCorr, featuresOf, remembered}
+use Rattle.features.specs.Features.{normalisedCorr, featuresOf, withCepstrum}
 use Rattle.frame.specs.Share.{keptX, keptEx, keptLag, cepstralMem}
 use Rattle.frame.specs.Heard.{featured}
 use Rattle.frame.specs.Parts.{featuredAs}
-use Rattle.frame.proofs.Done.{at-get}
+use Rattle.frame.proofs.Sizes.{x-size, ex-size, cepstra-size, lag-at}
 use Rattle.frame.proofs.heard.sense.Statement.{statement}
 use Rattle.frame.proofs.heard.sense.Tie as tie
 
@@ -26,7 +24,7 @@ sensed : (share : List Float) (index : ℕ) (p ep logs : List Float) {x ex : Lis
     → (f leaving e leaving m)
     ≡ (featuresOf (normalisedCorr x p ex ep) lag logs (get cepstralMem share) index
     leaving normalisedCorr x p ex ep
-    leaving remembered (get cepstralMem share) index logs)
+    leaving withCepstrum logs (get cepstralMem share) index)
     → featuredAs (put cepstralMem share m) f e ≡ featured share index p ep logs
 unfolding featured
 sensed share index p ep logs hx hex hlag h =
@@ -46,23 +44,21 @@ returns c =
     let start = f .before .before .before .before .before .before .before .before .before .before .before .before .before in
     let a = start .args in
     let share = now (a .share) in
-    let x = start .pre .1 .1 .0 in
-    let ex = start .pre .1 .1 .1 in
-    let wide = ap length x ∙ length-get keptX share (omega arith) in
-    let few = ap length ex ∙ length-get keptEx share (omega arith) in
-    let rows = length-get cepstralMem share (omega arith) in
-    sensed share (a .index) (now (a .p)) (now (a .ep)) (now (a .logs)) x ex (at-get keptLag share 0 (omega arith))
+    let pre = start .pre in
+    let x = pre .1 .1 .0 in
+    let ex = pre .1 .1 .1 in
+    sensed share (a .index) (now (a .p)) (now (a .ep)) (now (a .logs)) x ex (lag-at share)
     (fitted (f .compute-features .ensures)
     (record {
-      all = omega arith;
-      correlations = omega arith;
-      rows = rows;
-      inside = omega arith;
-      spectrum = wide;
-      lagged = omega arith;
-      energies = few;
-      laggedEnergies = omega arith;
-      logarithms = omega arith;
+      all = pre .0 .1;
+      correlations = pre .0 .2;
+      rows = cepstra-size share (pre .0 .0);
+      inside = pre .0 .3;
+      spectrum = ap length x ∙ x-size share (pre .0 .0);
+      lagged = pre .1 .0 .0;
+      energies = ap length ex ∙ ex-size share (pre .0 .0);
+      laggedEnergies = pre .1 .0 .1;
+      logarithms = pre .1 .0 .2;
     }))
 
 pub sense-spec : {M : Type 1} → statement M

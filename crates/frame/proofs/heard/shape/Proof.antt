@@ -7,7 +7,7 @@ use lib.Ieee.{Float}
 use Rattle.rules.proofs.Called.{left as fitted}
 use Rattle.bands.specs.Bands.{bandGain}
 use Rattle.features.specs.Pitch.{applied}
-use Rattle.frame.specs.Heard.{raised}
+use Rattle.frame.specs.Heard.{heldGains}
 use Rattle.frame.proofs.heard.shape.Statement.{statement}
 use Rattle.frame.proofs.heard.shape.Tie as tie
 
@@ -21,7 +21,7 @@ returns c =
     let x =
     fitted (f .pitch-filter .ensures)
     (record { spectrum = pre .0 .1; lagged = pre .1 .0; wanted = pre .0 .2; correlations = pre .1 .1; energies = pre .1 .2; laggedEnergies = pre .1 .3 }) in
-    (r .raise .ensures .0, r .raise .ensures .1 ∙ ap (λ (l : List Float). applied l (bandGain (raised (now (a .share)) (now (a .gains))))) x)
+    (r .raise .ensures .0, r .raise .ensures .1 ∙ ap (λ (l : List Float). applied l (bandGain (heldGains (now (a .share)) (now (a .gains))))) x)
 
 pub shape-spec : {M : Type 1} → statement M
 shape-spec =

@@ -4,8 +4,7 @@ use native.Mathlib.Omega.{arith}
 use borrow.Author.Needs.{needs}
 use denote.Ref.{now}
 use lib.ListN.{length}
-use Rattle.rules.proofs.Places.{length-get}
-use Rattle.frame.specs.Share.{keptX, keptEx}
+use Rattle.frame.proofs.Sizes.{x-size, ex-size}
 use Rattle.frame.proofs.Spoken.{spoke}
 use Rattle.frame.proofs.heard.speak_in.Statement.{statement}
 use Rattle.frame.proofs.heard.speak_in.Tie as tie
@@ -17,8 +16,8 @@ shape-requires c κs =
     let start = s .before .before .before .before .before .before .before .before .before .before .before .before .before .before .before in
     let pre = start .pre in
     let share = now (start .args .share) in
-    let x = ap length (pre .1 .1 .0) ∙ length-get keptX share (omega (arith, pre)) in
-    let ex = ap length (pre .1 .1 .1) ∙ length-get keptEx share (omega (arith, pre)) in
+    let x = ap length (pre .1 .1 .0) ∙ x-size share (pre .0 .0) in
+    let ex = ap length (pre .1 .1 .1) ∙ ex-size share (pre .0 .0) in
     omega (arith, pre, x, ex, s .sense .kept, t .think .kept)
 
 returns : tie.Need-returns

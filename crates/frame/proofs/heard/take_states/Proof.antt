@@ -1,9 +1,10 @@
 -- `frame::heard::take_states` meets its contract: what each call leaves, in a row. Assumes nothing.
-use native.Mathlib.Omega.{arith}
+use mathlib.Core.Path.{sym, _∙_}
 use borrow.Author.Needs.{needs}
-use lib.ListN.{length-take, length-drop}
+use denote.Ref.{now}
 use Rattle.rules.specs.Place.{get}
 use Rattle.rules.proofs.Called.{left as fitted}
+use Rattle.frame.proofs.Sizes.{vad-size, noise-size, denoise-size}
 use Rattle.frame.proofs.heard.take_states.Statement.{statement}
 use Rattle.frame.proofs.heard.take_states.Tie as tie
 
@@ -12,11 +13,14 @@ unfolding get
 returns c =
     let d = c .before .before in
     let n = d .before .before .before .before .before in
-    let v = n .before .before .before .before .before in (
-      fitted (v .copy .ensures) (simp (length-take, length-drop) (omega arith)),
+    let v = n .before .before .before .before .before in
+    let start = v .before .before .before .before .before .before .before in
+    let share = now (start .args .share) in
+    let pre = start .pre in (
+      fitted (v .copy .ensures) (pre .1 ∙ sym (vad-size share (pre .0))),
       (
-        fitted (n .copy2 .ensures) (simp (length-take, length-drop) (omega arith)),
-        fitted (d .copy3 .ensures) (simp (length-take, length-drop) (omega arith)),
+        fitted (n .copy2 .ensures) (pre .2 ∙ sym (noise-size share (pre .0))),
+        fitted (d .copy3 .ensures) (pre .3 ∙ sym (denoise-size share (pre .0))),
       ),
     )
 

@@ -3,7 +3,7 @@ use mathlib.Core.Path.{refl, ap, sym, _∙_}
 use native.Mathlib.Omega.{arith}
 use borrow.Author.Needs.{needs}
 use denote.Ref.{now}
-use Rattle.network.specs.Compute.{Outcome}
+use Rattle.network.specs.Compute.{Computing}
 use Rattle.network.proofs.Callers.{computed-done}
 use Rattle.frame.proofs.Spoken.{thought}
 use Rattle.frame.proofs.heard.think_in.Statement.{statement}
@@ -28,7 +28,7 @@ returns c m good =
     })
     good refl) in
     thought (now (a .share)) (now (a .model)) m (now (a .features)) (t .take-states .ensures .0) (t .take-states .ensures .1 .0) (t .take-states .ensures .1 .1)
-    (ap (λ (o : Outcome). o .left) done) (p .put-states .ensures)
+    (ap (λ (o : Computing). o .left) done) (p .put-states .ensures)
 
 pub think-in-spec : {M : Type 1} → statement M
 think-in-spec =

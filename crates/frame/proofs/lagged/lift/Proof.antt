@@ -1,11 +1,11 @@
--- `frame::lagged::lift` meets its contract. The loop's invariant: the first i energies are lifted, and the others are as they were. Assumes nothing.
+-- `frame::lagged::lift` meets its contract. The loop's invariant: the first i energies are plusHundredth, and the others are as they were. Assumes nothing.
 use mathlib.Core.Path.{_≡_, ap}
 use Prim.Native.Nat.{_≤_, _-_}
 use native.Mathlib.Omega.{arith}
 use lib.Ieee.{Float}
 use Rattle.rules.specs.F32.{_⊕_, at, f32}
 use Rattle.rules.proofs.Filling.{Filling, filling-more, filling-ahead, fills}
-use Rattle.frame.specs.Frame.{lifted}
+use Rattle.frame.specs.Frame.{plusHundredth}
 use Rattle.frame.proofs.lagged.lift.Statement.{statement}
 use Rattle.frame.proofs.lagged.lift.Tie as tie
 
@@ -22,7 +22,7 @@ loop-again c =
     (omega arith, filling-more _ _ _ (l .inv .1) (omega arith) (ap (λ (x : Float). f32 0x3C23D70A ⊕ x) ahead))
 
 returns : tie.Need-returns Inv-loop μ-loop
-unfolding lifted
+unfolding plusHundredth
 returns c = search fills
 
 pub lift-spec : {M : Type 1} → statement M

@@ -7,19 +7,19 @@ use lib.IntN.{pos}
 use lib.Ieee.{Float, binary32, ofInt}
 use Rattle.rules.specs.Place.{put}
 use Rattle.frame.specs.Share.{keptEx, keptLag}
-use Rattle.frame.specs.Frame.{lifted, noted}
+use Rattle.frame.specs.Frame.{plusHundredth, putKept}
 use Rattle.frame.proofs.lagged.note.Statement.{statement}
 use Rattle.frame.proofs.lagged.note.Tie as tie
 
 returns : tie.Need-returns
-unfolding noted
+unfolding putKept
 returns c =
     let l = c .before .before in
     let k = l .before .before .before .before in
     let s = k .before .before .before .before .before .before .before in
     let lag = ofInt binary32 (pos (s .before .before .before .before .before .before .args .lag)) ∷ [] in (
       k .keep .ensures ∙ ap₂ (λ (x ex : List Float). put keptLag (put keptEx x ex) lag) (s .analyse .ensures .0) (s .analyse .ensures .1),
-      l .lift .ensures ∙ ap lifted (s .analyse .ensures .1),
+      l .lift .ensures ∙ ap plusHundredth (s .analyse .ensures .1),
     )
 
 pub note-spec : {M : Type 1} → statement M

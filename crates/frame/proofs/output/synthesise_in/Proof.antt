@@ -6,12 +6,12 @@ use denote.Ref.{now}
 use lib.Ieee.{Float}
 use Rattle.rules.proofs.Called.{left as fitted}
 use Rattle.bands.specs.Windowed.{windowed}
-use Rattle.frame.specs.Frame.{faded, overlapped, secondHalf}
+use Rattle.frame.specs.Frame.{windowBuf, overlapped, secondHalf}
 use Rattle.frame.proofs.output.synthesise_in.Statement.{statement}
 use Rattle.frame.proofs.output.synthesise_in.Tie as tie
 
 returns : tie.Need-returns
-unfolding faded
+unfolding windowBuf
 returns c =
     let o = c .before .before .before .before in
     let w = o .before .before .before .before .before .before in

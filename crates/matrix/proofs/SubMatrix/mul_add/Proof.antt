@@ -44,7 +44,7 @@ module _ {M : Type 1} (𝓤 : URA M) (H : Heap 𝓤) (𝓜 : Model 𝓤 H) (𝓖
     Out = exit 𝓤 H (𝓖 .A) mul-add.ended ps κs qs a c tt tt
 
     abbrev Said : ℕ → List Float → Type 0
-    Said r ws = MulAdd (now (d .data)) (d .stride) (d .offset) (now z) (now y) r ws
+    Said r ws = MulAdd (now y) (now (d .data)) (d .stride) (d .offset) (now z) r ws
 
     -- the call, with its lifetimes and shares
     abbrev κs′ : Lfts 3

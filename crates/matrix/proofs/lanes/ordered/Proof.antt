@@ -9,7 +9,7 @@ use Rattle.rules.specs.F32.{at}
 use Rattle.rules.specs.Tab.{tab}
 use Rattle.rules.proofs.Loops.{turns}
 use Rattle.rules.proofs.Tabs.{tab-none, tab-done}
-use Rattle.matrix.specs.Lanes.{spot}
+use Rattle.matrix.specs.Parts.{spot}
 use Rattle.matrix.proofs.Neurons.{block-ordered}
 use Rattle.matrix.proofs.lanes.ordered.Statement.{statement}
 use Rattle.matrix.proofs.lanes.ordered.Tie as tie
@@ -27,15 +27,38 @@ room below same even whole = omega arith
 
 loop-again : tie.Need-loop-again Inv-loop μ-loop
 loop-again c =
-    let start = c .before .before .before .before .before .before .before .before .before .before .before .before .before .before .before .before .before .before .before .before in
-    let l = c .before .before .before .before .before .before .before .before .before .before .before .before .before .before .before .before .before .loop in
-    let inside = room (c .before .before .before .before .before .before .before .before .before .before .before .before .before .before .before .before .loop-test .taken) (start .pre .0) (l .inv .1) (start .pre .1) in
-    let one = c .before .before .before .before .before .before .before .before .before .before .before .before .before .before .back in
-    let two = c .before .before .before .before .before .before .before .before .before .before .back2 in
-    let three = c .before .before .before .before .before .before .back3 in
-    let four = c .before .before .back4 in
-    let done = block-ordered (start .args .kept .now) (start .args .out .now) (l .out) (l .a) (l .inv .1) inside (l .inv .3) (one .ensures) (two .ensures) (three .ensures) (four .ensures) in
+    let d = c .before .before in
+    let t = d .before .before .before .before in
+    let s = t .before .before .before .before in
+    let f = s .before .before .before .before in
+    let h = f .before .before in
+    let l = h .before .loop in
+    let start = h .before .before .before .before in
+    let inside = room (h .loop-test .taken) (start .pre .0) (l .inv .1) (start .pre .1) in
+    let one = f .back in
+    let two = s .back2 in
+    let three = t .back3 in
+    let four = d .back4 in
+    let done = block-ordered (start .args .kept .now) (start .args .out .now) (l .out) (l .a) (l .inv .1) inside (l .inv .3)
+    (one .ensures) (two .ensures) (three .ensures) (four .ensures) in
     (omega (arith, inside, start .pre .0), omega (arith, l .inv .1), four .kept .0 ∙ three .kept .0 ∙ two .kept .0 ∙ one .kept .0 ∙ l .inv .2, done)
+
+-- in both slices
+places : (c : tie.In-loop Inv-loop μ-loop) →
+    let l = c .before .loop in (l .a + 16 ≤ length (l .out)) × (l .a + 16 ≤ length (c .before .before .before .before .args .kept .now))
+places c =
+    let l = c .before .loop in
+    let start = c .before .before .before .before in
+    let inside = room (c .loop-test .taken) (start .pre .0) (l .inv .1) (start .pre .1) in
+    (omega (arith, inside, l .inv .2), omega (arith, inside, start .pre .0))
+
+back-requires-4 : tie.Need-back-requires-4 Inv-loop μ-loop
+back-requires-4 c κs =
+    let t = c .before .before .before in
+    let s = t .before .before .before .before in
+    let f = s .before .before .before .before in
+    let fit = places (f .before .before) in
+    (omega (arith, fit .0, t .back3 .kept .0, s .back2 .kept .0, f .back .kept .0), omega (arith, fit .1))
 
 pub ordered-spec : {M : Type 1} → statement M
 ordered-spec =
@@ -51,9 +74,9 @@ ordered-spec =
     (λ c. omega arith)  -- add-back
     (λ c κs. (omega (arith, c .before .before .before .back .kept .0), omega arith))  -- back-requires-2
     (λ c. omega arith)  -- add-back-2
-    (λ c κs. (omega (arith, c .before .before .before .back2 .kept .0, c .before .before .before .before .before .before .before .back .kept .0), omega arith))  -- back-requires-3
+    (λ c κs. let s = c .before .before .before in (omega (arith, s .back2 .kept .0, s .before .before .before .before .back .kept .0), omega arith))  -- back-requires-3
     (λ c. omega arith)  -- add-back-3
-    (λ c κs. (omega (arith, c .before .before .before .back3 .kept .0, c .before .before .before .before .before .before .before .back2 .kept .0, c .before .before .before .before .before .before .before .before .before .before .before .back .kept .0), omega arith))  -- back-requires-4
+    back-requires-4
     (λ c. omega arith)  -- add-a
     (λ c. omega arith)  -- loop-less
     loop-again

@@ -5,7 +5,7 @@ use native.Mathlib.Omega.{arith}
 use lib.ListN.{length}
 use Rattle.rules.proofs.Loops.{turns}
 use Rattle.rules.proofs.Numbers.{row-fits}
-use Rattle.matrix.specs.Lanes.{sixteenSums}
+use Rattle.matrix.specs.Parts.{sixteenSums}
 use Rattle.matrix.proofs.Neurons.{sums-none, sums-more, sums-ended}
 use Rattle.matrix.proofs.lanes.sums.Statement.{statement}
 use Rattle.matrix.proofs.lanes.sums.Tie as tie

@@ -4,7 +4,7 @@ use Prim.Native.Nat.{_-_}
 use native.Mathlib.Omega.{arith}
 use lib.ListN.{length-take}
 use Rattle.network.proofs.Fitting.{few, voice-fits, gains-fit}
-use Rattle.network.proofs.Joined.{framed-joined}
+use Rattle.network.proofs.Joined.{in-place-joined}
 use Rattle.network.proofs.six.frame.Statement.{statement}
 use Rattle.network.proofs.six.frame.Tie as tie
 
@@ -26,7 +26,7 @@ returns c =
     let n1 = a .m .«vad_gru» .neurons in
     let n2 = a .m .«noise_gru» .neurons in
     let n3 = a .m .«denoise_gru» .neurons in
-    framed-joined (a .bytes .now) (a .m) (a .vad .now) (a .noise .now) (a .denoise .now) (a .features .now) (n1 - 0) (n2 - 0) (n3 - 0) (omega arith) (omega arith) (omega arith) (c .before .before .before .before .before .before .before .before .before .before .before .frame-in .ensures)
+    in-place-joined (a .bytes .now) (a .m) (a .vad .now) (a .noise .now) (a .denoise .now) (a .features .now) (n1 - 0) (n2 - 0) (n3 - 0) (omega arith) (omega arith) (omega arith) (c .before .before .before .before .before .before .before .before .before .before .before .frame-in .ensures)
 
 pub frame-spec : {M : Type 1} → statement M
 frame-spec =

@@ -4,7 +4,7 @@ use mathlib.Core.Logic.{⊎-elim}
 use Prim.Native.Nat.{ℕ, zero, suc, _≤_, _<_, zero-le}
 use native.Mathlib.Nat.{le-antisymm, eq-or-lt-of-le}
 use Rattle.rules.specs.F32.{at}
-use Rattle.numbers.specs.Tansig.{tansig, patterns}
+use Rattle.numbers.specs.Tansig.{tansig, tansigBits}
 use Rattle.numbers.proofs.table.entry.Statement.{statement}
 use Rattle.numbers.proofs.table.entry.Tie as tie
 
@@ -21,7 +21,7 @@ past zero i h = zero-le
 past (suc n) i h = ⊎-elim (λ e. absurd (h .1 (sym e))) (λ l. l) (eq-or-lt-of-le (past n i (h .0)))
 
 pub entry-spec : {M : Type 1} → statement M
-unfolding tansig patterns
+unfolding tansig tansigBits
 entry-spec =
     tie.close
     (tie.spec

@@ -1,12 +1,13 @@
 -- `Biquad::turn` meets its contract: `x as f64` is x, and the rest is the definition's. Assumes nothing.
 use borrow.Author.Needs.{needs}
-use Rattle.numbers.specs.Filter.{turn}
+use Rattle.rules.specs.Loop.{loop}
+use Rattle.numbers.specs.Filter.{filterStep, filtered}
 use Rattle.numbers.proofs.filter.Biquad.turn.Statement.{statement}
 use Rattle.numbers.proofs.filter.Biquad.turn.Tie as tie
 
 returns : tie.Need-returns
-unfolding turn
-returns c = cc
+unfolding filtered filterStep loop
+returns c = (cc, cc)
 
 pub turn-spec : {M : Type 1} → statement M
 turn-spec =

@@ -1,0 +1,16 @@
+-- For the parts of the code.
+use Prim.Native.Nat.{ℕ}
+use mathlib.Core.Bool.{true}
+use mathlib.Core.List.{List}
+use mathlib.Core.Path.{_≡_}
+use lib.ListN.{length}
+use Rattle.frame.specs.Reply.{passed}
+use Rattle.desk.specs.declared.Answer.{Answer}
+use Rattle.desk.specs.Surface.{RECORD}
+use Rattle.desk.proofs.Ranged.{Bounded}
+use Rattle.desk.proofs.Replies.{Small}
+
+-- an answer can be handed back
+pub record HandsBack (ns : List ℕ) (a : Answer) : Type 0 where
+  pub small : Small (a .reply)
+  pub fits : passed (a .reply) ≡ true → (length ns ≡ RECORD) × Bounded (a .rec)

@@ -1,0 +1,42 @@
+-- The fields of a whole share have their sizes. Said here, where no function's facts are in reach, they cost nothing. Assumes nothing.
+use Prim.Native.Nat.{ℕ, _+_, _≤_, _<_}
+use native.Mathlib.Omega.{arith}
+use mathlib.Core.List.{List}
+use mathlib.Core.Path.{_≡_}
+use lib.ListN.{length}
+use lib.Seq.{getD-take, getD-drop}
+use lib.Ieee.{Float}
+use Rattle.rules.specs.F32.{at}
+use Rattle.rules.specs.Place.{Place, get, put}
+use Rattle.rules.proofs.Places.{length-get, length-put}
+use Rattle.frame.specs.Share.{SHARE, keptX, keptEx, keptLag, cepstralMem, vadState, noiseState, denoiseState}
+
+-- a place, number by number
+pub at-get : (p : Place) (xs : List Float) (i : ℕ) → i < p .size → at (get p xs) i ≡ at xs (p .at + i)
+unfolding get
+at-get p xs i h = rw (getD-take, getD-drop)
+
+module _ (share : List Float) (whole : length share ≡ SHARE) where
+  sized : (p : Place) → p .at + p .size ≤ SHARE → length (get p share) ≡ p .size
+  sized p h = length-get p share (omega arith)
+
+  pub x-size : length (get keptX share) ≡ 961
+  x-size = sized keptX (omega arith)
+
+  pub ex-size : length (get keptEx share) ≡ 22
+  ex-size = sized keptEx (omega arith)
+
+  pub cepstra-size : length (get cepstralMem share) ≡ 176
+  cepstra-size = sized cepstralMem (omega arith)
+
+  pub vad-size : length (get vadState share) ≡ 128
+  vad-size = sized vadState (omega arith)
+
+  pub noise-size : length (get noiseState share) ≡ 128
+  noise-size = sized noiseState (omega arith)
+
+  pub denoise-size : length (get denoiseState share) ≡ 128
+  denoise-size = sized denoiseState (omega arith)
+
+pub lag-at : (share : List Float) → at (get keptLag share) 0 ≡ at share 3191
+lag-at share = at-get keptLag share 0 (omega arith)

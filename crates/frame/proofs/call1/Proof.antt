@@ -1,0 +1,69 @@
+-- `frame::call1` meets its contract. Assumes nothing.
+use mathlib.Core.List.{List, [], _∷_}
+use mathlib.Core.Path.{refl, ap, ap₂, _∙_}
+use native.Mathlib.Omega.{arith}
+use borrow.Author.Needs.{needs}
+use denote.Ref.{now}
+use lib.ListN.{length, length-set, length-append, length-drop}
+use lib.Ieee.{Float}
+use Rattle.rules.specs.Place.{get, put}
+use Rattle.rules.proofs.Places.{put-sets}
+use Rattle.rules.proofs.Tests.{tests}
+use Rattle.numbers.specs.declared.filter.Memory.{Memory}
+use Rattle.frame.specs.Share.{inputMem, memHpX}
+use Rattle.numbers.specs.Filter.{memoryList}
+use Rattle.frame.specs.Frame.{call1}
+use Rattle.frame.proofs.Done.{call1-done}
+use Rattle.frame.proofs.Sizes.{at-get}
+use Rattle.frame.proofs.call1.Statement.{statement}
+use Rattle.frame.proofs.call1.Tie as tie
+
+returns : tie.Need-returns
+unfolding call1
+returns c = search tests
+
+returns-2 : tie.Need-returns-2
+unfolding call1
+returns-2 c = search tests
+
+returns-3 : tie.Need-returns-3
+unfolding call1
+returns-3 c = search tests
+
+returns-4 : tie.Need-returns-4
+unfolding put get
+returns-4 c =
+    let w = c .before .before .before .before .take-in in
+    let a = c .before .before .before .before .before .before .before .before .before .before .before .before .before .before .before .args in
+    let share = now (a .share) in
+    rw (
+      call1-done share (omega arith) (now (a .samples)) (length (now (a .window))) (omega arith) (omega arith),
+      at-get memHpX share 0 (omega arith),
+      at-get memHpX share 1 (omega arith),
+    )
+    (record {
+      replies = refl;
+      shares =
+          put-sets (put inputMem share (w .last .0)) (memoryList (w .result)) 3192 (simp (length-append, length-drop) (omega arith))
+          ∙ ap₂ (λ (mem : List Float) (m : Memory). put memHpX (put inputMem share mem) (memoryList m)) (w .ensures .1 .0) (w .ensures .0);
+      writes = ap (λ (l : List Float). l ∷ []) (w .ensures .1 .1);
+    })
+
+pub call1-spec : {M : Type 1} → statement M
+call1-spec =
+    tie.close
+    (tie.spec
+    returns
+    returns-2
+    returns-3
+    (λ c. search needs)  -- slice-read-t9
+    (λ c. search needs)  -- slice-read-t11
+    (λ c. search needs)  -- sub-take-in
+    (λ c. search needs)  -- part-take-in-start
+    (λ c. search needs)  -- part-take-in-end
+    (λ c κs. search needs)  -- take-in-requires
+    (λ c. search needs)  -- slice-write-share
+    (λ c. simp length-set (omega arith))  -- slice-write-share-2
+    (λ c. search needs)  -- same-length
+    (λ c. search needs)  -- same-length-2
+    returns-4)

@@ -1,0 +1,87 @@
+-- `frame::call2` meets its contract. Assumes nothing.
+use Prim.Native.Nat.{ℕ, _+_, _-_, _≤_}
+use native.Mathlib.Nat.{zero-add}
+use mathlib.Core.List.{List, [], _∷_}
+use mathlib.Core.Path.{_≡_, refl, sym, ap, ap₂, _∙_}
+use native.Mathlib.Omega.{arith}
+use borrow.Author.Needs.{needs}
+use denote.Ref.{now}
+use lib.ListN.{length, take, drop, length-take, length-drop}
+use lib.Ieee.{Float}
+use Rattle.rules.specs.Place.{get}
+use Rattle.rules.proofs.Called.{left as fitted}
+use Rattle.rules.proofs.Places.{get-get}
+use Rattle.rules.proofs.Tests.{tests}
+use Rattle.bands.specs.Windowed.{windowed}
+use Rattle.frame.specs.Share.{SHARE, inputMem}
+use Rattle.frame.specs.Frame.{recent, call2}
+use Rattle.frame.proofs.Done.{call2-done}
+use Rattle.frame.proofs.call2.Statement.{statement}
+use Rattle.frame.proofs.call2.Tie as tie
+
+returns : tie.Need-returns
+unfolding call2
+returns c = search tests
+
+returns-2 : tie.Need-returns-2
+unfolding call2
+returns-2 c = search tests
+
+returns-3 : tie.Need-returns-3
+unfolding call2
+returns-3 c = search tests
+
+returns-4 : tie.Need-returns-4
+unfolding call2
+returns-4 c = search tests
+
+returns-5 : tie.Need-returns-5
+unfolding call2
+returns-5 c = search tests
+
+-- the part of the share that the code lends is the part of the input memory
+looked-at : (share : List Float) (lag : ℕ) → length share ≡ SHARE → lag ≤ 768
+    → take (768 - lag + 960 - (768 - lag)) (drop (768 - lag) share) ≡ get (recent lag) (get inputMem share)
+unfolding get
+looked-at share lag l h =
+    let size : 768 - lag + 960 - (768 - lag) ≡ 960 = omega arith in
+    rw size
+    (ap (λ (n : ℕ). take 960 (drop n share)) (sym (zero-add (768 - lag)))
+    ∙ sym (get-get inputMem (recent lag) share (omega arith) (omega arith)))
+
+returns-6 : tie.Need-returns-6
+returns-6 c =
+    let n = c .before .before .before .before in
+    let w = n .before .before .before .before .before in
+    let a = w .before .before .before .before .before .before .before .before .before .before .before .before .before .before .args in
+    let share = now (a .share) in
+    let lag = a .lag .0 in
+    let window = fitted (w .apply-window .ensures) (record { into = omega arith; from = simp (length-take, length-drop) (omega arith) }) in
+    rw (call2-done share (omega arith) (now (a .spectrum)) lag (length (now (a .window))) (length (now (a .sums))) (omega arith) (omega arith) (omega arith) (omega arith))
+    (record {
+      replies = refl;
+      shares = n .note .ensures .0;
+      writes = ap₂ (λ (x y : List Float). x ∷ y ∷ []) (window ∙ ap windowed (looked-at share lag (omega arith) (omega arith))) (n .note .ensures .1);
+    })
+
+pub call2-spec : {M : Type 1} → statement M
+call2-spec =
+    tie.close
+    (tie.spec
+    returns
+    returns-2
+    returns-3
+    returns-4
+    returns-5
+    (λ c. search needs)  -- sub-from
+    (λ c. search needs)  -- add-apply-window
+    (λ c. search needs)  -- mul-apply-window
+    (λ c. search needs)  -- sub-apply-window
+    (λ c. search needs)  -- part-apply-window-start
+    (λ c. search needs)  -- part-apply-window-end
+    (λ c κs. search needs)  -- apply-window-requires
+    (λ c κs. search needs)  -- note-requires
+    (λ c. search needs)  -- same-length
+    (λ c. search needs)  -- same-length-2
+    (λ c. search needs)  -- same-length-3
+    returns-6)

@@ -1,0 +1,75 @@
+-- What the private functions promise and ask for: the sums of a multiply-add one by one, and sixteen of them side by side.
+use mathlib.Core.Path.{_≡_}
+use mathlib.Core.List.{List}
+use Prim.Native.Nat.{ℕ, _+_, _*_, _/_, _%_, _≤_}
+use lib.ListN.{length, set}
+use lib.Ieee.{Float}
+use Rattle.rules.specs.Loop.{loop}
+use Rattle.rules.specs.F32.{_⊕_, _⊗_, at, natAt}
+use Rattle.matrix.specs.Sums.{ofByte, MulAddFits}
+use Rattle.matrix.specs.declared.lanes.Four.{Four}
+use Rattle.matrix.specs.declared.lanes.Sixteen.{Sixteen}
+
+-- the four bytes of a word
+pub record Bytes (word b0 b1 b2 b3 : ℕ) : Type 0 where
+  pub first : word % 256 ≡ b0
+  pub second : word / 256 % 256 ≡ b1
+  pub third : word / 65536 % 256 ≡ b2
+  pub fourth : word / 16777216 ≡ b3
+
+-- what the weight at a place and an input add to a sum
+abbrev pub addedAt : List ℕ → ℕ → Float → Float → Float
+addedAt weights place x a = a ⊕ ofByte (natAt weights place) ⊗ x
+
+unfoldable pub plusFour : List ℕ → ℕ → Float → Four → Four
+plusFour weights place x s =
+    record {
+      a = addedAt weights place x (s .a);
+      b = addedAt weights (place + 1) x (s .b);
+      c = addedAt weights (place + 2) x (s .c);
+      d = addedAt weights (place + 3) x (s .d);
+    }
+
+unfoldable pub plusSixteen : List ℕ → ℕ → Float → Sixteen → Sixteen
+unfolding plusFour
+plusSixteen weights place x t =
+    record {
+      p = plusFour weights place x (t .p);
+      q = plusFour weights (place + 4) x (t .q);
+      r = plusFour weights (place + 8) x (t .r);
+      s = plusFour weights (place + 12) x (t .s);
+    }
+
+-- n inputs, in order
+unfoldable pub sixteenSums : List ℕ → ℕ → ℕ → List Float → ℕ → Sixteen → Sixteen
+unfolding plusSixteen loop
+sixteenSums weights stride place input n t = loop n (λ i. plusSixteen weights (i * stride + place) (at input i)) t
+
+unfoldable pub fourAt : List Float → ℕ → Four
+fourAt out place = record { a = at out place; b = at out (place + 1); c = at out (place + 2); d = at out (place + 3) }
+
+unfoldable pub sixteenAt : List Float → ℕ → Sixteen
+unfolding fourAt
+sixteenAt out place = record { p = fourAt out place; q = fourAt out (place + 4); r = fourAt out (place + 8); s = fourAt out (place + 12) }
+
+unfoldable pub storeFour : List Float → ℕ → Float → Float → Float → Float → List Float
+storeFour xs place a b c d = set (set (set (set xs place a) (place + 1) b) (place + 2) c) (place + 3) d
+
+-- sum j of `mul_add`
+unfoldable pub neuron : List Float → List ℕ → ℕ → ℕ → List Float → ℕ → Float
+unfolding loop
+neuron out weights stride offset input j = loop (length input) (λ i. addedAt weights (i * stride + offset + j) (at input i)) (at out j)
+
+-- where it is kept: of its block of sixteen, byte by byte
+abbrev pub spot : ℕ → ℕ
+spot i = i / 16 * 16 + i % 4 * 4 + i % 16 / 4
+
+-- sixteen bytes at the place in each row
+pub record Rows (weights stride place input : ℕ) : Type 0 where
+  pub inside : place + 16 ≤ stride
+  pub whole : weights ≡ stride * input
+
+pub record Blocks (kept out weights stride offset input : ℕ) : Type 0 where
+  pub places : kept ≡ out
+  pub even : out % 16 ≡ 0
+  pub fits : MulAddFits out weights stride offset input

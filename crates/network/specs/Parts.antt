@@ -1,0 +1,45 @@
+-- What the private functions ask for.
+use mathlib.Core.Path.{_≡_}
+use Prim.Native.Nat.{ℕ, _+_, _*_, _≤_}
+use Rattle.model.specs.Parts.{LiesIn}
+use Rattle.model.specs.declared.Kind.{Kind}
+use Rattle.model.specs.declared.Kind.the-variants.{Dense, Gru}
+use Rattle.model.specs.declared.Header.{Header}
+use Rattle.model.specs.declared.Model.{Model}
+
+-- the sums of one gate, over `state` or over the reset gates
+pub record GateFits (out weights recurrent bias offset input state : ℕ) : Type 0 where
+  pub inside : offset + out ≤ 3 * out
+  pub weighted : weights ≡ 3 * out * input
+  pub recurs : recurrent ≡ 3 * out * state
+  pub biased : bias ≡ 3 * out
+
+pub record ScratchFits (state z r h : ℕ) : Type 0 where
+  pub update : z ≡ state
+  pub reset : r ≡ state
+  pub new : h ≡ state
+
+-- a layer with this header, whose arrays lie within so many bytes, on an output and an input of these lengths
+pub record LayerFits (kind : Kind) (h : Header) (bytes output input : ℕ) : Type 0 where
+  pub within : LiesIn bytes kind h
+  pub neurons : output ≡ h .neurons
+  pub inputs : input ≡ h .inputs
+
+-- the layers of a model that reads, on lengths that are theirs
+pub record VoiceFits (m : Model) (bytes hidden vad voice features : ℕ) : Type 0 where
+  pub front : LayerFits Dense (m .«input_dense») bytes hidden features
+  pub state : LayerFits Gru (m .«vad_gru») bytes vad hidden
+  pub answer : LayerFits Dense (m .«vad_output») bytes voice vad
+
+pub record DenoiseFits (m : Model) (bytes hidden vad noise denoise gains features : ℕ) : Type 0 where
+  pub noisy : LayerFits Gru (m .«noise_gru») bytes noise (hidden + vad + features)
+  pub clean : LayerFits Gru (m .«denoise_gru») bytes denoise (vad + noise + features)
+  pub answer : LayerFits Dense (m .«denoise_output») bytes gains denoise
+
+pub record Lengths (gains voice vad noise denoise features : ℕ) : Type 0 where
+  pub gained : gains ≡ 22
+  pub voiced : voice ≡ 1
+  pub first : vad ≡ 128
+  pub second : noise ≡ 128
+  pub third : denoise ≡ 128
+  pub featured : features ≡ 42

@@ -1,0 +1,55 @@
+-- What the private functions promise and ask for.
+use mathlib.Core.Path.{_≡_}
+use Prim.Native.Nat.{ℕ, _+_, _*_, _^_, _≤_, _<_}
+use mathlib.Core.Bool.{Bool, true, false, cond}
+use mathlib.Core.List.{List}
+use lib.IntN.{pos}
+use lib.Ieee.{Float, nan, inf, fin, Format, binary32, binary64, up, down, neg, lt, hid, ones, top, ofBits, ofInt}
+use Rattle.rules.specs.F32.{f32, one, at, _⊖_, _⊗_}
+use Rattle.numbers.specs.Activations.{eight, magnitude, signOf, place, curve}
+use Rattle.numbers.specs.Narrowed.{narrowed}
+
+-- neither a NaN nor an infinity, and from 0 to 8, -0 included: what `tansig_approx` looks up
+abbrev pub UpToEight : Float → Type 0
+UpToEight nan = ⊥
+UpToEight (inf s) = ⊥
+UpToEight (fin true m e) = m ≡ 0
+UpToEight (fin false m e) = m * up e ≤ 8 * down e
+
+-- if t < near { 1.0 } else { 0.0 }
+abbrev pub overshoot : Float → Float → Float
+overshoot t near = cond (lt t near) one (f32 0)
+
+-- the magnitude of what passes the tests, and 0 elsewhere
+abbrev pub insideOf : Float → Float
+insideOf x = cond (lt x eight) (cond (lt (neg eight) x) (magnitude x) (f32 0)) (f32 0)
+
+-- its place, as a float, and the table's entry there
+abbrev pub placeIn : Float → Float
+placeIn x = ofInt binary32 (pos (place (insideOf x)))
+
+abbrev pub entryIn : List Float → Float → Float
+entryIn table x = at table (place (insideOf x))
+
+abbrev pub endedBy : Float → Float → Float
+endedBy x inner = cond (lt x eight) (cond (lt (neg eight) x) inner (neg one)) one
+
+-- from the entry y along the curve
+abbrev pub followed : Float → Float → Float
+followed x y = endedBy x (signOf x ⊗ curve y (insideOf x ⊖ f32 0x3D23D70A ⊗ placeIn x))
+
+-- a sign's bit, and the pattern b of a magnitude
+abbrev pub withSign : Format → Bool → ℕ → ℕ
+withSign f s b = cond s (top f) 0 + b
+
+-- with either sign, the `f32` magnitude r is the `f64` magnitude a, narrowed; and r is no NaN's
+pub record Narrows (a r : ℕ) : Type 0 where
+  pub small : r ≤ ones binary32 * hid binary32
+  pub value : (s : Bool) → ofBits binary32 (withSign binary32 s r) ≡ narrowed (ofBits binary64 (withSign binary64 s a))
+
+-- the root of n is at least `from`, and below from + gap
+pub record Spans (n from gap : ℕ) : Type 0 where
+  pub some : 0 < gap
+  pub few : gap ≤ 2 ^ 27
+  pub low : from * from ≤ n
+  pub high : n < (from + gap) * (from + gap)

@@ -1,0 +1,96 @@
+//! Files that come to stand in a folder all together, or not at all.
+
+use std::fs;
+use std::path::{Path, PathBuf};
+
+/// What went wrong, and with which file.
+pub fn told(path: &Path, why: impl std::fmt::Display) -> String {
+    format!("{}: {why}", path.display())
+}
+
+/// A name beside a file's own.
+fn beside(place: &Path, ending: &str) -> PathBuf {
+    let mut name = place.as_os_str().to_owned();
+    name.push(ending);
+    name.into()
+}
+
+/// A file on its way to its place.
+struct File {
+    place: PathBuf,
+    /// Whether what stood there before was set aside.
+    aside: bool,
+    put: bool,
+}
+
+impl File {
+    fn part(&self) -> PathBuf {
+        beside(&self.place, ".part")
+    }
+
+    fn old(&self) -> PathBuf {
+        beside(&self.place, ".old")
+    }
+
+    fn put(&mut self) -> std::io::Result<()> {
+        if self.place.is_file() {
+            fs::rename(&self.place, self.old())?;
+            self.aside = true;
+        }
+        fs::rename(self.part(), &self.place)?;
+        self.put = true;
+        Ok(())
+    }
+
+    /// As if it had never been written.
+    fn undo(&self) {
+        let _ = fs::remove_file(if self.put { self.place.clone() } else { self.part() });
+        if self.aside {
+            let _ = fs::rename(self.old(), &self.place);
+        }
+    }
+}
+
+/// Dropped before its files are kept, it leaves the folder as it was.
+pub struct Folder {
+    path: PathBuf,
+    made: bool,
+    files: Vec<File>,
+}
+
+impl Folder {
+    pub fn new(path: &Path) -> Result<Folder, String> {
+        let made = !path.exists();
+        fs::create_dir_all(path).map_err(|why| told(path, why))?;
+        Ok(Folder { path: path.to_owned(), made, files: Vec::new() })
+    }
+
+    /// Writes a file beside its place.
+    pub fn write(&mut self, name: &str, bytes: &[u8]) -> Result<(), String> {
+        let file = File { place: self.path.join(name), aside: false, put: false };
+        let written = fs::write(file.part(), bytes).map_err(|why| told(&file.part(), why));
+        self.files.push(file);
+        written
+    }
+
+    /// Puts all files into their places.
+    pub fn keep(mut self) -> Result<(), String> {
+        for file in &mut self.files {
+            file.put().map_err(|why| told(&file.place, why))?;
+        }
+        for file in self.files.drain(..).filter(|file| file.aside) {
+            let _ = fs::remove_file(file.old());
+        }
+        self.made = false;
+        Ok(())
+    }
+}
+
+impl Drop for Folder {
+    fn drop(&mut self) {
+        self.files.iter().rev().for_each(File::undo);
+        if self.made {
+            let _ = fs::remove_dir(&self.path);
+        }
+    }
+}
