@@ -15,18 +15,26 @@ const ONES: [One; 4] = [
     ("sqrt", tuppence::sqrt, f32::sqrt),
 ];
 
-/// `max` and `min` are defined to give the left of two that compare equal. What the compiled Rust gives there is its compiler's
-/// choice.
-fn left_of_equals(a: f32, b: f32, rusts: f32) -> f32 {
+/// Of two zeros `max` is defined to give +0 where one is +0, and `min` the left one. What the compiled Rust gives there is its
+/// compiler's choice.
+fn max(a: f32, b: f32) -> f32 {
+    if a == 0.0 && b == 0.0 {
+        f32::from_bits(a.to_bits() & b.to_bits())
+    } else {
+        a.max(b)
+    }
+}
+
+fn min(a: f32, b: f32) -> f32 {
     if a == b {
         a
     } else {
-        rusts
+        a.min(b)
     }
 }
 
 fn relu(x: f32) -> f32 {
-    left_of_equals(x, 0.0, util::relu(x))
+    max(util::relu(x), 0.0)
 }
 
 pub fn compare(options: &Options) -> Tally {
@@ -81,8 +89,8 @@ fn sample(tally: &mut Tally, rng: &mut Rng, calls: u64) {
         for f in ONES {
             one(tally, f, if rng.once_in(2) { x } else { step });
         }
-        number(tally, "max", named![x, low], tuppence::max(x, low), left_of_equals(x, low, x.max(low)));
-        number(tally, "min", named![x, low], tuppence::min(x, low), left_of_equals(x, low, x.min(low)));
+        number(tally, "max", named![x, low], tuppence::max(x, low), max(x, low));
+        number(tally, "min", named![x, low], tuppence::min(x, low), min(x, low));
         // where low is not at most high, the Rust panics
         let (low, high) = if low > high { (high, low) } else { (low, high) };
         if low <= high {

@@ -8,11 +8,25 @@ fn bits(list: &[f32]) -> Vec<u32> {
 }
 
 #[test]
+fn the_larger_is_maximum_number() {
+    // from the least to the largest, in IEEE 754-2019's order of numbers, with -0 below +0
+    let least = f32::from_bits(1);
+    let numbers = [f32::NEG_INFINITY, -1.0, -least, -0.0, 0.0, least, 1.0, f32::INFINITY];
+    for (i, a) in numbers.into_iter().enumerate() {
+        for (j, b) in numbers.into_iter().enumerate() {
+            assert_eq!(tuppence::max(a, b).to_bits(), numbers[i.max(j)].to_bits(), "{a:?} {b:?}");
+        }
+        assert_eq!(bits(&[tuppence::max(a, f32::NAN), tuppence::max(f32::NAN, a)]), bits(&[a, a]));
+    }
+    assert!(tuppence::max(f32::NAN, f32::NAN).is_nan());
+}
+
+#[test]
 fn the_left_of_two_that_compare_equal() {
     for (a, b, wanted) in [(0.0, -0.0, PLUS), (-0.0, 0.0, MINUS)] {
-        assert_eq!(bits(&[tuppence::max(a, b), tuppence::min(a, b)]), [wanted; 2]);
+        assert_eq!(tuppence::min(a, b).to_bits(), wanted);
     }
-    assert_eq!(bits(&[tuppence::relu(-0.0), tuppence::relu(0.0), tuppence::relu(-1.0)]), [MINUS, PLUS, PLUS]);
+    assert_eq!(bits(&[tuppence::relu(-0.0), tuppence::relu(0.0), tuppence::relu(-1.0)]), [PLUS; 3]);
     assert_eq!(bits(&[tuppence::clamp(-0.0, 0.0, 1.0), tuppence::clamp(0.0, -1.0, -0.0)]), [MINUS, PLUS]);
 }
 

@@ -65,9 +65,9 @@ three-samples :
 unfolding filtered filterStep loop narrowed ofBits add sub mul
 three-samples = (refl, refl)
 
--- of 0 and -0 the left one, and the other where one is a NaN; a NaN is not brought between two numbers
+-- of 0 and -0 the larger is 0, and the other where one is a NaN; a NaN is not brought between two numbers
 picks :
-    (larger (f32 0x8000_0000) (f32 0) ≡ f32 0x8000_0000)
+    (larger (f32 0x8000_0000) (f32 0) ≡ f32 0)
     × (larger (f32 0) (f32 0x8000_0000) ≡ f32 0)
     × (larger nan (f32 0) ≡ f32 0)
     × (smaller (f32 0x3F80_0000) nan ≡ f32 0x3F80_0000)

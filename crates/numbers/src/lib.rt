@@ -11,7 +11,7 @@ ghost use lib.Ieee.{binary32, ofInt};
 ghost use lib.Ieee.Nearest.{closest};
 ghost use Rattle.numbers.specs.Narrowed.{narrowed};
 ghost use Rattle.numbers.specs.Root.{twiceRoot, root};
-ghost use Rattle.numbers.specs.Larger.{larger, smaller, clamped, rectified};
+ghost use Rattle.numbers.specs.Larger.{yields, larger, smaller, clamped, rectified};
 ghost use Rattle.numbers.specs.Activations.{magnitude, signOf, place, tansigIn, sigmoidIn, tansigApprox, sigmoidApprox};
 ghost use Rattle.numbers.specs.Parts.{UpToEight, overshoot, insideOf, placeIn, entryIn, endedBy, followed, Narrows, Spans};
 
@@ -22,14 +22,30 @@ pub use filter::Biquad;
 pub use filter::Filtered;
 pub use filter::Memory;
 
-// The larger of a and b: the other one where one is a NaN, and a where they compare equal.
+// Whether a and b are zeros and a is -0, which alone goes to minus infinity below 1.
+fn gives_way(a: f32, b: f32) -> bool
+    ensures { λ r. ⌜ r ≡ yields a b ⌝ }
+{
+    if a != 0.0 {
+        return false;
+    }
+    if b != 0.0 {
+        return false;
+    }
+    1.0 / a < 0.0
+}
+
+// The larger of a and b: the other one where one is a NaN, and +0 of two zeros.
 pub fn max(a: f32, b: f32) -> f32
     ensures { λ r. ⌜ r ≡ larger a b ⌝ }
 {
     if a != a {
         return b;
     }
-    if a < b { b } else { a }
+    if a < b {
+        return b;
+    }
+    if gives_way(a, b) { b } else { a }
 }
 
 // The smaller of a and b: the other one where one is a NaN, and a where they compare equal.
@@ -52,7 +68,7 @@ pub fn clamp(x: f32, low: f32, high: f32) -> f32
     if high < x { high } else { x }
 }
 
-// x where it is above 0, and 0 otherwise, at a NaN too; -0 stays -0.
+// x where it is above 0, and +0 otherwise, at a NaN too.
 pub fn relu(x: f32) -> f32
     ensures { λ r. ⌜ r ≡ rectified x ⌝ }
 {
