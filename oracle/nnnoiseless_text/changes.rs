@@ -50,6 +50,12 @@ pub const CHANGES: &[Change] = &[
         to: "feed::lag_number(pitch_idx)",
     },
     Change { file: "features.rs", why: "the logarithm is fed", from: ".log10()", to: ".fed_log10()" },
+    Change {
+        file: "util.rs",
+        why: "request 09: tansig_approx of a NaN is 0, where the text has 1",
+        from: "    // Tests are reversed to catch NaNs\n",
+        to: "    if x.is_nan() {\n        return 0.0;\n    }\n",
+    },
 ];
 
 /// The text's files, each with its probe.

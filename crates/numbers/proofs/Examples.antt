@@ -21,9 +21,9 @@ pub numbers-to-try :
     (tansigApprox (f32 0) ≡ f32 0)  -- tansig: 0 gives 0
     × (tansigApprox (f32 0x4100_0000) ≡ f32 0x3F80_0000)  -- 8 gives 1
     × (tansigApprox (f32 0xC100_0000) ≡ f32 0xBF80_0000)  -- -8 gives -1
-    × (tansigApprox nan ≡ f32 0x3F80_0000)  -- NaN gives 1
+    × (tansigApprox nan ≡ f32 0)  -- NaN gives 0
     × (sigmoidApprox (f32 0) ≡ f32 0x3F00_0000)  -- sigmoid: 0 gives 0.5
-    × (sigmoidApprox nan ≡ f32 0x3F80_0000)  -- NaN gives 1
+    × (sigmoidApprox nan ≡ f32 0x3F00_0000)  -- NaN gives 0.5
     × (rectified nan ≡ f32 0)  -- relu: NaN gives 0
     × (root binary32 (f32 0x4080_0000) ≡ f32 0x4000_0000)  -- root: 4 gives 2
     × (root binary32 (f32 0x4000_0000) ≡ f32 0x3FB5_04F3)  -- 2

@@ -13,7 +13,7 @@ use mir.Syntax.{w32}
 use mir.Val.{toZ, ofZ}
 use lib.Dec.{T, ltb, lit<, lit≤, eqb, eqb→eq}
 use lib.Count.{trailingZeros}
-use lib.Ieee.{Float, nan, inf, fin, binary32, prec, low, up, down, units, odd, round, nearest, size, sub, add, neg, sum, climb, span, ofBits, ofFields, ofInt, lt, toUnsigned, toSigned, inSigned}
+use lib.Ieee.{Float, nan, inf, fin, binary32, prec, low, up, down, units, odd, round, nearest, size, sub, add, neg, sum, climb, span, ofBits, ofFields, ofInt, lt, toUnsigned, toSigned, inSigned, isNan}
 use lib.Ieee.Exact.{HasValue}
 use lib.Ieee.Back.{round-whole, positive-back}
 use lib.Ieee.Digits.{size-lt, size-reaches, size-le}
@@ -153,14 +153,15 @@ inside-within x = go (lt x (f32 0x41000000)) refl (lt (neg (f32 0x41000000)) x) 
 
 pub ends : (table : List Float) (x : Float) → followed x (entryIn table x) ≡ tansigIn table x
 unfolding tansigIn
-ends table x = go (lt x (f32 0x41000000)) (lt (neg (f32 0x41000000)) x)
+ends table x = go (isNan x) (lt x (f32 0x41000000)) (lt (neg (f32 0x41000000)) x)
   where
-    go : (p q : Bool)
-        → cond p (cond q (signOf x ⊗ near table (cond p (cond q (magnitude x) (f32 0)) (f32 0))) (neg (f32 0x3F800000))) (f32 0x3F800000)
-        ≡ cond p (cond q (signOf x ⊗ near table (magnitude x)) (neg (f32 0x3F800000))) (f32 0x3F800000)
-    go true true = refl
-    go true false = refl
-    go false q = refl
+    go : (n p q : Bool)
+        → cond n (f32 0) (cond p (cond q (signOf x ⊗ near table (cond p (cond q (magnitude x) (f32 0)) (f32 0))) (neg (f32 0x3F800000))) (f32 0x3F800000))
+        ≡ cond n (f32 0) (cond p (cond q (signOf x ⊗ near table (magnitude x)) (neg (f32 0x3F800000))) (f32 0x3F800000))
+    go true p q = refl
+    go false true true = refl
+    go false true false = refl
+    go false false q = refl
 
 -- the place of what they leave is one of the table's
 pub listed : (x : Float) → place (insideOf x) < 201

@@ -3,7 +3,7 @@ use Prim.Native.Nat.{ℕ}
 use mathlib.Core.Bool.{cond}
 use mathlib.Core.List.{List}
 use lib.IntN.{pos}
-use lib.Ieee.{Float, binary32, neg, lt, ofInt, toUnsigned}
+use lib.Ieee.{Float, binary32, neg, lt, isNan, ofInt, toUnsigned}
 use Rattle.rules.specs.F32.{f32, one, at, _⊕_, _⊖_, _⊗_}
 use Rattle.numbers.specs.Tansig.{tansig}
 
@@ -36,9 +36,9 @@ curve y x = y ⊕ x ⊗ (one ⊖ y ⊗ y) ⊗ (one ⊖ y ⊗ x)
 abbrev pub near : List Float → Float → Float
 near table x = curve (at table (place x)) (x ⊖ f32 0x3D23D70A ⊗ ofInt binary32 (pos (place x)))
 
--- over any table of 201 numbers. A NaN is not below 8.0, so it gives 1.0
+-- over any table of 201 numbers. A NaN gives 0.0 (request 09); the Rust has 1.0 there
 unfoldable pub tansigIn : List Float → Float → Float
-tansigIn table x = cond (lt x eight) (cond (lt (neg eight) x) (signOf x ⊗ near table (magnitude x)) (neg one)) one
+tansigIn table x = cond (isNan x) (f32 0) (cond (lt x eight) (cond (lt (neg eight) x) (signOf x ⊗ near table (magnitude x)) (neg one)) one)
 
 unfoldable pub sigmoidIn : List Float → Float → Float
 unfolding tansigIn

@@ -4,7 +4,7 @@ use Prim.Native.Nat.{ℕ, _+_, _*_, _^_, _≤_, _<_}
 use mathlib.Core.Bool.{Bool, true, false, cond}
 use mathlib.Core.List.{List}
 use lib.IntN.{pos}
-use lib.Ieee.{Float, nan, inf, fin, Format, binary32, binary64, up, down, neg, lt, hid, ones, top, ofBits, ofInt}
+use lib.Ieee.{Float, nan, inf, fin, Format, binary32, binary64, up, down, neg, lt, isNan, hid, ones, top, ofBits, ofInt}
 use Rattle.rules.specs.F32.{f32, one, at, _⊖_, _⊗_}
 use Rattle.numbers.specs.Activations.{eight, magnitude, signOf, place, curve}
 use Rattle.numbers.specs.Narrowed.{narrowed}
@@ -32,7 +32,7 @@ abbrev pub entryIn : List Float → Float → Float
 entryIn table x = at table (place (insideOf x))
 
 abbrev pub endedBy : Float → Float → Float
-endedBy x inner = cond (lt x eight) (cond (lt (neg eight) x) inner (neg one)) one
+endedBy x inner = cond (isNan x) (f32 0) (cond (lt x eight) (cond (lt (neg eight) x) inner (neg one)) one)
 
 -- from the entry y along the curve
 abbrev pub followed : Float → Float → Float

@@ -4,6 +4,7 @@ use mathlib.Core.Bool.{true, false, not}
 use lib.Ieee.{Float, lt, neg}
 use borrow.Author.Tests.{not-true, not-false}
 use Rattle.rules.specs.F32.{f32}
+use Rattle.numbers.proofs.NoNan.{nan-test}
 use Rattle.numbers.proofs.ended.Statement.{statement}
 use Rattle.numbers.proofs.ended.Tie as tie
 
@@ -18,8 +19,14 @@ pub ended-spec : {M : Type 1} → statement M
 ended-spec =
     tie.close
     (tie.spec
-    (λ c. let no : lt (c .before .args .x) (f32 0x41000000) ≡ false = not-true _ (c .if1 .taken) in rw no)  -- returns
+    (λ c. simp (← nan-test, c .if1 .taken))  -- returns
     (λ c.
-    let no : lt (neg (f32 0x41000000)) (c .before .before .args .x) ≡ false = not-true _ (c .if2 .taken) in
-    rw (under (c .before .before .args .x) (c .before .if1 .left), no))  -- returns-2
-    (λ c. rw (under (c .before .before .args .x) (c .before .if1 .left), over (c .before .before .args .x) (c .if2 .left))))  -- returns-3
+    let no : lt (c .before .before .args .x) (f32 0x41000000) ≡ false = not-true _ (c .if2 .taken) in
+    simp (← nan-test, c .before .if1 .left, no))  -- returns-2
+    (λ c.
+    let x = c .before .before .before .args .x in
+    let no : lt (neg (f32 0x41000000)) x ≡ false = not-true _ (c .if3 .taken) in
+    simp (← nan-test, c .before .before .if1 .left, under x (c .before .if2 .left), no))  -- returns-3
+    (λ c.
+    let x = c .before .before .before .args .x in
+    simp (← nan-test, c .before .before .if1 .left, under x (c .before .if2 .left), over x (c .if3 .left))))  -- returns-4
