@@ -1,6 +1,6 @@
 #!/bin/sh
-# Makes the constant tables anew from the Rust text: `common()` of oracle/text/lib.rs and TANSIG_TABLE of oracle/text/util.rs, compiled as they stand.
-# Needs rustc. Run as tools/make_tables.sh; a table that git then calls changed is not the Rust's.
+# Makes the constant tables anew: from the Rust text, `common()` of oracle/text/lib.rs and TANSIG_TABLE of oracle/text/util.rs, compiled as they stand; and the cosines
+# of request 08. Needs rustc. Run as tools/make_tables.sh; a table that git then calls changed is not the Rust's, or not the nearest cosines.
 set -eu
 cd "$(dirname "$0")/.."
 made=target/make_tables
