@@ -1,4 +1,5 @@
 // Writes each table as a constant of the code and, by its bit patterns, as a definition. tools/make_tables.sh puts the Rust text in front of this.
+// The cosines are not in that text: they are worked out here.
 use std::fs::write;
 
 fn main() {
@@ -7,7 +8,23 @@ fn main() {
     table("bands", "dct_table", "DctTable", "dctTable", "The DCT's 22 rows of 22 numbers, `dct_table` in `common()` of lib.rs", &c.dct_table);
     table("numbers", "table", "Tansig", "tansig", "The activations' 201 numbers, `TANSIG_TABLE` of util.rs", &TANSIG_TABLE);
     one_by_one("crates/numbers/src/table.rt", "tansig", &TANSIG_TABLE);
+    let turn: Vec<f32> = (0..960).map(cosine).collect();
+    table("transforms", "cosine", "Cosine", "cosine", "The cosines of m/960 of a turn, each the nearest f32, +0 at 240 and 720", &turn);
     println!("wnorm {:08X}", c.wnorm.to_bits());
+}
+
+// The nearest f32 to the cosine of m/960 of a turn. The f64 cosine is off by less than its last bit, so it stops if a midpoint of two f32 is within eight of these.
+fn cosine(m: usize) -> f32 {
+    if m % 480 == 240 {
+        return 0.0;
+    }
+    let exact = (std::f64::consts::TAU * m as f64 / 960.0).cos();
+    let near = exact as f32;
+    for other in [near.to_bits() - 1, near.to_bits() + 1] {
+        let middle = (near as f64 + f32::from_bits(other) as f64) / 2.0;
+        assert!(near.abs() == 1.0 || (exact - middle).abs() > 8.0 * f64::EPSILON * exact.abs(), "{m} is near a midpoint");
+    }
+    near
 }
 
 fn literal(x: f32) -> String {

@@ -1,5 +1,5 @@
 #!/bin/sh
-# Makes the constant tables anew from the Rust text: `common()` of oracle/text/lib.rs and TANSIG_TABLE of oracle/text/util.rs, compiled as they stand.
+# Makes the constant tables anew from the Rust text: `common()` of oracle/text/lib.rs and TANSIG_TABLE of oracle/text/util.rs, compiled as they stand; and the cosines of request 08.
 # With --check it changes no file, and says which tables are not what it makes. Needs rustc and rt.
 set -eu
 cd "$(dirname "$0")/.."
@@ -13,7 +13,7 @@ trap 'rm -rf "$room"' EXIT
     cat tools/make_tables.rs
 } >"$room/main.rs"
 rustc --edition 2021 -o "$room/tables" "$room/main.rs"
-for crate in bands numbers; do mkdir -p "$room/crates/$crate/src" "$room/crates/$crate/specs"; done
+for crate in bands numbers transforms; do mkdir -p "$room/crates/$crate/src" "$room/crates/$crate/specs"; done
 cp crates.txt "$room"
 (cd "$room" && ./tables && rt fmt)
 others=0

@@ -30,6 +30,8 @@ pub mod numbers;
 pub mod pitch;
 #[cfg(feature = "frame")]
 pub mod shadow;
+#[cfg(feature = "transforms")]
+pub mod transforms;
 
 use nnnoiseless_text::probe::bands::Complex;
 
@@ -65,6 +67,8 @@ pub const GROUPS: &[Group] = &[
     ("bands", bands::compare),
     #[cfg(feature = "pitch")]
     ("pitch", pitch::compare),
+    #[cfg(feature = "transforms")]
+    ("transforms", transforms::compare),
     #[cfg(feature = "model")]
     ("model", model::compare),
     #[cfg(feature = "network")]

@@ -160,11 +160,12 @@ pub struct Tally {
     pub compared: u64,
     pub differences: u64,
     shown: String,
+    notes: String,
 }
 
 impl Tally {
     pub fn new(group: &'static str) -> Tally {
-        Tally { group, compared: 0, differences: 0, shown: String::new() }
+        Tally { group, compared: 0, differences: 0, shown: String::new(), notes: String::new() }
     }
 
     /// One call: what it was given, and what it answered and left beside what is wanted, the number returned first.
@@ -234,21 +235,28 @@ impl Tally {
         }
     }
 
+    /// Something measured, to be said behind the group's line.
+    pub fn note(&mut self, text: &str) {
+        self.notes += &format!("\n  {text}");
+    }
+
     /// What was counted elsewhere for the same group.
     pub fn join(&mut self, other: Tally) {
         self.compared += other.compared;
         self.differences += other.differences;
         self.shown.push_str(&other.shown);
+        self.notes.push_str(&other.notes);
     }
 
-    /// The first differences in full, and the group's line.
+    /// The first differences in full, the group's line, and its notes.
     pub fn report(&self) -> String {
         format!(
-            "{}{}: {} compared, {} differences",
+            "{}{}: {} compared, {} differences{}",
             self.shown,
             self.group,
             thousands(self.compared),
-            thousands(self.differences)
+            thousands(self.differences),
+            self.notes
         )
     }
 }

@@ -169,6 +169,29 @@ fn of_pitch(rng: &mut Rng) -> Vec<Row> {
     ]
 }
 
+#[cfg(feature = "transforms")]
+fn of_transforms(rng: &mut Rng) -> Vec<Row> {
+    use oracle::transforms::{cosines, plain_forward, plain_inverse};
+    let (x, spectrum) = (rng.list_of(960, Mood::Audio), rng.list_of(961, Mood::Audio));
+    let [x1, x2] = std::array::from_fn(|_| x.clone());
+    let [s1, s2] = std::array::from_fn(|_| spectrum.clone());
+    let (c, d) = (cosines(), cosines());
+    let [mut a961, mut b961] = [[0.0; 961]; 2];
+    let [mut a960, mut b960] = [[0.0; 960]; 2];
+    vec![
+        row(
+            "forward, beside the plain sums",
+            move || tuppence::forward(black_box(&mut a961), &x1),
+            move || plain_forward(black_box(&c), black_box(&mut b961), &x2),
+        ),
+        row(
+            "inverse, beside the plain sums",
+            move || tuppence::inverse(black_box(&mut a960), &s1),
+            move || plain_inverse(black_box(&d), black_box(&mut b960), &s2),
+        ),
+    ]
+}
+
 #[cfg(feature = "network")]
 fn of_network(rng: &mut Rng) -> Vec<Row> {
     vec![
@@ -270,6 +293,8 @@ fn main() {
     rows.extend(of_bands(rng));
     #[cfg(feature = "pitch")]
     rows.extend(of_pitch(rng));
+    #[cfg(feature = "transforms")]
+    rows.extend(of_transforms(rng));
     #[cfg(feature = "network")]
     rows.extend(of_network(rng));
     #[cfg(feature = "frame")]

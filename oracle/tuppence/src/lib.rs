@@ -61,6 +61,12 @@ surface! {
     tuppence_downsample as downsample(x_lp: &mut [f32], x: &[f32]) -> u32;
 }
 
+#[cfg(feature = "transforms")]
+surface! {
+    tuppence_forward as forward(spectrum: &mut [f32], samples: &[f32]) -> u32;
+    tuppence_inverse as inverse(samples: &mut [f32], spectrum: &[f32]) -> u32;
+}
+
 // Six times inputs, neurons, activation, offset and length; a refusal r of layer l is r + 65,536 l.
 #[cfg(feature = "model")]
 surface! {

@@ -1,0 +1,217 @@
+// What both transforms share: eight sums, each for four neighbours, and how a product adds to them. The compiler keeps the sums in registers of four, which hangs
+// on their being stored four neighbours side by side: stored straight into the spectrum, they cost twice the time.
+ghost use mathlib.Core.Path.{_≡_};
+ghost use Prim.Native.Nat.{_+_, _*_, _%_, _≤_, _<_};
+ghost use lib.ListN.{length};
+ghost use Rattle.transforms.specs.Transform.{turned};
+ghost use Rattle.transforms.specs.Parts.{four, plusFour, lessFour, timesFour, aheadFour, backFour, places, turnOn, allOf, spot, storeFour, storeSums, Turning};
+
+// A number for each of four neighbours.
+pub(crate) struct Four {
+    pub a: f32,
+    pub b: f32,
+    pub c: f32,
+    pub d: f32,
+}
+
+// A place in the table for each of four neighbours.
+pub(crate) struct Places {
+    pub a: usize,
+    pub b: usize,
+    pub c: usize,
+    pub d: usize,
+}
+
+// Eight sums for each of four neighbours.
+pub(crate) struct Sums {
+    pub s0: Four,
+    pub s1: Four,
+    pub s2: Four,
+    pub s3: Four,
+    pub s4: Four,
+    pub s5: Four,
+    pub s6: Four,
+    pub s7: Four,
+}
+
+// The sums after some terms, and the places of the next.
+pub(crate) struct Run {
+    pub s: Sums,
+    pub m: Places,
+}
+
+fn plus(x: Four, y: Four) -> Four
+    ensures { λ r. ⌜ r ≡ plusFour x y ⌝ }
+{
+    Four {
+        a: x.a + y.a,
+        b: x.b + y.b,
+        c: x.c + y.c,
+        d: x.d + y.d,
+    }
+}
+
+fn less(x: Four, y: Four) -> Four
+    ensures { λ r. ⌜ r ≡ lessFour x y ⌝ }
+{
+    Four {
+        a: x.a - y.a,
+        b: x.b - y.b,
+        c: x.c - y.c,
+        d: x.d - y.d,
+    }
+}
+
+pub(crate) fn times(v: f32, y: Four) -> Four
+    ensures { λ r. ⌜ r ≡ timesFour v y ⌝ }
+{
+    Four {
+        a: v * y.a,
+        b: v * y.b,
+        c: v * y.c,
+        d: v * y.d,
+    }
+}
+
+// The next term of sums w quarters on, of the indices ahead: by the products p, and q a quarter on. The callers' w is known when it is compiled.
+pub(crate) fn ahead(s: Four, p: Four, q: Four, w: usize) -> Four
+    ensures { λ r. ⌜ r ≡ aheadFour w s p q ⌝ }
+{
+    let t = w % 4;
+    if t == 0 {
+        return plus(s, p);
+    }
+    if t == 1 {
+        return plus(s, q);
+    }
+    if t == 2 {
+        return less(s, p);
+    }
+    less(s, q)
+}
+
+// The same of the indices back from there.
+pub(crate) fn back(s: Four, p: Four, q: Four, w: usize) -> Four
+    ensures { λ r. ⌜ r ≡ backFour w s p q ⌝ }
+{
+    let t = w % 4;
+    if t == 0 {
+        return plus(s, p);
+    }
+    if t == 1 {
+        return less(s, q);
+    }
+    if t == 2 {
+        return less(s, p);
+    }
+    plus(s, q)
+}
+
+pub(crate) fn all_of(v: f32) -> Sums
+    ensures { λ r. ⌜ r ≡ allOf v ⌝ }
+{
+    let f = Four {
+        a: v,
+        b: v,
+        c: v,
+        d: v,
+    };
+    Sums {
+        s0: f,
+        s1: f,
+        s2: f,
+        s3: f,
+        s4: f,
+        s5: f,
+        s6: f,
+        s7: f,
+    }
+}
+
+// A place that may be past the turn's end.
+fn wrapped(m: usize) -> usize
+    requires { ⌜ m < 1920 ⌝ }
+    ensures { λ r. ⌜ r ≡ m % 960 ⌝ }
+{
+    if 960 <= m { m - 960 } else { m }
+}
+
+// From the places of k * n to those of k * (n + 1).
+pub(crate) fn next(m: Places, k: usize, n: usize) -> Places
+    requires { ⌜ (m ≡ places k n) × (k < 124) ⌝ }
+    ensures { λ r. ⌜ r ≡ places k (n + 1) ⌝ }
+{
+    Places {
+        a: wrapped(m.a + k),
+        b: wrapped(m.b + (k + 1)),
+        c: wrapped(m.c + (k + 2)),
+        d: wrapped(m.d + (k + 3)),
+    }
+}
+
+// The cosines at the places of k * n, or a quarter on.
+pub(crate) fn read(table: &[f32; 1200], m: Places, k: usize, n: usize, quarter: usize) -> Four
+    requires { ⌜ Turning (now table) m k n ⌝ }
+    requires { ⌜ quarter ≤ 240 ⌝ }
+    ensures { λ r. ⌜ r ≡ four (λ i. turned i n quarter) k ⌝ }
+{
+    let a = m.a + quarter;
+    let b = m.b + quarter;
+    let c = m.c + quarter;
+    let d = m.d + quarter;
+    Four {
+        a: table[a],
+        b: table[b],
+        c: table[c],
+        d: table[d],
+    }
+}
+
+// A turn and a quarter.
+pub(crate) fn turn_on(table: &mut [f32], cosine: &[f32; 960])
+    requires { ⌜ length (now table) ≡ 1200 ⌝ }
+    ensures { λ _. ⌜ now (table .exit) ≡ turnOn (now (cosine .entry)) ⌝ }
+{
+    for i in 0..1200 {
+        table[i] = cosine[i % 960];
+    }
+}
+
+fn put_four(parts: &mut [f32], at: usize, v: Four)
+    requires { ⌜ (length (now parts) ≡ 992) × (at + 4 ≤ 992) ⌝ }
+    ensures { λ _. ⌜ now (parts .exit) ≡ storeFour (now (parts .entry)) at v ⌝ }
+{
+    parts[at] = v.a;
+    parts[at + 1] = v.b;
+    parts[at + 2] = v.c;
+    parts[at + 3] = v.d;
+}
+
+pub(crate) fn put(parts: &mut [f32], at: usize, s: Sums)
+    requires { ⌜ (length (now parts) ≡ 992) × (at + 32 ≤ 992) ⌝ }
+    ensures { λ _. ⌜ now (parts .exit) ≡ storeSums (now (parts .entry)) at s ⌝ }
+{
+    let b = at + 4;
+    let c = b + 4;
+    let d = c + 4;
+    let e = d + 4;
+    let f = e + 4;
+    let g = f + 4;
+    let h = g + 4;
+    put_four(parts, at, s.s0);
+    put_four(parts, b, s.s1);
+    put_four(parts, c, s.s2);
+    put_four(parts, d, s.s3);
+    put_four(parts, e, s.s4);
+    put_four(parts, f, s.s5);
+    put_four(parts, g, s.s6);
+    put_four(parts, h, s.s7);
+}
+
+// Where sum s of neighbour k is kept.
+pub(crate) fn spot(s: usize, k: usize) -> usize
+    requires { ⌜ (s < 8) × (k < 124) ⌝ }
+    ensures { λ r. ⌜ r ≡ spot s k ⌝ }
+{
+    k / 4 * 32 + 4 * s + k % 4
+}
