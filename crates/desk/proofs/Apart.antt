@@ -11,11 +11,11 @@ use mathlib.Core.Bool.{Bool, true, false, cond}
 use mathlib.Core.List.{List}
 use mathlib.Core.Logic.{_⊎_, inl, inr, ⊎-elim}
 use mathlib.Core.Path.{_≡_, refl, sym, ap, _∙_}
-use borrow.Author.Tests.{ltb-true, ltb-false, eqb-true, eq-eqb, ne-eqb}
+use borrow.Author.Tests.{ltb-true, ltb-false, eqb-true, ne-eqb}
 use lib.Dec.{eqb, ltb}
 use lib.ListN.{length}
 use lib.Ieee.{Float}
-use Rattle.rules.specs.Place.{Place, get, put}
+use Rattle.rules.specs.Place.{get, put}
 use Rattle.rules.proofs.Places.{Within, Apart, length-get, length-put, get-put, get-put-apart, put-get}
 use Rattle.rules.proofs.Wholes.{get-whole, put-whole}
 use Rattle.model.specs.Model.{readOf}
@@ -26,7 +26,6 @@ use Rattle.frame.specs.Frame.{Effect, refusal}
 use Rattle.frame.specs.Reply.{passed}
 use Rattle.frame.specs.declared.Reply.the-variants.{Refused}
 use Rattle.desk.specs.declared.Record.{Record}
-use Rattle.desk.specs.declared.Answer.{Answer}
 use Rattle.desk.specs.Gate.{shareOf, gate, inRange, allZero}
 use Rattle.desk.specs.Desk.{Ask, opening, call1, call2, call3, call4, callOf, closed, answered, opened, onShare, admitted, Given, desk}
 use Rattle.desk.proofs.Settled.{admitted-kept}

@@ -4,10 +4,10 @@
 -- Assumes nothing.
 use Prim.Native.Nat.{ℕ, _+_, _≤_}
 use native.Mathlib.Omega.{arith}
-use mathlib.Core.Bool.{Bool, true, false, cond, not, _&&_}
+use mathlib.Core.Bool.{Bool, true, false, cond, _&&_}
 use mathlib.Core.List.{List}
-use mathlib.Core.Path.{_≡_, refl, sym, _∙_}
-use borrow.Author.Tests.{eq-eqb, ne-eqb, eqb-true, eqb-false, le-leb, leb-true, ltb-true, ltb-false, not-false}
+use mathlib.Core.Path.{_≡_, refl, sym}
+use borrow.Author.Tests.{ne-eqb, eqb-true, eqb-false, le-leb, leb-true, ltb-true, not-false}
 use lib.Dec.{eqb, leb, ltb}
 use lib.ListN.{length}
 use lib.Ieee.{Float}
@@ -22,7 +22,7 @@ use Rattle.frame.specs.declared.Reply.{Reply}
 use Rattle.frame.specs.declared.Reply.the-variants.{Done, Silent, Heard, Refused, Misread}
 use Rattle.desk.specs.declared.Record.{Record}
 use Rattle.desk.specs.Gate.{allZero, inCounts, inRange, isFrame, gate, shareOf}
-use Rattle.desk.specs.Desk.{Ask, opening, call1, call2, call3, call4, callOf, nextDue, nextIndex, advanced, started, answered, onShare, opened, admitted, desk}
+use Rattle.desk.specs.Desk.{Ask, opening, call1, call2, call3, call4, callOf, nextDue, nextIndex, advanced, started, answered, onShare, opened, desk}
 use Rattle.desk.proofs.Turned.{none}
 
 both : (a b : Bool) → (a && b) ≡ true → (a ≡ true) × (b ≡ true)
@@ -113,7 +113,11 @@ unfolding inRange inCounts
 started-range s (Unread n l) b share e p = absurd (let z : _≡_ {A = ℕ} 0 1 = cc in omega arith)
 started-range s (Good m) b share e p =
     let w = shaped s (sym e) in
-    rw (counted _ (w .layer1 .some) (omega (arith, w .layer1 .neurons)), counted _ (w .layer2 .some) (omega (arith, w .layer2 .neurons)), counted _ (w .layer3 .some) (omega (arith, w .layer3 .neurons)))
+    rw (
+      counted _ (w .layer1 .some) (omega (arith, w .layer1 .neurons)),
+      counted _ (w .layer2 .some) (omega (arith, w .layer2 .neurons)),
+      counted _ (w .layer3 .some) (omega (arith, w .layer3 .neurons)),
+    )
 
 done-range : (b : Record) (share : List Float) (ask : Ask) → inRange b ≡ true → (isFrame (callOf ask) && eqb (b .due) 0) ≡ false
     → passed (onShare b share ask .reply) ≡ true → inRange (answered b ask (onShare b share ask .reply) .rec) ≡ true

@@ -19,7 +19,7 @@ use Rattle.model.specs.Model.{readOf}
 use Rattle.model.specs.declared.Reading.{Reading}
 use Rattle.model.specs.declared.Reading.the-variants.{Good, Refused as Unread}
 use Rattle.frame.specs.Share.{SHARE}
-use Rattle.frame.specs.Frame.{Effect, Worked}
+use Rattle.frame.specs.Frame.{Worked}
 use Rattle.frame.specs.Reply.{passed, left}
 use Rattle.frame.specs.declared.Reply.{Reply}
 use Rattle.desk.specs.declared.Record.{Record}

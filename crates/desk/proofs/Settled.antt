@@ -8,9 +8,8 @@ use mathlib.Core.List.{List}
 use mathlib.Core.Path.{_≡_, refl, sym, ap, _∙_}
 use native.Mathlib.Omega.{arith}
 use lib.Dec.{eqb}
-use lib.ListN.{length, replicate}
+use lib.ListN.{length}
 use lib.Ieee.{Float}
-use Rattle.rules.specs.F32.{f32}
 use Rattle.rules.specs.Place.{get, put}
 use Rattle.rules.proofs.Places.{put-get}
 use Rattle.model.specs.Model.{readOf}

@@ -1,7 +1,6 @@
 -- What the number of an answer says of a leaf whose answer is an enum. Assumes nothing.
-use mathlib.Core.Path.{_≡_, refl, ap, _∙_, sym}
+use mathlib.Core.Path.{_≡_, ap, _∙_, sym}
 use Prim.Native.Nat.{ℕ}
-use native.Mathlib.Omega.{arith}
 use Rattle.rules.specs.Leaf.{Leaf, done, refused}
 
 module _ {Answer : Type 0} {Fits : Type 0} (number : Answer → ℕ) {got new old : Answer} (promise : Leaf Fits got new old) where

@@ -14,12 +14,11 @@ use lib.ListN.{length, drop-of-length-le}
 use lib.Seq.{take-all}
 use lib.Ieee.{Float}
 use Rattle.rules.specs.Place.{Place, get, put}
-use Rattle.frame.specs.Reply.{passed, left}
-use Rattle.frame.specs.declared.Reply.{Reply}
+use Rattle.frame.specs.Reply.{passed}
 use Rattle.desk.specs.declared.Record.{Record}
 use Rattle.desk.specs.declared.Answer.{Answer}
 use Rattle.desk.specs.Gate.{BENCHES, inRange}
-use Rattle.desk.specs.Desk.{Ask, call3, Given, desk, Served}
+use Rattle.desk.specs.Desk.{Ask, call3, desk, Served}
 use Rattle.desk.specs.Surface.{RECORD, recordIn, numbersOf, replyNumber, heardOf, besides, outOf, hosted, Hosted}
 use Rattle.desk.proofs.Ranged.{bounded, range-kept}
 use Rattle.desk.proofs.Replies.{small, no-out}

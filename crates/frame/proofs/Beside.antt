@@ -1,7 +1,7 @@
 -- What the calls leave alone: a share keeps its length, and a place that lies apart from the written ones keeps its numbers. Assumes nothing.
 use Prim.Native.Nat.{ℕ, _+_, _≤_}
 use native.Mathlib.Omega.{arith}
-use mathlib.Core.List.{List, [], _∷_, _++_}
+use mathlib.Core.List.{List, [], _∷_}
 use mathlib.Core.Path.{_≡_, refl, ap, _∙_}
 use lib.ListN.{length, length-append, replicate}
 use lib.Ieee.{Float}

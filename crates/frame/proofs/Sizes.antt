@@ -7,8 +7,8 @@ use lib.ListN.{length}
 use lib.Seq.{getD-take, getD-drop}
 use lib.Ieee.{Float}
 use Rattle.rules.specs.F32.{at}
-use Rattle.rules.specs.Place.{Place, get, put}
-use Rattle.rules.proofs.Places.{length-get, length-put}
+use Rattle.rules.specs.Place.{Place, get}
+use Rattle.rules.proofs.Places.{length-get}
 use Rattle.frame.specs.Share.{SHARE, keptX, keptEx, keptLag, cepstralMem, vadState, noiseState, denoiseState}
 
 -- a place, number by number

@@ -21,7 +21,7 @@ use Rattle.model.specs.declared.Reading.the-variants.{Good, Refused as Unread}
 use Rattle.features.specs.Silence.{energy, soundOf}
 use Rattle.features.specs.declared.Sound.{Sound}
 use Rattle.features.specs.declared.Sound.the-variants.{Silent as Quiet, Heard as Loud, Refused as Unfit}
-use Rattle.frame.specs.Reply.{left, passed}
+use Rattle.frame.specs.Reply.{left}
 pub use Rattle.frame.specs.Share.{SHARE}
 use Rattle.frame.specs.Share.{inputMem, synthesisMem, keptX, keptEx, keptLag, memHpX}
 use Rattle.frame.specs.Heard.{scaled, energies, Spoken, spoken}

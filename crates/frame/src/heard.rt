@@ -9,7 +9,7 @@ ghost use Rattle.bands.specs.Bands.{bandGain};
 ghost use Rattle.model.specs.Model.{readOf};
 ghost use Rattle.features.specs.Pitch.{pitchFiltered, applied};
 ghost use Rattle.frame.specs.Share.{keptX, keptEx, lastg, vadState, noiseState, denoiseState};
-ghost use Rattle.frame.specs.Heard.{scaled, energies, featured, rnnOf, heldGains, spokenFrom, spoken};
+ghost use Rattle.frame.specs.Heard.{energies, featured, rnnOf, heldGains, spokenFrom, spoken};
 ghost use Rattle.frame.specs.Frame.{Worked, done3, counted};
 ghost use Rattle.frame.specs.Parts.{checked, Reads, featuredAs, rnnAs, spokenAs, quiet, replyOf};
 use crate::Reply;

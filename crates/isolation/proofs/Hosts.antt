@@ -2,18 +2,18 @@
 --     in-numbers    a host's run is the desk's, told in numbers
 --     as-called     what specs/Host.antt claims
 -- Assumes nothing.
-use Prim.Native.Nat.{ℕ, _*_, _<_}
+use Prim.Native.Nat.{ℕ}
 use mathlib.Core.Bool.{Bool, true, false, cond}
 use mathlib.Core.List.{List, [], _∷_, _++_, map}
 use mathlib.Core.Path.{_≡_, refl, sym, ap, ap₂, _∙_}
 use lib.Dec.{eqb}
-use lib.ListN.{length, replicate}
+use lib.ListN.{replicate}
 use lib.Ieee.{Float}
 use Rattle.rules.specs.F32.{f32}
 use Rattle.frame.specs.Reply.{passed, left}
 use Rattle.frame.specs.Share.{SHARE}
 use Rattle.desk.specs.declared.Record.{Record}
-use Rattle.desk.specs.Desk.{Ask, Given, desk}
+use Rattle.desk.specs.Desk.{Ask, Given}
 use Rattle.desk.specs.Surface.{numbersOf, recordIn, replyNumber, besides, hosted, handedBack}
 use Rattle.desk.proofs.Settled.{refused-keeps}
 use Rattle.isolation.specs.Run.{Call, State, allClosed, given, after, Received, receive, received, asked, lonely, alone}

@@ -17,13 +17,13 @@ use Rattle.rules.specs.F32.{f32}
 use Rattle.rules.specs.Place.{get}
 use Rattle.rules.proofs.Places.{length-get}
 use Rattle.rules.proofs.Wholes.{get-whole}
-use Rattle.frame.specs.Reply.{passed, left}
+use Rattle.frame.specs.Reply.{passed}
 use Rattle.frame.specs.Share.{SHARE}
 use Rattle.desk.specs.declared.Answer.{Answer}
 use Rattle.desk.specs.declared.Record.{Record}
 use Rattle.desk.specs.Gate.{BENCHES, shareOf}
 use Rattle.desk.specs.Desk.{Ask, opening, Given, closed, desk}
-use Rattle.desk.proofs.Apart.{its-own, own-share, one-length, other-share, same-length, Alike, closed-alike, anew}
+use Rattle.desk.proofs.Apart.{its-own, own-share, one-length, other-share, same-length, closed-alike, anew}
 use Rattle.isolation.specs.Run.{Call, openingOf, State, allClosed, given, after, Received, receive, received, asked, lonely, alone}
 use Rattle.isolation.specs.Isolation.{Isolated, OurDesk, Undisturbed, Anew}
 

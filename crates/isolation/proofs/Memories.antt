@@ -8,8 +8,8 @@ use Prim.Native.Nat.{ℕ, _+_, _*_, _≤_, _<_}
 use native.Mathlib.Omega.{arith}
 use mathlib.Core.Bool.{Bool, true, false, cond}
 use mathlib.Core.List.{List, [], _∷_}
-use mathlib.Core.Logic.{inl, inr}
-use mathlib.Core.Path.{_≡_, refl, sym, ap, _∙_}
+use mathlib.Core.Logic.{inl}
+use mathlib.Core.Path.{_≡_, refl, ap, _∙_}
 use borrow.Author.Tests.{eq-eqb, eqb-true, eqb-false}
 use lib.Dec.{eqb}
 use lib.ListN.{length, replicate, getD-replicate}
@@ -37,7 +37,7 @@ use Rattle.desk.specs.Gate.{shareOf, gate}
 use Rattle.desk.specs.Desk.{Ask, opening, call1, call2, call3, call4, callOf, closed, advanced, answered, opened, onShare, Given, desk}
 use Rattle.desk.proofs.Apart.{givenOf, one-bench, its-own, own-share, other-share, same-length, anew}
 use Rattle.isolation.specs.Run.{Call, openingOf, State, given, after, ended}
-use Rattle.isolation.specs.Memory.{Recalled, recalled, SilentLeaves, Since, NeverNan, HeardHolds}
+use Rattle.isolation.specs.Memory.{SilentLeaves, Since, NeverNan, HeardHolds}
 
 -- ---- one call
 

@@ -4,6 +4,12 @@ use Rattle.rules.proofs.Tests.{tests, answered-no, answered-yes}
 use Rattle.desk.proofs.told.Statement.{statement}
 use Rattle.desk.proofs.told.Tie as tie
 
+returns-2 : tie.Need-returns-2
+returns-2 c =
+    let due = c .before .before in
+    let done = answered-yes (due .before .before .passed .ensures) (due .before .if1 .left) in
+    search (tests, done, due .next-due .ensures, c .before .next-index .ensures, c .record-of .ensures)
+
 pub told-spec : {M : Type 1} → statement M
 told-spec =
     tie.close
@@ -13,4 +19,4 @@ told-spec =
     (λ c κs. search needs)  -- next-due-requires
     (λ c κs. search needs)  -- next-index-requires
     (λ c κs. search needs)  -- record-of-requires
-    (λ c. search (tests, answered-yes (c .before .before .before .before .passed .ensures) (c .before .before .before .if1 .left), c .before .before .next-due .ensures, c .before .next-index .ensures, c .record-of .ensures)))  -- returns-2
+    returns-2)

@@ -15,7 +15,7 @@ use Rattle.rules.proofs.Leaves.{fitting}
 use Rattle.numbers.specs.Filter.{highPass, outputs}
 use Rattle.numbers.specs.declared.filter.Filtered.{Filtered}
 use Rattle.bands.specs.Windowed.{windowed}
-use Rattle.frame.specs.Frame.{shifted, recent}
+use Rattle.frame.specs.Frame.{shifted}
 use Rattle.frame.proofs.input.take_in.Statement.{statement}
 use Rattle.frame.proofs.input.take_in.Tie as tie
 

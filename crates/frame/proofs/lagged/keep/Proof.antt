@@ -1,11 +1,10 @@
 -- `frame::lagged::keep` meets its contract: what each call leaves, in a row. Assumes nothing.
-use mathlib.Core.Path.{_≡_, ap, _∙_}
+use mathlib.Core.Path.{ap, _∙_}
 use mathlib.Core.List.{List, [], _∷_}
 use native.Mathlib.Omega.{arith}
 use borrow.Author.Needs.{needs}
 use denote.Ref.{now}
 use lib.IntN.{pos}
-use lib.ListN.{length}
 use lib.Ieee.{Float, binary32, ofInt}
 use Rattle.rules.specs.Place.{get, put}
 use Rattle.rules.proofs.Called.{left as fitted}

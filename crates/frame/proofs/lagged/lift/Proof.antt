@@ -1,5 +1,5 @@
 -- `frame::lagged::lift` meets its contract. The loop's invariant: the first i energies are plusHundredth, and the others are as they were. Assumes nothing.
-use mathlib.Core.Path.{_≡_, ap}
+use mathlib.Core.Path.{ap}
 use Prim.Native.Nat.{_≤_, _-_}
 use native.Mathlib.Omega.{arith}
 use lib.Ieee.{Float}

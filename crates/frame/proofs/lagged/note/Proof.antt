@@ -1,8 +1,7 @@
 -- `frame::lagged::note` meets its contract: what each call leaves, in a row. Assumes nothing.
-use mathlib.Core.Path.{_≡_, ap, ap₂, _∙_}
+use mathlib.Core.Path.{ap, ap₂, _∙_}
 use mathlib.Core.List.{List, [], _∷_}
 use borrow.Author.Needs.{needs}
-use denote.Ref.{now}
 use lib.IntN.{pos}
 use lib.Ieee.{Float, binary32, ofInt}
 use Rattle.rules.specs.Place.{put}

@@ -1,6 +1,6 @@
 -- `frame::output::overlap` meets its contract. The loop's invariant: of both slices the first i places are written, and the others are as they were.
 -- Assumes nothing.
-use mathlib.Core.Path.{_≡_, ap}
+use mathlib.Core.Path.{ap}
 use Prim.Native.Nat.{_+_, _≤_, _-_}
 use native.Mathlib.Omega.{arith}
 use lib.Ieee.{Float}

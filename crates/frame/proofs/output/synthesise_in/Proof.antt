@@ -1,5 +1,5 @@
 -- `frame::output::synthesise_in` meets its contract: what each call leaves, in a row. Assumes nothing.
-use mathlib.Core.Path.{_≡_, ap, _∙_}
+use mathlib.Core.Path.{ap, _∙_}
 use mathlib.Core.List.{List}
 use borrow.Author.Needs.{needs}
 use denote.Ref.{now}
