@@ -42,6 +42,8 @@ pub fn bench() {
         per_second(ours),
         per_second(ours) / 100.0
     );
+    // a bench speaks a frame every 10 ms
+    println!("one core serves {:.0} benches in real time", (per_second(ours) / 100.0).floor());
     println!("process_frame of the Rust text, same transforms: {:.0} frames a second", per_second(text));
     println!("time, the Rust = 1: {:.2}", ours.as_secs_f64() / text.as_secs_f64());
 

@@ -1,4 +1,4 @@
-//! Both benches over one store.
+//! Both benches over one store: its first two of sixteen.
 
 use crate::refusal::Refusal;
 use crate::transform::{Transform, SPECTRUM, WINDOW};
@@ -7,7 +7,7 @@ use nnnoiseless_text::probe::pitch::PitchFinder;
 use std::time::{Duration, Instant};
 
 /// The store's published length, and a side's share of it (docs/STORE.md).
-pub const STORE: usize = 12_288;
+pub const STORE: usize = 98_304;
 const SHARE: usize = 6_144;
 /// `input_mem`, the first numbers of a share: what the lag is searched in.
 const INPUT_MEM: usize = 1_728;

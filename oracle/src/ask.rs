@@ -91,7 +91,7 @@ impl Caller {
             _ => self.inverse(rng),
         };
         ask.call = call;
-        ask.side = if rng.once_in(80) { rng.pick(&[2, 3, 256, 65_536, u32::MAX]) } else { self.side };
+        ask.side = if rng.once_in(80) { rng.pick(&[16, 17, 256, 65_536, u32::MAX]) } else { self.side };
         ask
     }
 

@@ -9,8 +9,9 @@ use nnnoiseless_text::probe::{bands, features, rnn};
 use nnnoiseless_text::{DenoiseFeatures, RnnModel};
 use std::ops::Range;
 
-/// The store's length, and a side's share of it.
-pub const STORE: usize = 2 * SHARE;
+/// How many benches there are, the store's length, and a side's share of it.
+pub const BENCHES: usize = 16;
+pub const STORE: usize = BENCHES * SHARE;
 pub const SHARE: usize = 6144;
 
 // A share, place by place.
@@ -41,7 +42,7 @@ fn in_range(record: &[u32]) -> bool {
 
 /// Refusals 1 to 4, or 0. `call` is 0 for an opening.
 fn gate(call: u32, record: &[u32], store: &[f32], side: u32) -> u32 {
-    if side > 1 {
+    if side as usize >= BENCHES {
         1
     } else if store.len() != STORE || !in_range(record) {
         2

@@ -1,7 +1,7 @@
-//! features.rs and denoise.rs: whole frames in four calls, on two sides of one store.
+//! features.rs and denoise.rs: whole frames in four calls, on the sides of one store.
 
 use crate::ask::{Ask, Caller, Surface, OURS};
-use crate::desk::{self, COUNTS, DUE, EX, INDEX, LAG, SHARE, STORE, X};
+use crate::desk::{self, BENCHES, COUNTS, DUE, EX, INDEX, LAG, SHARE, STORE, X};
 use crate::rng::{Mood, Rng};
 use crate::shadow::Shadow;
 use crate::tally::{floats, kept, signed, By, Given, Tally, Value};
@@ -11,11 +11,11 @@ use crate::Options;
 const TEXT: Surface =
     Surface { open: desk::open, call1: desk::call1, call2: desk::call2, call3: desk::call3, call4: desk::call4 };
 
-/// A desk's store and both records.
+/// A desk's store and all its records.
 #[derive(Clone)]
 struct World {
     store: Vec<f32>,
-    records: [Vec<u32>; 2],
+    records: Vec<Vec<u32>>,
 }
 
 pub fn compare(options: &Options) -> Tally {
@@ -26,14 +26,14 @@ pub fn compare(options: &Options) -> Tally {
 pub fn compare_with(options: &Options, desk: &Surface) -> Tally {
     let mut tally = Tally::new("frame");
     let rng = &mut Rng::new(options.seed);
-    let mut ours = World { store: rng.list(STORE), records: [vec![0; 5], vec![0; 5]] };
+    let mut ours = World { store: rng.list(STORE), records: vec![vec![0; 5]; BENCHES] };
     let mut rusts = ours.clone();
-    let mut callers = [Caller::new(0), Caller::new(1)];
-    let mut shadows = [Shadow::default(), Shadow::default()];
+    let mut callers: [_; BENCHES] = std::array::from_fn(|side| Caller::new(side as u32));
+    let mut shadows: [_; BENCHES] = std::array::from_fn(|_| Shadow::default());
     let calls = options.calls(24_000);
     // a call in eight, at least, ends a frame
     while tally.compared < calls || shadows.iter().map(|s| s.frames).sum::<u64>() < calls / 8 {
-        let side = rng.below(2);
+        let side = rng.below(BENCHES);
         let ask = callers[side].ask(rng, rusts.records[side][DUE]);
         let damage = Damage::any(rng, side);
         let saved = [&ours, &rusts].map(|world| damage.passing().then(|| world.clone()));
@@ -101,7 +101,7 @@ impl Damage {
             0..=14 => Damage::Record(rng.below(5), rng.pick(&RECORD)),
             15..=19 => Damage::RecordLength(rng.pick(&[0, 1, 4, 6])),
             20..=24 => Damage::Closed,
-            25..=30 => Damage::StoreLength(rng.pick(&[0, SHARE, STORE - 1, STORE + 1, 2 * STORE])),
+            25..=30 => Damage::StoreLength(rng.pick(&[0, SHARE, 2 * SHARE, STORE - 1, STORE + 1, 2 * STORE])),
             31 => Damage::Store(share, rng.list_of(SHARE, mood)),
             32 | 33 => Damage::Store(share + X.start, rng.list_of(X.len(), mood)),
             // around the border of silence

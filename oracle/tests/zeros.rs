@@ -40,11 +40,12 @@ fn numbers_made_from_bits_keep_the_sign() {
 
 #[test]
 fn what_is_cleared_is_plus_0() {
-    let (mut store, mut record) = (vec![-0.0; 12_288], [0; 5]);
+    let (mut store, mut record) = (vec![-0.0; 98_304], [0; 5]);
     let layers = [(42, 1, 0, 43), (1, 1, 0, 9), (44, 1, 0, 138), (44, 1, 0, 138), (1, 22, 1, 44), (1, 1, 1, 2)];
     let model: Vec<u8> = layers.iter().flat_map(|l| [vec![l.0, l.1, l.2], vec![0; l.3]].concat()).collect();
     assert_eq!(tuppence::open(&mut record, &mut store, 1, &model), 0);
-    assert_eq!(bits(&store), [[MINUS; 6144], [PLUS; 6144]].concat());
+    assert_eq!(bits(&store[..12_288]), [[MINUS; 6144], [PLUS; 6144]].concat());
+    assert_eq!(bits(&store[12_288..]), [MINUS; 14 * 6144]);
     // a silent frame's answer
     let (mut out, mut answer) = ([7.5; 961], [-0.0; 3]);
     record[0] = 3;

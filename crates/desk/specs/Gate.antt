@@ -1,5 +1,5 @@
 -- Refusals 1 to 4: who is turned away before a share is looked at. Stated over the number of benches.
-use Prim.Native.Nat.{ℕ, _*_}
+use Prim.Native.Nat.{ℕ, _*_, _%_}
 use mathlib.Core.Bool.{Bool, cond, not, _&&_}
 use mathlib.Core.List.{List, [], _∷_}
 use lib.Dec.{eqb, leb, ltb}
@@ -9,7 +9,11 @@ use Rattle.frame.specs.Share.{SHARE}
 use Rattle.desk.specs.declared.Record.{Record}
 
 abbrev pub BENCHES : ℕ
-BENCHES = 2
+BENCHES = 16
+
+-- left or right: even benches are left, 0, and odd ones right, 1
+abbrev pub sideOf : ℕ → ℕ
+sideOf bench = bench % 2
 
 -- a side's share, as a place of the store
 abbrev pub shareOf : ℕ → Place

@@ -1,15 +1,15 @@
-// The desk: an opening and frame calls on one of two sides of one lent store. What is refused changes nothing.
+// The desk: an opening and frame calls on one of sixteen sides of one lent store. What is refused changes nothing.
 ghost use mathlib.Core.Path.{_≡_};
 ghost use mathlib.Core.List.{[], _∷_};
 ghost use lib.ListN.{length};
-ghost use Rattle.desk.specs.Gate.{BENCHES, allZero, inCounts, inRange, gate};
+ghost use Rattle.desk.specs.Gate.{BENCHES, sideOf, allZero, inCounts, inRange, gate};
 ghost use Rattle.desk.specs.Desk.{opening, call1, call2, call3, call4, recordOf, nextIndex, nextDue, desk, Served};
 ghost use Rattle.desk.specs.Parts.{Admits, turnedAway, toldOf, openedOf};
 use frame::Lag;
 use frame::Reply;
 use model::Reading;
 
-// A side, 0 left and 1 right.
+// A side, which is a bench: 0 to 15, the even ones left and the odd ones right.
 pub struct Side(pub usize);
 
 // A side's record, which goes in and comes back by value; closed, it is all zeros. It is called `rec`: `record` is a word of the logic.
@@ -27,10 +27,17 @@ pub struct Answer {
     pub rec: Record,
 }
 
-pub const BENCHES: usize = 2;
+pub const BENCHES: usize = 16;
 
 // The store's published length: a share for each bench.
 pub const STORE: usize = BENCHES * frame::SHARE;
+
+// Left or right, 0 or 1: a bench's parity.
+pub fn side_of(bench: u32) -> u32
+    ensures { λ r. ⌜ r ≡ sideOf bench ⌝ }
+{
+    bench % 2
+}
 
 // Every record is made here.
 pub fn record_of(due: usize, index: usize, vad: usize, noise: usize, denoise: usize) -> Record

@@ -5,7 +5,7 @@ ghost use mathlib.Core.Bool.{true, cond};
 ghost use mathlib.Core.List.{[], _∷_};
 ghost use lib.ListN.{length};
 ghost use Rattle.frame.specs.Reply.{passed};
-ghost use Rattle.desk.specs.Gate.{BENCHES};
+ghost use Rattle.desk.specs.Gate.{BENCHES, sideOf};
 ghost use Rattle.desk.specs.Desk.{opening, call1, call2, call3, call4};
 ghost use Rattle.desk.specs.Surface.{RECORD, numbersOf, recordIn, replyNumber, heardOf, outOf, hosted, Hosted};
 ghost use Rattle.desk.proofs.Ranged.{Bounded};
@@ -80,6 +80,13 @@ fn hand_back(record: &mut [u32], given: Answer) -> u32
     }
     put_record(record, given.rec);
     number_of(reply)
+}
+
+#[no_mangle]
+pub extern "C" fn tuppence_side_of(bench: u32) -> u32
+    ensures { λ r. ⌜ r ≡ sideOf bench ⌝ }
+{
+    desk::side_of(bench)
 }
 
 #[no_mangle]

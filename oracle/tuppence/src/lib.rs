@@ -86,6 +86,7 @@ surface! {
 // A record is due call, cepstral index and the three GRU counts. Refusal 7 is 7 + 256 × the model's + 65,536 × its layer.
 #[cfg(feature = "frame")]
 surface! {
+    tuppence_side_of as side_of(bench: u32) -> u32;
     tuppence_open as open(record: &mut [u32], store: &mut [f32], side: u32, model: &[u8]) -> u32;
     tuppence_call1 as call1(record: &mut [u32], store: &mut [f32], side: u32, samples: &[f32], window: &mut [f32]) -> u32;
     tuppence_call2 as call2(
