@@ -5,6 +5,7 @@
 //! either side. All NaNs are taken alike, and both zeros.
 
 pub mod models;
+pub mod plain_sheet;
 pub mod reader;
 pub mod rng;
 pub mod tally;
@@ -29,6 +30,8 @@ pub mod numbers;
 pub mod pitch;
 #[cfg(feature = "frame")]
 pub mod shadow;
+#[cfg(feature = "sheet")]
+pub mod sheet;
 
 use nnnoiseless_text::probe::bands::Complex;
 
@@ -66,6 +69,8 @@ pub const GROUPS: &[Group] = &[
     ("pitch", pitch::compare),
     #[cfg(feature = "model")]
     ("model", model::compare),
+    #[cfg(feature = "sheet")]
+    ("sheet", sheet::compare),
     #[cfg(feature = "network")]
     ("network", network::compare),
     #[cfg(feature = "frame")]
