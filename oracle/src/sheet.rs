@@ -11,7 +11,9 @@ pub fn compare(options: &Options) -> Tally {
     let t = &mut tally;
     for records in [0, 1, 2, 5] {
         for side in [0, 1] {
-            in_turn(t, rng, &any_whole(rng.below(20), records, side, &mut Rng::new(options.seed)));
+            let audio = rng.below(20);
+            let whole = any_whole(audio, records, side, rng);
+            in_turn(t, rng, &whole);
         }
     }
     for _ in 0..options.calls(20_000) {
@@ -153,10 +155,12 @@ fn writing(t: &mut Tally, rng: &mut Rng) {
     let mut entries: Vec<u64> = (0..rng.below(12)).map(|_| entry(rng)).collect();
     if !entries.is_empty() && rng.once_in(4) {
         let place = rng.below(entries.len());
-        entries[place] = rng.pick(&[1 << 33, (1 << 33) - 1, u64::MAX, 1 << 40, rng.bits()]);
+        let any = rng.bits();
+        entries[place] = rng.pick(&[1 << 33, (1 << 33) - 1, u64::MAX, 1 << 40, any]);
     }
     let side = if rng.once_in(5) { rng.pick(&[2, 3, 256, u32::MAX]) } else { rng.below(2) as u32 };
-    let out = rng.bytes(rng.near(8 * entries.len() + 16) + rng.pick(&[0, 0, 0, 5]));
+    let room = rng.near(8 * entries.len() + 16) + rng.pick(&[0, 0, 0, 5]);
+    let out = rng.bytes(room);
     let (mut ours, mut theirs) = (out.clone(), out.clone());
     let number = tuppence::sheet_write(&mut ours, side, &entries);
     let want = plain::write(&mut theirs, side, &entries);
