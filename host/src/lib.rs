@@ -10,6 +10,7 @@ pub mod picture;
 pub mod recorder;
 pub mod reference;
 pub mod refusal;
+pub mod side;
 pub mod table;
 pub mod transform;
 pub mod wav;

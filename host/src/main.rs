@@ -13,6 +13,9 @@ host: cleans two dictations, one for each bench
   host demo DIR
       The same with two dictations over a grinder and the house model, which come
       with the program; the recordings before cleaning are written too.
+  host side FILE..
+      The side sheet behind each recording's audio: its side, how many frames it has
+      and how many of them were heard, and where a frame is missing.
   host bench
       Frames a second, where a frame's time goes, and the ratio to the Rust text.
   host --help
@@ -46,6 +49,10 @@ fn run(words: &[String]) -> Result<(), String> {
         [demo, dir] if demo == "demo" => {
             host::demo::demo(dir.as_ref())?;
             println!("Look at {dir}/benches.svg, and listen to {dir}/left-before.wav and {dir}/left.wav.");
+        }
+        [word, first, rest @ ..] if word == "side" => {
+            let paths: Vec<PathBuf> = std::iter::once(first).chain(rest).map(PathBuf::from).collect();
+            host::side::side(&paths)?;
         }
         [word, rest @ ..] if word == "clean" => {
             let job = job(rest).ok_or("clean: the options are not right; see host --help")?;

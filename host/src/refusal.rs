@@ -26,6 +26,16 @@ fn of_model(number: u32) -> &'static str {
     }
 }
 
+fn of_sheet(number: u32) -> &'static str {
+    match number {
+        31 => "the file is too short for one",
+        32 => "it does not end in a trailer that points back to records",
+        33 => "its trailer names neither the left nor the right side",
+        34 => "a record is broken or of the other side",
+        _ => "its records are not those that it was closed with",
+    }
+}
+
 impl fmt::Display for Refusal {
     fn fmt(&self, f: &mut fmt::Formatter) -> fmt::Result {
         let (number, of, layer) = (self.0 % 256, self.0 / 256 % 256, self.0 / 65_536);
@@ -36,6 +46,7 @@ impl fmt::Display for Refusal {
                 write!(f, ")")
             }
             8 => write!(f, "the model's GRU counts are not those of the opening (refusal 8)"),
+            31..=35 => write!(f, "no side sheet: {} (refusal {number})", of_sheet(number)),
             _ => write!(f, "the library refused a call with {number}"),
         }
     }

@@ -6,6 +6,7 @@
 //! the very bits, and every call its inputs.
 
 pub mod models;
+pub mod plain_sheet;
 pub mod reader;
 pub mod rng;
 pub mod tally;
@@ -32,6 +33,8 @@ pub mod pitch;
 pub mod shadow;
 #[cfg(feature = "transforms")]
 pub mod transforms;
+#[cfg(feature = "sheet")]
+pub mod sheet;
 
 use nnnoiseless_text::probe::bands::Complex;
 
@@ -71,6 +74,8 @@ pub const GROUPS: &[Group] = &[
     ("transforms", transforms::compare),
     #[cfg(feature = "model")]
     ("model", model::compare),
+    #[cfg(feature = "sheet")]
+    ("sheet", sheet::compare),
     #[cfg(feature = "network")]
     ("network", network::compare),
     #[cfg(feature = "frame")]

@@ -5,4 +5,5 @@ pub mod of_model;
 pub mod of_network;
 pub mod of_numbers;
 pub mod of_pitch;
+pub mod of_sheet;
 pub mod of_transforms;

@@ -223,6 +223,29 @@ fn of_shape(rng: &mut Rng, name: &'static str, shape: models::Shape) -> Row {
     )
 }
 
+/// An hour of frames.
+#[cfg(feature = "sheet")]
+fn of_sheet(rng: &mut Rng) -> Vec<Row> {
+    let entries: Vec<u64> = (0..360_000).map(|i| i + ((rng.below(2) as u64) << 32)).collect();
+    let mut file = vec![0; 8 * entries.len() + 16];
+    assert_eq!(oracle::plain_sheet::write(&mut file, 1, &entries), 0);
+    let again = entries.clone();
+    let [mut f1, mut f2] = std::array::from_fn(|_| file.clone());
+    let [f3, f4] = std::array::from_fn(|_| file.clone());
+    vec![
+        row(
+            "a sheet of 360,000 records, written",
+            move || assert_eq!(tuppence::sheet_write(&mut f1, 1, black_box(&entries)), 0),
+            move || assert_eq!(oracle::plain_sheet::write(&mut f2, 1, black_box(&again)), 0),
+        ),
+        row(
+            "a sheet of 360,000 records, read",
+            move || assert_eq!(tuppence::sheet_read(black_box(&mut [0; 3]), &f3), 0),
+            move || black_box(oracle::plain_sheet::read(black_box(&f4))).unwrap(),
+        ),
+    ]
+}
+
 /// What a frame is given.
 #[cfg(feature = "frame")]
 struct Frame {
@@ -297,6 +320,8 @@ fn main() {
     rows.extend(of_transforms(rng));
     #[cfg(feature = "network")]
     rows.extend(of_network(rng));
+    #[cfg(feature = "sheet")]
+    rows.extend(of_sheet(rng));
     #[cfg(feature = "frame")]
     rows.extend(of_frame(rng));
     let words: Vec<String> = std::env::args().skip(1).collect();

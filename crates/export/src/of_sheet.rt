@@ -1,0 +1,28 @@
+// sheet: written, read, and asked for an entry. An entry is a frame's number, and 2^32 more where it was heard.
+ghost use mathlib.Core.Path.{_≡_};
+ghost use Rattle.rules.specs.Leaf.{_leaving_};
+ghost use Rattle.sheet.specs.Asked.{summaryOf, entryAt};
+ghost use Rattle.sheet.specs.Written.{writtenOf};
+
+#[no_mangle]
+pub extern "C" fn tuppence_sheet_write(out: &mut [u8], side: u32, entries: &[u64]) -> u32
+    ensures { λ r. ⌜ (r leaving now (out .exit)) ≡ writtenOf (record { side = side; entries = now (entries .entry) }) (now (out .entry)) ⌝ }
+{
+    sheet::write(out, side, entries)
+}
+
+// numbers has three places: where the records start, how many there are, and the side.
+#[no_mangle]
+pub extern "C" fn tuppence_sheet_read(numbers: &mut [u64], file: &[u8]) -> u32
+    ensures { λ r. ⌜ (r leaving now (numbers .exit)) ≡ summaryOf (now (file .entry)) (now (numbers .entry)) ⌝ }
+{
+    sheet::summary(numbers, file)
+}
+
+// entry has one place.
+#[no_mangle]
+pub extern "C" fn tuppence_sheet_entry(entry: &mut [u64], file: &[u8], index: u64) -> u32
+    ensures { λ r. ⌜ (r leaving now (entry .exit)) ≡ entryAt (now (file .entry)) index (now (entry .entry)) ⌝ }
+{
+    sheet::entry(entry, file, index)
+}

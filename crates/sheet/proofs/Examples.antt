@@ -1,0 +1,29 @@
+-- Files read by the definition, as one computed list. Assumes nothing.
+use mathlib.Core.Path.{_≡_, refl}
+use mathlib.Core.List.{List, [], _∷_, _++_, map}
+use Prim.Native.Nat.{ℕ}
+use lib.ListN.{drop, set, replicate}
+use Rattle.sheet.specs.Sheet.{Sheet, four, recordOf, trailerOf, bytesOf}
+use Rattle.sheet.specs.End.{fromFour, zeros, good, run, entryOf, entriesOf, distance, number, sideByte, padded, sumNoted, start, records, faults, endOf, readOf}
+use Rattle.sheet.specs.declared.Reading.{Reading}
+use Rattle.sheet.specs.declared.Reading.the-variants.{Good, Refused}
+
+-- two bytes of audio, and a sheet of the right side: frame 300 silent, frame 301 heard
+abbrev recording : List ℕ
+recording = 77 ∷ 78 ∷ bytesOf (record { side = 1; entries = 300 ∷ 4294967597 ∷ [] })
+
+-- its 34 bytes
+contents : recording
+    ≡ 77 ∷ 78
+    ∷ 44 ∷ 1 ∷ 0 ∷ 0 ∷ 0 ∷ 1 ∷ 0 ∷ 0
+    ∷ 45 ∷ 1 ∷ 0 ∷ 0 ∷ 1 ∷ 1 ∷ 0 ∷ 0
+    ∷ 16 ∷ 0 ∷ 0 ∷ 0 ∷ 2 ∷ 0 ∷ 0 ∷ 0 ∷ 1 ∷ 0 ∷ 0 ∷ 0 ∷ 94 ∷ 0 ∷ 0 ∷ 0 ∷ []
+unfolding recordOf trailerOf four
+contents = refl
+
+-- empty; the sheet without records; the recording, whole, without its audio and without a byte of its records; with another number of records, another side in the
+-- trailer and a third, another side in a record, another frame, and another byte of audio
+examples : map readOf ([] ∷ replicate 16 0 ∷ recording ∷ drop 2 recording ∷ drop 3 recording ∷ set recording 22 3 ∷ set recording 26 0 ∷ set recording 26 2 ∷ set recording 15 0 ∷ set recording 2 45 ∷ set recording 0 0 ∷ [])
+    ≡ Refused 31 ∷ Good 0 0 0 ∷ Good 2 2 1 ∷ Good 0 2 1 ∷ Refused 32 ∷ Refused 32 ∷ Refused 34 ∷ Refused 33 ∷ Refused 34 ∷ Refused 35 ∷ Good 2 2 1 ∷ []
+unfolding recordOf trailerOf four readOf endOf faults distance number sideByte padded zeros sumNoted start records fromFour run good entriesOf entryOf
+examples = refl

@@ -1,0 +1,177 @@
+-- What is written reads: a sheet that fits, behind any bytes, reads as it was given and starts where they end. Assumes nothing.
+use mathlib.Core.Path.{_≡_, refl, sym, ap, _∙_}
+use mathlib.Core.Bool.{Bool, true, false, not, _&&_}
+use mathlib.Core.List.{List, [], _∷_, _++_, append-assoc, append-nil}
+use Prim.Native.Nat.{ℕ, zero, suc, _+_, _*_, _-_, _/_, _%_, _≤_, _<_}
+use native.Mathlib.Omega.{arith}
+use borrow.Author.Tests.{le-ltb, eq-eqb, ltb-false, eqb-true, not-false}
+use lib.Dec.{eqb, ltb}
+use lib.ListN.{length, getD, take, drop, length-append, length-take, length-drop, take-append-drop, drop-of-length-le}
+use lib.Seq.{take-at, drop-at, take-append-seam, drop-append-seam, getD-drop, drop-drop, take-add}
+use Rattle.rules.proofs.Refused.{Clear, clear, by-rows}
+use Rattle.sheet.specs.Sheet.{four, sum, Sheet, kind, recordOf, recordsOf, trailerOf, bytesOf}
+use Rattle.sheet.specs.End.{fromFour, zeros, good, run, entryOf, entriesOf, trailer, distance, number, sideByte, padded, sumNoted, start, records, faults, End, sheet, refused, endOf, readOf}
+use Rattle.sheet.specs.Written.{kinds, obstacles}
+use Rattle.sheet.specs.declared.Reading.the-variants.{Good}
+use Rattle.sheet.proofs.Digits.{digits, four-read, Bytes, four-of, above, four-mod}
+use Rattle.sheet.proofs.Runs.{first-heard}
+use Rattle.sheet.proofs.Halves.{neither, ends-at, low-side, length-entries}
+use Rattle.sheet.proofs.Laying.{length-trailer, length-records}
+
+-- a sheet that a file can hold
+pub record Fits (sh : Sheet) : Type 0 where
+  pub few : length (sh .entries) ≤ 536870911
+  pub known : sh .side ≤ 1
+  pub heard : kinds (sh .entries) ≡ true
+
+-- what the writer does not refuse fits
+pub unhindered : (sh : Sheet) (room : ℕ) → Clear (obstacles sh room) → Fits sh
+unhindered sh room h = record { few = ltb-false _ _ (h .0); known = ltb-false _ _ (h .1 .0); heard = not-false _ (h .1 .1 .0) }
+
+-- ---- what is written reads
+
+module _ (side e : ℕ) (rest : List ℕ) where
+  record-good : kind e ≤ 1 → good side (recordOf side e ++ rest) ≡ true
+  unfolding good recordOf four
+  record-good h = rw (le-ltb 1 (kind e) h, eq-eqb side side refl)
+
+  record-entry : entryOf (recordOf side e ++ rest) ≡ e
+  unfolding entryOf fromFour recordOf four
+  record-entry = digits e
+
+  record-next : drop 8 (recordOf side e ++ rest) ≡ rest
+  unfolding recordOf four
+  record-next = refl
+
+run-reads : (side : ℕ) (es rest : List ℕ) → kinds es ≡ true → run side (length es) (recordsOf side es ++ rest) ≡ length es
+unfolding run
+run-reads side [] rest h = refl
+run-reads side (e ∷ es) rest h =
+    let k = first-heard e es h in
+    rw (append-assoc (recordOf side e) (recordsOf side es) rest, record-good side e (recordsOf side es ++ rest) (k .0), record-next side e (recordsOf side es ++ rest))
+    (ap suc (run-reads side es rest (k .1)))
+
+entries-read : (side : ℕ) (es rest : List ℕ) → entriesOf (length es) (recordsOf side es ++ rest) ≡ es
+unfolding entriesOf
+entries-read side [] rest = refl
+entries-read side (e ∷ es) rest =
+    rw (append-assoc (recordOf side e) (recordsOf side es) rest, record-entry side e (recordsOf side es ++ rest), record-next side e (recordsOf side es ++ rest), entries-read side es rest)
+
+drop-four : (n : ℕ) (rest : List ℕ) → drop 4 (four n ++ rest) ≡ rest
+unfolding four
+drop-four n rest = refl
+
+module _ (n side t : ℕ) where
+  trailer-distance : fromFour (trailerOf n side t) ≡ 8 * n % 4294967296
+  unfolding trailerOf
+  trailer-distance = four-read (8 * n) _
+
+  trailer-number : fromFour (drop 4 (trailerOf n side t)) ≡ n % 4294967296
+  unfolding trailerOf
+  trailer-number = rw (drop-four (8 * n) _) (four-read n _)
+
+  trailer-side : getD (trailerOf n side t) 8 0 ≡ side
+  unfolding trailerOf four
+  trailer-side = refl
+
+  trailer-padded : zeros (drop 9 (trailerOf n side t)) ≡ true
+  unfolding zeros trailerOf four
+  trailer-padded = refl
+
+  trailer-sum : fromFour (drop 12 (trailerOf n side t)) ≡ t % 4294967296
+  unfolding fromFour trailerOf four
+  trailer-sum = four-read t []
+
+module _ (before : List ℕ) (sh : Sheet) (fits : Fits sh) where
+  n : ℕ
+  n = length (sh .entries)
+
+  r : List ℕ
+  r = recordsOf (sh .side) (sh .entries)
+
+  t : List ℕ
+  t = trailerOf (length (sh .entries)) (sh .side) (sum (recordsOf (sh .side) (sh .entries)))
+
+  whole : List ℕ
+  whole = before ++ (r ++ t)
+
+  size : length r ≡ 8 * n
+  unfolding n r
+  size = length-records (sh .side) (sh .entries)
+
+  long : length whole ≡ length before + 8 * n + 16
+  unfolding whole n r t
+  long = simp (length-append, length-records, length-trailer) (omega arith)
+
+  last : trailer whole ≡ t
+  unfolding whole
+  last =
+      ap (drop (length whole - 16)) (sym (append-assoc before r t))
+      ∙ drop-at (before ++ r) t (length whole - 16) (front ∙ ap (λ (k : ℕ). k - 16) (sym long))
+    where
+      front : length (before ++ r) ≡ length before + 8 * n + 16 - 16
+      front = simp length-append (omega (arith, size))
+
+  distance-read : distance whole ≡ 8 * n
+  unfolding distance n t
+  distance-read = rw last (trailer-distance _ _ _ ∙ omega (arith, fits .few))
+
+  number-read : number whole ≡ n
+  unfolding number n t
+  number-read = rw last (trailer-number _ _ _ ∙ omega (arith, fits .few))
+
+  side-read : sideByte whole ≡ sh .side
+  unfolding sideByte t
+  side-read = rw last (trailer-side _ _ _)
+
+  padded-read : padded whole ≡ true
+  unfolding padded t
+  padded-read = rw last (trailer-padded _ _ _)
+
+  sum-read : sumNoted whole ≡ sum r % 4294967296
+  unfolding sumNoted t r
+  sum-read = rw last (trailer-sum _ _ _)
+
+  start-read : start whole ≡ length before
+  unfolding start
+  start-read = rw (long, distance-read) (omega arith)
+
+  records-read : records whole ≡ r ++ t
+  unfolding records whole
+  records-read = rw start-read (drop-append-seam before (r ++ t))
+
+  run-read : run (sh .side) n (r ++ t) ≡ n
+  unfolding n r
+  run-read = run-reads (sh .side) (sh .entries) t (fits .heard)
+
+  entries-back : entriesOf n (r ++ t) ≡ sh .entries
+  unfolding n r
+  entries-back = entries-read (sh .side) (sh .entries) t
+
+  clear-read : Clear (faults whole)
+  unfolding faults
+  clear-read = (
+    le-ltb (length whole) 16 (rw long (omega arith)),
+    (
+      rw (distance-read, number-read, eq-eqb (8 * n) (8 * n) refl) (le-ltb (length whole - 16) (8 * n) (rw long (omega arith))),
+      (
+        rw (side-read, padded-read, le-ltb 1 (sh .side) (fits .known)),
+        (
+          rw (side-read, number-read, records-read, run-read, eq-eqb n n refl),
+          (rw (sum-read, number-read, records-read, take-at r t (8 * n) size, eq-eqb (sum r % 4294967296) (sum r % 4294967296) refl), tt),
+        ),
+      ),
+    ),
+  )
+
+  front-read : take (length before) whole ≡ before
+  unfolding whole
+  front-read = take-append-seam before (r ++ t)
+
+  whole-reads : endOf whole ≡ sheet before sh
+  unfolding endOf
+  whole-reads = clear refused _ (faults whole) clear-read ∙ rw (start-read, side-read, number-read, records-read, entries-back, front-read)
+
+  pub reads-back : endOf (before ++ bytesOf sh) ≡ sheet before sh
+  unfolding whole r t
+  reads-back = whole-reads

@@ -1,0 +1,28 @@
+-- What a host is told of a file, in numbers: what is returned, and what its buffer then holds.
+use Prim.Native.Nat.{ℕ}
+use mathlib.Core.Bool.{not}
+use mathlib.Core.List.{List, [], _∷_}
+use lib.Dec.{eqb, leb}
+use lib.ListN.{length, getD}
+use Rattle.rules.specs.Leaf.{_leaving_}
+use Rattle.rules.specs.Refusals.{_when_, refusing}
+use Rattle.sheet.specs.Sheet.{Sheet}
+use Rattle.sheet.specs.End.{End, sheet, refused, endOf, readOf}
+use Rattle.sheet.specs.declared.Reading.{Reading}
+use Rattle.sheet.specs.declared.Reading.the-variants.{Good, Refused}
+
+-- start, number of records, side
+abbrev pub told : Reading → List ℕ → ℕ × List ℕ
+told (Good start records side) out = 0 leaving start ∷ records ∷ side ∷ []
+told (Refused n) out = n leaving out
+
+unfoldable pub summaryOf : List ℕ → List ℕ → ℕ × List ℕ
+summaryOf s out = refusing (5 when not (eqb (length out) 3) ∷ []) (λ n. n leaving out) (told (readOf s) out)
+
+-- one entry; 5 where there is none of this index
+abbrev pub entryIn : End → ℕ → List ℕ → ℕ × List ℕ
+entryIn (sheet before sh) i out = refusing (5 when leb (length (sh .entries)) i ∷ []) (λ n. n leaving out) (0 leaving getD (sh .entries) i 0 ∷ [])
+entryIn (refused n) i out = n leaving out
+
+unfoldable pub entryAt : List ℕ → ℕ → List ℕ → ℕ × List ℕ
+entryAt s i out = refusing (5 when not (eqb (length out) 1) ∷ []) (λ n. n leaving out) (entryIn (endOf s) i out)

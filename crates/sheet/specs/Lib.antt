@@ -1,0 +1,5 @@
+pub mod Sheet
+pub mod End
+pub mod Asked
+pub mod Written
+pub mod Parts

@@ -1,0 +1,39 @@
+-- What the private functions promise and ask for.
+use mathlib.Core.Path.{_≡_}
+use mathlib.Core.List.{List, _++_}
+use Prim.Native.Nat.{ℕ, _+_, _*_, _≤_, _<_, _^_}
+use lib.ListN.{length, take, drop, getD}
+use Rattle.rules.specs.Refusals.{refusing}
+use Rattle.sheet.specs.Sheet.{kind, sum, trailerOf}
+use Rattle.sheet.specs.End.{number, sideByte, start, faults}
+use Rattle.sheet.specs.declared.Reading.{Reading}
+use Rattle.sheet.specs.declared.Reading.the-variants.{Good, Refused}
+
+-- the answer by the first three refusals alone, and by the others
+abbrev pub pointed : List ℕ → Reading
+pointed s = refusing (take 3 (faults s)) Refused (Good (start s) (number s) (sideByte s))
+
+abbrev pub checked : List ℕ → Reading
+checked s = refusing (drop 3 (faults s)) Refused (Good (start s) (number s) (sideByte s))
+
+-- the trailer's distance is below 2^32
+abbrev pub Few : Reading → Type 0
+Few (Good at n side) = n < 2 ^ 29
+Few (Refused n) = Unit
+
+-- a start, a number of records and a side as a trailer says them
+pub record Pointed (s : List ℕ) (at n side : ℕ) : Type 0 where
+  pub starts : at ≡ start s
+  pub counts : n ≡ number s
+  pub sided : side ≡ sideByte s
+  pub ends : at + 8 * n + 16 ≡ length s
+  pub few : n < 2 ^ 29
+  pub known : side ≤ 1
+
+-- every entry is silent or heard
+abbrev pub Kinds : List ℕ → Type 0
+Kinds es = (i : ℕ) → kind (getD es i 0) ≤ 1
+
+-- records in front of a buffer that is left as a sheet
+abbrev pub closed : ℕ → ℕ → List ℕ → List ℕ
+closed n side out = let rs = take (8 * n) out in rs ++ trailerOf n side (sum rs)

@@ -1,0 +1,39 @@
+-- A side sheet (document 02, request 02): as data, and as bytes.
+use Prim.Native.Nat.{ℕ, _+_, _*_, _/_, _%_}
+use mathlib.Core.List.{List, [], _∷_, _++_}
+use lib.ListN.{length}
+
+-- a number as four bytes, little end first: modulo 2^32
+unfoldable pub four : ℕ → List ℕ
+four n = n % 256 ∷ n / 256 % 256 ∷ n / 65536 % 256 ∷ n / 16777216 % 256 ∷ []
+
+abbrev pub sum : List ℕ → ℕ
+sum [] = 0
+sum (b ∷ bs) = b + sum bs
+
+-- a sheet as data. An entry is a frame's number, and 2^32 times its kind: 0 silent, 1 heard
+pub record Sheet : Type 0 where
+  pub side : ℕ
+  pub entries : List ℕ
+
+abbrev pub kind : ℕ → ℕ
+kind e = e / 4294967296
+
+unfoldable pub recordOf : ℕ → ℕ → List ℕ
+recordOf side e = four e ++ (kind e ∷ side ∷ 0 ∷ 0 ∷ [])
+
+abbrev pub recordsOf : ℕ → List ℕ → List ℕ
+recordsOf side [] = []
+recordsOf side (e ∷ es) = recordOf side e ++ recordsOf side es
+
+-- of n records, whose bytes have this sum
+unfoldable pub trailerOf : ℕ → ℕ → ℕ → List ℕ
+trailerOf n side total = four (8 * n) ++ (four n ++ (side ∷ 0 ∷ 0 ∷ 0 ∷ four total))
+
+-- a sheet as it stands in a file
+abbrev pub bytesOf : Sheet → List ℕ
+bytesOf sh = let records = recordsOf (sh .side) (sh .entries) in records ++ trailerOf (length (sh .entries)) (sh .side) (sum records)
+
+-- its length, of n records
+abbrev pub sizeOf : ℕ → ℕ
+sizeOf n = 8 * n + 16

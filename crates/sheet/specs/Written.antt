@@ -1,0 +1,27 @@
+-- What writing a sheet gives: what is returned, and what the buffer then holds.
+use Prim.Native.Nat.{ℕ, _+_}
+use mathlib.Core.Bool.{Bool, true, not, _&&_}
+use mathlib.Core.List.{List, [], _∷_, _++_}
+use lib.Dec.{ltb}
+use lib.ListN.{length, drop}
+use Rattle.rules.specs.Leaf.{_leaving_}
+use Rattle.rules.specs.Refusals.{Row, _when_, refusing}
+use Rattle.sheet.specs.Sheet.{Sheet, kind, bytesOf, sizeOf}
+
+-- each is silent or heard
+unfoldable pub kinds : List ℕ → Bool
+kinds [] = true
+kinds (e ∷ es) = not (ltb 1 (kind e)) && kinds es
+
+-- the refusals of a sheet, and last of a buffer of so many bytes
+abbrev pub obstacles : Sheet → ℕ → List Row
+obstacles sh room =
+    32 when ltb 536870911 (length (sh .entries))
+    ∷ 33 when ltb 1 (sh .side)
+    ∷ 34 when not (kinds (sh .entries))
+    ∷ 36 when ltb room (sizeOf (length (sh .entries)))
+    ∷ []
+
+unfoldable pub writtenOf : Sheet → List ℕ → ℕ × List ℕ
+writtenOf sh out =
+    refusing (obstacles sh (length out)) (λ n. n leaving out) (0 leaving bytesOf sh ++ drop (sizeOf (length (sh .entries))) out)

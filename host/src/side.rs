@@ -1,0 +1,67 @@
+//! `host side FILE..`: what the side sheet behind a recording's audio tells a clerk.
+
+use crate::recorder::Side;
+use crate::refusal::Refusal;
+use std::fmt;
+use std::path::{Path, PathBuf};
+
+/// A sheet in short. A gap stands where a frame's number does not follow the one before it.
+#[derive(Debug, PartialEq)]
+pub struct Sheet {
+    pub side: Side,
+    pub frames: usize,
+    pub heard: usize,
+    /// The frames in front of a gap.
+    pub gaps: Vec<u32>,
+}
+
+impl Sheet {
+    pub fn of(file: &[u8]) -> Result<Sheet, Refusal> {
+        let mut numbers = [0; 3];
+        match tuppence::sheet_read(&mut numbers, file) {
+            0 => (),
+            refused => return Err(Refusal(refused)),
+        }
+        let [start, records, side] = numbers.map(|n| n as usize);
+        // the library has looked at every record: frame number, then 0 silent or 1 heard
+        let records = file[start..start + 8 * records].chunks_exact(8);
+        let frames: Vec<u32> = records.clone().map(|r| u32::from_le_bytes([r[0], r[1], r[2], r[3]])).collect();
+        Ok(Sheet {
+            side: Side::BOTH[side],
+            heard: records.filter(|r| r[4] == 1).count(),
+            gaps: frames.windows(2).filter(|w| w[1] != w[0].wrapping_add(1)).map(|w| w[0]).collect(),
+            frames: frames.len(),
+        })
+    }
+}
+
+impl fmt::Display for Sheet {
+    fn fmt(&self, f: &mut fmt::Formatter) -> fmt::Result {
+        write!(f, "{} side, {} frames, {} heard, ", self.side.name(), self.frames, self.heard)?;
+        match &self.gaps[..] {
+            [] => write!(f, "no gap"),
+            [frame] => write!(f, "1 gap, behind frame {frame}"),
+            [frame, ..] => write!(f, "{} gaps, the first behind frame {frame}", self.gaps.len()),
+        }
+    }
+}
+
+/// A line for each file. The files without a good sheet come back, each with the reason.
+pub fn side(paths: &[PathBuf]) -> Result<(), String> {
+    let one = |path: &Path| {
+        let file = std::fs::read(path).map_err(|why| why.to_string())?;
+        Sheet::of(&file).map_err(|refused| refused.to_string())
+    };
+    let mut bad = vec![];
+    for path in paths {
+        match one(path) {
+            Ok(sheet) => println!("{}: {sheet}", path.display()),
+            Err(why) => bad.push(format!("{}: {why}", path.display())),
+        }
+    }
+    if bad.is_empty() {
+        Ok(())
+    } else {
+        Err(bad.join("\nhost: "))
+    }
+}

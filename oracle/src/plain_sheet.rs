@@ -1,0 +1,85 @@
+//! Document 02, request 02, in plain Rust: a side sheet behind the audio, written and read.
+
+/// Where the records of a good sheet start, how many there are, and the side.
+#[derive(Clone, Copy, Debug, PartialEq)]
+pub struct Found {
+    pub start: usize,
+    pub records: usize,
+    pub side: u8,
+}
+
+fn word(bytes: &[u8]) -> u32 {
+    u32::from_le_bytes(bytes[..4].try_into().unwrap())
+}
+
+/// The 32-bit wrapping sum of all record bytes.
+fn sum(records: &[u8]) -> u32 {
+    records.iter().fold(0, |sum: u32, byte| sum.wrapping_add(*byte as u32))
+}
+
+/// A record of this side, silent or heard, with two zeros.
+fn good(record: &[u8], side: u8) -> bool {
+    record[4] <= 1 && record[5] == side && record[6] == 0 && record[7] == 0
+}
+
+pub fn read(file: &[u8]) -> Result<Found, u32> {
+    let Some((before, trailer)) = file.split_last_chunk::<16>() else { return Err(31) };
+    let (distance, number) = (word(trailer) as u64, word(&trailer[4..]) as u64);
+    if distance != 8 * number || distance > before.len() as u64 {
+        return Err(32);
+    }
+    let side = trailer[8];
+    if side > 1 || trailer[9..12] != [0; 3] {
+        return Err(33);
+    }
+    let start = before.len() - distance as usize;
+    let records = &before[start..];
+    if !records.chunks_exact(8).all(|record| good(record, side)) {
+        return Err(34);
+    }
+    if sum(records) != word(&trailer[12..]) {
+        return Err(35);
+    }
+    Ok(Found { start, records: number as usize, side })
+}
+
+/// Frame number, and 2^32 more where it was heard.
+pub fn entry(file: &[u8], index: u64) -> Result<u64, u32> {
+    let found = read(file)?;
+    if index >= found.records as u64 {
+        return Err(5);
+    }
+    let record = &file[found.start + 8 * index as usize..];
+    Ok(word(record) as u64 + ((record[4] as u64) << 32))
+}
+
+pub fn write(out: &mut [u8], side: u32, entries: &[u64]) -> u32 {
+    if entries.len() >= 536_870_912 {
+        return 32;
+    }
+    if side > 1 {
+        return 33;
+    }
+    if entries.iter().any(|entry| entry >> 32 > 1) {
+        return 34;
+    }
+    let end = 8 * entries.len();
+    if out.len() < end + 16 {
+        return 36;
+    }
+    let (records, rest) = out.split_at_mut(end);
+    for (record, entry) in records.chunks_exact_mut(8).zip(entries) {
+        record[..4].copy_from_slice(&(*entry as u32).to_le_bytes());
+        record[4..].copy_from_slice(&[(entry >> 32) as u8, side as u8, 0, 0]);
+    }
+    trailer(rest, records, side as u8);
+    0
+}
+
+/// The 16 bytes behind some records.
+pub fn trailer(out: &mut [u8], records: &[u8], side: u8) {
+    out[..4].copy_from_slice(&(records.len() as u32).to_le_bytes());
+    out[4..8].copy_from_slice(&(records.len() as u32 / 8).to_le_bytes());
+    out[8..12].copy_from_slice(&[side, 0, 0, 0]);
+    out[12..16].copy_from_slice(&sum(records).to_le_bytes());
+}
