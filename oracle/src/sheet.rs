@@ -2,7 +2,7 @@
 
 use crate::plain_sheet as plain;
 use crate::rng::Rng;
-use crate::tally::Tally;
+use crate::tally::{Given, Tally};
 use crate::{named, values, Options};
 
 pub fn compare(options: &Options) -> Tally {
@@ -121,7 +121,9 @@ fn reading(t: &mut Tally, rng: &mut Rng, file: &[u8]) {
     let found = plain::read(file);
     let numbers: Vec<u64> = (0..rng.near(3)).map(|_| rng.bits()).collect();
     let mut ours = numbers.clone();
-    let number = tuppence::sheet_read(&mut ours, file);
+    let given = named![numbers, bytes];
+    let given = Given::new(given);
+    let number = tuppence::sheet_read(&mut ours, &bytes);
     let (mut wanted, mut want) = (numbers.clone(), 5);
     if numbers.len() == 3 {
         match found {
@@ -129,7 +131,7 @@ fn reading(t: &mut Tally, rng: &mut Rng, file: &[u8]) {
             Err(refused) => want = refused,
         }
     }
-    t.judge("sheet_read", named![numbers, bytes], values![number, ours], values![want, wanted]);
+    t.judge("sheet_read", given, values![number, ours], values![want, wanted]);
 
     let records = found.map_or(3, |f| f.records) as u64;
     let index = match rng.below(8) {
@@ -140,7 +142,9 @@ fn reading(t: &mut Tally, rng: &mut Rng, file: &[u8]) {
     };
     let held: Vec<u64> = (0..rng.near(1)).map(|_| rng.bits()).collect();
     let mut ours = held.clone();
-    let number = tuppence::sheet_entry(&mut ours, file, index);
+    let given = named![held, bytes, index];
+    let given = Given::new(given);
+    let number = tuppence::sheet_entry(&mut ours, &bytes, index);
     let (mut wanted, mut want) = (held.clone(), 5);
     if held.len() == 1 {
         match plain::entry(file, index) {
@@ -148,7 +152,7 @@ fn reading(t: &mut Tally, rng: &mut Rng, file: &[u8]) {
             Err(refused) => want = refused,
         }
     }
-    t.judge("sheet_entry", named![held, bytes, index], values![number, ours], values![want, wanted]);
+    t.judge("sheet_entry", given, values![number, ours], values![want, wanted]);
 }
 
 fn writing(t: &mut Tally, rng: &mut Rng) {
@@ -162,9 +166,11 @@ fn writing(t: &mut Tally, rng: &mut Rng) {
     let room = rng.near(8 * entries.len() + 16) + rng.pick(&[0, 0, 0, 5]);
     let out = rng.bytes(room);
     let (mut ours, mut theirs) = (out.clone(), out.clone());
+    let given = named![side, entries, out];
+    let given = Given::new(given);
     let number = tuppence::sheet_write(&mut ours, side, &entries);
     let want = plain::write(&mut theirs, side, &entries);
-    t.judge("sheet_write", named![side, entries, out], values![number, ours], values![want, theirs]);
+    t.judge("sheet_write", given, values![number, ours], values![want, theirs]);
 }
 
 /// The largest number of records, and one more: neither slice is written, and the longer one is not even read.
@@ -174,6 +180,6 @@ fn most(t: &mut Tally) {
         let mut out = vec![7u8; 100];
         let number = tuppence::sheet_write(&mut out, side, &entries[..count]);
         let kept = vec![7u8; 100];
-        t.judge("sheet_write, many", named![side], values![number, out], values![want, kept]);
+        t.judge("sheet_write, many", Given::new(named![side]), values![number, out], values![want, kept]);
     }
 }

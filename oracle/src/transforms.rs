@@ -1,7 +1,7 @@
 //! Request 08: both transforms, bit for bit against the plain sums in f32, and beside the same sums in f64.
 
 use crate::rng::{Mood, Rng};
-use crate::tally::{thousands, Tally};
+use crate::tally::{thousands, Given, Tally};
 use crate::{named, values, Options};
 use std::f64::consts::TAU;
 
@@ -101,13 +101,15 @@ impl Side<'_> {
         let out = rng.list(out);
         let x = if ordinary { rng.list_of(x, mood) } else { rng.list(x) };
         let (mut ours, mut want) = (out.clone(), out.clone());
+        let given = named![out, x];
+        let given = Given::new(given);
         let (number, mut due) = ((self.ours)(&mut ours, &x), 5u32);
         if fits {
             (self.plain)(c, &mut want, &x);
             due = 0;
         }
         let [ours_bits, want_bits] = [bits(&ours), bits(&want)];
-        tally.judge(self.name, named![out, x], values![number, ours_bits], values![due, want_bits]);
+        tally.judge(self.name, given, values![number, ours_bits], values![due, want_bits]);
         if fits && ordinary {
             let off = units(&ours, &(self.wide)(&x));
             self.worst = self.worst.max(off);
