@@ -12,7 +12,7 @@ call1-spec =
     (tie.spec
     (λ c κs. search needs)  -- admit-requires
     (λ c κs. search needs)  -- turned-away-requires
-    (λ c. search turned-away)  -- returns
+    (λ c. search turned-away depth 1)  -- returns
     (λ c. search needs)  -- mul-call1
     (λ c. search needs)  -- sub-call1
     (λ c. search needs)  -- part-call1-start
@@ -21,4 +21,4 @@ call1-spec =
     (λ c κs. search needs)  -- told-requires
     (λ c. search needs)  -- same-length
     (λ c. search needs)  -- same-length-2
-    (λ c. search served))  -- returns-2
+    (λ c. search served depth 1))  -- returns-2

@@ -12,7 +12,7 @@ call2-spec =
     (tie.spec
     (λ c κs. search needs)  -- admit-requires
     (λ c κs. search needs)  -- turned-away-requires
-    (λ c. search turned-away)  -- returns
+    (λ c. search turned-away depth 1)  -- returns
     (λ c. search needs)  -- mul-call2
     (λ c. search needs)  -- sub-call2
     (λ c. search needs)  -- part-call2-start
@@ -22,4 +22,4 @@ call2-spec =
     (λ c. search needs)  -- same-length
     (λ c. search needs)  -- same-length-2
     (λ c. search needs)  -- same-length-3
-    (λ c. search served))  -- returns-2
+    (λ c. search served depth 1))  -- returns-2

@@ -12,15 +12,15 @@ open-spec =
     (tie.spec
     (λ c κs. search needs)  -- admit-requires
     (λ c κs. search needs)  -- turned-away-requires
-    (λ c. search turned-away)  -- returns
+    (λ c. search turned-away depth 1)  -- returns
     (λ c κs. search needs)  -- read-requires
     (λ c κs. search needs)  -- opened-requires
     (λ c κs. search needs)  -- passed-requires
-    (λ c. search misread)  -- returns-2
+    (λ c. search misread depth 1)  -- returns-2
     (λ c. search needs)  -- mul-clear
     (λ c. search needs)  -- sub-clear
     (λ c. search needs)  -- part-clear-start
     (λ c. search needs)  -- part-clear-end
     (λ c κs. search needs)  -- clear-requires
     (λ c. search needs)  -- same-length
-    (λ c. search wiped))  -- returns-3
+    (λ c. search wiped depth 1))  -- returns-3
