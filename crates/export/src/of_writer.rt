@@ -1,7 +1,7 @@
 // model: a file from six layers' counts, activations and arrays.
 ghost use mathlib.Core.Path.{_≡_};
 ghost use Rattle.rules.specs.Leaf.{_leaving_};
-ghost use Rattle.model.specs.Writer.{arraysOf, writtenOf};
+ghost use Rattle.model.specs.Writer.{arraysOf, writeModel};
 
 #[no_mangle]
 pub extern "C" fn tuppence_write_model(
@@ -23,7 +23,7 @@ pub extern "C" fn tuppence_write_model(
     w5: &[u8],
     b5: &[u8],
 ) -> u32
-    ensures { λ r. ⌜ (r leaving now (out .exit)) ≡ writtenOf (now (shapes .entry))
+    ensures { λ r. ⌜ (r leaving now (out .exit)) ≡ writeModel (now (shapes .entry))
         (arraysOf (now (w0 .entry)) (now (b0 .entry)) (now (w1 .entry)) (now (r1 .entry)) (now (b1 .entry))
         (now (w2 .entry)) (now (r2 .entry)) (now (b2 .entry)) (now (w3 .entry)) (now (r3 .entry)) (now (b3 .entry))
         (now (w4 .entry)) (now (b4 .entry)) (now (w5 .entry)) (now (b5 .entry))) (now (out .entry)) ⌝ }

@@ -18,8 +18,8 @@ use Rattle.rules.proofs.Rows.{Each}
 use Rattle.model.specs.declared.Kind.{Kind}
 use Rattle.model.specs.Layer.{sum, activationOf, activationNumber}
 use Rattle.model.specs.Model.{kinds, mismatches}
-use Rattle.model.specs.Writer.{arraysOf, layersGiven, fileOf, layerFaults, inLayer, rowFaults, modelGiven, writerFaults, writtenOf}
-use Rattle.model.specs.Parts.{faultIn, Few, Bytes, headerBytes, layerBytes, threeBytes, over, Put}
+use Rattle.model.specs.Writer.{arraysOf, layersGiven, fileOf, layerFaults, inLayer, rowFaults, modelGiven, writerFaults, writeModel}
+use Rattle.model.specs.Parts.{faultIn, Few, ByteSized, headerBytes, layerBytes, threeBytes, over, Put}
 use Rattle.model.proofs.Rows.{Some, by-fault, by-its-fault, past, no-fault, shifted-clear, clear-both}
 use Rattle.model.proofs.Inverse.{number-of}
 
@@ -109,7 +109,7 @@ module _ (s ns : List ℕ) (file buffer : ℕ) where
 
 -- ---- the numbers
 
-pub bytes-given : (ks : List Kind) (s ns : List ℕ) → length s ≡ 3 * length ks → EachClear ks s ns → Bytes s
+pub bytes-given : (ks : List Kind) (s ns : List ℕ) → length s ≡ 3 * length ks → EachClear ks s ns → ByteSized s
 bytes-given [] [] ns e c i = omega arith
 bytes-given [] (x ∷ s) ns e c i = absurd (omega arith)
 bytes-given (k ∷ ks) s ns e c zero = omega (arith, ltb-false 127 (getD s 0 0) (c .0 .0))
@@ -166,12 +166,12 @@ module _ (s w0 b0 w1 r1 b1 w2 r2 b2 w3 r3 b3 w4 b4 w5 b5 : List ℕ) where
     abbrev done : ℕ × List ℕ
     done = let file = fileOf (layersGiven kinds s arrays) in (0 leaving file ++ drop (length file) out)
 
-    pub refused-so : Some r → (r leaving out) ≡ writtenOf s arrays out
-    unfolding writtenOf
+    pub refused-so : Some r → (r leaving out) ≡ writeModel s arrays out
+    unfolding writeModel
     refused-so some = rw (eq-eqb (length s) 18 eighteen, length-file) (sym (by-its-fault (λ n. n leaving out) _ (rows (length out)) e some))
 
-    pub written-so : r ≡ 0 → {next : ℕ} {after : List ℕ} → Put 0 (head ++ tail) out next after → (0 leaving after) ≡ writtenOf s arrays out
-    unfolding writtenOf over
+    pub written-so : r ≡ 0 → {next : ℕ} {after : List ℕ} → Put 0 (head ++ tail) out next after → (0 leaving after) ≡ writeModel s arrays out
+    unfolding writeModel over
     written-so none put =
         let a = no-refusal s (map length arrays) (18 + sum (map length arrays)) (length out) e none in
         let c = no-fault (rows (length out)) (some-faults s (map length arrays) (18 + sum (map length arrays)) (length out)) e none in

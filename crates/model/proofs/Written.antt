@@ -18,7 +18,7 @@ use Rattle.model.specs.declared.Kind.{Kind}
 use Rattle.model.specs.declared.Kind.the-variants.{Dense, Gru}
 use Rattle.model.specs.Layer.{lengths, Layer}
 use Rattle.model.specs.Model.{_≠_, kinds, headersAt, modelOf, mismatches, readOf}
-use Rattle.model.specs.Writer.{layersGiven, fileOf, differ, inLayer, rowFaults, modelGiven, writerFaults, writtenOf}
+use Rattle.model.specs.Writer.{layersGiven, fileOf, differ, inLayer, rowFaults, modelGiven, writerFaults, writeModel}
 use Rattle.model.specs.Writer.{layersRead, shapesOf, arraysIn, ReadsBack, WritesBack, NoneShared}
 use Rattle.model.proofs.Rows.{clear-shifted, clear-joined, answered}
 use Rattle.model.proofs.Layer.{three}
@@ -115,8 +115,8 @@ record Done (s : List ℕ) (xs : List (List ℕ)) (out after : List ℕ) : Type 
   holds : Holds (layersGiven kinds s xs) (fileOf (layersGiven kinds s xs))
   left : after ≡ fileOf (layersGiven kinds s xs) ++ drop (length (fileOf (layersGiven kinds s xs))) out
 
-is-done : (s : List ℕ) (xs : List (List ℕ)) (out after : List ℕ) → (0 leaving after) ≡ writtenOf s xs out → Done s xs out after
-unfolding writtenOf modelGiven
+is-done : (s : List ℕ) (xs : List (List ℕ)) (out after : List ℕ) → (0 leaving after) ≡ writeModel s xs out → Done s xs out after
+unfolding writeModel modelGiven
 is-done s xs out after e =
     let file = fileOf (layersGiven kinds s xs) in
     let ns = map length xs in
@@ -153,8 +153,8 @@ none-shared s s′ xs xs′ out out′ after after′ long long′ e e′ shared
 
 -- layers that fit and go together are written as their file
 writes-layers : (ls : List Layer) (out : List ℕ) → FitAll kinds ls → Clear (mismatches (modelOf (headersAt 0 ls)) 0) → length (fileOf ls) ≤ length out
-    → (0 leaving fileOf ls ++ drop (length (fileOf ls)) out) ≡ writtenOf (shapesOf ls) (arraysIn ls) out
-unfolding writtenOf writerFaults modelGiven
+    → (0 leaving fileOf ls ++ drop (length (fileOf ls)) out) ≡ writeModel (shapesOf ls) (arraysIn ls) out
+unfolding writeModel writerFaults modelGiven
 writes-layers ls out fit match enough =
     let s = shapesOf ls in
     let ns = map length (arraysIn ls) in
@@ -175,7 +175,7 @@ writes-layers ls out fit match enough =
 pub read-writes : WritesBack
 read-writes s out m e enough = of (rw (← e) at (writes-back s))
   where
-    of : Written s m → (0 leaving s ++ drop (length s) out) ≡ writtenOf (shapesOf (layersRead s)) (arraysIn (layersRead s)) out
+    of : Written s m → (0 leaving s ++ drop (length s) out) ≡ writeModel (shapesOf (layersRead s)) (arraysIn (layersRead s)) out
     of w =
         let ls = w .contents in
         let fit = w .holds .fit in

@@ -1,4 +1,4 @@
--- What the private functions of the reader promise and ask for.
+-- What the private functions of the reader and the writer promise and ask for.
 use Prim.Native.Nat.{ℕ, _+_, _≤_, _<_}
 use mathlib.Core.Path.{_≡_}
 use mathlib.Core.List.{List, [], _∷_, _++_}
@@ -44,8 +44,8 @@ headerGiven shapes at =
     record { inputs = getD shapes at 0; neurons = getD shapes (at + 1) 0; activation = a; start = at + 3 }
 
 -- numbers that are bytes
-abbrev pub Bytes : List ℕ → Type 0
-Bytes xs = (i : ℕ) → getD xs i 0 < 256
+abbrev pub ByteSized : List ℕ → Type 0
+ByteSized xs = (i : ℕ) → getD xs i 0 < 256
 
 unfoldable pub headerBytes : List ℕ → ℕ → List ℕ
 headerBytes shapes at = getD shapes at 0 ∷ getD shapes (at + 1) 0 ∷ getD shapes (at + 2) 0 ∷ []

@@ -64,8 +64,8 @@ writerFaults shapes given file buffer =
 
 -- ---- what is returned, and what the buffer then holds
 
-unfoldable pub writtenOf : List ℕ → List (List ℕ) → List ℕ → ℕ × List ℕ
-writtenOf shapes arrays out =
+unfoldable pub writeModel : List ℕ → List (List ℕ) → List ℕ → ℕ × List ℕ
+writeModel shapes arrays out =
     let file = fileOf (layersGiven kinds shapes arrays) in
     refusing (5 when (length shapes ≠ 18) ∷ writerFaults shapes (map length arrays) (length file) (length out)) (λ n. n leaving out)
     (0 leaving file ++ drop (length file) out)
@@ -87,7 +87,7 @@ arraysIn (l ∷ ls) = l .arrays ++ arraysIn ls
 -- what is written reads back as the same layers
 abbrev pub ReadsBack : Type 0
 ReadsBack =
-    (shapes : List ℕ) (arrays : List (List ℕ)) (out after : List ℕ) → (0 leaving after) ≡ writtenOf shapes arrays out
+    (shapes : List ℕ) (arrays : List (List ℕ)) (out after : List ℕ) → (0 leaving after) ≡ writeModel shapes arrays out
     → let ls = layersGiven kinds shapes arrays in
     let file = take (length (fileOf ls)) after in
     (readOf file ≡ Good (modelOf (headersAt 0 ls))) × (layersRead file ≡ ls)
@@ -96,11 +96,11 @@ ReadsBack =
 abbrev pub WritesBack : Type 0
 WritesBack =
     (s out : List ℕ) (m : Model) → Good m ≡ readOf s → length s ≤ length out
-    → let ls = layersRead s in (0 leaving s ++ drop (length s) out) ≡ writtenOf (shapesOf ls) (arraysIn ls) out
+    → let ls = layersRead s in (0 leaving s ++ drop (length s) out) ≡ writeModel (shapesOf ls) (arraysIn ls) out
 
 -- two models that differ in a count, an activation, a weight or a bias never share a file
 abbrev pub NoneShared : Type 0
 NoneShared =
     (shapes shapes′ : List ℕ) (arrays arrays′ : List (List ℕ)) (out out′ after after′ : List ℕ) → length arrays ≡ 18 → length arrays′ ≡ 18
-    → (0 leaving after) ≡ writtenOf shapes arrays out → (0 leaving after′) ≡ writtenOf shapes′ arrays′ out′
+    → (0 leaving after) ≡ writeModel shapes arrays out → (0 leaving after′) ≡ writeModel shapes′ arrays′ out′
     → fileOf (layersGiven kinds shapes arrays) ≡ fileOf (layersGiven kinds shapes′ arrays′) → (shapes ≡ shapes′) × (arrays ≡ arrays′)

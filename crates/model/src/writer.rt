@@ -8,8 +8,8 @@ ghost use lib.ListN.{length};
 ghost use Rattle.rules.specs.Leaf.{_leaving_};
 ghost use Rattle.model.specs.Layer.{sum};
 ghost use Rattle.model.specs.Model.{kinds, mismatches};
-ghost use Rattle.model.specs.Writer.{arraysOf, layerFaults, inLayer, rowFaults, modelGiven, writerFaults, writtenOf};
-ghost use Rattle.model.specs.Parts.{faultIn, Few, headerGiven, Bytes, headerBytes, layerBytes, threeBytes, Put};
+ghost use Rattle.model.specs.Writer.{arraysOf, layerFaults, inLayer, rowFaults, modelGiven, writerFaults, writeModel};
+ghost use Rattle.model.specs.Parts.{faultIn, Few, headerGiven, ByteSized, headerBytes, layerBytes, threeBytes, Put};
 use crate::Header;
 use crate::Kind;
 use crate::Model;
@@ -159,7 +159,7 @@ fn put(out: &mut [u8], at: usize, bytes: &[u8]) -> usize
 }
 
 fn header_bytes(shapes: &[u32], first: usize) -> [u8; 3]
-    requires { ⌜ (first + 2 < length (now shapes)) × Bytes (now shapes) ⌝ }
+    requires { ⌜ (first + 2 < length (now shapes)) × ByteSized (now shapes) ⌝ }
     ensures { λ r. ⌜ r ≡ headerBytes (now (shapes .entry)) first ⌝ }
 {
     [
@@ -178,7 +178,7 @@ fn put_layer(
     recurrent: &[u8],
     bias: &[u8],
 ) -> usize
-    requires { ⌜ (first + 2 < length (now shapes)) × Bytes (now shapes)
+    requires { ⌜ (first + 2 < length (now shapes)) × ByteSized (now shapes)
         × (at + length (layerBytes (now shapes) first (now weights) (now recurrent) (now bias)) ≤ length (now out)) ⌝ }
     ensures { λ r. ⌜ Put at (layerBytes (now (shapes .entry)) first (now (weights .entry)) (now (recurrent .entry)) (now (bias .entry)))
         (now (out .entry)) r (now (out .exit)) ⌝ }
@@ -206,7 +206,7 @@ fn put_three(
     r2: &[u8],
     b2: &[u8],
 ) -> usize
-    requires { ⌜ (first + 8 < length (now shapes)) × Bytes (now shapes)
+    requires { ⌜ (first + 8 < length (now shapes)) × ByteSized (now shapes)
         × (at + length (threeBytes (now shapes) first (now w0) (now r0) (now b0) (now w1) (now r1) (now b1) (now w2) (now r2) (now b2))
         ≤ length (now out)) ⌝ }
     ensures { λ r. ⌜ Put at (threeBytes (now (shapes .entry)) first (now (w0 .entry)) (now (r0 .entry)) (now (b0 .entry))
@@ -239,7 +239,7 @@ pub fn write(
     w5: &[u8],
     b5: &[u8],
 ) -> u32
-    ensures { λ r. ⌜ (r leaving now (out .exit)) ≡ writtenOf (now (shapes .entry))
+    ensures { λ r. ⌜ (r leaving now (out .exit)) ≡ writeModel (now (shapes .entry))
         (arraysOf (now (w0 .entry)) (now (b0 .entry)) (now (w1 .entry)) (now (r1 .entry)) (now (b1 .entry))
         (now (w2 .entry)) (now (r2 .entry)) (now (b2 .entry)) (now (w3 .entry)) (now (r3 .entry)) (now (b3 .entry))
         (now (w4 .entry)) (now (b4 .entry)) (now (w5 .entry)) (now (b5 .entry))) (now (out .entry)) ⌝ }

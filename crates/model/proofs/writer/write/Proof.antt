@@ -8,14 +8,14 @@ use denote.Ref.{now}
 use lib.ListN.{length}
 use Rattle.model.specs.Layer.{sum}
 use Rattle.model.specs.Model.{kinds}
-use Rattle.model.specs.Writer.{arraysOf, writtenOf}
+use Rattle.model.specs.Writer.{arraysOf, writeModel}
 use Rattle.model.proofs.Over.{front, behind, both}
 use Rattle.model.proofs.Accepted.{no-refusal, bytes-given, head, tail, halves-fit, refused-so, written-so}
 use Rattle.model.proofs.writer.write.Statement.{statement}
 use Rattle.model.proofs.writer.write.Tie as tie
 
 returns : tie.Need-returns
-unfolding writtenOf
+unfolding writeModel
 returns c = rw (ne-eqb _ 18 (c .if1 .taken))
 
 returns-2 : tie.Need-returns-2
