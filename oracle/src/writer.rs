@@ -3,11 +3,15 @@
 use crate::models;
 use crate::reader::{self, is_gru, Refusal};
 use crate::rng::Rng;
-use crate::tally::Tally;
-use crate::{named, values, Options};
+use crate::tally::{self, Tally, Value};
+use crate::{values, Options};
 
 /// Numbers at the edges of what a count, an activation and a byte can be.
 const EDGES: [u32; 9] = [0, 1, 2, 3, 127, 128, 255, 1 << 31, u32::MAX];
+
+/// The arrays as the surface names them.
+const NAMES: [&str; 15] =
+    ["w0", "b0", "w1", "r1", "b1", "w2", "r2", "b2", "w3", "r3", "b3", "w4", "b4", "w5", "b5"];
 
 /// What a writer is lent.
 #[derive(Clone)]
@@ -68,15 +72,15 @@ fn written(given: &Given) -> Result<Vec<u8>, Refusal> {
     Err(Refusal { number, layer: 6 })
 }
 
-fn ours(given: &Given, out: &mut [u8]) -> u32 {
-    let [w0, b0, w1, r1, b1, w2, r2, b2, w3, r3, b3, w4, b4, w5, b5] = &given.arrays;
-    tuppence::write_model(out, &given.shapes, w0, b0, w1, r1, b1, w2, r2, b2, w3, r3, b3, w4, b4, w5, b5)
-}
-
 fn one(tally: &mut Tally, given: &Given) {
-    let (mut mine, mut theirs) = (given.out.clone(), given.out.clone());
-    let number = ours(given, &mut mine);
-    let want = match (given.shapes.len() == 18).then(|| written(given)) {
+    let Given { shapes, arrays, out } = given;
+    let [w0, b0, w1, r1, b1, w2, r2, b2, w3, r3, b3, w4, b4, w5, b5] = arrays;
+    let mut lent = vec![("shapes", Value::from(shapes)), ("out", Value::from(out))];
+    lent.extend(NAMES.into_iter().zip(arrays.iter().map(Value::from)));
+    let lent = tally::Given::new(&lent);
+    let (mut mine, mut theirs) = (out.clone(), out.clone());
+    let number = tuppence::write_model(&mut mine, shapes, w0, b0, w1, r1, b1, w2, r2, b2, w3, r3, b3, w4, b4, w5, b5);
+    let want = match (shapes.len() == 18).then(|| written(given)) {
         None => 5,
         Some(Err(refusal)) => refusal.number + 65_536 * refusal.layer,
         Some(Ok(file)) => {
@@ -85,10 +89,7 @@ fn one(tally: &mut Tally, given: &Given) {
             0
         }
     };
-    let Given { shapes, arrays, out } = given;
-    let sizes: Vec<u64> = arrays.iter().map(|array| array.len() as u64).collect();
-    let bytes = arrays.concat();
-    tally.judge("write_model", named![shapes, sizes, bytes, out], values![number, mine], values![want, theirs]);
+    tally.judge("write_model", lent, values![number, mine], values![want, theirs]);
 }
 
 /// What was written reads, through the proved reader and through the table's, as the layers that were given.

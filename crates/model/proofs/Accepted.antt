@@ -125,15 +125,33 @@ length-layer : (s : List ℕ) (at : ℕ) (w r b : List ℕ) → length (layerByt
 unfolding layerBytes headerBytes
 length-layer s at w r b = simp length-append (omega arith)
 
-module _ (s w0 b0 w1 r1 b1 w2 r2 b2 w3 r3 b3 w4 b4 w5 b5 : List ℕ) where
+-- the arrays, by their names
+pub record Arrays : Type 0 where
+  pub w0 : List ℕ
+  pub b0 : List ℕ
+  pub w1 : List ℕ
+  pub r1 : List ℕ
+  pub b1 : List ℕ
+  pub w2 : List ℕ
+  pub r2 : List ℕ
+  pub b2 : List ℕ
+  pub w3 : List ℕ
+  pub r3 : List ℕ
+  pub b3 : List ℕ
+  pub w4 : List ℕ
+  pub b4 : List ℕ
+  pub w5 : List ℕ
+  pub b5 : List ℕ
+
+module _ (s : List ℕ) (x : Arrays) where
   abbrev pub arrays : List (List ℕ)
-  arrays = arraysOf w0 b0 w1 r1 b1 w2 r2 b2 w3 r3 b3 w4 b4 w5 b5
+  arrays = arraysOf (x .w0) (x .b0) (x .w1) (x .r1) (x .b1) (x .w2) (x .r2) (x .b2) (x .w3) (x .r3) (x .b3) (x .w4) (x .b4) (x .w5) (x .b5)
 
   abbrev pub head : List ℕ
-  head = threeBytes s 0 w0 [] b0 w1 r1 b1 w2 r2 b2
+  head = threeBytes s 0 (x .w0) [] (x .b0) (x .w1) (x .r1) (x .b1) (x .w2) (x .r2) (x .b2)
 
   abbrev pub tail : List ℕ
-  tail = threeBytes s 9 w3 r3 b3 w4 [] b4 w5 [] b5
+  tail = threeBytes s 9 (x .w3) (x .r3) (x .b3) (x .w4) [] (x .b4) (x .w5) [] (x .b5)
 
   abbrev rows : ℕ → List Row
   rows buffer = writerFaults s (map length arrays) (18 + sum (map length arrays)) buffer
@@ -141,9 +159,6 @@ module _ (s w0 b0 w1 r1 b1 w2 r2 b2 w3 r3 b3 w4 b4 w5 b5 : List ℕ) where
   length-halves : length (head ++ tail) ≡ 18 + sum (map length arrays)
   unfolding threeBytes
   length-halves = simp (length-append, length-layer) (omega arith)
-
-  pub halves-fit : {r : ℕ} (out : List ℕ) → r ≡ faultIn (rows (length out)) → r ≡ 0 → 0 + length (head ++ tail) ≤ length out
-  halves-fit out e none = omega (arith, length-halves, no-refusal s (map length arrays) (18 + sum (map length arrays)) (length out) e none .enough)
 
   length-file : length (fileOf (layersGiven kinds s arrays)) ≡ 18 + sum (map length arrays)
   length-file = simp length-append (omega arith)
@@ -163,8 +178,14 @@ module _ (s w0 b0 w1 r1 b1 w2 r2 b2 w3 r3 b3 w4 b4 w5 b5 : List ℕ) where
       simp (getD-drop, append-nil, append-assoc, numbered s (c .0 .1 .1 .0), n1, n2, n3, n4, n5)
 
   module _ (out : List ℕ) (eighteen : length s ≡ 18) {r : ℕ} (e : r ≡ faultIn (rows (length out))) where
-    abbrev done : ℕ × List ℕ
-    done = let file = fileOf (layersGiven kinds s arrays) in (0 leaving file ++ drop (length file) out)
+    -- what putting both halves asks for
+    pub bytes-so : r ≡ 0 → ByteSized s
+    bytes-so none =
+        bytes-given kinds s (map length arrays) eighteen (no-refusal s (map length arrays) (18 + sum (map length arrays)) (length out) e none .layers)
+
+    pub fits-so : r ≡ 0 → 0 + length (head ++ tail) ≤ length out
+    fits-so none =
+        omega (arith, length-halves, no-refusal s (map length arrays) (18 + sum (map length arrays)) (length out) e none .enough)
 
     pub refused-so : Some r → (r leaving out) ≡ writeModel s arrays out
     unfolding writeModel

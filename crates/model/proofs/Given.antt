@@ -1,8 +1,8 @@
 -- The refusals of layers as they are given. Assumes nothing.
---     bad-layer, differs, fits      one layer's, by its tests
---     stopped, on                   those of layers in a row, by the writer's loop
+--     bad-layer, first-differs ..     one layer's, by its tests
+--     stopped, on                     those of layers in a row, by the writer's loop
 use mathlib.Core.Path.{_≡_, refl, sym, _∙_}
-use mathlib.Core.Bool.{true, false}
+use mathlib.Core.Bool.{Bool, true, false, cond}
 use mathlib.Core.List.{List, [], _∷_, _++_}
 use Prim.Native.Nat.{ℕ, zero, suc, _+_, _*_, _≤_, _<_}
 use native.Mathlib.Numerals.{add-one}
@@ -26,32 +26,30 @@ use Rattle.model.proofs.Rows.{Some, by-fault, past, no-fault, fault-mos
 use Rattle.model.proofs.Layer.{three}
 use Rattle.model.proofs.Places.{three-lengths}
 
-module _ (k : Kind) (i n a : ℕ) (given : List ℕ) where
-  pub bad-layer : {r : ℕ} → r ≡ faultIn (headerFaults i n a) → Some r → r ≡ faultIn (layerFaults k i n a given)
-  bad-layer e some = sym (by-fault (λ r. r) 0 (headerFaults i n a) (16 when differ given (lengths k i n) ∷ []) e some)
+pub bad-layer : (k : Kind) (i n a : ℕ) (given : List ℕ) {r : ℕ} → r ≡ faultIn (headerFaults i n a) → Some r → r ≡ faultIn (layerFaults k i n a given)
+bad-layer k i n a given e some = sym (by-fault (λ r. r) 0 (headerFaults i n a) (16 when differ given (lengths k i n) ∷ []) e some)
 
-  pub differs : Clear (headerFaults i n a) → differ given (lengths k i n) ≡ true → 16 ≡ faultIn (layerFaults k i n a given)
-  differs good e = rw (good .0, good .1 .0, good .1 .1 .0, good .1 .1 .1 .0, e)
+-- three lengths beside those that the counts give, where the header is good
+module _ (k : Kind) (i n a w r b : ℕ) (good : Clear (headerFaults i n a)) {x : List ℕ} (e : x ≡ lengths k i n) where
+  abbrev fault : ℕ
+  fault = faultIn (layerFaults k i n a (w ∷ r ∷ b ∷ []))
 
-  pub fits : Clear (headerFaults i n a) → differ given (lengths k i n) ≡ false → 0 ≡ faultIn (layerFaults k i n a given)
-  fits good e = rw (good .0, good .1 .0, good .1 .1 .0, good .1 .1 .1 .0, e)
+  by : (t : Bool) → differ (w ∷ r ∷ b ∷ []) (getD x 0 0 ∷ getD x 1 0 ∷ getD x 2 0 ∷ []) ≡ t → cond t 16 0 ≡ fault
+  by t h =
+      let same : differ (w ∷ r ∷ b ∷ []) (lengths k i n) ≡ t = rw (three-lengths k i n 0) (rw e at h) in
+      rw (good .0, good .1 .0, good .1 .1 .0, good .1 .1 .1 .0, same)
 
--- three lengths beside those that the counts give
-module _ (k : Kind) (i n w r b : ℕ) where
-  abbrev x : ℕ → ℕ
-  x j = getD (lengths k i n) j 0
+  pub first-differs : (w ≡ getD x 0 0 → ⊥) → 16 ≡ fault
+  first-differs h = by true (rw (ne-eqb w (getD x 0 0) h))
 
-  pub first-differs : (w ≡ x 0 → ⊥) → differ (w ∷ r ∷ b ∷ []) (lengths k i n) ≡ true
-  first-differs h = rw (three-lengths k i n 0, ne-eqb w (x 0) h)
+  pub second-differs : w ≡ getD x 0 0 → (r ≡ getD x 1 0 → ⊥) → 16 ≡ fault
+  second-differs f h = by true (rw (eq-eqb w (getD x 0 0) f, ne-eqb r (getD x 1 0) h))
 
-  pub second-differs : w ≡ x 0 → (r ≡ x 1 → ⊥) → differ (w ∷ r ∷ b ∷ []) (lengths k i n) ≡ true
-  second-differs e h = rw (three-lengths k i n 0, eq-eqb w (x 0) e, ne-eqb r (x 1) h)
+  pub third-differs : w ≡ getD x 0 0 → r ≡ getD x 1 0 → (b ≡ getD x 2 0 → ⊥) → 16 ≡ fault
+  third-differs f g h = by true (rw (eq-eqb w (getD x 0 0) f, eq-eqb r (getD x 1 0) g, ne-eqb b (getD x 2 0) h))
 
-  pub third-differs : w ≡ x 0 → r ≡ x 1 → (b ≡ x 2 → ⊥) → differ (w ∷ r ∷ b ∷ []) (lengths k i n) ≡ true
-  third-differs e f h = rw (three-lengths k i n 0, eq-eqb w (x 0) e, eq-eqb r (x 1) f, ne-eqb b (x 2) h)
-
-  pub none-differs : w ≡ x 0 → r ≡ x 1 → b ≡ x 2 → differ (w ∷ r ∷ b ∷ []) (lengths k i n) ≡ false
-  none-differs e f g = rw (three-lengths k i n 0, eq-eqb w (x 0) e, eq-eqb r (x 1) f, eq-eqb b (x 2) g)
+  pub none-differs : w ≡ getD x 0 0 → r ≡ getD x 1 0 → b ≡ getD x 2 0 → 0 ≡ fault
+  none-differs f g h = by false (rw (eq-eqb w (getD x 0 0) f, eq-eqb r (getD x 1 0) g, eq-eqb b (getD x 2 0) h))
 
 -- ---- the loop
 

@@ -101,7 +101,10 @@ pub data Comes (k : Kind) (s : List ℕ) : Type 1 where
 
 pub layer-comes : (k : Kind) (s : List ℕ) → Comes k s
 unfolding readLayer
-layer-comes k (i ∷ n ∷ a ∷ s) = of (chosen (faults k i n a (length s)) ((omega arith, omega arith), ((omega arith, omega arith), ((omega arith, omega arith), ((omega arith, omega arith), ((omega arith, omega arith), tt))))))
+layer-comes k (i ∷ n ∷ a ∷ s) =
+    let small : Each Number (faults k i n a (length s)) =
+    ((omega arith, omega arith), ((omega arith, omega arith), ((omega arith, omega arith), ((omega arith, omega arith), ((omega arith, omega arith), tt))))) in
+    of (chosen (faults k i n a (length s)) small)
   where
     of : Chosen (faults k i n a (length s)) → Comes k (i ∷ n ∷ a ∷ s)
     of (none h) =

@@ -4,7 +4,7 @@ use native.Mathlib.Omega.{arith}
 use borrow.Author.Needs.{needs}
 use borrow.Author.Tests.{ltb-false}
 use Rattle.model.proofs.Layer.{good-header}
-use Rattle.model.proofs.Given.{bad-layer, differs, fits, first-differs, second-differs, third-differs, none-differs}
+use Rattle.model.proofs.Given.{bad-layer, first-differs, second-differs, third-differs, none-differs}
 use Rattle.model.proofs.writer.layer_fault.Statement.{statement}
 use Rattle.model.proofs.writer.layer_fault.Tie as tie
 
@@ -24,28 +24,32 @@ returns-2 c =
     let f = c .before .before in
     let a = f .before .before .args in
     let good = good-header (a .inputs) (a .neurons) (a .number) (f .before .header-fault .ensures) (f .if1 .left) in
-    differs (a .kind) (a .inputs) (a .neurons) (a .number) (a .weights ∷ a .recurrent ∷ a .bias ∷ []) good (first-differs (a .kind) (a .inputs) (a .neurons) (a .weights) (a .recurrent) (a .bias) (rw (c .before .array-lengths .ensures) at (c .if2 .taken)))
+    first-differs (a .kind) (a .inputs) (a .neurons) (a .number) (a .weights) (a .recurrent) (a .bias) good (c .before .array-lengths .ensures)
+    (c .if2 .taken)
 
 returns-3 : tie.Need-returns-3
 returns-3 c =
     let f = c .before .before .before in
     let a = f .before .before .args in
     let good = good-header (a .inputs) (a .neurons) (a .number) (f .before .header-fault .ensures) (f .if1 .left) in
-    differs (a .kind) (a .inputs) (a .neurons) (a .number) (a .weights ∷ a .recurrent ∷ a .bias ∷ []) good (second-differs (a .kind) (a .inputs) (a .neurons) (a .weights) (a .recurrent) (a .bias) (rw (c .before .before .array-lengths .ensures) at (c .before .if2 .left)) (rw (c .before .before .array-lengths .ensures) at (c .if3 .taken)))
+    second-differs (a .kind) (a .inputs) (a .neurons) (a .number) (a .weights) (a .recurrent) (a .bias) good (c .before .before .array-lengths .ensures)
+    (c .before .if2 .left) (c .if3 .taken)
 
 returns-4 : tie.Need-returns-4
 returns-4 c =
     let f = c .before .before .before .before in
     let a = f .before .before .args in
     let good = good-header (a .inputs) (a .neurons) (a .number) (f .before .header-fault .ensures) (f .if1 .left) in
-    differs (a .kind) (a .inputs) (a .neurons) (a .number) (a .weights ∷ a .recurrent ∷ a .bias ∷ []) good (third-differs (a .kind) (a .inputs) (a .neurons) (a .weights) (a .recurrent) (a .bias) (rw (c .before .before .before .array-lengths .ensures) at (c .before .before .if2 .left)) (rw (c .before .before .before .array-lengths .ensures) at (c .before .if3 .left)) (rw (c .before .before .before .array-lengths .ensures) at (c .if4 .taken)))
+    third-differs (a .kind) (a .inputs) (a .neurons) (a .number) (a .weights) (a .recurrent) (a .bias) good (c .before .before .before .array-lengths .ensures)
+    (c .before .before .if2 .left) (c .before .if3 .left) (c .if4 .taken)
 
 returns-5 : tie.Need-returns-5
 returns-5 c =
     let f = c .before .before .before .before in
     let a = f .before .before .args in
     let good = good-header (a .inputs) (a .neurons) (a .number) (f .before .header-fault .ensures) (f .if1 .left) in
-    fits (a .kind) (a .inputs) (a .neurons) (a .number) (a .weights ∷ a .recurrent ∷ a .bias ∷ []) good (none-differs (a .kind) (a .inputs) (a .neurons) (a .weights) (a .recurrent) (a .bias) (rw (c .before .before .before .array-lengths .ensures) at (c .before .before .if2 .left)) (rw (c .before .before .before .array-lengths .ensures) at (c .before .if3 .left)) (rw (c .before .before .before .array-lengths .ensures) at (c .if4 .left)))
+    none-differs (a .kind) (a .inputs) (a .neurons) (a .number) (a .weights) (a .recurrent) (a .bias) good (c .before .before .before .array-lengths .ensures)
+    (c .before .before .if2 .left) (c .before .if3 .left) (c .if4 .left)
 
 pub layer-fault-spec : {M : Type 1} → statement M
 layer-fault-spec =

@@ -1,16 +1,11 @@
 -- A refusal, or both halves of the file. Assumes nothing.
-use mathlib.Core.List.{map}
-use Prim.Native.Nat.{_+_}
 use native.Mathlib.Omega.{arith}
 use borrow.Author.Needs.{needs}
 use borrow.Author.Tests.{ne-eqb}
 use denote.Ref.{now}
-use lib.ListN.{length}
-use Rattle.model.specs.Layer.{sum}
-use Rattle.model.specs.Model.{kinds}
-use Rattle.model.specs.Writer.{arraysOf, writeModel}
+use Rattle.model.specs.Writer.{writeModel}
 use Rattle.model.proofs.Over.{front, behind, both}
-use Rattle.model.proofs.Accepted.{no-refusal, bytes-given, head, tail, halves-fit, refused-so, written-so}
+use Rattle.model.proofs.Accepted.{Arrays, head, tail, bytes-so, fits-so, refused-so, written-so}
 use Rattle.model.proofs.writer.write.Statement.{statement}
 use Rattle.model.proofs.writer.write.Tie as tie
 
@@ -23,36 +18,106 @@ returns-2 c =
     let start = c .before .before .before .before .before .before .before .before .before .before .before .before .before .before .before .before .before .before .before .before in
     let a = start .args in
     let f = c .before in
-    refused-so (now (a .shapes)) (now (a .w0)) (now (a .b0)) (now (a .w1)) (now (a .r1)) (now (a .b1)) (now (a .w2)) (now (a .r2)) (now (a .b2)) (now (a .w3)) (now (a .r3)) (now (a .b3)) (now (a .w4)) (now (a .b4)) (now (a .w5)) (now (a .b5)) (now (a .out)) (f .before .if1 .left) (f .fault-of .ensures) (c .if2 .taken)
+    let x : Arrays = record {
+      w0 = now (a .w0);
+      b0 = now (a .b0);
+      w1 = now (a .w1);
+      r1 = now (a .r1);
+      b1 = now (a .b1);
+      w2 = now (a .w2);
+      r2 = now (a .r2);
+      b2 = now (a .b2);
+      w3 = now (a .w3);
+      r3 = now (a .r3);
+      b3 = now (a .b3);
+      w4 = now (a .w4);
+      b4 = now (a .b4);
+      w5 = now (a .w5);
+      b5 = now (a .b5);
+    } in
+    let s = now (a .shapes) in
+    refused-so s x (now (a .out)) (f .before .if1 .left) (f .fault-of .ensures) (c .if2 .taken)
 
 put-three-requires : tie.Need-put-three-requires
 put-three-requires c κs =
     let start = c .before .before .before .before .before .before .before .before .before .before .before .before .before .before .before .before .before .before .before .before .before .before in
     let a = start .args in
     let f = c .before .before .before in
-    let good = no-refusal (now (a .shapes)) (map length (arraysOf (now (a .w0)) (now (a .b0)) (now (a .w1)) (now (a .r1)) (now (a .b1)) (now (a .w2)) (now (a .r2)) (now (a .b2)) (now (a .w3)) (now (a .r3)) (now (a .b3)) (now (a .w4)) (now (a .b4)) (now (a .w5)) (now (a .b5)))) (18 + sum (map length (arraysOf (now (a .w0)) (now (a .b0)) (now (a .w1)) (now (a .r1)) (now (a .b1)) (now (a .w2)) (now (a .r2)) (now (a .b2)) (now (a .w3)) (now (a .r3)) (now (a .b3)) (now (a .w4)) (now (a .b4)) (now (a .w5)) (now (a .b5))))) (length (now (a .out))) (f .fault-of .ensures) (c .before .before .if2 .left) in
-    let bytes = bytes-given kinds (now (a .shapes)) (map length (arraysOf (now (a .w0)) (now (a .b0)) (now (a .w1)) (now (a .r1)) (now (a .b1)) (now (a .w2)) (now (a .r2)) (now (a .b2)) (now (a .w3)) (now (a .r3)) (now (a .b3)) (now (a .w4)) (now (a .b4)) (now (a .w5)) (now (a .b5)))) (f .before .if1 .left) (good .layers) in
-    let fits = halves-fit (now (a .shapes)) (now (a .w0)) (now (a .b0)) (now (a .w1)) (now (a .r1)) (now (a .b1)) (now (a .w2)) (now (a .r2)) (now (a .b2)) (now (a .w3)) (now (a .r3)) (now (a .b3)) (now (a .w4)) (now (a .b4)) (now (a .w5)) (now (a .b5)) (now (a .out)) (f .fault-of .ensures) (c .before .before .if2 .left) in
-    (omega arith, bytes, front 0 (head (now (a .shapes)) (now (a .w0)) (now (a .b0)) (now (a .w1)) (now (a .r1)) (now (a .b1)) (now (a .w2)) (now (a .r2)) (now (a .b2)) (now (a .w3)) (now (a .r3)) (now (a .b3)) (now (a .w4)) (now (a .b4)) (now (a .w5)) (now (a .b5))) (tail (now (a .shapes)) (now (a .w0)) (now (a .b0)) (now (a .w1)) (now (a .r1)) (now (a .b1)) (now (a .w2)) (now (a .r2)) (now (a .b2)) (now (a .w3)) (now (a .r3)) (now (a .b3)) (now (a .w4)) (now (a .b4)) (now (a .w5)) (now (a .b5))) _ fits)
+    let x : Arrays = record {
+      w0 = now (a .w0);
+      b0 = now (a .b0);
+      w1 = now (a .w1);
+      r1 = now (a .r1);
+      b1 = now (a .b1);
+      w2 = now (a .w2);
+      r2 = now (a .r2);
+      b2 = now (a .b2);
+      w3 = now (a .w3);
+      r3 = now (a .r3);
+      b3 = now (a .b3);
+      w4 = now (a .w4);
+      b4 = now (a .b4);
+      w5 = now (a .w5);
+      b5 = now (a .b5);
+    } in
+    let s = now (a .shapes) in
+    let bytes = bytes-so s x (now (a .out)) (f .before .if1 .left) (f .fault-of .ensures) (c .before .before .if2 .left) in
+    let fits = fits-so s x (now (a .out)) (f .before .if1 .left) (f .fault-of .ensures) (c .before .before .if2 .left) in
+    (omega arith, bytes, front 0 (head s x) (tail s x) _ fits)
 
 put-three-requires-2 : tie.Need-put-three-requires-2
 put-three-requires-2 c κs =
     let start = c .before .before .before .before .before .before .before .before .before .before .before .before .before .before .before .before .before .before .before .before .before .before .before .before .before .before .before .before in
     let a = start .args in
     let f = c .before .before .before .before .before .before .before .before .before in
-    let good = no-refusal (now (a .shapes)) (map length (arraysOf (now (a .w0)) (now (a .b0)) (now (a .w1)) (now (a .r1)) (now (a .b1)) (now (a .w2)) (now (a .r2)) (now (a .b2)) (now (a .w3)) (now (a .r3)) (now (a .b3)) (now (a .w4)) (now (a .b4)) (now (a .w5)) (now (a .b5)))) (18 + sum (map length (arraysOf (now (a .w0)) (now (a .b0)) (now (a .w1)) (now (a .r1)) (now (a .b1)) (now (a .w2)) (now (a .r2)) (now (a .b2)) (now (a .w3)) (now (a .r3)) (now (a .b3)) (now (a .w4)) (now (a .b4)) (now (a .w5)) (now (a .b5))))) (length (now (a .out))) (f .fault-of .ensures) (c .before .before .before .before .before .before .before .before .if2 .left) in
-    let bytes = bytes-given kinds (now (a .shapes)) (map length (arraysOf (now (a .w0)) (now (a .b0)) (now (a .w1)) (now (a .r1)) (now (a .b1)) (now (a .w2)) (now (a .r2)) (now (a .b2)) (now (a .w3)) (now (a .r3)) (now (a .b3)) (now (a .w4)) (now (a .b4)) (now (a .w5)) (now (a .b5)))) (f .before .if1 .left) (good .layers) in
-    let fits = halves-fit (now (a .shapes)) (now (a .w0)) (now (a .b0)) (now (a .w1)) (now (a .r1)) (now (a .b1)) (now (a .w2)) (now (a .r2)) (now (a .b2)) (now (a .w3)) (now (a .r3)) (now (a .b3)) (now (a .w4)) (now (a .b4)) (now (a .w5)) (now (a .b5)) (now (a .out)) (f .fault-of .ensures) (c .before .before .before .before .before .before .before .before .if2 .left) in
-    (omega arith, bytes, behind (c .before .before .before .before .before .put-three .ensures) (tail (now (a .shapes)) (now (a .w0)) (now (a .b0)) (now (a .w1)) (now (a .r1)) (now (a .b1)) (now (a .w2)) (now (a .r2)) (now (a .b2)) (now (a .w3)) (now (a .r3)) (now (a .b3)) (now (a .w4)) (now (a .b4)) (now (a .w5)) (now (a .b5))) fits)
+    let x : Arrays = record {
+      w0 = now (a .w0);
+      b0 = now (a .b0);
+      w1 = now (a .w1);
+      r1 = now (a .r1);
+      b1 = now (a .b1);
+      w2 = now (a .w2);
+      r2 = now (a .r2);
+      b2 = now (a .b2);
+      w3 = now (a .w3);
+      r3 = now (a .r3);
+      b3 = now (a .b3);
+      w4 = now (a .w4);
+      b4 = now (a .b4);
+      w5 = now (a .w5);
+      b5 = now (a .b5);
+    } in
+    let s = now (a .shapes) in
+    let bytes = bytes-so s x (now (a .out)) (f .before .if1 .left) (f .fault-of .ensures) (c .before .before .before .before .before .before .before .before .if2 .left) in
+    let fits = fits-so s x (now (a .out)) (f .before .if1 .left) (f .fault-of .ensures) (c .before .before .before .before .before .before .before .before .if2 .left) in
+    (omega arith, bytes, behind (c .before .before .before .before .before .put-three .ensures) (tail s x) fits)
 
 returns-3 : tie.Need-returns-3
 returns-3 c =
     let start = c .before .before .before .before .before .before .before .before .before .before .before .before .before .before .before .before .before .before .before .before .before .before .before .before .before .before .before .before .before .before .before in
     let a = start .args in
     let f = c .before .before .before .before .before .before .before .before .before .before .before .before in
-    let fits = halves-fit (now (a .shapes)) (now (a .w0)) (now (a .b0)) (now (a .w1)) (now (a .r1)) (now (a .b1)) (now (a .w2)) (now (a .r2)) (now (a .b2)) (now (a .w3)) (now (a .r3)) (now (a .b3)) (now (a .w4)) (now (a .b4)) (now (a .w5)) (now (a .b5)) (now (a .out)) (f .fault-of .ensures) (c .before .before .before .before .before .before .before .before .before .before .before .if2 .left) in
-    written-so (now (a .shapes)) (now (a .w0)) (now (a .b0)) (now (a .w1)) (now (a .r1)) (now (a .b1)) (now (a .w2)) (now (a .r2)) (now (a .b2)) (now (a .w3)) (now (a .r3)) (now (a .b3)) (now (a .w4)) (now (a .b4)) (now (a .w5)) (now (a .b5)) (now (a .out)) (f .before .if1 .left) (f .fault-of .ensures) (c .before .before .before .before .before .before .before .before .before .before .before .if2 .left)
-    (both (c .before .before .before .before .before .before .before .before .put-three .ensures) (tail (now (a .shapes)) (now (a .w0)) (now (a .b0)) (now (a .w1)) (now (a .r1)) (now (a .b1)) (now (a .w2)) (now (a .r2)) (now (a .b2)) (now (a .w3)) (now (a .r3)) (now (a .b3)) (now (a .w4)) (now (a .b4)) (now (a .w5)) (now (a .b5))) fits (c .before .before .put-three2 .ensures))
+    let x : Arrays = record {
+      w0 = now (a .w0);
+      b0 = now (a .b0);
+      w1 = now (a .w1);
+      r1 = now (a .r1);
+      b1 = now (a .b1);
+      w2 = now (a .w2);
+      r2 = now (a .r2);
+      b2 = now (a .b2);
+      w3 = now (a .w3);
+      r3 = now (a .r3);
+      b3 = now (a .b3);
+      w4 = now (a .w4);
+      b4 = now (a .b4);
+      w5 = now (a .w5);
+      b5 = now (a .b5);
+    } in
+    let s = now (a .shapes) in
+    let fits = fits-so s x (now (a .out)) (f .before .if1 .left) (f .fault-of .ensures) (c .before .before .before .before .before .before .before .before .before .before .before .if2 .left) in
+    written-so s x (now (a .out)) (f .before .if1 .left) (f .fault-of .ensures) (c .before .before .before .before .before .before .before .before .before .before .before .if2 .left)
+    (both (c .before .before .before .before .before .before .before .before .put-three .ensures) (tail s x) fits (c .before .before .put-three2 .ensures))
 
 pub write-spec : {M : Type 1} → statement M
 write-spec =
