@@ -16,6 +16,12 @@ host: cleans two dictations, one for each bench
   host side FILE..
       The side sheet behind each recording's audio: its side, how many frames it has
       and how many of them were heard, and where a frame is missing.
+  host pack --layers FOLDER --out M.rnn
+      A model from loose arrays: FOLDER has layers.txt, a line for each layer with its
+      name, inputs, neurons and activation, and a file of signed bytes for each array
+      (input_dense.weights, input_dense.bias, vad_gru.recurrent ...).
+  host unpack M.rnn --out FOLDER
+      The other way.
   host bench
       Frames a second, where a frame's time goes, and the ratio to the Rust text.
   host --help
@@ -53,6 +59,15 @@ fn run(words: &[String]) -> Result<(), String> {
         [word, first, rest @ ..] if word == "side" => {
             let paths: Vec<PathBuf> = std::iter::once(first).chain(rest).map(PathBuf::from).collect();
             host::side::side(&paths)?;
+        }
+        [word, rest @ ..] if word == "pack" => {
+            let paths = options(rest, &["--layers", "--out"]).ok_or("pack: the options are not right; see host --help")?;
+            println!("{}: {} bytes", paths[1].display(), host::pack::pack(&paths[0], &paths[1])?);
+        }
+        [word, model, rest @ ..] if word == "unpack" => {
+            let paths = options(rest, &["--out"]).ok_or("unpack: the options are not right; see host --help")?;
+            host::pack::unpack(model.as_ref(), &paths[0])?;
+            println!("{}: sixteen files", paths[0].display());
         }
         [word, rest @ ..] if word == "clean" => {
             let job = job(rest).ok_or("clean: the options are not right; see host --help")?;

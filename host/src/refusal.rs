@@ -8,7 +8,7 @@ pub struct Refusal(pub u32);
 
 const LAYERS: [&str; 6] = ["input_dense", "vad_gru", "noise_gru", "denoise_gru", "denoise_output", "vad_output"];
 
-fn of_model(number: u32) -> &'static str {
+pub fn of_model(number: u32) -> &'static str {
     match number {
         11 => "it ends within a layer's header",
         12 => "a layer's number of inputs is negative",

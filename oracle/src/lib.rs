@@ -35,6 +35,8 @@ pub mod shadow;
 pub mod transforms;
 #[cfg(feature = "sheet")]
 pub mod sheet;
+#[cfg(feature = "model")]
+pub mod writer;
 
 use nnnoiseless_text::probe::bands::Complex;
 
@@ -76,6 +78,8 @@ pub const GROUPS: &[Group] = &[
     ("model", model::compare),
     #[cfg(feature = "sheet")]
     ("sheet", sheet::compare),
+    #[cfg(feature = "model")]
+    ("writer", writer::compare),
     #[cfg(feature = "network")]
     ("network", network::compare),
     #[cfg(feature = "frame")]

@@ -7,3 +7,4 @@ pub mod of_numbers;
 pub mod of_pitch;
 pub mod of_sheet;
 pub mod of_transforms;
+pub mod of_writer;

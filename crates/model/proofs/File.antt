@@ -16,7 +16,8 @@ use Rattle.model.specs.declared.Reading.the-variants.{Good, Refused}
 use Rattle.rules.proofs.Refused.{Clear, clear, by-rows}
 use Rattle.model.specs.Layer.{Layer}
 use Rattle.model.specs.Model.{kinds, readLayers, headersAt, modelOf, mismatches, readOf}
-use Rattle.model.proofs.Inverse.{fileOf, FitAll, AllCome, layers, refusal, row-reads, row-comes}
+use Rattle.model.specs.Writer.{fileOf}
+use Rattle.model.proofs.Inverse.{FitAll, AllCome, layers, refusal, row-reads, row-comes}
 
 -- six layers that go together, and their file
 pub record Holds (ls : List Layer) (s : List ℕ) : Type 0 where

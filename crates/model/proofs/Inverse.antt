@@ -17,6 +17,7 @@ use Rattle.rules.proofs.Refused.{Clear, clear}
 use Rattle.rules.proofs.Rows.{Each}
 use Rattle.model.specs.Layer.{lengths, sum, sizeOf, activationOf, activationNumber, joined, cut, bytesOf, Layer, faults, readLayer}
 use Rattle.model.specs.Model.{readLayers}
+use Rattle.model.specs.Writer.{fileOf}
 use Rattle.model.proofs.Layer.{joined-cut}
 
 -- arrays of these lengths
@@ -39,13 +40,13 @@ sized-cut : (ns s : List ℕ) → sum ns ≤ length s → Sized ns (cut ns s)
 sized-cut [] s h = tt
 sized-cut (n ∷ ns) s h = (simp length-take (omega arith), sized-cut ns (drop n s) (simp length-drop (omega arith)))
 
-number-of : (a : ℕ) → a ≤ 2 → activationNumber (activationOf a) ≡ a
+pub number-of : (a : ℕ) → a ≤ 2 → activationNumber (activationOf a) ≡ a
 number-of zero h = refl
 number-of (suc zero) h = refl
 number-of (suc (suc zero)) h = refl
 number-of (suc (suc (suc a))) h = absurd (omega arith)
 
-activation-of : (a : Activation) → activationOf (activationNumber a) ≡ a
+pub activation-of : (a : Activation) → activationOf (activationNumber a) ≡ a
 activation-of Tanh = refl
 activation-of Sigmoid = refl
 activation-of Relu = refl
@@ -100,7 +101,10 @@ pub data Comes (k : Kind) (s : List ℕ) : Type 1 where
 
 pub layer-comes : (k : Kind) (s : List ℕ) → Comes k s
 unfolding readLayer
-layer-comes k (i ∷ n ∷ a ∷ s) = of (chosen (faults k i n a (length s)) ((omega arith, omega arith), ((omega arith, omega arith), ((omega arith, omega arith), ((omega arith, omega arith), ((omega arith, omega arith), tt))))))
+layer-comes k (i ∷ n ∷ a ∷ s) =
+    let small : Each Number (faults k i n a (length s)) =
+    ((omega arith, omega arith), ((omega arith, omega arith), ((omega arith, omega arith), ((omega arith, omega arith), ((omega arith, omega arith), tt))))) in
+    of (chosen (faults k i n a (length s)) small)
   where
     of : Chosen (faults k i n a (length s)) → Comes k (i ∷ n ∷ a ∷ s)
     of (none h) =
@@ -115,10 +119,6 @@ layer-comes k (i ∷ []) = refusal 11 (omega arith, omega arith) (λ A refuse ne
 layer-comes k [] = refusal 11 (omega arith, omega arith) (λ A refuse next. refl)
 
 -- ---- layers in a row
-
-abbrev pub fileOf : List Layer → List ℕ
-fileOf [] = []
-fileOf (l ∷ ls) = bytesOf l ++ fileOf ls
 
 -- layers of these kinds that a file can hold
 abbrev pub FitAll : List Kind → List Layer → Type 0

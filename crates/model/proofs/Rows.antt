@@ -1,11 +1,14 @@
--- The number that a table of refusals gives. Assumes nothing.
+-- The number that a table of refusals gives, and tables one behind the other. Assumes nothing.
 use mathlib.Core.Path.{_≡_, refl, sym, ap, _∙_}
 use mathlib.Core.Bool.{true, false}
-use mathlib.Core.List.{List, [], _∷_, _++_}
-use Prim.Native.Nat.{ℕ}
+use mathlib.Core.List.{List, [], _∷_, _++_, append-nil}
+use Prim.Native.Nat.{ℕ, _+_, _*_, _≤_}
+use native.Mathlib.Omega.{arith}
+use Rattle.rules.specs.Leaf.{_leaving_}
 use Rattle.rules.specs.Refusals.{Row, _when_, refusing}
 use Rattle.rules.proofs.Refused.{Clear}
 use Rattle.rules.proofs.Rows.{Each}
+use Rattle.model.specs.Writer.{inLayer}
 use Rattle.model.specs.Parts.{faultIn}
 
 module _ {A : Type 0} (refuse : ℕ → A) (right : A) where
@@ -15,6 +18,14 @@ module _ {A : Type 0} (refuse : ℕ → A) (right : A) where
   by-fault (n when true ∷ rows) more e some = ap refuse (sym e)
   by-fault (n when false ∷ rows) more e some = by-fault rows more e some
 
+  pub by-its-fault : (rows : List Row) {r : ℕ} → r ≡ faultIn rows → (r ≡ 0 → ⊥) → refusing rows refuse right ≡ refuse r
+  by-its-fault rows e some = rw (append-nil rows) at (by-fault rows [] e some)
+
+  -- where no test of the first table holds, the second decides
+  pub past : (rows more : List Row) → Clear rows → refusing (rows ++ more) refuse right ≡ refusing more refuse right
+  past [] more c = refl
+  past (n when t ∷ rows) more c = rw (c .0) (past rows more (c .1))
+
 -- a number that is not 0
 abbrev pub Some : ℕ → Type 0
 Some n = n ≡ 0 → ⊥
@@ -23,3 +34,38 @@ pub no-fault : (rows : List Row) → Each Some rows → {r : ℕ} → r ≡ faul
 no-fault [] all e none = tt
 no-fault (n when true ∷ rows) all e none = absurd (all .0 (sym e ∙ none))
 no-fault (n when false ∷ rows) all e none = (refl, no-fault rows (all .1) e none)
+
+pub fault-most : (most : ℕ) (rows : List Row) → Each (λ n. n ≤ most) rows → faultIn rows ≤ most
+fault-most most [] all = omega arith
+fault-most most (n when true ∷ rows) all = all .0
+fault-most most (n when false ∷ rows) all = fault-most most rows (all .1)
+
+-- a table with its layer
+module _ (l : ℕ) where
+  pub shifted : (rows : List Row) {r : ℕ} → r ≡ faultIn rows → Some r → r + 65536 * l ≡ faultIn (inLayer l rows)
+  shifted [] e some = absurd (some e)
+  shifted (n when true ∷ rows) e some = ap (λ n. n + 65536 * l) e
+  shifted (n when false ∷ rows) e some = shifted rows e some
+
+  pub clear-shifted : (rows : List Row) → Clear rows → Clear (inLayer l rows)
+  clear-shifted [] c = tt
+  clear-shifted (n when t ∷ rows) c = (c .0, clear-shifted rows (c .1))
+
+  pub shifted-clear : (rows : List Row) → Clear (inLayer l rows) → Clear rows
+  shifted-clear [] c = tt
+  shifted-clear (n when t ∷ rows) c = (c .0, shifted-clear rows (c .1))
+
+-- two tables without a refusal
+pub clear-both : (rows more : List Row) → Clear (rows ++ more) → Clear rows × Clear more
+clear-both [] more c = (tt, c)
+clear-both (n when t ∷ rows) more c = let rest = clear-both rows more (c .1) in ((c .0, rest .0), rest .1)
+
+pub clear-joined : (rows more : List Row) → Clear rows → Clear more → Clear (rows ++ more)
+clear-joined [] more c d = d
+clear-joined (n when t ∷ rows) more c d = (c .0, clear-joined rows more (c .1) d)
+
+-- where 0 is answered, no test held
+pub answered : (rows : List Row) (out after : List ℕ) (right : ℕ × List ℕ) → Each Some rows → (0 leaving after) ≡ refusing rows (λ n. n leaving out) right → Clear rows
+answered [] out after right all e = tt
+answered (n when true ∷ rows) out after right all e = absurd (all .0 (sym (ap (λ (p : ℕ × List ℕ). p .0) e)))
+answered (n when false ∷ rows) out after right all e = (refl, answered rows out after right (all .1) e)

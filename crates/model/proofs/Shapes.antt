@@ -34,10 +34,10 @@ pub record Shaped (size : ℕ) (m : Model) : Type 0 where
   pub denoise-reads : 42 + m .«vad_gru» .neurons + m .«noise_gru» .neurons ≡ m .«denoise_gru» .inputs
   pub gains-read : m .«denoise_gru» .neurons ≡ m .«denoise_output» .inputs
 
-same : (a b : ℕ) → (a ≠ b) ≡ false → a ≡ b
+pub same : (a b : ℕ) → (a ≠ b) ≡ false → a ≡ b
 same a b h = eqb-true a b (not-false (eqb a b) h)
 
-neither : (t u : Bool) → (t || u) ≡ false → (t ≡ false) × (u ≡ false)
+pub neither : (t u : Bool) → (t || u) ≡ false → (t ≡ false) × (u ≡ false)
 neither false false h = (refl, refl)
 neither true u h = absurd (let z : _≡_ {A = ℕ} 0 1 = cc in omega arith)
 neither false true h = absurd (let z : _≡_ {A = ℕ} 0 1 = cc in omega arith)

@@ -3,3 +3,4 @@ pub mod Model
 pub mod Array
 pub mod Parts
 pub mod Summary
+pub mod Writer

@@ -1,6 +1,8 @@
--- What the private functions of the reader promise and ask for.
+-- What the private functions of the reader and the writer promise and ask for.
 use Prim.Native.Nat.{ℕ, _+_, _≤_, _<_}
-use mathlib.Core.List.{List}
+use mathlib.Core.Path.{_≡_}
+use mathlib.Core.List.{List, [], _∷_, _++_}
+use lib.ListN.{length, getD, take, drop}
 use Rattle.rules.specs.Refusals.{Row, refusing}
 use Rattle.model.specs.Layer.{sizeOf, activationOf, faults}
 use Rattle.model.specs.declared.Kind.{Kind}
@@ -32,3 +34,34 @@ pub record LiesIn (size : ℕ) (k : Kind) (h : Header) : Type 0 where
   pub some : 1 ≤ h .neurons
   pub start : 3 ≤ h .start
   pub reach : h .start + sizeOf k (h .inputs) (h .neurons) ≤ size
+
+-- ---- of the writer
+
+-- a layer's header by three numbers of a row, as if no layer had arrays
+abbrev pub headerGiven : List ℕ → ℕ → Header
+headerGiven shapes at =
+    let a = activationOf (getD shapes (at + 2) 0) in
+    record { inputs = getD shapes at 0; neurons = getD shapes (at + 1) 0; activation = a; start = at + 3 }
+
+-- numbers that are bytes
+abbrev pub ByteSized : List ℕ → Type 0
+ByteSized xs = (i : ℕ) → getD xs i 0 < 256
+
+unfoldable pub headerBytes : List ℕ → ℕ → List ℕ
+headerBytes shapes at = getD shapes at 0 ∷ getD shapes (at + 1) 0 ∷ getD shapes (at + 2) 0 ∷ []
+
+-- a layer's bytes, and those of three in a row
+unfoldable pub layerBytes : (shapes : List ℕ) → ℕ → (w r b : List ℕ) → List ℕ
+layerBytes shapes at w r b = headerBytes shapes at ++ (w ++ (r ++ b))
+
+unfoldable pub threeBytes : (shapes : List ℕ) → ℕ → (w0 r0 b0 w1 r1 b1 w2 r2 b2 : List ℕ) → List ℕ
+threeBytes shapes at w0 r0 b0 w1 r1 b1 w2 r2 b2 =
+    layerBytes shapes at w0 r0 b0 ++ (layerBytes shapes (at + 3) w1 r1 b1 ++ layerBytes shapes (at + 6) w2 r2 b2)
+
+-- some bytes written at a place of a buffer, and where they end
+unfoldable pub over : List ℕ → ℕ → List ℕ → List ℕ
+over out at bytes = take at out ++ (bytes ++ drop (at + length bytes) out)
+
+pub record Put (at : ℕ) (bytes out : List ℕ) (next : ℕ) (after : List ℕ) : Type 0 where
+  pub ends : next ≡ at + length bytes
+  pub left : after ≡ over out at bytes

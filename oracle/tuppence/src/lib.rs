@@ -67,10 +67,16 @@ surface! {
     tuppence_inverse as inverse(samples: &mut [f32], spectrum: &[f32]) -> u32;
 }
 
-// Six times inputs, neurons, activation, offset and length; a refusal r of layer l is r + 65,536 l.
+// Six times inputs, neurons, activation, offset and length; shapes are six times the first three. A refusal r of layer l
+// is r + 65,536 l.
 #[cfg(feature = "model")]
 surface! {
     tuppence_model as model(numbers: &mut [u32], model: &[u8]) -> u32;
+    tuppence_write_model as write_model(
+        out: &mut [u8], shapes: &[u32],
+        w0: &[u8], b0: &[u8], w1: &[u8], r1: &[u8], b1: &[u8], w2: &[u8], r2: &[u8], b2: &[u8],
+        w3: &[u8], r3: &[u8], b3: &[u8], w4: &[u8], b4: &[u8], w5: &[u8], b5: &[u8]
+    ) -> u32;
 }
 
 #[cfg(feature = "network")]

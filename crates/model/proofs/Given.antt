@@ -1,0 +1,125 @@
+-- The refusals of layers as they are given. Assumes nothing.
+--     bad-layer, first-differs ..     one layer's, by its tests
+--     stopped, on                     those of layers in a row, by the writer's loop
+use mathlib.Core.Path.{_≡_, refl, sym, _∙_}
+use mathlib.Core.Bool.{Bool, true, false, cond}
+use mathlib.Core.List.{List, [], _∷_, _++_}
+use Prim.Native.Nat.{ℕ, zero, suc, _+_, _*_, _≤_, _<_}
+use native.Mathlib.Numerals.{add-one}
+use native.Mathlib.Omega.{arith}
+use borrow.Author.Tests.{eq-eqb, ne-eqb}
+use lib.ListN.{length, getD, take, drop}
+use lib.Seq.{drop-cons, take-all, getD-drop}
+use Rattle.rules.specs.Refusals.{Row, _when_, refusing}
+use Rattle.rules.proofs.Refused.{Clear}
+use Rattle.rules.proofs.Rows.{along, Each}
+use Rattle.model.specs.declared.Kind.{Kind}
+use Rattle.model.specs.declared.Kind.the-variants.{Dense}
+use Rattle.model.specs.declared.Model.{Model}
+use Rattle.model.specs.declared.Reading.{Reading}
+use Rattle.model.specs.declared.Reading.the-variants.{Good, Refused}
+use Rattle.model.specs.Layer.{lengths, sum, headerFaults}
+use Rattle.model.specs.Model.{kinds, modelOf, mismatches, goodUnless}
+use Rattle.model.specs.Writer.{differ, layerFaults, inLayer, rowFaults, modelGiven}
+use Rattle.model.specs.Parts.{faultIn, headerGiven}
+use Rattle.model.proofs.Rows.{Some, by-fault, past, no-fault, fault-most, shifted, clear-shifted}
+use Rattle.model.proofs.Layer.{three}
+use Rattle.model.proofs.Places.{three-lengths}
+
+pub bad-layer : (k : Kind) (i n a : ℕ) (given : List ℕ) {r : ℕ} → r ≡ faultIn (headerFaults i n a) → Some r → r ≡ faultIn (layerFaults k i n a given)
+bad-layer k i n a given e some = sym (by-fault (λ r. r) 0 (headerFaults i n a) (16 when differ given (lengths k i n) ∷ []) e some)
+
+-- three lengths beside those that the counts give, where the header is good
+module _ (k : Kind) (i n a w r b : ℕ) (good : Clear (headerFaults i n a)) {x : List ℕ} (e : x ≡ lengths k i n) where
+  abbrev fault : ℕ
+  fault = faultIn (layerFaults k i n a (w ∷ r ∷ b ∷ []))
+
+  by : (t : Bool) → differ (w ∷ r ∷ b ∷ []) (getD x 0 0 ∷ getD x 1 0 ∷ getD x 2 0 ∷ []) ≡ t → cond t 16 0 ≡ fault
+  by t h =
+      let same : differ (w ∷ r ∷ b ∷ []) (lengths k i n) ≡ t = rw (three-lengths k i n 0) (rw e at h) in
+      rw (good .0, good .1 .0, good .1 .1 .0, good .1 .1 .1 .0, same)
+
+  pub first-differs : (w ≡ getD x 0 0 → ⊥) → 16 ≡ fault
+  first-differs h = by true (rw (ne-eqb w (getD x 0 0) h))
+
+  pub second-differs : w ≡ getD x 0 0 → (r ≡ getD x 1 0 → ⊥) → 16 ≡ fault
+  second-differs f h = by true (rw (eq-eqb w (getD x 0 0) f, ne-eqb r (getD x 1 0) h))
+
+  pub third-differs : w ≡ getD x 0 0 → r ≡ getD x 1 0 → (b ≡ getD x 2 0 → ⊥) → 16 ≡ fault
+  third-differs f g h = by true (rw (eq-eqb w (getD x 0 0) f, eq-eqb r (getD x 1 0) g, ne-eqb b (getD x 2 0) h))
+
+  pub none-differs : w ≡ getD x 0 0 → r ≡ getD x 1 0 → b ≡ getD x 2 0 → 0 ≡ fault
+  none-differs f g h = by false (rw (eq-eqb w (getD x 0 0) f, eq-eqb r (getD x 1 0) g, eq-eqb b (getD x 2 0) h))
+
+-- ---- the loop
+
+-- the refusals from layer j on
+abbrev pub rowsFrom : List ℕ → List ℕ → ℕ → List Row
+rowsFrom shapes given j = rowFaults j (drop j kinds) (drop (3 * j) shapes) (drop (3 * j) given)
+
+abbrev pub rowsAt : List ℕ → List ℕ → ℕ → List Row
+rowsAt shapes given j =
+    let at = 3 * j in
+    layerFaults (getD kinds j Dense) (getD shapes at 0) (getD shapes (at + 1) 0) (getD shapes (at + 2) 0)
+    (getD given at 0 ∷ getD given (at + 1) 0 ∷ getD given (at + 2) 0 ∷ [])
+
+module _ (shapes given : List ℕ) (eighteen : length shapes ≡ 18) (eighteen′ : length given ≡ 18) (j : ℕ) (below : j < 6) where
+  next : rowsFrom shapes given j ≡ inLayer j (rowsAt shapes given j) ++ rowsFrom shapes given (j + 1)
+  unfolding rowFaults
+  next =
+      let on : 3 * (j + 1) ≡ 3 * j + 3 = omega arith in
+      rw (on, add-one j, drop-cons kinds j Dense below, three shapes (3 * j) (omega arith), three given (3 * j) (omega arith))
+
+  pub stopped : {r : ℕ} → r ≡ faultIn (rowsAt shapes given j) → Some r → r + 65536 * j ≡ faultIn (rowsFrom shapes given j)
+  stopped {r} e some =
+      rw next
+      (sym (by-fault (λ r. r) 0 (inLayer j (rowsAt shapes given j)) (rowsFrom shapes given (j + 1)) (shifted j (rowsAt shapes given j) e some) (λ z. some (omega arith))))
+
+  pub on : {r : ℕ} → r ≡ faultIn (rowsAt shapes given j) → r ≡ 0 → faultIn (rowsFrom shapes given j) ≡ faultIn (rowsFrom shapes given (j + 1))
+  on e none =
+      let all : Each Some (rowsAt shapes given j) = ((λ e. omega arith), ((λ e. omega arith), ((λ e. omega arith), ((λ e. omega arith), ((λ e. omega arith), tt))))) in
+      rw next
+      (past (λ r. r) 0 (inLayer j (rowsAt shapes given j)) (rowsFrom shapes given (j + 1)) (clear-shifted j (rowsAt shapes given j) (no-fault (rowsAt shapes given j) all e none)))
+
+  pub fault-small : {r : ℕ} → r ≡ faultIn (rowsAt shapes given j) → r ≤ 16
+  fault-small e =
+      rw e (fault-most 16 (rowsAt shapes given j) (omega arith, (omega arith, (omega arith, (omega arith, (omega arith, tt))))))
+
+pub none-behind : (shapes given : List ℕ) → faultIn (rowsFrom shapes given 6) ≡ 0
+unfolding rowFaults
+none-behind shapes given = refl
+
+-- ---- the layers together
+
+pub six-headers : (s : List ℕ)
+    → modelOf (headerGiven s 0 ∷ headerGiven s 3 ∷ headerGiven s 6 ∷ headerGiven s 9 ∷ headerGiven s 12 ∷ headerGiven s 15 ∷ []) ≡ modelGiven s
+unfolding modelGiven
+six-headers s = simp getD-drop
+
+-- a reading's number with its layer
+abbrev codeOf : Reading → ℕ
+codeOf (Good m) = 0
+codeOf (Refused n j) = n + 65536 * j
+
+shifted-rows : (l : ℕ) (rows : List Row) → refusing rows (λ n. n + 65536 * l) 0 ≡ faultIn (inLayer l rows)
+shifted-rows l [] = refl
+shifted-rows l (n when true ∷ rows) = refl
+shifted-rows l (n when false ∷ rows) = shifted-rows l rows
+
+pub matched-number : (m : Model) {r : Reading} → r ≡ goodUnless (mismatches m 0) m → codeOf r ≡ faultIn (inLayer 6 (mismatches m 0))
+matched-number m e =
+    rw e (along codeOf (λ n. Refused n 6) (Good m) (λ n. n + 65536 * 6) 0 (mismatches m 0) (λ n. refl) (λ c. refl)) ∙ shifted-rows 6 (mismatches m 0)
+
+-- ---- the buffer
+
+pub sum-take : (ns : List ℕ) (i : ℕ) → sum (take (i + 1) ns) ≡ sum (take i ns) + getD ns i 0
+sum-take ns i = rw (add-one i) (of ns i)
+  where
+    of : (ns : List ℕ) (i : ℕ) → sum (take (suc i) ns) ≡ sum (take i ns) + getD ns i 0
+    of [] zero = refl
+    of [] (suc i) = refl
+    of (n ∷ ns) zero = omega arith
+    of (n ∷ ns) (suc i) = omega (arith, of ns i)
+
+pub all-passed : (ns : List ℕ) (i : ℕ) → 18 ≤ i → length ns ≡ 18 → sum (take i ns) ≡ sum ns
+all-passed ns i h e = rw (take-all i ns (omega arith))

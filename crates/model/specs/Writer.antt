@@ -1,0 +1,106 @@
+-- A model file written (request 01): six layers' counts, activations and arrays in, the file's bytes out.
+use Prim.Native.Nat.{ℕ, suc, _+_, _*_, _≤_}
+use mathlib.Core.Bool.{Bool, true, false, _||_}
+use mathlib.Core.List.{List, [], _∷_, _++_, map}
+use mathlib.Core.Path.{_≡_}
+use lib.Dec.{ltb}
+use lib.ListN.{length, getD, take, drop}
+use Rattle.rules.specs.Leaf.{_leaving_}
+use Rattle.rules.specs.Refusals.{Row, _when_, refusing}
+use Rattle.model.specs.Layer.{lengths, activationOf, activationNumber, Layer, joined, bytesOf, headerFaults}
+use Rattle.model.specs.Model.{_≠_, kinds, readLayers, headersAt, modelOf, mismatches, readOf}
+use Rattle.model.specs.declared.Kind.{Kind}
+use Rattle.model.specs.declared.Model.{Model}
+use Rattle.model.specs.declared.Reading.the-variants.{Good}
+
+-- the fifteen arrays, three to a layer: a dense layer has no recurrent weights
+abbrev pub arraysOf : (w0 b0 w1 r1 b1 w2 r2 b2 w3 r3 b3 w4 b4 w5 b5 : List ℕ) → List (List ℕ)
+arraysOf w0 b0 w1 r1 b1 w2 r2 b2 w3 r3 b3 w4 b4 w5 b5 =
+    w0 ∷ [] ∷ b0 ∷ w1 ∷ r1 ∷ b1 ∷ w2 ∷ r2 ∷ b2 ∷ w3 ∷ r3 ∷ b3 ∷ w4 ∷ [] ∷ b4 ∷ w5 ∷ [] ∷ b5 ∷ []
+
+-- layers as they are given, a layer for each kind: inputs, neurons and activation of each in a row, and the arrays of each
+abbrev pub layersGiven : List Kind → List ℕ → List (List ℕ) → List Layer
+layersGiven [] shapes arrays = []
+layersGiven (k ∷ ks) shapes arrays =
+    record { inputs = getD shapes 0 0; neurons = getD shapes 1 0; activation = activationOf (getD shapes 2 0); arrays = take 3 arrays }
+    ∷ layersGiven ks (drop 3 shapes) (drop 3 arrays)
+
+-- layers as they stand in a file
+abbrev pub fileOf : List Layer → List ℕ
+fileOf ls = joined (map bytesOf ls)
+
+-- ---- the refusals
+
+abbrev pub differ : List ℕ → List ℕ → Bool
+differ [] [] = false
+differ [] (n ∷ ns) = true
+differ (m ∷ ms) [] = true
+differ (m ∷ ms) (n ∷ ns) = (m ≠ n) || differ ms ns
+
+-- of a layer whose arrays have the lengths `given`
+abbrev pub layerFaults : Kind → ℕ → ℕ → ℕ → List ℕ → List Row
+layerFaults k i n a given = headerFaults i n a ++ 16 when differ given (lengths k i n) ∷ []
+
+-- refusal r of layer l is r + 65,536 l
+abbrev pub inLayer : ℕ → List Row → List Row
+inLayer l [] = []
+inLayer l (r when t ∷ rows) = (r + 65536 * l) when t ∷ inLayer l rows
+
+-- of layers in a row, the first of them layer j
+unfoldable pub rowFaults : ℕ → List Kind → List ℕ → List ℕ → List Row
+rowFaults j [] shapes given = []
+rowFaults j (k ∷ ks) shapes given =
+    inLayer j (layerFaults k (getD shapes 0 0) (getD shapes 1 0) (getD shapes 2 0) (take 3 given))
+    ++ rowFaults (suc j) ks (drop 3 shapes) (drop 3 given)
+
+-- the model of six layers' counts
+unfoldable pub modelGiven : List ℕ → Model
+modelGiven shapes = modelOf (headersAt 0 (layersGiven kinds shapes []))
+
+-- all of them in order: of each layer, of the layers together, and of a buffer that is shorter than the file
+unfoldable pub writerFaults : List ℕ → List ℕ → ℕ → ℕ → List Row
+writerFaults shapes given file buffer =
+    rowFaults 0 kinds shapes given ++ inLayer 6 (mismatches (modelGiven shapes) 0 ++ 24 when ltb buffer file ∷ [])
+
+-- ---- what is returned, and what the buffer then holds
+
+unfoldable pub writeModel : List ℕ → List (List ℕ) → List ℕ → ℕ × List ℕ
+writeModel shapes arrays out =
+    let file = fileOf (layersGiven kinds shapes arrays) in
+    refusing (5 when (length shapes ≠ 18) ∷ writerFaults shapes (map length arrays) (length file) (length out)) (λ n. n leaving out)
+    (0 leaving file ++ drop (length file) out)
+
+-- ---- what is claimed of it (proofs/Written)
+
+-- the layers that a file reads as; and the numbers and the arrays of layers, as they are given
+abbrev pub layersRead : List ℕ → List Layer
+layersRead s = readLayers 0 kinds s (λ n j. []) (λ ls rest. ls)
+
+abbrev pub shapesOf : List Layer → List ℕ
+shapesOf [] = []
+shapesOf (l ∷ ls) = l .inputs ∷ l .neurons ∷ activationNumber (l .activation) ∷ shapesOf ls
+
+abbrev pub arraysIn : List Layer → List (List ℕ)
+arraysIn [] = []
+arraysIn (l ∷ ls) = l .arrays ++ arraysIn ls
+
+-- what is written reads back as the same layers
+abbrev pub ReadsBack : Type 0
+ReadsBack =
+    (shapes : List ℕ) (arrays : List (List ℕ)) (out after : List ℕ) → (0 leaving after) ≡ writeModel shapes arrays out
+    → let ls = layersGiven kinds shapes arrays in
+    let file = take (length (fileOf ls)) after in
+    (readOf file ≡ Good (modelOf (headersAt 0 ls))) × (layersRead file ≡ ls)
+
+-- what reads is written back byte for byte
+abbrev pub WritesBack : Type 0
+WritesBack =
+    (s out : List ℕ) (m : Model) → Good m ≡ readOf s → length s ≤ length out
+    → let ls = layersRead s in (0 leaving s ++ drop (length s) out) ≡ writeModel (shapesOf ls) (arraysIn ls) out
+
+-- two models that differ in a count, an activation, a weight or a bias never share a file
+abbrev pub NoneShared : Type 0
+NoneShared =
+    (shapes shapes′ : List ℕ) (arrays arrays′ : List (List ℕ)) (out out′ after after′ : List ℕ) → length arrays ≡ 18 → length arrays′ ≡ 18
+    → (0 leaving after) ≡ writeModel shapes arrays out → (0 leaving after′) ≡ writeModel shapes′ arrays′ out′
+    → fileOf (layersGiven kinds shapes arrays) ≡ fileOf (layersGiven kinds shapes′ arrays′) → (shapes ≡ shapes′) × (arrays ≡ arrays′)
