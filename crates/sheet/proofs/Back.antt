@@ -1,7 +1,7 @@
 -- What reads is written: the bytes before it, and behind them what is written for the sheet that was read. Assumes nothing.
 use mathlib.Core.Path.{_≡_, refl, sym, ap, _∙_}
 use mathlib.Core.Bool.{Bool, true, false, not, cond, _&&_}
-use mathlib.Core.List.{List, [], _∷_, _++_, append-assoc, append-nil}
+use mathlib.Core.List.{List, [], _∷_, _++_}
 use Prim.Native.Nat.{ℕ, zero, suc, _+_, _*_, _-_, _%_, _≤_, _<_}
 use native.Mathlib.Nat.{add-zero}
 use native.Mathlib.Omega.{arith}
@@ -12,7 +12,7 @@ use lib.Seq.{take-all, getD-drop, drop-drop, take-add}
 use Rattle.rules.specs.Tab.{tab}
 use Rattle.rules.proofs.Refused.{Clear, by-rows}
 use Rattle.rules.proofs.Tabs.{tab-getD}
-use Rattle.sheet.specs.Sheet.{four, sum, Sheet, kind, recordOf, recordsOf, trailerOf, bytesOf}
+use Rattle.sheet.specs.Sheet.{four, sum, kind, recordOf, recordsOf, trailerOf, bytesOf}
 use Rattle.sheet.specs.End.{fromFour, zeros, good, run, entryOf, entriesOf, trailer, distance, number, sideByte, padded, sumNoted, start, records, faults, End, sheet, refused, endOf}
 use Rattle.sheet.specs.Written.{kinds}
 use Rattle.sheet.proofs.Digits.{Bytes, four-of, above, four-mod}

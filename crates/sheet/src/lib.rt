@@ -2,9 +2,9 @@
 // precedes the records is not read.
 ghost use mathlib.Core.Path.{_≡_};
 ghost use Prim.Native.Nat.{_+_, _*_, _/_, _%_, _≤_, _<_, _^_};
-ghost use lib.ListN.{length, drop, getD};
+ghost use lib.ListN.{length, drop};
 ghost use Rattle.rules.specs.Leaf.{_leaving_};
-ghost use Rattle.sheet.specs.Sheet.{kind, sum, recordOf, recordsOf, trailerOf, bytesOf, sizeOf};
+ghost use Rattle.sheet.specs.Sheet.{kind, sum, recordOf, recordsOf, trailerOf, sizeOf};
 ghost use Rattle.sheet.specs.End.{fromFour, zeros, good, run, entryOf, readOf};
 ghost use Rattle.sheet.specs.Asked.{summaryOf, entryAt};
 ghost use Rattle.sheet.specs.Written.{kinds, writtenOf};
