@@ -20,6 +20,8 @@ pub mod bands;
 pub mod desk;
 #[cfg(feature = "frame")]
 pub mod frame;
+#[cfg(feature = "sheet")]
+pub mod mend;
 #[cfg(feature = "model")]
 pub mod model;
 #[cfg(feature = "network")]
@@ -71,6 +73,8 @@ pub const GROUPS: &[Group] = &[
     ("model", model::compare),
     #[cfg(feature = "sheet")]
     ("sheet", sheet::compare),
+    #[cfg(feature = "sheet")]
+    ("mend", mend::compare),
     #[cfg(feature = "network")]
     ("network", network::compare),
     #[cfg(feature = "frame")]
