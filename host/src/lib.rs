@@ -4,6 +4,7 @@
 pub mod bench;
 pub mod clean;
 pub mod demo;
+pub mod mend;
 pub mod picture;
 pub mod recorder;
 pub mod reference;

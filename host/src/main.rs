@@ -16,6 +16,9 @@ host: cleans two dictations, one for each bench
   host side FILE..
       The side sheet behind each recording's audio: its side, how many frames it has
       and how many of them were heard, and where a frame is missing.
+  host mend FILE --out FILE2
+      A recording whose side sheet was torn: what follows the audio in whole records
+      is kept, and the sheet closed again. FILE2 must not exist.
   host bench
       Frames a second, where a frame's time goes, and the ratio to the Rust text.
   host --help
@@ -53,6 +56,9 @@ fn run(words: &[String]) -> Result<(), String> {
         [word, first, rest @ ..] if word == "side" => {
             let paths: Vec<PathBuf> = std::iter::once(first).chain(rest).map(PathBuf::from).collect();
             host::side::side(&paths)?;
+        }
+        [word, file, option, out] if word == "mend" && option == "--out" => {
+            host::mend::mend(file.as_ref(), out.as_ref())?;
         }
         [word, rest @ ..] if word == "clean" => {
             let job = job(rest).ok_or("clean: the options are not right; see host --help")?;

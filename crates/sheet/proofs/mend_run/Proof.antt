@@ -59,10 +59,10 @@ close-requires c κs =
     let k = c .before .before .before .before .before .before .before .before .before .before in
     let a = k .before .before .before .before .before in
     let s = now (a .args .file) in
-    let some = some-kept k (c .before .before .before .before .before .before .before .before .before .if1 .left) in (
+    let known = rw (getD-drop (a .args .at) s 5 0) at (kept-known (drop (a .args .at) s) (some-kept k (c .before .before .before .before .before .before .before .before .before .if1 .left))) in (
       part-size s (a .args .at) (a .pre .1) (kept-there k) (now (a .args .out)) (c .before .before .before .copy .ensures) (c .before .before .before .before .before .before .before .if3 .left),
       omega (arith, c .before .before .before .before .before .before .before .before .if2 .left),
-      rw (getD-drop (a .args .at) s 5 0) at (kept-known (drop (a .args .at) s) some),
+      omega (arith, known),
     )
 
 returns-4 : tie.Need-returns-4
