@@ -3,10 +3,9 @@ use mathlib.Core.Path.{_≡_, refl}
 use mathlib.Core.List.{List, [], _∷_, _++_, map}
 use Prim.Native.Nat.{ℕ}
 use lib.ListN.{take, drop, set, replicate}
-use Rattle.sheet.specs.Sheet.{Sheet, four, recordOf, trailerOf, bytesOf}
+use Rattle.sheet.specs.Sheet.{four, recordOf, trailerOf, bytesOf}
 use Rattle.sheet.specs.End.{fromFour, zeros, good, run, entryOf, entriesOf, distance, number, sideByte, padded, sumNoted, start, records, faults, endOf, readOf}
 use Rattle.sheet.specs.Mended.{kept, Mended, mended}
-use Rattle.sheet.specs.declared.Reading.{Reading}
 use Rattle.sheet.specs.declared.Reading.the-variants.{Good, Refused}
 
 -- two bytes of audio, and a sheet of the right side: frame 300 silent, frame 301 heard

@@ -1,16 +1,16 @@
 -- The run of good records that mending keeps. Assumes nothing.
 --     no-longer     no longer run of good records of one side stands in front
 --     ends-there    what stands behind it is no good record of its side
-use mathlib.Core.Path.{_≡_, refl, sym, ap, _∙_}
+use mathlib.Core.Path.{_≡_, refl, ap}
 use mathlib.Core.Bool.{Bool, true, false, cond}
-use mathlib.Core.List.{List, []}
+use mathlib.Core.List.{List}
 use Prim.Native.Nat.{ℕ, zero, suc, _+_, _*_, _/_, _≤_, _<_}
 use native.Mathlib.Omega.{arith}
 use borrow.Author.Tests.{lt-ltb, le-ltb, ltb-false}
 use lib.Dec.{ltb}
 use lib.ListN.{length, getD, take, drop}
 use lib.Seq.{drop-drop}
-use Rattle.sheet.specs.Sheet.{Sheet, recordsOf}
+use Rattle.sheet.specs.Sheet.{recordsOf}
 use Rattle.sheet.specs.End.{good, run, entriesOf}
 use Rattle.sheet.specs.Mended.{kept, torn}
 use Rattle.sheet.proofs.Digits.{Bytes}

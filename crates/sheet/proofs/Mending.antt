@@ -3,16 +3,16 @@
 --     mended-reads        what is written reads, with its records starting at the place and as many as are told
 use mathlib.Core.Path.{_≡_, refl, sym, ap, _∙_}
 use mathlib.Core.Bool.{Bool, true, false, not, cond, _&&_}
-use mathlib.Core.List.{List, [], _∷_, _++_, append-assoc}
-use Prim.Native.Nat.{ℕ, _+_, _*_, _-_, _≤_, _<_}
+use mathlib.Core.List.{List, _++_, append-assoc}
+use Prim.Native.Nat.{ℕ, _+_, _*_, _-_, _≤_}
 use native.Mathlib.Omega.{arith}
 use borrow.Author.Tests.{le-ltb, eq-eqb, ne-eqb, ltb-false, eqb-false}
 use lib.Dec.{eqb, ltb}
 use lib.ListN.{length, getD, take, drop, length-append, length-take, length-drop}
 use lib.Seq.{take-all, take-at, drop-at, drop-drop, take-take, take-add}
 use Rattle.rules.proofs.Refused.{Clear}
-use Rattle.sheet.specs.Sheet.{sum, Sheet, recordsOf, trailerOf, bytesOf}
-use Rattle.sheet.specs.End.{entriesOf, readOf}
+use Rattle.sheet.specs.Sheet.{sum, trailerOf, bytesOf}
+use Rattle.sheet.specs.End.{readOf}
 use Rattle.sheet.specs.Mended.{kept, torn, readsAt, recordsIn, Mended, mended, hindrances, mendOf}
 use Rattle.sheet.specs.Parts.{closed, copied, anew}
 use Rattle.sheet.specs.declared.Reading.the-variants.{Good, Refused}

@@ -1,7 +1,6 @@
-use mathlib.Core.Path.{_≡_, sym, _∙_}
+use mathlib.Core.Path.{sym, _∙_}
 use native.Mathlib.Omega.{arith}
 use borrow.Author.Needs.{needs}
-use denote.Ref.{now}
 use Rattle.sheet.proofs.Kept.{kept-short, kept-none, kept-run}
 use Rattle.sheet.proofs.kept_of.Statement.{statement}
 use Rattle.sheet.proofs.kept_of.Tie as tie

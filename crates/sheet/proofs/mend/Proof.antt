@@ -1,8 +1,5 @@
-use mathlib.Core.Path.{_≡_, refl, sym, ap, _∙_}
-use native.Mathlib.Omega.{arith}
+use mathlib.Core.Path.{sym, _∙_}
 use borrow.Author.Needs.{needs}
-use borrow.Author.Tests.{lt-ltb, le-ltb, eq-eqb, ne-eqb}
-use denote.Ref.{now}
 use Rattle.rules.proofs.Tests.{tests}
 use Rattle.sheet.specs.Mended.{mendOf}
 use Rattle.sheet.proofs.Mending.{by-copy, by-run-elsewhere, by-run-refused}
