@@ -22,6 +22,9 @@ host: cleans two dictations, one for each bench
       (input_dense.weights, input_dense.bias, vad_gru.recurrent ...).
   host unpack M.rnn --out FOLDER
       The other way.
+  host mend FILE --out FILE2
+      A recording whose side sheet was torn: what follows the audio in whole records
+      is kept, and the sheet closed again. FILE2 must not exist.
   host bench
       Frames a second, where a frame's time goes, and the ratio to the Rust text.
   host --help
@@ -68,6 +71,9 @@ fn run(words: &[String]) -> Result<(), String> {
             let paths = options(rest, &["--out"]).ok_or("unpack: the options are not right; see host --help")?;
             host::pack::unpack(model.as_ref(), &paths[0])?;
             println!("{}: sixteen files", paths[0].display());
+        }
+        [word, file, option, out] if word == "mend" && option == "--out" => {
+            host::mend::mend(file.as_ref(), out.as_ref())?;
         }
         [word, rest @ ..] if word == "clean" => {
             let job = job(rest).ok_or("clean: the options are not right; see host --help")?;

@@ -47,6 +47,8 @@ impl fmt::Display for Refusal {
             }
             8 => write!(f, "the model's GRU counts are not those of the opening (refusal 8)"),
             31..=35 => write!(f, "no side sheet: {} (refusal {number})", of_sheet(number)),
+            37 => write!(f, "the file ends within its audio (refusal 37)"),
+            38 => write!(f, "no whole record follows the audio (refusal 38)"),
             _ => write!(f, "the library refused a call with {number}"),
         }
     }

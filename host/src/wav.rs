@@ -48,18 +48,30 @@ fn u32_at(bytes: &[u8], at: usize) -> Option<u32> {
     Some(u32::from_le_bytes(bytes.get(at..at + 4)?.try_into().ok()?))
 }
 
-/// The part of a chunk with this name.
-fn chunk<'a>(bytes: &'a [u8], name: &[u8; 4]) -> Option<&'a [u8]> {
+/// Where a chunk with this name starts, and how many bytes it says it has.
+fn place(bytes: &[u8], name: &[u8; 4]) -> Option<(usize, usize)> {
     let mut at = 12;
     loop {
         let size = u32_at(bytes, at + 4)? as usize;
         if &bytes[at..at + 4] == name {
-            // A recorder that lost power leaves a size that is too large: what is there counts.
-            let end = (at + 8).saturating_add(size).min(bytes.len());
-            return Some(&bytes[at + 8..end]);
+            return Some((at + 8, size));
         }
         at = at.checked_add(8)?.checked_add(size)?.checked_add(size % 2)?;
     }
+}
+
+/// The part of a chunk with this name.
+fn chunk<'a>(bytes: &'a [u8], name: &[u8; 4]) -> Option<&'a [u8]> {
+    // A recorder that lost power leaves a size that is too large: what is there counts.
+    let (at, size) = place(bytes, name)?;
+    Some(&bytes[at..at.saturating_add(size).min(bytes.len())])
+}
+
+/// Where the audio ends, as the header says: behind the samples, and the byte that an odd number of them is filled up with.
+pub fn audio_end(bytes: &[u8]) -> Result<usize, Fault> {
+    read(bytes)?;
+    let (at, size) = place(bytes, b"data").ok_or(Fault::NotWav)?;
+    Ok(at.saturating_add(size).saturating_add(size % 2))
 }
 
 pub fn read(bytes: &[u8]) -> Result<Wav, Fault> {

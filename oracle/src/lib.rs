@@ -21,6 +21,8 @@ pub mod bands;
 pub mod desk;
 #[cfg(feature = "frame")]
 pub mod frame;
+#[cfg(feature = "sheet")]
+pub mod mend;
 #[cfg(feature = "model")]
 pub mod model;
 #[cfg(feature = "network")]
@@ -80,6 +82,8 @@ pub const GROUPS: &[Group] = &[
     ("sheet", sheet::compare),
     #[cfg(feature = "model")]
     ("writer", writer::compare),
+    #[cfg(feature = "sheet")]
+    ("mend", mend::compare),
     #[cfg(feature = "network")]
     ("network", network::compare),
     #[cfg(feature = "frame")]

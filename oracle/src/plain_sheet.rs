@@ -1,4 +1,4 @@
-//! Document 02, request 02, in plain Rust: a side sheet behind the audio, written and read.
+//! Document 02, requests 02 and 14, in plain Rust: a side sheet behind the audio, written, read and mended.
 
 /// Where the records of a good sheet start, how many there are, and the side.
 #[derive(Clone, Copy, Debug, PartialEq)]
@@ -82,4 +82,31 @@ pub fn trailer(out: &mut [u8], records: &[u8], side: u8) {
     out[4..8].copy_from_slice(&(records.len() as u32 / 8).to_le_bytes());
     out[8..12].copy_from_slice(&[side, 0, 0, 0]);
     out[12..16].copy_from_slice(&sum(records).to_le_bytes());
+}
+
+/// Document 02, request 14: the file with its sheet mended, and how many records that has. The audio ends at `place`.
+pub fn mend(file: &[u8], place: u64) -> Result<(Vec<u8>, usize), u32> {
+    if place > file.len() as u64 {
+        return Err(37);
+    }
+    let place = place as usize;
+    if let Ok(found) = read(file) {
+        if found.start == place {
+            return Ok((file.to_vec(), found.records));
+        }
+    }
+    let side = file.get(place + 5).copied().filter(|side| *side <= 1).ok_or(38u32)?;
+    let records = file[place..].chunks_exact(8).take_while(|record| good(record, side)).count();
+    if records == 0 {
+        return Err(38);
+    }
+    if records >= 536_870_912 {
+        return Err(32);
+    }
+    let end = place + 8 * records;
+    let mut mended = file[..end].to_vec();
+    mended.resize(end + 16, 0);
+    let (front, rest) = mended.split_at_mut(end);
+    trailer(rest, &front[place..], side);
+    Ok((mended, records))
 }

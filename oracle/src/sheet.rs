@@ -95,7 +95,7 @@ fn in_turn(t: &mut Tally, rng: &mut Rng, whole: &Whole) {
 }
 
 /// A whole or damaged file, or no such file at all.
-fn any_file(rng: &mut Rng) -> Vec<u8> {
+pub fn any_file(rng: &mut Rng) -> Vec<u8> {
     let records = if rng.once_in(200) { rng.below(5_000) } else { rng.below(12) };
     let (audio, side) = (rng.below(40), rng.below(2) as u32);
     let mut whole = any_whole(audio, records, side, rng);

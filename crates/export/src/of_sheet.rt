@@ -1,7 +1,8 @@
-// sheet: written, read, and asked for an entry. An entry is a frame's number, and 2^32 more where it was heard.
+// sheet: written, read, asked for an entry, and mended. An entry is a frame's number, and 2^32 more where it was heard.
 ghost use mathlib.Core.Path.{_≡_};
 ghost use Rattle.rules.specs.Leaf.{_leaving_};
 ghost use Rattle.sheet.specs.Asked.{summaryOf, entryAt};
+ghost use Rattle.sheet.specs.Mended.{mendOf};
 ghost use Rattle.sheet.specs.Written.{writtenOf};
 
 #[no_mangle]
@@ -25,4 +26,13 @@ pub extern "C" fn tuppence_sheet_entry(entry: &mut [u64], file: &[u8], index: u6
     ensures { λ r. ⌜ (r leaving now (entry .exit)) ≡ entryAt (now (file .entry)) index (now (entry .entry)) ⌝ }
 {
     sheet::entry(entry, file, index)
+}
+
+// numbers has two places: how many bytes are written, and how many records they have. The audio ends at place.
+#[no_mangle]
+pub extern "C" fn tuppence_mend(numbers: &mut [u64], out: &mut [u8], file: &[u8], place: u64) -> u32
+    ensures { λ r. ⌜ (r leaving now (numbers .exit) leaving now (out .exit))
+        ≡ mendOf (now (file .entry)) place (now (numbers .entry)) (now (out .entry)) ⌝ }
+{
+    sheet::mend(numbers, out, file, place)
 }

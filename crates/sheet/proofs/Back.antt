@@ -1,7 +1,7 @@
 -- What reads is written: the bytes before it, and behind them what is written for the sheet that was read. Assumes nothing.
 use mathlib.Core.Path.{_≡_, refl, sym, ap, _∙_}
 use mathlib.Core.Bool.{Bool, true, false, not, cond, _&&_}
-use mathlib.Core.List.{List, [], _∷_, _++_, append-assoc, append-nil}
+use mathlib.Core.List.{List, [], _∷_, _++_}
 use Prim.Native.Nat.{ℕ, zero, suc, _+_, _*_, _-_, _%_, _≤_, _<_}
 use native.Mathlib.Nat.{add-zero}
 use native.Mathlib.Omega.{arith}
@@ -12,7 +12,7 @@ use lib.Seq.{take-all, getD-drop, drop-drop, take-add}
 use Rattle.rules.specs.Tab.{tab}
 use Rattle.rules.proofs.Refused.{Clear, by-rows}
 use Rattle.rules.proofs.Tabs.{tab-getD}
-use Rattle.sheet.specs.Sheet.{four, sum, Sheet, kind, recordOf, recordsOf, trailerOf, bytesOf}
+use Rattle.sheet.specs.Sheet.{four, sum, kind, recordOf, recordsOf, trailerOf, bytesOf}
 use Rattle.sheet.specs.End.{fromFour, zeros, good, run, entryOf, entriesOf, trailer, distance, number, sideByte, padded, sumNoted, start, records, faults, End, sheet, refused, endOf}
 use Rattle.sheet.specs.Written.{kinds}
 use Rattle.sheet.proofs.Digits.{Bytes, four-of, above, four-mod}
@@ -20,7 +20,7 @@ use Rattle.sheet.proofs.Fields.{zeros-at}
 use Rattle.sheet.proofs.Halves.{neither, ends-at, low-side, behind, length-entries}
 use Rattle.sheet.proofs.Inverse.{Fits}
 
-drop-bytes : (k : ℕ) (s : List ℕ) → Bytes s → Bytes (drop k s)
+pub drop-bytes : (k : ℕ) (s : List ℕ) → Bytes s → Bytes (drop k s)
 drop-bytes k s b i = rw (getD-drop k s i 0) (b (k + i))
 
 both : (a b : Bool) → a && b ≡ true → (a ≡ true) × (b ≡ true)
@@ -49,22 +49,25 @@ from-small s b = omega (arith, b 0, b 1, b 2, b 3)
 
 -- ---- records
 
-module _ (side : ℕ) (s : List ℕ) (g : good side s ≡ true) (b : Bytes s) where
-  -- what the tests say of the last four bytes
-  tests : (getD s 4 0 ≤ 1) × (getD s 5 0 ≡ side) × (getD s 6 0 ≡ 0) × (getD s 7 0 ≡ 0)
-  unfolding good
-  tests =
-      let k = both (not (ltb 1 (getD s 4 0))) _ g in
-      let l = both (eqb (getD s 5 0) side) _ (k .1) in
-      let m = both (eqb (getD s 6 0) 0) _ (l .1) in
-      (ltb-false 1 (getD s 4 0) (not-true _ (k .0)), eqb-true (getD s 5 0) side (l .0), eqb-true (getD s 6 0) 0 (m .0), eqb-true (getD s 7 0) 0 (m .1))
+-- what the tests say of a good record's last four bytes
+tests : (side : ℕ) (s : List ℕ) → good side s ≡ true → (getD s 4 0 ≤ 1) × (getD s 5 0 ≡ side) × (getD s 6 0 ≡ 0) × (getD s 7 0 ≡ 0)
+unfolding good
+tests side s g =
+    let k = both (not (ltb 1 (getD s 4 0))) _ g in
+    let l = both (eqb (getD s 5 0) side) _ (k .1) in
+    let m = both (eqb (getD s 6 0) 0) _ (l .1) in
+    (ltb-false 1 (getD s 4 0) (not-true _ (k .0)), eqb-true (getD s 5 0) side (l .0), eqb-true (getD s 6 0) 0 (m .0), eqb-true (getD s 7 0) 0 (m .1))
 
+pub side-good : (side : ℕ) (s : List ℕ) → good side s ≡ true → getD s 5 0 ≡ side
+side-good side s g = tests side s g .1
+
+module _ (side : ℕ) (s : List ℕ) (g : good side s ≡ true) (b : Bytes s) where
   kind-of : kind (entryOf s) ≡ getD s 4 0
   unfolding entryOf fromFour
   kind-of = above (getD s 0 0) (getD s 1 0) (getD s 2 0) (getD s 3 0) (getD s 4 0) (b 0) (b 1) (b 2) (b 3)
 
   pub kind-back : kind (entryOf s) ≤ 1
-  kind-back = rw kind-of (tests .0)
+  kind-back = rw kind-of (tests side s g .0)
 
   first-of : four (entryOf s) ≡ getD s 0 0 ∷ getD s 1 0 ∷ getD s 2 0 ∷ getD s 3 0 ∷ []
   unfolding entryOf fromFour
@@ -72,9 +75,9 @@ module _ (side : ℕ) (s : List ℕ) (g : good side s ≡ true) (b : Bytes s) wh
 
   pub record-back : 8 ≤ length s → recordOf side (entryOf s) ≡ take 8 s
   unfolding recordOf
-  record-back h = rw (first-eight s h, first-of, kind-of, tests .1, tests .2, tests .3)
+  record-back h = rw (first-eight s h, first-of, kind-of, tests side s g .1, tests side s g .2, tests side s g .3)
 
-run-good : (side n : ℕ) (s : List ℕ) → run side (suc n) s ≡ suc n → (good side s ≡ true) × (run side n (drop 8 s) ≡ n)
+pub run-good : (side n : ℕ) (s : List ℕ) → run side (suc n) s ≡ suc n → (good side s ≡ true) × (run side n (drop 8 s) ≡ n)
 unfolding run
 run-good side n s r = of (good side s) refl r
   where

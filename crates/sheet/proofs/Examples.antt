@@ -1,11 +1,11 @@
--- Files read by the definition, as one computed list. Assumes nothing.
+-- Files read and mended by the definitions, as two computed lists. Assumes nothing.
 use mathlib.Core.Path.{_≡_, refl}
 use mathlib.Core.List.{List, [], _∷_, _++_, map}
 use Prim.Native.Nat.{ℕ}
-use lib.ListN.{drop, set, replicate}
-use Rattle.sheet.specs.Sheet.{Sheet, four, recordOf, trailerOf, bytesOf}
+use lib.ListN.{take, drop, set, replicate}
+use Rattle.sheet.specs.Sheet.{four, recordOf, trailerOf, bytesOf}
 use Rattle.sheet.specs.End.{fromFour, zeros, good, run, entryOf, entriesOf, distance, number, sideByte, padded, sumNoted, start, records, faults, endOf, readOf}
-use Rattle.sheet.specs.declared.Reading.{Reading}
+use Rattle.sheet.specs.Mended.{kept, Mended, mended}
 use Rattle.sheet.specs.declared.Reading.the-variants.{Good, Refused}
 
 -- two bytes of audio, and a sheet of the right side: frame 300 silent, frame 301 heard
@@ -27,3 +27,19 @@ examples : map readOf ([] ∷ replicate 16 0 ∷ recording ∷ drop 2 recording 
     ≡ Refused 31 ∷ Good 0 0 0 ∷ Good 2 2 1 ∷ Good 0 2 1 ∷ Refused 32 ∷ Refused 32 ∷ Refused 34 ∷ Refused 33 ∷ Refused 34 ∷ Refused 35 ∷ Good 2 2 1 ∷ []
 unfolding recordOf trailerOf four readOf endOf faults distance number sideByte padded zeros sumNoted start records fromFour run good entriesOf entryOf
 examples = refl
+
+-- what mending gives of a file and a place: how many records, and the file
+abbrev shown : Mended → ℕ × List ℕ
+shown m = (m .records, m .bytes)
+
+-- the recording without its trailer's last byte, cut within its second record, and with a second record of the left side; whole, but asked at another place; and the known
+-- limit: the first half of the trailer of a sheet without records looks like a silent frame 0 of the left side
+mendings : map shown (mended (take 33 recording) 2 ∷ mended (take 17 recording) 2 ∷ mended (set recording 15 0) 2 ∷ mended recording 10 ∷ mended (replicate 8 0) 0 ∷ [])
+    ≡ (2, recording)
+    ∷ (1, take 10 recording ++ 8 ∷ 0 ∷ 0 ∷ 0 ∷ 1 ∷ 0 ∷ 0 ∷ 0 ∷ 1 ∷ 0 ∷ 0 ∷ 0 ∷ 46 ∷ 0 ∷ 0 ∷ 0 ∷ [])
+    ∷ (1, take 10 recording ++ 8 ∷ 0 ∷ 0 ∷ 0 ∷ 1 ∷ 0 ∷ 0 ∷ 0 ∷ 1 ∷ 0 ∷ 0 ∷ 0 ∷ 46 ∷ 0 ∷ 0 ∷ 0 ∷ [])
+    ∷ (1, take 18 recording ++ 8 ∷ 0 ∷ 0 ∷ 0 ∷ 1 ∷ 0 ∷ 0 ∷ 0 ∷ 1 ∷ 0 ∷ 0 ∷ 0 ∷ 48 ∷ 0 ∷ 0 ∷ 0 ∷ [])
+    ∷ (1, replicate 8 0 ++ 8 ∷ 0 ∷ 0 ∷ 0 ∷ 1 ∷ 0 ∷ 0 ∷ 0 ∷ 0 ∷ 0 ∷ 0 ∷ 0 ∷ 0 ∷ 0 ∷ 0 ∷ 0 ∷ [])
+    ∷ []
+unfolding recordOf trailerOf four readOf endOf faults distance number sideByte padded zeros sumNoted start records fromFour run good entriesOf entryOf kept mended
+mendings = refl

@@ -1,22 +1,20 @@
 -- How the reader's two halves come together: refusals 31 to 33, and 34 and 35. Assumes nothing.
 use mathlib.Core.Path.{_≡_, refl, sym, ap, _∙_}
-use mathlib.Core.Bool.{Bool, true, false, not, _||_}
+use mathlib.Core.Bool.{Bool, true, false, _||_}
 use mathlib.Core.List.{List, [], _∷_, _++_}
 use Prim.Native.Nat.{ℕ, zero, suc, _+_, _*_, _-_, _%_, _≤_, _<_, _^_}
-use native.Mathlib.Nat.{add-zero}
 use native.Mathlib.Omega.{arith}
 use borrow.Author.Tests.{lt-ltb, le-ltb, eq-eqb, ne-eqb, le-leb, lt-leb, ltb-false, eqb-true, not-false}
-use lib.Dec.{eqb, ltb}
 use lib.ListN.{length, getD, take, drop, length-take, length-drop}
 use lib.Seq.{take-all, getD-drop, drop-drop}
 use Rattle.rules.specs.Leaf.{_leaving_}
 use Rattle.rules.specs.Refusals.{Row, _when_, refusing}
 use Rattle.rules.proofs.Refused.{Clear, by-rows}
 use Rattle.rules.proofs.Rows.{along}
-use Rattle.sheet.specs.Sheet.{sum, Sheet}
-use Rattle.sheet.specs.End.{fromFour, run, entryOf, entriesOf, trailer, distance, number, sideByte, padded, zeros, sumNoted, start, records, faults, End, sheet, refused, endOf, readingOf, readOf}
+use Rattle.sheet.specs.Sheet.{sum}
+use Rattle.sheet.specs.End.{fromFour, run, entryOf, entriesOf, distance, number, sideByte, padded, zeros, sumNoted, start, records, faults, End, sheet, refused, endOf, readingOf, readOf}
 use Rattle.sheet.specs.Asked.{entryIn}
-use Rattle.sheet.specs.Parts.{pointed, Few, Pointed, checked}
+use Rattle.sheet.specs.Parts.{pointed, Pointed, checked}
 use Rattle.sheet.specs.declared.Reading.{Reading}
 use Rattle.sheet.specs.declared.Reading.the-variants.{Good, Refused}
 

@@ -1,21 +1,19 @@
 -- What is written reads: a sheet that fits, behind any bytes, reads as it was given and starts where they end. Assumes nothing.
 use mathlib.Core.Path.{_≡_, refl, sym, ap, _∙_}
-use mathlib.Core.Bool.{Bool, true, false, not, _&&_}
-use mathlib.Core.List.{List, [], _∷_, _++_, append-assoc, append-nil}
-use Prim.Native.Nat.{ℕ, zero, suc, _+_, _*_, _-_, _/_, _%_, _≤_, _<_}
+use mathlib.Core.Bool.{true}
+use mathlib.Core.List.{List, [], _∷_, _++_, append-assoc}
+use Prim.Native.Nat.{ℕ, suc, _+_, _*_, _-_, _%_, _≤_}
 use native.Mathlib.Omega.{arith}
-use borrow.Author.Tests.{le-ltb, eq-eqb, ltb-false, eqb-true, not-false}
-use lib.Dec.{eqb, ltb}
-use lib.ListN.{length, getD, take, drop, length-append, length-take, length-drop, take-append-drop, drop-of-length-le}
-use lib.Seq.{take-at, drop-at, take-append-seam, drop-append-seam, getD-drop, drop-drop, take-add}
-use Rattle.rules.proofs.Refused.{Clear, clear, by-rows}
+use borrow.Author.Tests.{le-ltb, eq-eqb, ltb-false, not-false}
+use lib.ListN.{length, getD, take, drop, length-append}
+use lib.Seq.{take-at, drop-at, take-append-seam, drop-append-seam}
+use Rattle.rules.proofs.Refused.{Clear, clear}
 use Rattle.sheet.specs.Sheet.{four, sum, Sheet, kind, recordOf, recordsOf, trailerOf, bytesOf}
-use Rattle.sheet.specs.End.{fromFour, zeros, good, run, entryOf, entriesOf, trailer, distance, number, sideByte, padded, sumNoted, start, records, faults, End, sheet, refused, endOf, readOf}
+use Rattle.sheet.specs.End.{fromFour, zeros, good, run, entryOf, entriesOf, trailer, distance, number, sideByte, padded, sumNoted, start, records, faults, sheet, refused, endOf, readingOf, readOf}
 use Rattle.sheet.specs.Written.{kinds, obstacles}
 use Rattle.sheet.specs.declared.Reading.the-variants.{Good}
-use Rattle.sheet.proofs.Digits.{digits, four-read, Bytes, four-of, above, four-mod}
+use Rattle.sheet.proofs.Digits.{digits, four-read}
 use Rattle.sheet.proofs.Runs.{first-heard}
-use Rattle.sheet.proofs.Halves.{neither, ends-at, low-side, length-entries}
 use Rattle.sheet.proofs.Laying.{length-trailer, length-records}
 
 -- a sheet that a file can hold
@@ -175,3 +173,8 @@ module _ (before : List ℕ) (sh : Sheet) (fits : Fits sh) where
   pub reads-back : endOf (before ++ bytesOf sh) ≡ sheet before sh
   unfolding whole r t
   reads-back = whole-reads
+
+  -- and so the reader tells
+  pub read-back : readOf (before ++ bytesOf sh) ≡ Good (length before) (length (sh .entries)) (sh .side)
+  unfolding readOf
+  read-back = ap readingOf reads-back

@@ -5,4 +5,6 @@ pub mod Halves
 pub mod Laying
 pub mod Inverse
 pub mod Back
+pub mod Kept
+pub mod Mending
 pub mod Examples

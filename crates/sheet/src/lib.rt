@@ -2,13 +2,14 @@
 // precedes the records is not read.
 ghost use mathlib.Core.Path.{_≡_};
 ghost use Prim.Native.Nat.{_+_, _*_, _/_, _%_, _≤_, _<_, _^_};
-ghost use lib.ListN.{length, drop, getD};
+ghost use lib.ListN.{length, drop};
 ghost use Rattle.rules.specs.Leaf.{_leaving_};
-ghost use Rattle.sheet.specs.Sheet.{kind, sum, recordOf, recordsOf, trailerOf, bytesOf, sizeOf};
+ghost use Rattle.sheet.specs.Sheet.{kind, sum, recordOf, recordsOf, trailerOf, sizeOf};
 ghost use Rattle.sheet.specs.End.{fromFour, zeros, good, run, entryOf, readOf};
 ghost use Rattle.sheet.specs.Asked.{summaryOf, entryAt};
 ghost use Rattle.sheet.specs.Written.{kinds, writtenOf};
-ghost use Rattle.sheet.specs.Parts.{pointed, Few, Pointed, checked, Kinds, closed};
+ghost use Rattle.sheet.specs.Mended.{kept, mendOf};
+ghost use Rattle.sheet.specs.Parts.{pointed, Few, Pointed, checked, Kinds, closed, copied, anew};
 
 // A good sheet: where its records start, how many there are, and the side. Or the number of a refusal.
 pub enum Reading {
@@ -320,4 +321,89 @@ pub fn write(out: &mut [u8], side: u32, entries: &[u64]) -> u32
     write_records(&mut out[..end], side, entries);
     close(&mut out[..size], records, side);
     0
+}
+
+// How many whole good records stand in front, all of the first one's side.
+fn kept_of(bytes: &[u8]) -> usize
+    ensures { λ r. ⌜ r ≡ kept (now (bytes .entry)) ⌝ }
+{
+    if bytes.len() < 8 {
+        return 0;
+    }
+    let side = bytes[5] as u32;
+    if 1 < side {
+        return 0;
+    }
+    run_of(bytes, bytes.len() / 8, side)
+}
+
+// A file as it is, with so many records.
+fn copy_whole(numbers: &mut [u64], out: &mut [u8], file: &[u8], records: usize) -> u32
+    requires { ⌜ length (now numbers) ≡ 2 ⌝ }
+    ensures { λ r. ⌜ (r leaving now (numbers .exit) leaving now (out .exit))
+        ≡ copied (now (file .entry)) records (now (numbers .entry)) (now (out .entry)) ⌝ }
+{
+    let size = file.len();
+    if out.len() < size {
+        return 36;
+    }
+    copy(&mut out[..size], file);
+    numbers[0] = size as u64;
+    numbers[1] = records as u64;
+    0
+}
+
+// A file's front up to a place, the good records behind it, and a trailer.
+fn mend_run(numbers: &mut [u64], out: &mut [u8], file: &[u8], at: usize) -> u32
+    requires { ⌜ (length (now numbers) ≡ 2) × (at ≤ length (now file)) ⌝ }
+    ensures { λ r. ⌜ (r leaving now (numbers .exit) leaving now (out .exit))
+        ≡ anew (now (file .entry)) at (now (numbers .entry)) (now (out .entry)) ⌝ }
+{
+    let records = kept_of(&file[at..]);
+    if records == 0 {
+        return 38;
+    }
+    if 536870911 < records {
+        return 32;
+    }
+    let end = at + 8 * records;
+    let size = end + 16;
+    if out.len() < size {
+        return 36;
+    }
+    let side = file[at + 5] as u32;
+    copy(&mut out[..end], &file[..end]);
+    close(&mut out[at..size], records, side);
+    numbers[0] = size as u64;
+    numbers[1] = records as u64;
+    0
+}
+
+// For a host: a torn sheet mended. The audio ends at a place; whole good records of one side from there on are kept, and
+// get a fresh trailer. A file that reads with its records starting there is copied. The numbers are how many bytes were
+// written, and how many records they have.
+pub fn mend(numbers: &mut [u64], out: &mut [u8], file: &[u8], place: u64) -> u32
+    ensures { λ r. ⌜ (r leaving now (numbers .exit) leaving now (out .exit))
+        ≡ mendOf (now (file .entry)) place (now (numbers .entry)) (now (out .entry)) ⌝ }
+{
+    if numbers.len() != 2 {
+        return 5;
+    }
+    if (file.len() as u64) < place {
+        return 37;
+    }
+    let at = place as usize;
+    match read(file) {
+        Reading::Good {
+            start,
+            records,
+            side: _,
+        } => {
+            if start == at {
+                return copy_whole(numbers, out, file, records);
+            }
+            mend_run(numbers, out, file, at)
+        }
+        Reading::Refused(_) => mend_run(numbers, out, file, at),
+    }
 }

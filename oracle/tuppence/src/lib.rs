@@ -105,10 +105,12 @@ surface! {
     tuppence_call4 as call4(record: &mut [u32], store: &mut [f32], side: u32, inverse: &[f32], out: &mut [f32]) -> u32;
 }
 
-// Start, number of records and side of a good sheet; an entry is its frame's number, and 2^32 more where it was heard.
+// Start, number of records and side of a good sheet; an entry is its frame's number, and 2^32 more where it was heard;
+// of a mended file, how many bytes and records it has.
 #[cfg(feature = "sheet")]
 surface! {
     tuppence_sheet_write as sheet_write(out: &mut [u8], side: u32, entries: &[u64]) -> u32;
     tuppence_sheet_read as sheet_read(numbers: &mut [u64], file: &[u8]) -> u32;
     tuppence_sheet_entry as sheet_entry(entry: &mut [u64], file: &[u8], index: u64) -> u32;
+    tuppence_mend as mend(numbers: &mut [u64], out: &mut [u8], file: &[u8], place: u64) -> u32;
 }

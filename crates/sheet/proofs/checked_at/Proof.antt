@@ -1,4 +1,3 @@
-use mathlib.Core.Path.{_≡_, sym, _∙_}
 use borrow.Author.Needs.{needs}
 use denote.Ref.{now}
 use Rattle.sheet.proofs.Halves.{at-34, at-35, at-all}

@@ -1,8 +1,6 @@
-use mathlib.Core.Path.{sym, _∙_}
 use Prim.Native.Nat.{_+_}
 use native.Mathlib.Omega.{arith}
 use borrow.Author.Needs.{needs}
-use denote.Ref.{now}
 use Rattle.sheet.proofs.Fields.{entry-at}
 use Rattle.sheet.proofs.entry_of.Statement.{statement}
 use Rattle.sheet.proofs.entry_of.Tie as tie

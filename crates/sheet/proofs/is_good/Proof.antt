@@ -1,7 +1,6 @@
 use borrow.Author.Needs.{needs}
 use native.Mathlib.Omega.{arith}
 use Prim.Native.Nat.{_+_}
-use denote.Ref.{now}
 use Rattle.rules.proofs.Tests.{tests}
 use Rattle.sheet.proofs.Fields.{good-at}
 use Rattle.sheet.proofs.is_good.Statement.{statement}

@@ -2,7 +2,6 @@ use mathlib.Core.Path.{_≡_, refl, sym, ap, _∙_}
 use Prim.Native.Nat.{_≤_, _-_}
 use native.Mathlib.Omega.{arith}
 use borrow.Author.Needs.{needs}
-use denote.Ref.{now}
 use lib.ListN.{length, drop, drop-of-length-le}
 use Rattle.sheet.specs.Written.{kinds}
 use Rattle.sheet.proofs.Runs.{kinds-none, kinds-more, kinds-stop}

@@ -1,4 +1,3 @@
-use mathlib.Core.Path.{_≡_}
 use borrow.Author.Needs.{needs}
 use Rattle.sheet.specs.Sheet.{four, trailerOf}
 use Rattle.sheet.proofs.trailer_of.Statement.{statement}

@@ -1,14 +1,14 @@
-use mathlib.Core.Path.{_≡_, refl, sym, ap, _∙_}
+use mathlib.Core.Path.{sym, _∙_}
 use native.Mathlib.Omega.{arith}
 use borrow.Author.Needs.{needs}
 use borrow.Author.Tests.{lt-ltb, le-ltb, not-true, not-false}
 use denote.Ref.{now}
-use lib.ListN.{length, length-append, length-take, length-drop}
+use lib.ListN.{length-take}
 use Rattle.rules.proofs.Leaves.{leaves}
 use Rattle.rules.proofs.Tests.{tests}
 use Rattle.sheet.specs.Written.{writtenOf}
 use Rattle.sheet.proofs.Runs.{all-heard}
-use Rattle.sheet.proofs.Laying.{length-records, front-size, close-all}
+use Rattle.sheet.proofs.Laying.{front-size, close-all}
 use Rattle.sheet.proofs.write.Statement.{statement}
 use Rattle.sheet.proofs.write.Tie as tie
 

@@ -1,0 +1,57 @@
+-- Mending a torn sheet (document 02, request 14), given the file and where its audio ends: what is written, and how many records it has.
+use Prim.Native.Nat.{ℕ, _/_}
+use mathlib.Core.Bool.{Bool, false, not, cond, _&&_}
+use mathlib.Core.List.{List, [], _∷_, _++_}
+use lib.Dec.{eqb, ltb}
+use lib.ListN.{length, getD, take, drop}
+use Rattle.rules.specs.Leaf.{_leaving_}
+use Rattle.rules.specs.Refusals.{Row, _when_, refusing}
+use Rattle.sheet.specs.Sheet.{Sheet, bytesOf}
+use Rattle.sheet.specs.End.{run, entriesOf, readOf}
+use Rattle.sheet.specs.declared.Reading.{Reading}
+use Rattle.sheet.specs.declared.Reading.the-variants.{Good, Refused}
+
+-- of the bytes behind the audio: how many whole good records stand in front, all of the first one's side
+unfoldable pub kept : List ℕ → ℕ
+kept s = let side = getD s 5 0 in cond (ltb 1 side) 0 (run side (length s / 8) s)
+
+abbrev pub torn : List ℕ → Sheet
+torn s = record { side = getD s 5 0; entries = entriesOf (kept s) s }
+
+-- a file that reads with its records starting at this place
+abbrev pub readsAt : ℕ → Reading → Bool
+readsAt place (Good start n side) = eqb start place
+readsAt place (Refused n) = false
+
+abbrev pub recordsIn : Reading → ℕ
+recordsIn (Good start n side) = n
+recordsIn (Refused n) = 0
+
+pub record Mended : Type 0 where
+  pub bytes : List ℕ
+  pub records : ℕ
+
+-- the file as it is where it so reads, else its audio and the sheet of what is kept
+unfoldable pub mended : List ℕ → ℕ → Mended
+mended s place =
+    let rest = drop place s in
+    cond (readsAt place (readOf s)) (record { bytes = s; records = recordsIn (readOf s) }) (record { bytes = take place s ++ bytesOf (torn rest); records = kept rest })
+
+-- the refusals, in order
+abbrev pub hindrances : List ℕ → ℕ → List ℕ → List ℕ → List Row
+hindrances s place numbers out =
+    let anew = not (readsAt place (readOf s)) in
+    let n = kept (drop place s) in
+    5 when not (eqb (length numbers) 2)
+    ∷ 37 when ltb (length s) place
+    ∷ 38 when (anew && eqb n 0)
+    ∷ 32 when (anew && ltb 536870911 n)
+    ∷ 36 when ltb (length out) (length (mended s place .bytes))
+    ∷ []
+
+-- what is returned, and what the numbers and the buffer then hold
+unfoldable pub mendOf : List ℕ → ℕ → List ℕ → List ℕ → ℕ × (List ℕ × List ℕ)
+mendOf s place numbers out =
+    let m = mended s place in
+    refusing (hindrances s place numbers out) (λ r. r leaving numbers leaving out)
+    (0 leaving length (m .bytes) ∷ m .records ∷ [] leaving m .bytes ++ drop (length (m .bytes)) out)

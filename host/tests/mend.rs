@@ -1,0 +1,86 @@
+//! `host mend`: what is kept and what is lost, and that the file that is read stays as it is.
+
+use host::wav;
+use std::fs;
+use std::path::{Path, PathBuf};
+use std::process::{Command, Output};
+
+const HEARD: u64 = 1 << 32;
+
+/// A short recording with a sheet, and where its audio ends.
+fn recording(side: u32, entries: &[u64]) -> (Vec<u8>, usize) {
+    let mut file = wav::write(48_000, &[100.0; 960]);
+    let audio = file.len();
+    file.resize(audio + 8 * entries.len() + 16, 0);
+    assert_eq!(tuppence::sheet_write(&mut file[audio..], side, entries), 0);
+    (file, audio)
+}
+
+fn folder(name: &str) -> PathBuf {
+    let path = Path::new(env!("CARGO_TARGET_TMPDIR")).join(name);
+    let _ = fs::remove_dir_all(&path);
+    fs::create_dir_all(&path).unwrap();
+    path
+}
+
+fn mend(path: &Path, words: &[&str]) -> (Output, String, String) {
+    let output = Command::new(env!("CARGO_BIN_EXE_host")).arg("mend").args(words).current_dir(path).output().unwrap();
+    let text = |bytes: &[u8]| String::from_utf8(bytes.to_vec()).unwrap();
+    let (said, why) = (text(&output.stdout), text(&output.stderr));
+    (output, said, why)
+}
+
+#[test]
+fn a_torn_sheet() {
+    let path = folder("torn");
+    let (file, audio) = recording(1, &[4, 5 + HEARD, 6]);
+    fs::write(path.join("torn.wav"), &file[..audio + 21]).unwrap();
+    let (output, said, why) = mend(&path, &["torn.wav", "--out", "mended.wav"]);
+    assert!(output.status.success(), "{why}");
+    assert_eq!(
+        said,
+        "mended.wav: right side, 2 frames, 1 heard, no gap\nKept 2 frames, and lost the 5 bytes behind them.\n"
+    );
+    assert_eq!(fs::read(path.join("mended.wav")).unwrap(), recording(1, &[4, 5 + HEARD]).0);
+    assert_eq!(fs::read(path.join("torn.wav")).unwrap(), &file[..audio + 21]);
+}
+
+#[test]
+fn a_whole_file_is_copied() {
+    let path = folder("whole");
+    let (file, _) = recording(0, &[]);
+    fs::write(path.join("whole.wav"), &file).unwrap();
+    let (output, said, why) = mend(&path, &["whole.wav", "--out", "copy.wav"]);
+    assert!(output.status.success(), "{why}");
+    assert!(said.contains("copied as it was"), "{said}");
+    assert_eq!(fs::read(path.join("copy.wav")).unwrap(), file);
+}
+
+#[test]
+fn nothing_to_keep() {
+    let path = folder("nothing");
+    let (file, audio) = recording(0, &[1]);
+    fs::write(path.join("cut.wav"), &file[..audio + 7]).unwrap();
+    let (output, _, why) = mend(&path, &["cut.wav", "--out", "mended.wav"]);
+    assert_eq!(output.status.code(), Some(2));
+    assert!(why.contains("no whole record follows the audio (refusal 38)"), "{why}");
+    fs::write(path.join("short.wav"), &file[..audio - 1]).unwrap();
+    let (output, _, why) = mend(&path, &["short.wav", "--out", "mended.wav"]);
+    assert_eq!(output.status.code(), Some(2));
+    assert!(why.contains("the file ends within its audio (refusal 37)"), "{why}");
+    assert!(!path.join("mended.wav").exists());
+}
+
+#[test]
+fn the_file_itself_is_not_written() {
+    let path = folder("itself");
+    let (file, audio) = recording(0, &[1, 2]);
+    fs::write(path.join("torn.wav"), &file[..audio + 8]).unwrap();
+    fs::hard_link(path.join("torn.wav"), path.join("linked.wav")).unwrap();
+    for out in ["./torn.wav", "linked.wav"] {
+        let (output, _, why) = mend(&path, &["torn.wav", "--out", out]);
+        assert_eq!(output.status.code(), Some(2));
+        assert!(why.contains("exists"), "{why}");
+    }
+    assert_eq!(fs::read(path.join("torn.wav")).unwrap(), &file[..audio + 8]);
+}
