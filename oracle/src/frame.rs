@@ -55,8 +55,8 @@ pub fn compare_with(options: &Options, desk: &Surface) -> Tally {
         };
         tally.judge("frame", given, &left, &right);
         callers[side].answered(&ask, want, &wanted);
-        if !matches!(damage, Damage::None) {
-            shadows.iter_mut().for_each(Shadow::touched);
+        if let Some(touched) = damage.befalls(side) {
+            shadows[touched].touched();
         }
         if want == 0 {
             let [was, is] = [&before, &rusts].map(|w| (&w.store[side * SHARE..][..SHARE], w.records[side][INDEX]));
@@ -114,6 +114,15 @@ impl Damage {
             36 => Damage::Store(share + LAG, vec![rng.float()]),
             37 => Damage::Store(rng.below(STORE), vec![rng.of(mood)]),
             _ => Damage::None,
+        }
+    }
+
+    /// Whose share or record it is, if anyone's. (A store of another length is refused, and mended.)
+    fn befalls(&self, side: usize) -> Option<usize> {
+        match self {
+            Damage::None => None,
+            Damage::Store(at, _) => Some(at / SHARE),
+            _ => Some(side),
         }
     }
 
