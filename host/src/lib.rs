@@ -8,7 +8,6 @@ pub mod demo;
 pub mod folder;
 pub mod mend;
 pub mod pack;
-pub mod lags;
 pub mod picture;
 pub mod recorder;
 pub mod reference;

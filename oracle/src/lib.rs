@@ -23,8 +23,6 @@ pub mod desk;
 pub mod frame;
 #[cfg(feature = "sheet")]
 pub mod mend;
-#[cfg(feature = "lag")]
-pub mod lag;
 #[cfg(feature = "model")]
 pub mod model;
 #[cfg(feature = "network")]
@@ -76,8 +74,6 @@ pub const GROUPS: &[Group] = &[
     ("bands", bands::compare),
     #[cfg(feature = "pitch")]
     ("pitch", pitch::compare),
-    #[cfg(feature = "lag")]
-    ("lag", lag::compare),
     #[cfg(feature = "transforms")]
     ("transforms", transforms::compare),
     #[cfg(feature = "model")]

@@ -1,4 +1,3 @@
-pub mod OfLag
 pub mod OfNetwork
 pub mod OfNumbers
 pub mod OfPitch
