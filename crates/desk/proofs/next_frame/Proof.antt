@@ -7,4 +7,15 @@ pub next-frame-spec : {M : Type 1} → statement M
 next-frame-spec =
     tie.close
     (tie.spec
-    (λ c. search needs))
+    (λ c. search needs)  -- enum-known-reply
+    (λ c. search needs)  -- enum-told
+    (λ c. search needs)  -- enum-told-2
+    (λ c. search needs)  -- enum-told-3
+    (λ c. search needs)  -- enum-told-4
+    (λ c. search needs)  -- enum-told-5
+    (λ c. search needs)  -- returns
+    (λ c. search needs)  -- returns-2
+    (λ c. search needs)  -- returns-3
+    (λ c. search needs)  -- returns-4
+    (λ c. search needs)  -- returns-5
+    (λ c. search needs))  -- returns-6

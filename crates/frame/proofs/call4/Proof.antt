@@ -31,12 +31,11 @@ returns-3 c = search tests
 returns-4 : tie.Need-returns-4
 unfolding put get
 returns-4 c =
-    let n = c .before .before in
-    let w = n .before .before .before in
+    let w = c .before .before .before .before .before in
     let a = w .before .before .before .before .before .before .before .before .before .args in
     rw (call4-done (now (a .share)) (omega arith) (a .frame) (a .heard) (now (a .inverse)) (length (now (a .out))) (omega arith) (omega arith))
     (record {
-      replies = ap (λ (f : ℕ). Numbered f (a .heard)) (n .one-more .ensures);
+      replies = ap (λ (f : ℕ). Numbered f (a .heard)) (c .one-more .ensures);
       shares = ap (put synthesisMem (now (a .share))) (w .synthesise .ensures .0);
       writes = ap (λ (l : List Float). l ∷ []) (w .synthesise .ensures .1);
     })
