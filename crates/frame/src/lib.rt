@@ -155,13 +155,7 @@ pub fn call3(
 
 // Call 4: 960 inverse samples in, 480 numbers written. Of the record it is told how many frames and heard frames there were; it
 // answers with both as they then stand.
-pub fn call4(
-    share: &mut [f32],
-    frame: u32,
-    heard: u32,
-    inverse: &[f32],
-    out: &mut [f32],
-) -> Reply
+pub fn call4(share: &mut [f32], frame: u32, heard: u32, inverse: &[f32], out: &mut [f32]) -> Reply
     ensures { λ r. ⌜ Worked (call4 (now (share .entry)) frame heard (now (inverse .entry)) (length (now (out .entry))))
         r (now (share .exit)) (now (out .entry) ∷ []) (now (out .exit) ∷ []) ⌝ }
 {

@@ -5,6 +5,7 @@
 --     last-frame      after 4,294,967,295 comes 0
 -- Assumes nothing.
 use Prim.Native.Nat.{ℕ, _+_, _*_, _%_, _<_}
+use native.Mathlib.Nat.{zero-add}
 use native.Mathlib.Omega.{arith}
 use mathlib.Core.Bool.{Bool, true, false, cond, _&&_}
 use mathlib.Core.List.{List, [], _∷_}
@@ -128,9 +129,10 @@ module _ (n s : ℕ) where
           let now = step n (c .side) (st .rec (c .side)) (st .store) (c .ask) (shut same) in
           let frames : st .rec (c .side) .frame ≡ k % 4294967296 = rw same (e .0) in
           let heards : st .rec (c .side) .heard ≡ h % 4294967296 = rw same (e .1) in
-          rw f
-          (now .0 ∙ moved (framed (c .ask) (given n st c .answer .reply)) k _ frames,
-          now .1 ∙ moved (heard (c .ask) (given n st c .answer .reply)) h _ heards)
+          rw f (
+            now .0 ∙ moved (framed (c .ask) (given n st c .answer .reply)) k _ frames,
+            now .1 ∙ moved (heard (c .ask) (given n st c .answer .reply)) h _ heards,
+          )
 
   run : (cs : List Call) (st : State) (k h : ℕ) → Stand st k h → Unopened n s st cs
       → Stand (ended n st cs) (k + count framed n s st cs) (h + count heard n s st cs)
@@ -164,4 +166,4 @@ pub numbering : (n : ℕ) → Numbering n
 numbering n s h st l model done calls u =
     let zero = from-0 n s (st .rec s) (st .store) model done in
     let start : Stand n s (after n st (openingOf s model)) 0 0 = rw (eq-eqb s s refl) zero in
-    run n s calls (after n st (openingOf s model)) 0 0 start u
+    simp zero-add at (run n s calls (after n st (openingOf s model)) 0 0 start u)
