@@ -69,7 +69,7 @@ fn clean_writes_its_four_files() {
     wanted.sort();
     assert_eq!(names, wanted);
     let table = fs::read_to_string(given.path.join("out/frames.csv")).unwrap();
-    assert!(table.starts_with("side,frame,state,voice,energy\nleft,0,"));
+    assert!(table.starts_with("side,frame,heard so far,state,voice,energy\nleft,0,"));
     assert!(fs::read_to_string(given.path.join("out/benches.svg")).unwrap().starts_with("<svg"));
     let left = wav::read(&fs::read(given.path.join("out/left.wav")).unwrap()).unwrap();
     assert_eq!(left.channels[0].len(), dictation(0).noisy.len());
