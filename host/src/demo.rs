@@ -34,7 +34,7 @@ impl Rng {
     }
 }
 
-fn power(samples: &[f64]) -> f64 {
+pub fn power(samples: &[f64]) -> f64 {
     samples.iter().map(|x| x * x).sum::<f64>() / samples.len().max(1) as f64
 }
 
@@ -112,7 +112,7 @@ pub struct Effect {
 }
 
 /// The samples through the library's high-pass filter, which the box puts in front of everything.
-fn filtered(samples: &[f32]) -> Vec<f64> {
+pub fn filtered(samples: &[f32]) -> Vec<f64> {
     let mut out = vec![0.0; samples.len()];
     assert_eq!(tuppence::filter(&mut out, &mut [0.0; 2], &[-1.99599, 0.996, -2.0, 1.0], samples), 0);
     out.into_iter().map(f64::from).collect()

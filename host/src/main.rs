@@ -27,6 +27,9 @@ host: cleans two dictations, one for each bench
       is kept, and the sheet closed again. FILE2 must not exist.
   host bench
       Frames a second, where a frame's time goes, and the ratio to the Rust text.
+  host lags
+      How often our own lag and that of the Rust text agree, on the demo's voices
+      and on seeded ones of known pitch.
   host --help
 
 Exit status: 0 done, 2 something was not right; then nothing is written.
@@ -55,6 +58,7 @@ fn run(words: &[String]) -> Result<(), String> {
     match words {
         [help] if help == "--help" || help == "-h" => print!("{HELP}"),
         [bench] if bench == "bench" => host::bench::bench(),
+        [lags] if lags == "lags" => host::lags::lags(),
         [demo, dir] if demo == "demo" => {
             host::demo::demo(dir.as_ref())?;
             println!("Look at {dir}/benches.svg, and listen to {dir}/left-before.wav and {dir}/left.wav.");

@@ -61,6 +61,11 @@ surface! {
     tuppence_downsample as downsample(x_lp: &mut [f32], x: &[f32]) -> u32;
 }
 
+#[cfg(feature = "lag")]
+surface! {
+    tuppence_lag as lag(lag: &mut [u32], input_mem: &[f32]) -> u32;
+}
+
 #[cfg(feature = "transforms")]
 surface! {
     tuppence_forward as forward(spectrum: &mut [f32], samples: &[f32]) -> u32;
