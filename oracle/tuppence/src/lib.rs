@@ -103,6 +103,9 @@ surface! {
     tuppence_call2 as call2(
         record: &mut [u32], store: &mut [f32], side: u32, spectrum: &[f32], lag: u32, window: &mut [f32], sums: &mut [f32]
     ) -> u32;
+    tuppence_call2_own as call2_own(
+        record: &mut [u32], store: &mut [f32], side: u32, spectrum: &[f32], window: &mut [f32], sums: &mut [f32]
+    ) -> u32;
     tuppence_call3 as call3(
         record: &mut [u32], store: &mut [f32], side: u32, spectrum: &[f32], logs: &[f32], model: &[u8],
         out: &mut [f32], answer: &mut [f32]
