@@ -1,6 +1,7 @@
 //! `host lags`: how often our own lag (request 04) and the text's `PitchFinder` agree, and how often each is right.
 
-use crate::demo::{dictation, filtered, power, Rng};
+use crate::demo::{cleaned, dictation, effect, filtered, power, Rng};
+use crate::recorder::LagBy;
 use crate::{FRAME, RATE};
 use nnnoiseless_text::probe::pitch::PitchFinder;
 use std::f64::consts::TAU;
@@ -72,7 +73,28 @@ fn seeded(pitch: [f64; 2], below: f64) -> Vec<([f64; 2], f64)> {
         .collect()
 }
 
-pub fn lags() {
+/// What either lag makes of the demo.
+fn effects() -> Result<(), String> {
+    let dictations = [dictation(0), dictation(1)];
+    println!("\nthe demo, cleaned with either lag:\n");
+    println!("| bench | lag | noise in the pauses | voice | signal to noise, after |");
+    println!("|---|---|---|---|---|");
+    for (name, lag_by) in [("the text's", LagBy::Finder), ("ours", LagBy::Library)] {
+        for (bench, dictation) in cleaned(&dictations, lag_by)?.iter().zip(&dictations) {
+            let e = effect(dictation, &bench.after);
+            println!(
+                "| {} | {name} | {:.2} dB | {:.2} dB | {:.2} dB |",
+                bench.side.name(),
+                e.pauses,
+                e.voice,
+                e.ratio[1]
+            );
+        }
+    }
+    Ok(())
+}
+
+pub fn lags() -> Result<(), String> {
     println!("within 2 samples, and within 2 samples or an octave apart:\n");
     println!("| voice | frames | ours and the text's | ours and the true period | the text's and the true period |");
     println!("|---|---|---|---|---|");
@@ -100,4 +122,5 @@ pub fn lags() {
             );
         }
     }
+    effects()
 }
