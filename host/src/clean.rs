@@ -88,6 +88,9 @@ fn channels_of(path: &Path, count: usize) -> Result<Vec<Vec<f32>>, String> {
         let wanted = if count == 1 { "one channel is" } else { "two channels are" };
         return Err(told(path, format!("{wanted} wanted; this has {}", wav.channels.len())));
     }
+    if wav.clipped > 0 {
+        eprintln!("{}", told(path, format!("{} samples were beyond full scale, and are clipped", wav.clipped)));
+    }
     Ok(wav.channels)
 }
 

@@ -180,6 +180,19 @@ fn a_sample_that_is_not_finite() {
     given.fails(given.clean("left.wav", "broken.wav", "house.rnn", "out"), &["broken.wav", "sample 2", "finite"]);
 }
 
+#[test]
+fn full_scale_is_clipped() {
+    let given = Given::new("clipped");
+    let mut floats = wav::write(48_000, &[0.0; 8]);
+    (floats[20], floats[34]) = (3, 32);
+    floats[44..48].copy_from_slice(&1.0f32.to_le_bytes());
+    given.put("loud.wav", &floats);
+    let output = given.clean("left.wav", "loud.wav", "house.rnn", "out");
+    assert!(output.status.success());
+    let told = String::from_utf8(output.stderr).unwrap();
+    assert!(told.contains("loud.wav: 1 samples were beyond full scale"), "{told}");
+}
+
 /// A folder stands in the table's place: the files that were put before it are taken back, and what they replaced is there again.
 #[test]
 fn a_place_that_is_taken() {

@@ -126,6 +126,9 @@ pub fn open(record: &mut [u32], store: &mut [f32], side: u32, model: &[u8]) -> u
 
 pub fn call1(record: &mut [u32], store: &mut [f32], side: u32, samples: &[f32], window: &mut [f32]) -> u32 {
     let share = share!(1, record, store, side, samples 480, window 960);
+    if samples.iter().any(|x| !(-32_768.0..=32_767.0).contains(x)) {
+        return 9;
+    }
     let mut text = loaded(share, record);
     text.shift_and_filter_input(samples);
     feed::start();

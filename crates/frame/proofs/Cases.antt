@@ -10,6 +10,7 @@ use lib.Ieee.{Float}
 use Rattle.rules.specs.Place.{get}
 use Rattle.rules.specs.Refusals.{Row, _when_}
 use Rattle.rules.proofs.Refused.{Clear, by-rows}
+use Rattle.samples.specs.Samples.{good}
 use Rattle.model.specs.Model.{readOf}
 use Rattle.model.specs.declared.Model.{Model}
 use Rattle.model.specs.declared.Reading.{Reading}
@@ -50,7 +51,7 @@ module _ (share : List Float) (P : Effect → Type 0) (bad : (n : ℕ) → P (re
       → P (call1 share samples window)
   unfolding call1
   call1-by samples window h =
-      by-table ((length share, SHARE) ∷ (length samples, 480) ∷ (window, 960) ∷ []) [] (done1 share samples) (λ r _. h (r .0) (r .1 .0))
+      by-table ((length share, SHARE) ∷ (length samples, 480) ∷ (window, 960) ∷ []) (9 when not (good samples) ∷ []) (done1 share samples) (λ r _. h (r .0) (r .1 .0))
 
   pub call2-by : (spectrum : List Float) (lag window sums : ℕ) → (length share ≡ SHARE → P (done2 share spectrum lag))
       → P (call2 share spectrum lag window sums)

@@ -1,6 +1,6 @@
 -- What the four calls of a frame do to one share: the definitions that the calls of `frame` are held to. A share knows of no side.
 use Prim.Native.Nat.{ℕ, _+_, _-_}
-use mathlib.Core.Bool.{Bool, cond, _&&_}
+use mathlib.Core.Bool.{Bool, cond, not, _&&_}
 use mathlib.Core.List.{List, [], _∷_, _++_}
 use mathlib.Core.Path.{_≡_}
 use lib.Dec.{eqb, ltb}
@@ -12,6 +12,7 @@ use Rattle.rules.specs.Place.{Place, get, put}
 use Rattle.rules.specs.Refusals.{Row, _when_, refusing}
 pub use Rattle.rules.specs.Refusals.{wrong}
 use Rattle.rules.specs.Tab.{tab}
+use Rattle.samples.specs.Samples.{good}
 use Rattle.numbers.specs.Filter.{highPass, memoryOf, memoryList, memoryAfter, outputs}
 use Rattle.bands.specs.Windowed.{windowed}
 use Rattle.model.specs.Model.{readOf}
@@ -74,7 +75,8 @@ done1 share samples =
 -- of an answer buffer, here `window`, a call is told the length
 unfoldable pub call1 : List Float → List Float → ℕ → Effect
 call1 share samples window =
-    unless (5 when wrong ((length share, SHARE) ∷ (length samples, 480) ∷ (window, 960) ∷ []) ∷ []) share
+    unless
+    (5 when wrong ((length share, SHARE) ∷ (length samples, 480) ∷ (window, 960) ∷ []) ∷ 9 when not (good samples) ∷ []) share
     (done1 share samples)
 
 -- ---- call 2, from `transform_input` and `compute_frame_features`

@@ -40,7 +40,7 @@ pub struct Lag(pub usize);
 
 pub const SHARE: usize = 6144;
 
-// Call 1: 480 samples in, 960 windowed numbers written.
+// Call 1: 480 samples in, none of them broken, 960 windowed numbers written.
 pub fn call1(share: &mut [f32], samples: &[f32], window: &mut [f32]) -> Reply
     ensures { λ r. ⌜ Worked (call1 (now (share .entry)) (now (samples .entry)) (length (now (window .entry))))
         r (now (share .exit)) (now (window .entry) ∷ []) (now (window .exit) ∷ []) ⌝ }
@@ -53,6 +53,9 @@ pub fn call1(share: &mut [f32], samples: &[f32], window: &mut [f32]) -> Reply
     }
     if window.len() != 960 {
         return Reply::Refused(5);
+    }
+    if !samples::all_good(samples) {
+        return Reply::Refused(9);
     }
     let memory = Memory {
         m0: share[3192],
