@@ -5,10 +5,12 @@
 //     Biquad                           the high-pass filter, in filter.rt
 //     narrow, sqrt                     `x as f32` of an `f64`, and the square root, from the bits
 ghost use mathlib.Core.Path.{_≡_};
+ghost use mathlib.Core.Bool.{_||_};
 ghost use Prim.Native.Nat.{_*_, _^_, _<_, _≤_};
 ghost use lib.IntN.{pos};
-ghost use lib.Ieee.{binary32, ofInt};
+ghost use lib.Ieee.{binary32, lt, ofInt};
 ghost use lib.Ieee.Nearest.{closest};
+ghost use Rattle.rules.specs.F32.{f32};
 ghost use Rattle.numbers.specs.Narrowed.{narrowed};
 ghost use Rattle.numbers.specs.Root.{twiceRoot, root};
 ghost use Rattle.numbers.specs.Larger.{yields, larger, smaller, clamped, rectified};
@@ -35,10 +37,24 @@ fn gives_way(a: f32, b: f32) -> bool
     1.0 / a < 0.0
 }
 
-// The larger of a and b: the other one where one is a NaN, and +0 of two zeros.
+// Whether x is neither a zero nor a NaN.
+fn off_zero(x: f32) -> bool
+    ensures { λ r. ⌜ r ≡ (lt x (f32 0) || lt (f32 0) x) ⌝ }
+{
+    if x < 0.0 {
+        return true;
+    }
+    x > 0.0
+}
+
+// The larger of a and b: the other one where one is a NaN, and +0 of two zeros. Off zero it is one predictable test and a choice
+// without a branch.
 pub fn max(a: f32, b: f32) -> f32
     ensures { λ r. ⌜ r ≡ larger a b ⌝ }
 {
+    if off_zero(a) {
+        return if a < b { b } else { a };
+    }
     if a != a {
         return b;
     }

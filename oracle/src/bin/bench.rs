@@ -78,7 +78,14 @@ fn of_numbers(rng: &mut Rng) -> Vec<Row> {
     let (mut outs, mut memories) = (vec![0.0; 480], [0.0; 2]);
     let curve = rng.list_of(1000, Mood::Small);
     let curves = curve.clone();
+    let pairs: Vec<[f32; 2]> = (0..1000).map(|_| std::array::from_fn(|_| rng.of(Mood::Small))).collect();
+    let again_pairs = pairs.clone();
     vec![
+        row(
+            "max, 1,000 pairs",
+            move || pairs.iter().fold(0.0, |_, [a, b]| black_box(tuppence::max(black_box(*a), black_box(*b)))),
+            move || again_pairs.iter().fold(0.0, |_, [a, b]| black_box(f32::max(black_box(*a), black_box(*b)))),
+        ),
         row(
             "tansig, 1,000 numbers",
             move || curve.iter().fold(0.0, |_, x| black_box(tuppence::tansig(black_box(*x)))),
