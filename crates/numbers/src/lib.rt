@@ -199,7 +199,7 @@ pub fn sigmoid_approx(x: f32) -> f32
 }
 
 // Patterns of an `f64`: the leading digit's weight, 896 in the exponent's field, 2^-126, which is the
-// smallest normal `f32`, and 2^-150, half of the smallest. The last is the infinity of an `f32`.
+// smallest normal `f32`, 2^-150, half of the smallest, and 2^127. The last is the infinity of an `f32`.
 const LEAD: u64 = 0x10_0000_0000_0000;
 
 const MOVED: u64 = 0x3800_0000_0000_0000;
@@ -207,6 +207,8 @@ const MOVED: u64 = 0x3800_0000_0000_0000;
 const NORMAL: u64 = 0x3810_0000_0000_0000;
 
 const HALF_SMALLEST: u64 = 0x3690_0000_0000_0000;
+
+const HALF_LARGEST: u64 = 0x47e0_0000_0000_0000;
 
 const INFINITY: u64 = 0x7f80_0000;
 
@@ -224,7 +226,24 @@ pub fn narrow(x: f64) -> f32
     f32::from_bits((sign * 0x8000_0000 + narrow_magnitude(size)) as u32)
 }
 
-// The same on bit patterns without their sign. An `f32` counts its exponent from 896 less, and has
+// The same, as an `f64` still: from 2^-126 to below 2^127 the last 29 digits are rounded away where they stand.
+pub(crate) fn shortened(x: f64) -> f64
+    ensures { λ r. ⌜ r ≡ narrowed x ⌝ }
+{
+    if x != x {
+        return 0.0 / 0.0;
+    }
+    let bits: u64 = f64::to_bits(x);
+    let size: u64 = bits % 0x8000_0000_0000_0000;
+    if size >= NORMAL {
+        if size < HALF_LARGEST {
+            return f64::from_bits(rounded(bits, 29) * 0x2000_0000);
+        }
+    }
+    std::num::f32_to_f64_with_nan(narrow(x))
+}
+
+// `narrow` on bit patterns without their sign. An `f32` counts its exponent from 896 less, and has
 // 29 digits less: where it is normal, the pattern is that of the `f64`, moved down by 896 and rounded.
 // Below that the digits, with the leading one, are shifted by what the exponent lacks.
 fn narrow_magnitude(a: u64) -> u64
@@ -246,7 +265,7 @@ fn narrow_magnitude(a: u64) -> u64
 
 // v / 2^k to the nearest whole number, and a tie to the even one.
 fn rounded(v: u64, k: u64) -> u64
-    requires { ⌜ (v < 2 ^ 63) × (0 < k) × (k < 63) ⌝ }
+    requires { ⌜ (v < 7 * 2 ^ 61) × (0 < k) × (k < 62) ⌝ }
     ensures { λ r. ⌜ r ≡ closest v (2 ^ k) ⌝ }
 {
     let half: u64 = 1 << (k - 1);
