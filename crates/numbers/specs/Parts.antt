@@ -52,10 +52,3 @@ withSign f s b = cond s (top f) 0 + b
 pub record Narrows (a r : ℕ) : Type 0 where
   pub small : r ≤ ones binary32 * hid binary32
   pub value : (s : Bool) → ofBits binary32 (withSign binary32 s r) ≡ narrowed (ofBits binary64 (withSign binary64 s a))
-
--- the root of n is at least `from`, and below from + gap
-pub record Spans (n from gap : ℕ) : Type 0 where
-  pub some : 0 < gap
-  pub few : gap ≤ 2 ^ 27
-  pub low : from * from ≤ n
-  pub high : n < (from + gap) * (from + gap)

@@ -15,7 +15,7 @@ ghost use Rattle.numbers.specs.Narrowed.{narrowed};
 ghost use Rattle.numbers.specs.Root.{twiceRoot, root};
 ghost use Rattle.numbers.specs.Larger.{yields, larger, smaller, clamped, rectified};
 ghost use Rattle.numbers.specs.Activations.{magnitude, signOf, place, tansigIn, sigmoidIn, tansigApprox, sigmoidApprox};
-ghost use Rattle.numbers.specs.Parts.{UpToEight, overshoot, insideOf, placeIn, entryIn, endedBy, followed, Narrows, Spans};
+ghost use Rattle.numbers.specs.Parts.{UpToEight, overshoot, insideOf, placeIn, entryIn, endedBy, followed, Narrows};
 
 pub mod filter;
 pub mod table;
@@ -212,6 +212,9 @@ const HALF_LARGEST: u64 = 0x47e0_0000_0000_0000;
 
 const INFINITY: u64 = 0x7f80_0000;
 
+// The pattern of 2^48: what is added to it counts sixteenths.
+const SIXTEENTHS: u64 = 0x42f0_0000_0000_0000;
+
 // x as an `f32`: the nearest one, and of two that are as near the one whose last digit is even.
 // Past the largest it is an infinity, and a NaN stays one.
 pub fn narrow(x: f64) -> f32
@@ -284,11 +287,44 @@ pub fn sqrt(x: f32) -> f32
             return x;
         }
         let digits: u64 = LEAD + bits % LEAD;
-        // an even power of two is left, and a root of 27 digits, of which 24 are kept
-        let root: u64 = rounded(twice_root(digits * (2 - field % 2)), 4);
+        // an even power of two is left
+        let root: u64 = root_digits(digits * (2 - field % 2));
         return f32::from_bits(((field - 771) / 2 * 0x80_0000 + root) as u32);
     }
     if x == 0.0 { x } else { 0.0 / 0.0 }
+}
+
+// The 24 leading digits of the root of n, rounded: a guess that proves right, and else by the whole root.
+fn root_digits(n: u64) -> u64
+    requires { ⌜ n < 2 ^ 54 ⌝ }
+    ensures { λ r. ⌜ r ≡ closest (twiceRoot n) (2 ^ 4) ⌝ }
+{
+    let near = guessed_digits(n);
+    if near > 0 {
+        let low = 8 * near - 4;
+        let high = low + 8;
+        if low * low < n {
+            if n < high * high {
+                return near;
+            }
+        }
+    }
+    rounded(twice_root(n), 4)
+}
+
+// An eighth of the root of an n from 2^52 to 2^54, to the nearest whole number: two of Newton's steps from a parabola. With 2^52
+// added, a number keeps no digits behind the point. Nothing else is promised of it.
+fn guessed_digits(n: u64) -> u64
+    ensures { λ r. ⌜ r < 2 ^ 25 ⌝ }
+{
+    let x = f64::from_bits(SIXTEENTHS + n / 4 % LEAD) - 281474976710656.0;
+    let start = 4349954.1 + x * (6.27052e-8 - x * 6.69834e-23);
+    let nearer = 0.5 * (start + x / start);
+    let root = 0.5 * (nearer + x / nearer) + 4503599627370496.0;
+    if root != root {
+        return 0;
+    }
+    f64::to_bits(root) % 0x200_0000
 }
 
 // Twice the root of n, cut to a whole number, and 1 more where n is no square. The root is searched
@@ -297,9 +333,8 @@ fn twice_root(n: u64) -> u64
     requires { ⌜ n < 2 ^ 54 ⌝ }
     ensures { λ r. ⌜ r ≡ twiceRoot n ⌝ }
 {
-    let span = span_of_root(n);
-    let mut r: u64 = span.from;
-    let mut gap: u64 = span.gap;
+    let mut r: u64 = 0;
+    let mut gap: u64 = 0x800_0000;
     while gap > 1 {
         let next: u64 = r + (gap - gap / 2);
         if next * next <= n {
@@ -308,48 +343,4 @@ fn twice_root(n: u64) -> u64
         gap = gap - gap / 2;
     }
     if r * r == n { 2 * r } else { 2 * r + 1 }
-}
-
-// The whole numbers from `from` up to, and without, `from + gap`.
-struct Span {
-    from: u64,
-    gap: u64,
-}
-
-// Where the root of n lies: around a guess that proves right, and else anywhere. The guess only saves
-// turns of the search, 27 at most.
-fn span_of_root(n: u64) -> Span
-    requires { ⌜ n < 2 ^ 54 ⌝ }
-    ensures { λ r. ⌜ Spans n (r .from) (r .gap) ⌝ }
-{
-    let near = guessed_root(n);
-    if near > 0 {
-        if near <= 0x800_0000 {
-            let from = near - 1;
-            if from * from <= n {
-                if n < (from + 2) * (from + 2) {
-                    return Span { from, gap: 2 };
-                }
-            }
-        }
-    }
-    Span {
-        from: 0,
-        gap: 0x800_0000,
-    }
-}
-
-// The root of an n from 2^52 to 2^54, or the next number up: two of Newton's steps from a parabola.
-// Nothing is promised of it.
-fn guessed_root(n: u64) -> u64 {
-    let x = std::num::nearest_u64_to_f64(n);
-    let start = 34799632.9 + x * (7.83815e-9 - x * 1.30827e-25);
-    let nearer = 0.5 * (start + x / start);
-    let root = 0.5 * (nearer + x / nearer);
-    if root > -1.0 {
-        if root < 18446744073709551616.0 {
-            return std::num::truncating_f64_to_u64(root);
-        }
-    }
-    0
 }
