@@ -18,6 +18,7 @@ ghost use Rattle.numbers.specs.Activations.{magnitude, signOf, place, ta
 ghost use Rattle.numbers.specs.Parts.{UpToEight, overshoot, insideOf, placeIn, entryIn, endedBy, followed, Narrows};
 
 pub mod filter;
+pub mod lists;
 pub mod table;
 
 pub use filter::Biquad;
