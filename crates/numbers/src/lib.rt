@@ -1,7 +1,8 @@
 // The numbers of util.rs, and what the language leaves out of IEEE 754. Each function has a result for every input, and
 // its contract is an equation with a definition of `specs/`.
 //     max, min, clamp, relu            two numbers compared
-//     tansig_approx, sigmoid_approx    the activations; with `_in`, over a table that a loop takes once
+//     tansig_approx, sigmoid_approx    the activations
+//     lists                            the activations of each number of a list, over a table that is lent
 //     Biquad                           the high-pass filter, in filter.rt
 //     narrow, sqrt                     `x as f32` of an `f64`, and the square root, from the bits
 ghost use mathlib.Core.Path.{_≡_};
@@ -14,7 +15,7 @@ ghost use Rattle.rules.specs.F32.{f32};
 ghost use Rattle.numbers.specs.Narrowed.{narrowed};
 ghost use Rattle.numbers.specs.Root.{twiceRoot, root};
 ghost use Rattle.numbers.specs.Larger.{yields, larger, smaller, clamped, rectified};
-ghost use Rattle.numbers.specs.Activations.{magnitude, signOf, place, tansigIn, sigmoidIn, tansigApprox, sigmoidApprox};
+ghost use Rattle.numbers.specs.Activations.{magnitude, signOf, place, tansigIn, tansigApprox, sigmoidApprox};
 ghost use Rattle.numbers.specs.Parts.{UpToEight, overshoot, insideOf, placeIn, entryIn, endedBy, followed, Narrows};
 
 pub mod filter;
@@ -170,18 +171,12 @@ fn follow(x: f32, y: f32) -> f32
     ended(x, sign_of(x) * (y + rest * dy * (1.0 - y * rest)))
 }
 
-// `tansig_approx` over a lent table. A loop takes `table::all` once: each mention of it fills it anew.
-pub fn tansig_in(table: &[f32; 201], x: f32) -> f32
+// `tansig_approx` over a lent table.
+fn tansig_in(table: &[f32; 201], x: f32) -> f32
     ensures { λ r. ⌜ r ≡ tansigIn (now (table .entry)) x ⌝ }
 {
     let place = place_of(inside(x));
     follow(x, entry_at(table, place, x))
-}
-
-pub fn sigmoid_in(table: &[f32; 201], x: f32) -> f32
-    ensures { λ r. ⌜ r ≡ sigmoidIn (now (table .entry)) x ⌝ }
-{
-    0.5 + 0.5 * tansig_in(table, 0.5 * x)
 }
 
 // The hyperbolic tangent, nearly.

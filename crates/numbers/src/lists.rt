@@ -1,5 +1,6 @@
-// The activations over a list, in place. A table is looked up number by number; what comes before it and behind it are loops of
-// their own, since these are vectorised.
+// The activations of each number of a list, in place, over a table that is lent: `table::all` is taken once for all lists, since each
+// mention of it fills it anew. The table is looked up number by number; what comes before that and behind it are loops of their
+// own, since these are vectorised.
 ghost use mathlib.Core.Path.{_≡_};
 ghost use mathlib.Core.List.{map};
 ghost use lib.ListN.{length};
@@ -40,7 +41,7 @@ fn curves(xs: &mut [f32], spare: &[f32])
     }
 }
 
-// `tansig_in` of each, over lent room.
+// `tansig_approx` of each, over lent room.
 fn at_once(xs: &mut [f32], spare: &mut [f32], table: &[f32; 201])
     requires { ⌜ length (now spare) ≡ length (now xs) ⌝ }
     ensures { λ _. ⌜ now (xs .exit) ≡ map (tansigIn (now (table .entry))) (now (xs .entry)) ⌝ }
@@ -58,7 +59,7 @@ fn one_by_one(xs: &mut [f32], table: &[f32; 201])
     }
 }
 
-// `tansig_in` of each.
+// `tansig_approx` of each.
 pub fn tansigs(xs: &mut [f32], table: &[f32; 201])
     ensures { λ _. ⌜ now (xs .exit) ≡ map (tansigIn (now (table .entry))) (now (xs .entry)) ⌝ }
 {
@@ -88,7 +89,7 @@ fn lift(xs: &mut [f32])
     }
 }
 
-// `sigmoid_in` of each.
+// `sigmoid_approx` of each.
 pub fn sigmoids(xs: &mut [f32], table: &[f32; 201])
     ensures { λ _. ⌜ now (xs .exit) ≡ map (sigmoidIn (now (table .entry))) (now (xs .entry)) ⌝ }
 {
