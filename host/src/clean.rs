@@ -4,7 +4,7 @@ use crate::cleaned::Cleaned;
 use crate::folder::{told, Folder};
 use crate::recorder::{Recorder, Side};
 use crate::refusal::Refusal;
-use crate::{picture, side, table, wav, FRAME, RATE};
+use crate::{page, picture, side, table, wav, FRAME, RATE};
 use std::fs;
 use std::path::{Path, PathBuf};
 
@@ -92,7 +92,8 @@ fn channels_of(path: &Path, count: usize) -> Result<Vec<Vec<f32>>, String> {
     Ok(wav.channels)
 }
 
-/// Writes the two recordings, each with its side sheet, the table and the picture, and what else there is, by its name.
+/// Writes the two recordings, each with its side sheet, the table, the picture and the page, and what else there is, by its name: a
+/// recording as it was before is named for the page.
 pub fn store(benches: &[Cleaned; 2], more: &[(String, Vec<u8>)], out: &Path) -> Result<(), String> {
     let mut folder = Folder::new(out)?;
     for (name, bytes) in more {
@@ -105,6 +106,9 @@ pub fn store(benches: &[Cleaned; 2], more: &[(String, Vec<u8>)], out: &Path) -> 
     }
     folder.write("frames.csv", table::csv(benches).as_bytes())?;
     folder.write("benches.svg", picture::svg(benches).as_bytes())?;
+    let before = |bench: &Cleaned| format!("{}-before.wav", bench.side.name());
+    let named = |bench: &Cleaned| more.iter().map(|(name, _)| &name[..]).find(|name| *name == before(bench));
+    folder.write("index.html", page::html(benches, [named(&benches[0]), named(&benches[1])]).as_bytes())?;
     folder.keep()
 }
 

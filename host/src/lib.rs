@@ -8,6 +8,7 @@ pub mod demo;
 pub mod folder;
 pub mod mend;
 pub mod pack;
+pub mod page;
 pub mod picture;
 pub mod recorder;
 pub mod reference;

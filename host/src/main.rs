@@ -7,9 +7,10 @@ host: cleans two dictations, one for each bench
 
   host clean --left L.wav --right R.wav --model M.rnn --out DIR
   host clean --both STEREO.wav --model M.rnn --out DIR
-      Recordings of 48 kHz, 16-bit PCM or 32-bit float; of a stereo file the left
-      channel is the left bench. Writes left.wav, right.wav, frames.csv and
-      benches.svg into DIR. Each recording carries its side sheet behind the audio.
+      Recordings of 48 kHz, 16-bit or 24-bit PCM or 32-bit float; of a stereo file
+      the left channel is the left bench. Writes left.wav, right.wav, frames.csv,
+      benches.svg and index.html, a page with all of it, into DIR. Each recording
+      carries its side sheet behind the audio.
   host demo DIR
       The same with two dictations over a grinder and the house model, which come
       with the program; the recordings before cleaning are written too.
@@ -27,7 +28,7 @@ host: cleans two dictations, one for each bench
       is kept, and the sheet closed again. FILE2 must not exist.
   host bench
       Frames a second, where a frame's time goes, and the ratio to the Rust text.
-  host --help
+  host --help, host --version
 
 Exit status: 0 done, 2 something was not right; then nothing is written.
 ";
@@ -54,6 +55,7 @@ fn job(words: &[String]) -> Option<Job> {
 fn run(words: &[String]) -> Result<(), String> {
     match words {
         [help] if help == "--help" || help == "-h" => print!("{HELP}"),
+        [version] if version == "--version" => println!("host {}", env!("CARGO_PKG_VERSION")),
         [bench] if bench == "bench" => host::bench::bench(),
         [demo, dir] if demo == "demo" => {
             host::demo::demo(dir.as_ref())?;

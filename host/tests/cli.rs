@@ -56,10 +56,10 @@ impl Given {
     }
 }
 
-const WRITTEN: [&str; 4] = ["left.wav", "right.wav", "frames.csv", "benches.svg"];
+const WRITTEN: [&str; 5] = ["left.wav", "right.wav", "frames.csv", "benches.svg", "index.html"];
 
 #[test]
-fn clean_writes_its_four_files() {
+fn clean_writes_its_files() {
     let given = Given::new("clean");
     let output = given.clean("left.wav", "right.wav", "house.rnn", "out");
     assert!(output.status.success(), "{}", String::from_utf8_lossy(&output.stderr));
@@ -135,6 +135,17 @@ fn the_demo_needs_no_files() {
         assert!(out.join(name).exists(), "{name}");
     }
     assert!(String::from_utf8(output.stdout).unwrap().contains("benches.svg"));
+    // the page names only files that are there, and no other place
+    let page = fs::read_to_string(out.join("index.html")).unwrap();
+    let names: Vec<&str> = page.split(['"']).skip(1).step_by(2).filter(|word| word.contains('.')).collect();
+    assert_eq!(names.len(), 6, "{names:?}");
+    assert!(names.iter().all(|name| out.join(name).exists()) && !page.contains("://"), "{names:?}");
+}
+
+#[test]
+fn the_version_is_told() {
+    let output = host(&["--version"]);
+    assert!(output.status.success() && output.stdout.starts_with(b"host "));
 }
 
 #[test]
