@@ -156,6 +156,29 @@ fn a_missing_file() {
 }
 
 #[test]
+fn a_folder_for_a_file() {
+    let given = Given::new("folder");
+    fs::create_dir(given.path.join("dir.wav")).unwrap();
+    given.fails(given.clean("dir.wav", "right.wav", "house.rnn", "out"), &["dir.wav"]);
+}
+
+/// No sample, one, and many channels.
+#[test]
+fn strange_recordings() {
+    let given = Given::new("strange");
+    given.put("none.wav", &wav::write(48_000, &[]));
+    given.put("one.wav", &wav::write(48_000, &[5.0]));
+    assert!(given.clean("none.wav", "one.wav", "house.rnn", "out").status.success());
+    let read = |name: &str| wav::read(&fs::read(given.path.join(name)).unwrap()).unwrap().channels[0].len();
+    assert_eq!((read("out/left.wav"), read("out/right.wav")), (0, 1));
+    fs::remove_dir_all(given.path.join("out")).unwrap();
+    let mut many = wav::write(48_000, &[0.0; 8]);
+    many[22..24].copy_from_slice(&[0xFF; 2]);
+    given.put("many.wav", &many);
+    given.fails(given.clean("left.wav", "many.wav", "house.rnn", "out"), &["many.wav", "65535"]);
+}
+
+#[test]
 fn another_sample_rate() {
     let given = Given::new("rate");
     given.put("slow.wav", &wav::write(44_100, &[0.0; 4_410]));
