@@ -2,11 +2,12 @@
 
 use crate::cleaned::Cleaned;
 use crate::folder::{told, Folder};
-use crate::recorder::{Recorder, Side};
+use crate::recorder::{LagBy, Recorder, Side};
 use crate::refusal::Refusal;
 use crate::{page, picture, side, table, wav, FRAME, RATE};
 use std::fs;
 use std::path::{Path, PathBuf};
+use std::time::Instant;
 
 /// The 480 samples of a frame; past the end of the recording they are 0.
 pub fn samples_of(recording: &[f32], frame: usize) -> [f32; FRAME] {
@@ -31,9 +32,10 @@ pub fn run(
     left: Vec<f32>,
     right: Vec<f32>,
     model: &[u8],
+    lag_by: LagBy,
     mut progress: impl FnMut(f64),
 ) -> Result<[Cleaned; 2], Refusal> {
-    let mut recorder = Recorder::default();
+    let mut recorder = Recorder::new(lag_by);
     for side in Side::BOTH {
         recorder.open(side, model)?;
     }
@@ -63,6 +65,9 @@ pub fn run(
 pub struct Job {
     pub inputs: Inputs,
     pub model: PathBuf,
+    pub lag_by: LagBy,
+    /// Whether no progress is told.
+    pub quiet: bool,
     pub out: PathBuf,
 }
 
@@ -112,15 +117,16 @@ pub fn store(benches: &[Cleaned; 2], more: &[(String, Vec<u8>)], out: &Path) -> 
     folder.keep()
 }
 
-/// Tells how far a long recording has come, on standard error.
-pub fn progress_of(samples: usize) -> impl FnMut(f64) {
-    let long = samples > 60 * RATE as usize;
-    let mut told = 0;
+/// Tells how far a long recording has come, and how long it will take yet, on standard error.
+pub fn progress_of(samples: usize, quiet: bool) -> impl FnMut(f64) {
+    let tells = samples > 60 * RATE as usize && !quiet;
+    let (mut told, start) = (0, Instant::now());
     move |share| {
         let tenth = (10.0 * share) as u32;
-        if long && tenth > told {
+        if tells && tenth > told {
             told = tenth;
-            eprintln!("{}0 %", tenth);
+            let left = start.elapsed().as_secs_f64() * (1.0 - share) / share;
+            eprintln!("{tenth}0 %, {left:.0} s left");
         }
     }
 }
@@ -135,8 +141,8 @@ pub fn clean(job: &Job) -> Result<[Cleaned; 2], String> {
             (channels.remove(0), right)
         }
     };
-    let progress = progress_of(left.len().max(right.len()));
-    let benches = run(left, right, &model, progress).map_err(|refusal| told(&job.model, refusal))?;
+    let progress = progress_of(left.len().max(right.len()), job.quiet);
+    let benches = run(left, right, &model, job.lag_by, progress).map_err(|refusal| told(&job.model, refusal))?;
     store(&benches, &[], &job.out)?;
     Ok(benches)
 }

@@ -127,6 +127,19 @@ fn a_stereo_file_is_both_benches() {
 }
 
 #[test]
+fn our_own_lag_is_used_where_it_is_asked_for() {
+    let given = Given::new("own-lag");
+    let [l, r, m, o] = ["left.wav", "right.wav", "house.rnn", "own"].map(|name| given.at(name));
+    let output = host(&["clean", "--left", &l, "--right", &r, "--own-lag", "--model", &m, "--out", &o]);
+    assert!(output.status.success(), "{}", String::from_utf8_lossy(&output.stderr));
+    assert!(given.clean("left.wav", "right.wav", "house.rnn", "out").status.success());
+    let left =
+        |out: &str| wav::read(&fs::read(given.path.join(out).join("left.wav")).unwrap()).unwrap().channels.remove(0);
+    assert_eq!(left("own").len(), left("out").len());
+    assert_ne!(left("own"), left("out"));
+}
+
+#[test]
 fn the_demo_needs_no_files() {
     let out = folder("demo").join("out");
     let output = host(&["demo", out.to_str().unwrap()]);
@@ -140,6 +153,23 @@ fn the_demo_needs_no_files() {
     let names: Vec<&str> = page.split(['"']).skip(1).step_by(2).filter(|word| word.contains('.')).collect();
     assert_eq!(names.len(), 6, "{names:?}");
     assert!(names.iter().all(|name| out.join(name).exists()) && !page.contains("://"), "{names:?}");
+}
+
+/// Over a minute of sound the progress is told, but not where `-q` stands.
+#[test]
+fn a_long_recording_tells_its_progress() {
+    let given = Given::new("long");
+    given.put("long.wav", &wav::write(48_000, &vec![0.0; 61 * 48_000]));
+    let [l, m, o] = ["long.wav", "house.rnn", "out"].map(|name| given.at(name));
+    let words = ["clean", "--left", &l, "--right", &l, "--model", &m, "--out", &o, "-q"];
+    let told = |words: &[&str]| {
+        let output = host(words);
+        assert!(output.status.success());
+        String::from_utf8(output.stderr).unwrap()
+    };
+    assert_eq!(told(&words), "");
+    let lines = told(&words[..9]);
+    assert!(lines.lines().count() == 9 && lines.starts_with("10 %, ") && lines.ends_with(" s left\n"), "{lines}");
 }
 
 #[test]
@@ -271,7 +301,7 @@ fn a_second_run_takes_the_place_of_the_first() {
 #[test]
 fn other_words() {
     let given = Given::new("words");
-    for words in [&[][..], &["clean"], &["clean", "--left", "x"], &["demo"], &["wash", "x"]] {
+    for words in [&[][..], &["clean"], &["clean", "--own-lag"], &["clean", "--left", "x"], &["demo"], &["wash", "x"]] {
         given.fails(host(words), &["--help"]);
     }
     let help = host(&["--help"]);

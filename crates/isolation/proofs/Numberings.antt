@@ -25,9 +25,10 @@ use Rattle.frame.specs.declared.Reply.{Reply}
 use Rattle.frame.specs.declared.Reply.the-variants.{Refused}
 use Rattle.frame.proofs.Cases.{call1-by, call2-by, call3-by, call4-by}
 use Rattle.frame.proofs.Truth.{false-true}
+use Rattle.halves.proofs.Sister.{call2-own-by}
 use Rattle.desk.specs.declared.Record.{Record}
 use Rattle.desk.specs.Gate.{gate, shareOf}
-use Rattle.desk.specs.Desk.{Ask, opening, call1, call2, call3, call4, callOf, started, answered, opened, onShare, desk}
+use Rattle.desk.specs.Desk.{Ask, opening, call1, call2, call2Own, call3, call4, callOf, started, answered, opened, onShare, desk}
 use Rattle.isolation.specs.Run.{Call, openingOf, State, given, after, ended}
 use Rattle.isolation.specs.Numbering.{framed, heard, count, Unopened, Numbering}
 
@@ -65,6 +66,7 @@ module _ (b : Record) (share : List Float) where
       go (Unread n l) e = both refl refl
   frame-step (call1 x w) shut = call1-by share (CountedOf b (call1 x w)) (refused b (call1 x w)) x w (λ _ _. both refl refl)
   frame-step (call2 x l w s) shut = call2-by share (CountedOf b (call2 x l w s)) (refused b (call2 x l w s)) x l w s (λ _. both refl refl)
+  frame-step (call2Own x w s) shut = call2-own-by share (CountedOf b (call2Own x w s)) (refused b (call2Own x w s)) x w s (λ _. both refl refl)
   frame-step (call3 x l m o) shut =
       call3-by share (CountedOf b (call3 x l m o)) (refused b (call3 x l m o)) (b .index) (b .vad) (b .noise) (b .denoise) x l m o
       (λ _ _ _. both refl refl) (both refl refl) (λ _ _ _ _ _. both refl refl)
