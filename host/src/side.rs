@@ -77,7 +77,9 @@ pub fn side(paths: &[PathBuf]) -> Result<(), String> {
     let mut bad = vec![];
     for path in paths {
         match one(path) {
-            Ok(sheet) if misnamed(path, &sheet) => bad.push(format!("{}: the name says another side: {sheet}", path.display())),
+            Ok(sheet) if misnamed(path, &sheet) => {
+                bad.push(format!("{}: the name says another side: {sheet}", path.display()))
+            }
             Ok(sheet) => println!("{}: {sheet}", path.display()),
             Err(why) => bad.push(format!("{}: {why}", path.display())),
         }

@@ -165,7 +165,9 @@ mod tests {
         assert_eq!((&wav.channels[0][..], wav.clipped), (&[32_767.0, -32_768.0, 1.5, -1.0][..], 1));
         let mut more = [0; 24];
         (more[0], more[8]) = (22, 1);
-        let extensible = [&bytes[..16], &40u32.to_le_bytes(), &0xFFFEu16.to_le_bytes(), &bytes[22..36], &more, &bytes[36..]].concat();
+        let extensible =
+            [&bytes[..16], &40u32.to_le_bytes(), &0xFFFEu16.to_le_bytes(), &bytes[22..36], &more, &bytes[36..]]
+                .concat();
         assert_eq!(read(&extensible), Ok(wav));
     }
 

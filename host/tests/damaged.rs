@@ -48,7 +48,12 @@ fn recordings_and_sheets() {
     for i in 0..100_000 {
         let mut file = good[i % good.len()].clone();
         damage(rng, &mut file);
-        let results = [wav::read(&file).is_ok(), wav::audio_end(&file).is_ok(), Sheet::of(&file).is_ok(), mend::of(&file).is_ok()];
+        let results = [
+            wav::read(&file).is_ok(),
+            wav::audio_end(&file).is_ok(),
+            Sheet::of(&file).is_ok(),
+            mend::of(&file).is_ok(),
+        ];
         for (count, ok) in read.iter_mut().zip(results) {
             *count += u32::from(ok);
         }
