@@ -4,9 +4,10 @@ use crate::cleaned::Cleaned;
 use crate::folder::{told, Folder};
 use crate::recorder::{LagBy, Recorder, Side};
 use crate::refusal::Refusal;
-use crate::{picture, side, table, wav, FRAME, RATE};
+use crate::{page, picture, side, table, wav, FRAME, RATE};
 use std::fs;
 use std::path::{Path, PathBuf};
+use std::time::Instant;
 
 /// The 480 samples of a frame; past the end of the recording they are 0.
 pub fn samples_of(recording: &[f32], frame: usize) -> [f32; FRAME] {
@@ -65,6 +66,8 @@ pub struct Job {
     pub inputs: Inputs,
     pub model: PathBuf,
     pub lag_by: LagBy,
+    /// Whether no progress is told.
+    pub quiet: bool,
     pub out: PathBuf,
 }
 
@@ -94,7 +97,8 @@ fn channels_of(path: &Path, count: usize) -> Result<Vec<Vec<f32>>, String> {
     Ok(wav.channels)
 }
 
-/// Writes the two recordings, each with its side sheet, the table and the picture, and what else there is, by its name.
+/// Writes the two recordings, each with its side sheet, the table, the picture and the page, and what else there is, by its name: a
+/// recording as it was before is named for the page.
 pub fn store(benches: &[Cleaned; 2], more: &[(String, Vec<u8>)], out: &Path) -> Result<(), String> {
     let mut folder = Folder::new(out)?;
     for (name, bytes) in more {
@@ -107,18 +111,22 @@ pub fn store(benches: &[Cleaned; 2], more: &[(String, Vec<u8>)], out: &Path) -> 
     }
     folder.write("frames.csv", table::csv(benches).as_bytes())?;
     folder.write("benches.svg", picture::svg(benches).as_bytes())?;
+    let before = |bench: &Cleaned| format!("{}-before.wav", bench.side.name());
+    let named = |bench: &Cleaned| more.iter().map(|(name, _)| &name[..]).find(|name| *name == before(bench));
+    folder.write("index.html", page::html(benches, [named(&benches[0]), named(&benches[1])]).as_bytes())?;
     folder.keep()
 }
 
-/// Tells how far a long recording has come, on standard error.
-pub fn progress_of(samples: usize) -> impl FnMut(f64) {
-    let long = samples > 60 * RATE as usize;
-    let mut told = 0;
+/// Tells how far a long recording has come, and how long it will take yet, on standard error.
+pub fn progress_of(samples: usize, quiet: bool) -> impl FnMut(f64) {
+    let tells = samples > 60 * RATE as usize && !quiet;
+    let (mut told, start) = (0, Instant::now());
     move |share| {
         let tenth = (10.0 * share) as u32;
-        if long && tenth > told {
+        if tells && tenth > told {
             told = tenth;
-            eprintln!("{}0 %", tenth);
+            let left = start.elapsed().as_secs_f64() * (1.0 - share) / share;
+            eprintln!("{tenth}0 %, {left:.0} s left");
         }
     }
 }
@@ -133,7 +141,7 @@ pub fn clean(job: &Job) -> Result<[Cleaned; 2], String> {
             (channels.remove(0), right)
         }
     };
-    let progress = progress_of(left.len().max(right.len()));
+    let progress = progress_of(left.len().max(right.len()), job.quiet);
     let benches = run(left, right, &model, job.lag_by, progress).map_err(|refusal| told(&job.model, refusal))?;
     store(&benches, &[], &job.out)?;
     Ok(benches)

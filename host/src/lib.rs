@@ -9,6 +9,7 @@ pub mod folder;
 pub mod lags;
 pub mod mend;
 pub mod pack;
+pub mod page;
 pub mod picture;
 pub mod recorder;
 pub mod reference;

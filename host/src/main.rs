@@ -8,11 +8,12 @@ host: cleans two dictations, one for each bench
 
   host clean --left L.wav --right R.wav --model M.rnn --out DIR
   host clean --both STEREO.wav --model M.rnn --out DIR
-      Recordings of 48 kHz, 16-bit PCM or 32-bit float; of a stereo file the left
-      channel is the left bench. Writes left.wav, right.wav, frames.csv and
-      benches.svg into DIR. Each recording carries its side sheet behind the audio.
-      With --own-lag the library finds each frame's lag, and
-      not the Rust text's finder.
+      Recordings of 48 kHz, 16-bit or 24-bit PCM or 32-bit float; of a stereo file
+      the left channel is the left bench. Writes left.wav, right.wav, frames.csv,
+      benches.svg and index.html, a page with all of it, into DIR. Each recording
+      carries its side sheet behind the audio.
+      With --own-lag the library finds each frame's lag, and not the Rust text's finder.
+      A long recording's progress is told, unless -q stands there.
   host demo DIR
       The same with two dictations over a grinder and the house model, which come
       with the program; the recordings before cleaning are written too.
@@ -33,7 +34,7 @@ host: cleans two dictations, one for each bench
   host lags
       How often our own lag and that of the Rust text agree, on the demo's voices
       and on seeded ones of known pitch.
-  host --help
+  host --help, host --version
 
 Exit status: 0 done, 2 something was not right; then nothing is written.
 ";
@@ -49,21 +50,23 @@ fn options(words: &[String], names: &[&str]) -> Option<Vec<PathBuf>> {
 
 fn job(words: &[String]) -> Option<Job> {
     let mut words = words.to_vec();
-    let own = words.iter().position(|word| word == "--own-lag").map(|at| words.remove(at));
-    let lag_by = if own.is_some() { LagBy::Library } else { LagBy::Finder };
+    let mut flag = |name| words.iter().position(|word| word == name).map(|at| words.remove(at)).is_some();
+    let lag_by = if flag("--own-lag") { LagBy::Library } else { LagBy::Finder };
+    let quiet = flag("-q");
     let words = &words[..];
     if let Some(mut paths) = options(words, &["--left", "--right", "--model", "--out"]) {
         let (out, model, right, left) = (paths.pop()?, paths.pop()?, paths.pop()?, paths.pop()?);
-        return Some(Job { inputs: Inputs::Two { left, right }, model, lag_by, out });
+        return Some(Job { inputs: Inputs::Two { left, right }, model, lag_by, quiet, out });
     }
     let mut paths = options(words, &["--both", "--model", "--out"])?;
     let (out, model, both) = (paths.pop()?, paths.pop()?, paths.pop()?);
-    Some(Job { inputs: Inputs::Stereo(both), model, lag_by, out })
+    Some(Job { inputs: Inputs::Stereo(both), model, lag_by, quiet, out })
 }
 
 fn run(words: &[String]) -> Result<(), String> {
     match words {
         [help] if help == "--help" || help == "-h" => print!("{HELP}"),
+        [version] if version == "--version" => println!("host {}", env!("CARGO_PKG_VERSION")),
         [bench] if bench == "bench" => host::bench::bench(),
         [lags] if lags == "lags" => host::lags::lags()?,
         [demo, dir] if demo == "demo" => {

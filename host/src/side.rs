@@ -61,6 +61,13 @@ impl fmt::Display for Sheet {
     }
 }
 
+/// Whether a file's name has the other side's name in it, and not its own.
+fn misnamed(path: &Path, sheet: &Sheet) -> bool {
+    let name = path.file_name().unwrap_or_default().to_string_lossy().to_lowercase();
+    let has = |side: Side| name.contains(side.name());
+    !has(sheet.side) && Side::BOTH.into_iter().any(has)
+}
+
 /// A line for each file. The files without a good sheet come back, each with the reason.
 pub fn side(paths: &[PathBuf]) -> Result<(), String> {
     let one = |path: &Path| {
@@ -70,6 +77,9 @@ pub fn side(paths: &[PathBuf]) -> Result<(), String> {
     let mut bad = vec![];
     for path in paths {
         match one(path) {
+            Ok(sheet) if misnamed(path, &sheet) => {
+                bad.push(format!("{}: the name says another side: {sheet}", path.display()))
+            }
             Ok(sheet) => println!("{}: {sheet}", path.display()),
             Err(why) => bad.push(format!("{}: {why}", path.display())),
         }

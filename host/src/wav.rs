@@ -1,4 +1,4 @@
-//! WAV files: 16-bit PCM or f32 in, 16-bit PCM out. A sample is a number from -32768 to 32767, as the library takes it; a float beyond
+//! WAV files: 16-bit or 24-bit PCM or f32 in, 16-bit PCM out. A sample is a number from -32768 to 32767, as the library takes it; a float beyond
 //! these, as full scale is, is taken for the nearer of the two.
 
 use std::fmt;
@@ -37,7 +37,7 @@ impl fmt::Display for Fault {
         match self {
             Fault::NotWav => write!(f, "not a WAV file"),
             Fault::Format { tag, bits } => {
-                write!(f, "16-bit PCM or 32-bit float is wanted; this has format {tag} with {bits} bits")
+                write!(f, "16-bit or 24-bit PCM or 32-bit float is wanted; this has format {tag} with {bits} bits")
             }
             Fault::Channels(n) => write!(f, "one or two channels are wanted; this has {n}"),
             Fault::NotFinite { channel, sample } => {
@@ -96,6 +96,8 @@ pub fn read(bytes: &[u8]) -> Result<Wav, Fault> {
     }
     let samples: Vec<f32> = match (tag, bits) {
         (1, 16) => data.chunks_exact(2).map(|b| f32::from(i16::from_le_bytes([b[0], b[1]]))).collect(),
+        // the third byte is a fraction of a sample
+        (1, 24) => data.chunks_exact(3).map(|b| i32::from_le_bytes([0, b[0], b[1], b[2]]) as f32 / 65_536.0).collect(),
         (3, 32) => data.chunks_exact(4).map(|b| 32_768.0 * f32::from_le_bytes([b[0], b[1], b[2], b[3]])).collect(),
         _ => return Err(Fault::Format { tag, bits }),
     };
@@ -151,6 +153,24 @@ mod tests {
         bytes
     }
 
+    /// An EXTENSIBLE header has 24 bytes more, and the format's tag at the start of its identifier.
+    #[test]
+    fn three_bytes_a_sample() {
+        let mut bytes = write(48_000, &[0.0; 6]);
+        (bytes[34], bytes[32]) = (24, 3);
+        for (to, x) in bytes[44..].chunks_exact_mut(3).zip([0x7F_FFFFi32, -0x80_0000, 0x01_80, -0x01_00]) {
+            to.copy_from_slice(&x.to_le_bytes()[..3]);
+        }
+        let wav = read(&bytes).unwrap();
+        assert_eq!((&wav.channels[0][..], wav.clipped), (&[32_767.0, -32_768.0, 1.5, -1.0][..], 1));
+        let mut more = [0; 24];
+        (more[0], more[8]) = (22, 1);
+        let extensible =
+            [&bytes[..16], &40u32.to_le_bytes(), &0xFFFEu16.to_le_bytes(), &bytes[22..36], &more, &bytes[36..]]
+                .concat();
+        assert_eq!(read(&extensible), Ok(wav));
+    }
+
     #[test]
     fn full_scale_is_taken_for_the_ends() {
         let wav = read(&floats(1, &[1.0, -1.0, 0.5, -1.5, 2.0, 32_767.0 / 32_768.0])).unwrap();
@@ -174,8 +194,8 @@ mod tests {
             assert!(read(&good[..n]).is_err() || n >= 44, "{n} bytes");
         }
         let mut bytes = good.clone();
-        bytes[34] = 24;
-        assert_eq!(read(&bytes), Err(Fault::Format { tag: 1, bits: 24 }));
+        bytes[34] = 8;
+        assert_eq!(read(&bytes), Err(Fault::Format { tag: 1, bits: 8 }));
         bytes = good;
         bytes[22] = 3;
         assert_eq!(read(&bytes), Err(Fault::Channels(3)));

@@ -56,10 +56,10 @@ impl Given {
     }
 }
 
-const WRITTEN: [&str; 4] = ["left.wav", "right.wav", "frames.csv", "benches.svg"];
+const WRITTEN: [&str; 5] = ["left.wav", "right.wav", "frames.csv", "benches.svg", "index.html"];
 
 #[test]
-fn clean_writes_its_four_files() {
+fn clean_writes_its_files() {
     let given = Given::new("clean");
     let output = given.clean("left.wav", "right.wav", "house.rnn", "out");
     assert!(output.status.success(), "{}", String::from_utf8_lossy(&output.stderr));
@@ -148,6 +148,34 @@ fn the_demo_needs_no_files() {
         assert!(out.join(name).exists(), "{name}");
     }
     assert!(String::from_utf8(output.stdout).unwrap().contains("benches.svg"));
+    // the page names only files that are there, and no other place
+    let page = fs::read_to_string(out.join("index.html")).unwrap();
+    let names: Vec<&str> = page.split(['"']).skip(1).step_by(2).filter(|word| word.contains('.')).collect();
+    assert_eq!(names.len(), 6, "{names:?}");
+    assert!(names.iter().all(|name| out.join(name).exists()) && !page.contains("://"), "{names:?}");
+}
+
+/// Over a minute of sound the progress is told, but not where `-q` stands.
+#[test]
+fn a_long_recording_tells_its_progress() {
+    let given = Given::new("long");
+    given.put("long.wav", &wav::write(48_000, &vec![0.0; 61 * 48_000]));
+    let [l, m, o] = ["long.wav", "house.rnn", "out"].map(|name| given.at(name));
+    let words = ["clean", "--left", &l, "--right", &l, "--model", &m, "--out", &o, "-q"];
+    let told = |words: &[&str]| {
+        let output = host(words);
+        assert!(output.status.success());
+        String::from_utf8(output.stderr).unwrap()
+    };
+    assert_eq!(told(&words), "");
+    let lines = told(&words[..9]);
+    assert!(lines.lines().count() == 9 && lines.starts_with("10 %, ") && lines.ends_with(" s left\n"), "{lines}");
+}
+
+#[test]
+fn the_version_is_told() {
+    let output = host(&["--version"]);
+    assert!(output.status.success() && output.stdout.starts_with(b"host "));
 }
 
 #[test]
@@ -155,6 +183,29 @@ fn a_missing_file() {
     let given = Given::new("missing");
     given.fails(given.clean("none.wav", "right.wav", "house.rnn", "out"), &["none.wav"]);
     given.fails(given.clean("left.wav", "right.wav", "none.rnn", "out"), &["none.rnn"]);
+}
+
+#[test]
+fn a_folder_for_a_file() {
+    let given = Given::new("folder");
+    fs::create_dir(given.path.join("dir.wav")).unwrap();
+    given.fails(given.clean("dir.wav", "right.wav", "house.rnn", "out"), &["dir.wav"]);
+}
+
+/// No sample, one, and many channels.
+#[test]
+fn strange_recordings() {
+    let given = Given::new("strange");
+    given.put("none.wav", &wav::write(48_000, &[]));
+    given.put("one.wav", &wav::write(48_000, &[5.0]));
+    assert!(given.clean("none.wav", "one.wav", "house.rnn", "out").status.success());
+    let read = |name: &str| wav::read(&fs::read(given.path.join(name)).unwrap()).unwrap().channels[0].len();
+    assert_eq!((read("out/left.wav"), read("out/right.wav")), (0, 1));
+    fs::remove_dir_all(given.path.join("out")).unwrap();
+    let mut many = wav::write(48_000, &[0.0; 8]);
+    many[22..24].copy_from_slice(&[0xFF; 2]);
+    given.put("many.wav", &many);
+    given.fails(given.clean("left.wav", "many.wav", "house.rnn", "out"), &["many.wav", "65535"]);
 }
 
 #[test]

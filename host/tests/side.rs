@@ -52,6 +52,20 @@ fn a_line_for_each_recording() {
     );
 }
 
+/// The side is in the file, so a wrong name is found out.
+#[test]
+fn a_name_that_says_the_other_side() {
+    let (left, right) = (recording(0, &[0]), recording(1, &[0]));
+    let (output, said, why) =
+        side("named", &[("left.wav", &right), ("RIGHT-2.wav", &right), ("left-or-right.wav", &left)]);
+    assert_eq!(output.status.code(), Some(2));
+    assert_eq!(
+        said,
+        "RIGHT-2.wav: right side, 1 frames, 0 heard, no gap\nleft-or-right.wav: left side, 1 frames, 0 heard, no gap\n"
+    );
+    assert!(why.contains("left.wav: the name says another side: right side"), "{why}");
+}
+
 #[test]
 fn a_file_without_a_good_sheet() {
     let good = recording(0, &[0, 1]);

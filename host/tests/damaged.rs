@@ -1,0 +1,75 @@
+//! Randomly damaged recordings, sheets and models through the readers: each is read or refused, and none ends in a panic.
+
+use host::demo::{Rng, HOUSE};
+use host::recorder::{Recorder, Side};
+use host::side::Sheet;
+use host::{mend, wav};
+
+/// A short recording with a sheet behind it, as `host clean` writes it, in one of the forms that are read.
+fn recordings() -> Vec<Vec<u8>> {
+    let samples: Vec<f32> = (0..24).map(|i| 100.0 * i as f32 - 1_000.0).collect();
+    let mut forms = vec![];
+    for (tag, bits, channels) in [(1, 16, 1), (1, 24, 2), (3, 32, 1), (0xFE, 16, 2)] {
+        let mut file = wav::write(48_000, &samples);
+        (file[20], file[22], file[34]) = (tag, channels, bits);
+        let audio = file.len();
+        file.resize(audio + 8 * 3 + 16, 0);
+        assert_eq!(tuppence::sheet_write(&mut file[audio..], 1, &[0, 1, 1 << 32 | 2]), 0);
+        forms.push(file);
+    }
+    forms
+}
+
+/// A byte changed, a few bytes of a number set to an end, the file cut or lengthened; mostly one of these, sometimes several.
+fn damage(rng: &mut Rng, file: &mut Vec<u8>) {
+    for _ in 0..1 + rng.next() % 3 {
+        let at = rng.next() as usize % (file.len() + 1);
+        match rng.next() % 6 {
+            0 => file.truncate(at),
+            1 => file.extend(vec![rng.next() as u8; at % 64]),
+            2 => file[at.min(40)..].iter_mut().take(4).for_each(|byte| *byte = 0xFF),
+            3 => file[at.min(40)..].iter_mut().take(2).for_each(|byte| *byte = 0),
+            _ => {
+                if let Some(byte) = file.get_mut(at) {
+                    *byte = rng.next() as u8;
+                }
+            }
+        }
+        if file.len() < 64 {
+            break;
+        }
+    }
+}
+
+#[test]
+fn recordings_and_sheets() {
+    let (rng, good) = (&mut Rng(7), recordings());
+    let mut read = [0; 4];
+    for i in 0..100_000 {
+        let mut file = good[i % good.len()].clone();
+        damage(rng, &mut file);
+        let results = [
+            wav::read(&file).is_ok(),
+            wav::audio_end(&file).is_ok(),
+            Sheet::of(&file).is_ok(),
+            mend::of(&file).is_ok(),
+        ];
+        for (count, ok) in read.iter_mut().zip(results) {
+            *count += u32::from(ok);
+        }
+    }
+    // some of each are read still, and some of each are not
+    assert!(read.iter().all(|n| (1_000..99_000).contains(n)), "{read:?}");
+}
+
+#[test]
+fn models() {
+    let (rng, mut recorder) = (&mut Rng(8), Recorder::default());
+    let mut read = 0;
+    for _ in 0..20_000 {
+        let mut model = HOUSE.to_vec();
+        damage(rng, &mut model);
+        read += u32::from(recorder.open(Side::Left, &model).is_ok());
+    }
+    assert!((1_000..19_000).contains(&read), "{read}");
+}
