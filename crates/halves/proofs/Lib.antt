@@ -1,1 +1,3 @@
+pub mod Lagged
+pub mod Onward
 pub mod Sister
