@@ -49,7 +49,7 @@ module _ (share : List Float) where
   bad n = same (refusal (told.Refused n) share) refl refl
 
   -- the gains go in last, over a share whose gains are still the old ones
-  spoken-holds : (e : Float) (index : ℕ) (spectrum logs : List Float) (bytes : List ℕ) (m : Model) → readOf bytes ≡ Good m → length share ≡ SHARE → index ≤ 7
+  pub spoken-holds : (e : Float) (index : ℕ) (spectrum logs : List Float) (bytes : List ℕ) (m : Model) → readOf bytes ≡ Good m → length share ≡ SHARE → index ≤ 7
       → Holds share (heard e (spoken share index spectrum logs bytes m))
   unfolding spokenFrom
   spoken-holds e index spectrum logs bytes m good whole inside =

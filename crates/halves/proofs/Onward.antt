@@ -16,7 +16,11 @@ use Rattle.frame.proofs.Done.{call4-done}
 use Rattle.halves.specs.Own.{call2Own}
 use Rattle.halves.specs.Halves.{onward, buffer, analysed, firstHalf, lookedBack, synthesised, secondHalf}
 
-length-inverse : (spectrum : List Float) → length (inverseOf spectrum) ≡ 960
+pub length-forward : (samples : List Float) → length (forwardOf samples) ≡ 961
+unfolding forwardOf
+length-forward samples = length-tab 961 _
+
+pub length-inverse : (spectrum : List Float) → length (inverseOf spectrum) ≡ 960
 unfolding inverseOf
 length-inverse spectrum = length-tab 960 _
 
