@@ -39,7 +39,7 @@ module _ (q : Place) where
   put-beside p share ys inside apart whole l =
       record { size = length-put p share ys (omega arith) l ∙ whole; same = get-put-apart p q share ys (omega arith) l apart }
 
-  then : {a b c : List Float} → Beside q a b → Beside q b c → Beside q a c
+  pub then : {a b c : List Float} → Beside q a b → Beside q b c → Beside q a c
   then h k = record { size = k .size; same = k .same ∙ h .same }
 
   pub done1-beside : (share samples : List Float) → AllApart (inputMem ∷ memHpX ∷ []) q → length share ≡ SHARE → length samples ≡ 480

@@ -42,7 +42,7 @@ pub record Holds (share : List Float) (f : Effect) : Type 0 where
   pub raised : (i : ℕ) → i < 22 → isNan (gainOf share i) ≡ false → isHeard (f .reply) ≡ true → le (sixTenths (gainOf share i)) (gainOf (f .share) i) ≡ true
 
 module _ (share : List Float) where
-  same : (f : Effect) → isHeard (f .reply) ≡ false → get lastg (f .share) ≡ get lastg share → Holds share f
+  pub same : (f : Effect) → isHeard (f .reply) ≡ false → get lastg (f .share) ≡ get lastg share → Holds share f
   same f e s = record { number = λ i h n. rw s n; raised = λ i h n r. absurd (false-true (rw e at r)) }
 
   bad : (n : ℕ) → Holds share (refusal (told.Refused n) share)

@@ -4,14 +4,11 @@ use native.Mathlib.Omega.{arith}
 use mathlib.Core.List.{List, [], _∷_}
 use mathlib.Core.Logic.{inl}
 use mathlib.Core.Path.{_≡_, refl, sym, subst}
-use borrow.Author.Tests.{ltb-false}
 use lib.Dec.{ltb}
 use lib.ListN.{length, drop}
 use lib.Ieee.{Float}
-use Rattle.rules.specs.Place.{Place, get}
-use Rattle.rules.specs.Refusals.{Row, _when_, wrong}
-use Rattle.rules.proofs.Refused.{Right, right, Clear, by-rows}
-use Rattle.rules.proofs.Tabs.{length-tab}
+use Rattle.rules.specs.Place.{get}
+use Rattle.rules.specs.Refusals.{_when_}
 use Rattle.model.specs.Model.{readOf}
 use Rattle.model.specs.declared.Model.{Model}
 use Rattle.model.specs.declared.Reading.the-variants.{Good, Refused as Unread}
@@ -19,13 +16,14 @@ use Rattle.transforms.specs.Transform.{forwardOf, inverseOf}
 use Rattle.lag.specs.Lag.{ownLag}
 use Rattle.lag.proofs.Ranges.{in-range}
 use Rattle.frame.specs.declared.Reply.{Reply}
-use Rattle.frame.specs.declared.Reply.the-variants.{Done, Silent, Heard, Refused, Misread}
+use Rattle.frame.specs.declared.Reply.the-variants.{Silent, Heard, Refused, Misread}
 use Rattle.frame.specs.Share.{SHARE, inputMem, keptX}
-use Rattle.frame.specs.Heard.{Spoken, spoken}
-use Rattle.frame.specs.Frame.{Effect, refusal, unless, done1, call1, done2, call2, call3, done4, call4, silent, heard}
-use Rattle.frame.proofs.Beside.{Beside, done1-beside, done3-beside}
-use Rattle.frame.proofs.Cases.{call1-by, call3-by}
+use Rattle.frame.specs.Heard.{spoken}
+use Rattle.frame.specs.Frame.{Effect, refusal, done1, call1, done2, call3, done4}
+use Rattle.frame.proofs.Beside.{done1-beside, done3-beside}
+use Rattle.frame.proofs.Cases.{by-table, call1-by, call3-by}
 use Rattle.frame.proofs.Done.{call2-done, call4-done}
+use Rattle.frame.proofs.Keeps.{end}
 use Rattle.halves.specs.Own.{call2Own}
 use Rattle.halves.specs.Halves.{onward, buffer, analysed, firstHalf, lookedBack, synthesised, secondHalf}
 use Rattle.halves.proofs.Onward.{length-forward, length-inverse}
@@ -43,10 +41,6 @@ abbrev pub doneSecond : Reply → List Float → List Float → Effect
 doneSecond reply share spectrum =
     let b = done4 share (inverseOf spectrum) in
     record { reply = reply; share = b .share; written = b .written }
-
--- behind every field
-abbrev end : Place
-end = record { at = 3776; size = 0 }
 
 module _ (share samples : List Float) (whole : length share ≡ SHARE) (l : length samples ≡ 480) where
   -- call 1 keeps the share's length
@@ -66,13 +60,10 @@ synthesised-done reply share spectrum out whole e = rw (call4-done share whole (
 -- ---- the halves, for a claim P that every refusal meets
 
 module _ (share : List Float) (P : Effect → Type 0) (bad : (n : ℕ) → P (refusal (Refused n) share)) where
-  by-table : (ps : List (ℕ × ℕ)) (rows : List Row) (f : Effect) → (Right ps → Clear rows → P f) → P (unless (5 when wrong ps ∷ rows) share f)
-  by-table ps rows f h = by-rows (λ n. refusal (Refused n) share) f P (5 when wrong ps ∷ rows) bad (λ c. h (right ps (c .0)) (c .1))
-
   pub first-half-by : (samples : List Float) (sums : ℕ) → (length share ≡ SHARE → length samples ≡ 480 → P (doneFirst share samples)) → P (firstHalf share samples sums)
   unfolding firstHalf
   first-half-by samples sums h =
-      by-table ((length share, SHARE) ∷ (length samples, 480) ∷ (sums, 22) ∷ []) [] (onward (call1 share samples 960) second)
+      by-table share P bad ((length share, SHARE) ∷ (length samples, 480) ∷ (sums, 22) ∷ []) [] (onward (call1 share samples 960) second)
       (λ r _. call1-by share (λ f. P (onward f second)) bad samples 960 (λ whole l. subst P (sym (analysed-done share samples whole l sums (r .1 .1 .0))) (h whole l)))
     where
       second : Effect → Effect
@@ -87,7 +78,7 @@ module _ (share : List Float) (P : Effect → Type 0) (bad : (n : ℕ) → P (re
       → P (secondHalf share index vad noise denoise logs model out)
   unfolding secondHalf
   second-half-by index vad noise denoise logs model out misread still h =
-      by-table ((length share, SHARE) ∷ (length logs, 22) ∷ (out, 480) ∷ []) (5 when ltb 7 index ∷ []) (onward (call3 share index vad noise denoise spectrum logs model 961) second)
+      by-table share P bad ((length share, SHARE) ∷ (length logs, 22) ∷ (out, 480) ∷ []) (5 when ltb 7 index ∷ []) (onward (call3 share index vad noise denoise spectrum logs model 961) second)
       (λ r c.
       call3-by share (λ f. P (onward f second)) bad index vad noise denoise spectrum logs model 961 misread
       (subst P (sym (synthesised-done Silent share (get keptX share) out (r .0) (r .1 .1 .0))) (still (r .0)))

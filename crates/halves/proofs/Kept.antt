@@ -1,29 +1,23 @@
 -- What the halves keep, as the calls do: a share's length, and refused all of it; the remembered gains, which only a heard second half
 -- raises; and every place that lies apart from the written ones. Assumes nothing.
-use Prim.Native.Nat.{ℕ, _≤_}
+use Prim.Native.Nat.{ℕ}
 use native.Mathlib.Omega.{arith}
-use mathlib.Core.Bool.{Bool, true, false}
 use mathlib.Core.List.{List, [], _∷_}
-use mathlib.Core.Logic.{inl, inr}
-use mathlib.Core.Path.{_≡_, refl, sym, _∙_}
+use mathlib.Core.Logic.{inl}
+use mathlib.Core.Path.{_≡_, refl}
 use lib.ListN.{length}
 use lib.Ieee.{Float}
 use Rattle.rules.specs.Place.{Place, get}
-use Rattle.model.specs.Model.{readOf}
-use Rattle.model.specs.declared.Model.{Model}
-use Rattle.model.specs.declared.Reading.the-variants.{Good}
 use Rattle.transforms.specs.Transform.{forwardOf, inverseOf}
 use Rattle.lag.specs.Lag.{ownLag}
 use Rattle.frame.specs.declared.Reply.{Reply}
 use Rattle.frame.specs.declared.Reply.the-variants.{Silent, Heard, Refused, Misread}
-use Rattle.frame.specs.Reply.{passed}
-use Rattle.frame.specs.Share.{SHARE, inputMem, synthesisMem, keptX, keptEx, keptLag, memHpX, lastg, cepstralMem, vadState, noiseState, denoiseState}
+use Rattle.frame.specs.Share.{SHARE, inputMem, synthesisMem, keptX, keptEx, keptLag, memHpX, lastg}
 use Rattle.frame.specs.Heard.{spoken}
 use Rattle.frame.specs.Frame.{Effect, refusal, done1, heard}
-use Rattle.frame.proofs.Beside.{Beside, AllApart, done1-beside, done2-beside, done3-beside, done4-beside}
-use Rattle.frame.proofs.Held.{isHeard, Holds, spoken-holds}
-use Rattle.frame.proofs.Keeps.{Keeps}
-use Rattle.frame.proofs.Truth.{true-false, false-true}
+use Rattle.frame.proofs.Beside.{Beside, AllApart, then, done1-beside, done2-beside, done3-beside, done4-beside}
+use Rattle.frame.proofs.Held.{Holds, same, spoken-holds}
+use Rattle.frame.proofs.Keeps.{Keeps, end, unmoved, moved}
 use Rattle.halves.specs.Halves.{buffer, lookedBack, firstHalf, secondHalf}
 use Rattle.halves.proofs.Cases.{doneFirst, doneSecond, first-half-by, second-half-by}
 
@@ -36,56 +30,44 @@ module _ (q : Place) where
       let a = done1 share samples in
       let one = done1-beside q share samples (apart .0, (apart .1 .0, tt)) whole l in
       let two = done2-beside q (a .share) (forwardOf (buffer a)) (ownLag (get inputMem (a .share))) (apart .1 .1) (one .size) in
-      record { size = two .size; same = two .same ∙ one .same }
+      then q one two
 
   pub done-second-beside : (reply : Reply) (share after spectrum : List Float) → AllApart (synthesisMem ∷ []) q → Beside q share after
       → Beside q share (doneSecond reply after spectrum .share)
   done-second-beside reply share after spectrum apart b =
-      let last = done4-beside q after (inverseOf spectrum) apart (b .size) in
-      record { size = last .size; same = last .same ∙ b .same }
+      then q b (done4-beside q after (inverseOf spectrum) apart (b .size))
 
 -- ---- lengths, and what a refusal leaves
 
--- behind every field
-abbrev end : Place
-end = record { at = 3776; size = 0 }
-
 module _ (share : List Float) where
-  unmoved : (reply : Reply) → Keeps share (refusal reply share)
-  unmoved reply = record { size = refl; still = λ _. refl }
+  refused : (reply : Reply) → Keeps share (refusal reply share)
+  refused reply = unmoved share reply []
 
-  moved : (f : Effect) → passed (f .reply) ≡ true → length share ≡ SHARE → Beside end share (f .share) → Keeps share f
-  moved f e whole b = record { size = b .size ∙ sym whole; still = λ h. absurd (true-false (sym e ∙ h)) }
-
-  -- a share as it was, and as a heard call 3 leaves it
   as-it-was : (q : Place) → length share ≡ SHARE → Beside q share share
   as-it-was q whole = record { size = whole; same = refl }
 
   pub first-half-keeps : (samples : List Float) (sums : ℕ) → Keeps share (firstHalf share samples sums)
   first-half-keeps samples sums =
-      first-half-by share (Keeps share) (λ n. unmoved (Refused n)) samples sums
-      (λ whole l. moved (doneFirst share samples) refl whole (done-first-beside end share samples (inl (omega arith), (inl (omega arith), (inl (omega arith), (inl (omega arith), (inl (omega arith), tt))))) whole l))
+      first-half-by share (Keeps share) (λ n. refused (Refused n)) samples sums
+      (λ whole l. moved share (doneFirst share samples) refl whole (done-first-beside end share samples (inl (omega arith), (inl (omega arith), (inl (omega arith), (inl (omega arith), (inl (omega arith), tt))))) whole l))
 
   pub second-half-keeps : (index vad noise denoise : ℕ) (logs : List Float) (model : List ℕ) (out : ℕ) → Keeps share (secondHalf share index vad noise denoise logs model out)
   second-half-keeps index vad noise denoise logs model out =
-      second-half-by share (Keeps share) (λ n. unmoved (Refused n)) index vad noise denoise logs model out (λ n l _. unmoved (Misread n l))
-      (λ whole. moved (doneSecond Silent share (get keptX share)) refl whole (done-second-beside end Silent share share (get keptX share) (inl (omega arith), tt) (as-it-was end whole)))
+      second-half-by share (Keeps share) (λ n. refused (Refused n)) index vad noise denoise logs model out (λ n l _. refused (Misread n l))
+      (λ whole. moved share (doneSecond Silent share (get keptX share)) refl whole (done-second-beside end Silent share share (get keptX share) (inl (omega arith), tt) (as-it-was end whole)))
       (λ e m good whole inside.
       let s = spoken share index (forwardOf (lookedBack share)) logs model m in
-      moved (doneSecond (Heard (s .voice) e) (s .share) (s .spectrum)) refl whole
+      moved share (doneSecond (Heard (s .voice) e) (s .share) (s .spectrum)) refl whole
       (done-second-beside end (Heard (s .voice) e) share (s .share) (s .spectrum) (inl (omega arith), tt)
       (done3-beside end share index (forwardOf (lookedBack share)) logs model m
       (inl (omega arith), (inl (omega arith), (inl (omega arith), (inl (omega arith), (inl (omega arith), tt))))) good whole inside)))
 
   -- ---- the remembered gains
 
-  unheard : (f : Effect) → isHeard (f .reply) ≡ false → get lastg (f .share) ≡ get lastg share → Holds share f
-  unheard f e s = record { number = λ i h n. rw s n; raised = λ i h n r. absurd (false-true (rw e at r)) }
-
   pub first-half-holds : (samples : List Float) (sums : ℕ) → Holds share (firstHalf share samples sums)
   first-half-holds samples sums =
-      first-half-by share (Holds share) (λ n. unheard (refusal (Refused n) share) refl refl) samples sums
-      (λ whole l. unheard (doneFirst share samples) refl (done-first-beside lastg share samples (inl (omega arith), (inl (omega arith), (inl (omega arith), (inl (omega arith), (inl (omega arith), tt))))) whole l .same))
+      first-half-by share (Holds share) (λ n. same share (refusal (Refused n) share) refl refl) samples sums
+      (λ whole l. same share (doneFirst share samples) refl (done-first-beside lastg share samples (inl (omega arith), (inl (omega arith), (inl (omega arith), (inl (omega arith), (inl (omega arith), tt))))) whole l .same))
 
   -- call 4 leaves the gains alone
   held-on : (reply : Reply) (after spectrum : List Float) {f : Effect} → f .reply ≡ reply → f .share ≡ after → length after ≡ SHARE → Holds share f → Holds share (doneSecond reply after spectrum)
@@ -95,9 +77,9 @@ module _ (share : List Float) where
 
   pub second-half-holds : (index vad noise denoise : ℕ) (logs : List Float) (model : List ℕ) (out : ℕ) → Holds share (secondHalf share index vad noise denoise logs model out)
   second-half-holds index vad noise denoise logs model out =
-      second-half-by share (Holds share) (λ n. unheard (refusal (Refused n) share) refl refl) index vad noise denoise logs model out
-      (λ n l _. unheard (refusal (Misread n l) share) refl refl)
-      (λ whole. unheard (doneSecond Silent share (get keptX share)) refl (done4-beside lastg share (inverseOf (get keptX share)) (inl (omega arith), tt) whole .same))
+      second-half-by share (Holds share) (λ n. same share (refusal (Refused n) share) refl refl) index vad noise denoise logs model out
+      (λ n l _. same share (refusal (Misread n l) share) refl refl)
+      (λ whole. same share (doneSecond Silent share (get keptX share)) refl (done4-beside lastg share (inverseOf (get keptX share)) (inl (omega arith), tt) whole .same))
       (λ e m good whole inside.
       let s = spoken share index (forwardOf (lookedBack share)) logs model m in
       held-on (Heard (s .voice) e) (s .share) (s .spectrum) {f = heard e s} refl refl

@@ -3,7 +3,7 @@
 --     same-window    behind a call 2, whoever made it, the second half looks at that call's window
 -- Assumes nothing.
 use Prim.Native.Nat.{ℕ, zero, suc, _+_, _-_, _*_, _≤_, _<_, min}
-use native.Mathlib.Nat.{zero-add, mul-one, mul-right-comm, mul-lt-mul-of-pos-right}
+use native.Mathlib.Nat.{mul-one, mul-right-comm, mul-lt-mul-of-pos-right}
 use native.Mathlib.Omega.{arith}
 use mathlib.Core.Bool.{Bool, true, false, cond, true≢false}
 use mathlib.Core.List.{List, [], _∷_}
@@ -23,7 +23,7 @@ use Rattle.rules.specs.Loop.{loop, range}
 use Rattle.rules.specs.Place.{get, put}
 use Rattle.rules.specs.Refusals.{_when_, wrong}
 use Rattle.rules.proofs.Refused.{by-rows, right}
-use Rattle.rules.proofs.Places.{get-get, get-put, length-put}
+use Rattle.rules.proofs.Places.{get-put, length-put}
 use Rattle.rules.proofs.Tabs.{length-tab}
 use Rattle.bands.specs.Windowed.{windowed}
 use Rattle.bands.proofs.Results.{length-corr}
@@ -34,7 +34,7 @@ use Rattle.frame.specs.Share.{SHARE, inputMem, keptX, keptEx, keptLag}
 use Rattle.frame.specs.Heard.{scaled, energies}
 use Rattle.frame.specs.Frame.{Effect, refusal, recent, putKept, done2, call2}
 use Rattle.frame.proofs.Beside.{done2-beside}
-use Rattle.frame.proofs.Sizes.{lag-at}
+use Rattle.frame.proofs.Sizes.{lag-at, looked-at}
 use Rattle.frame.proofs.Truth.{false-true}
 use Rattle.halves.specs.Own.{call2Own}
 use Rattle.halves.specs.Halves.{buffer, lagStep, wholeLag, lookedBack}
@@ -101,16 +101,6 @@ module _ (lag : ℕ) (small : lag ≤ 768) where
   pub lag-back : wholeLag kept ≡ lag
   unfolding wholeLag range
   lag-back = counted 768 (omega arith) ∙ omega arith
-
--- the part of the share that the code lends is the part of the input memory
-looked-at : (share : List Float) (lag : ℕ) → length share ≡ SHARE → lag ≤ 768
-    → take (768 - lag + 960 - (768 - lag)) (drop (768 - lag) share) ≡ get (recent lag) (get inputMem share)
-unfolding get
-looked-at share lag l h =
-    let size : 768 - lag + 960 - (768 - lag) ≡ 960 = omega arith in
-    rw size
-    (ap (λ (n : ℕ). take 960 (drop n share)) (sym (zero-add (768 - lag)))
-    ∙ sym (get-get inputMem (recent lag) share (omega arith) (omega arith)))
 
 -- call 2's window
 pub looked-back : (share : List Float) {lag : ℕ} → length share ≡ SHARE → lag ≡ wholeLag (at share 3191)
