@@ -37,7 +37,7 @@ pub fn run(
     for side in Side::BOTH {
         recorder.open(side, model)?;
     }
-    let bench = |side, before| Cleaned { side, before, after: Vec::new(), heard: Vec::new() };
+    let bench = |side, before| Cleaned { side, before, after: Vec::new(), frames: Vec::new() };
     let mut benches = [bench(Side::Left, left), bench(Side::Right, right)];
     let most = benches.iter().map(|b| frames_of(&b.before)).max().unwrap_or(0);
     for frame in 0..most {
@@ -45,7 +45,7 @@ pub fn run(
             if frame < frames_of(&bench.before) {
                 let mut out = [0.0; FRAME];
                 let samples = samples_of(&bench.before, frame);
-                bench.heard.push(recorder.frame(bench.side, &samples, model, &mut out)?);
+                bench.frames.push(recorder.frame(bench.side, &samples, model, &mut out)?);
                 bench.after.extend(out);
             }
         }
@@ -85,6 +85,9 @@ fn channels_of(path: &Path, count: usize) -> Result<Vec<Vec<f32>>, String> {
     if wav.channels.len() != count {
         let wanted = if count == 1 { "one channel is" } else { "two channels are" };
         return Err(told(path, format!("{wanted} wanted; this has {}", wav.channels.len())));
+    }
+    if wav.clipped > 0 {
+        eprintln!("{}", told(path, format!("{} samples were beyond full scale, and are clipped", wav.clipped)));
     }
     Ok(wav.channels)
 }

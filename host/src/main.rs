@@ -79,7 +79,7 @@ fn run(words: &[String]) -> Result<(), String> {
             let job = job(rest).ok_or("clean: the options are not right; see host --help")?;
             let benches = clean(&job)?;
             for bench in &benches {
-                println!("{}: {} frames", bench.side.name(), bench.heard.len());
+                println!("{}: {} frames", bench.side.name(), bench.frames.len());
             }
         }
         _ => return Err("what shall be done? See host --help".into()),

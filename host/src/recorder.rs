@@ -9,6 +9,10 @@ use std::time::{Duration, Instant};
 /// The store's published length, and a side's share of it (docs/STORE.md).
 pub const STORE: usize = 98_304;
 const SHARE: usize = 6_144;
+/// A record's numbers: how many, and where the two stand that count frames.
+const RECORD: usize = 7;
+const FRAMES: usize = 5;
+const HEARD: usize = 6;
 /// `input_mem`, the first numbers of a share: what the lag is searched in.
 const INPUT_MEM: usize = 1_728;
 
@@ -37,6 +41,15 @@ pub enum Heard {
     Voice { probability: f32, energy: f32 },
 }
 
+/// A frame by its number, from 0 at the opening, and what it was.
+#[derive(Clone, Copy, Debug, PartialEq)]
+pub struct Frame {
+    pub number: u32,
+    pub heard: Heard,
+    /// How many frames were heard since the opening, this one among them.
+    pub heard_so_far: u32,
+}
+
 /// Where a frame's time goes.
 #[derive(Clone, Copy, Default)]
 pub struct Spent {
@@ -57,7 +70,7 @@ struct Buffers {
 /// One store, and for each bench its record and its pitch finder.
 pub struct Recorder {
     store: Vec<f32>,
-    records: [[u32; 5]; 2],
+    records: [[u32; RECORD]; 2],
     finders: [PitchFinder; 2],
     transform: Transform,
     buffers: Box<Buffers>,
@@ -68,7 +81,7 @@ impl Default for Recorder {
     fn default() -> Recorder {
         Recorder {
             store: vec![0.0; STORE],
-            records: [[0; 5]; 2],
+            records: [[0; RECORD]; 2],
             finders: [PitchFinder::new(), PitchFinder::new()],
             transform: Transform::default(),
             buffers: Box::new(Buffers {
@@ -107,7 +120,7 @@ impl Recorder {
     }
 
     /// One frame of a bench: 480 samples in, 480 out.
-    pub fn frame(&mut self, side: Side, samples: &[f32], model: &[u8], out: &mut [f32]) -> Result<Heard, Refusal> {
+    pub fn frame(&mut self, side: Side, samples: &[f32], model: &[u8], out: &mut [f32]) -> Result<Frame, Refusal> {
         let number = side as u32;
         let Recorder { store, records, finders, transform, buffers: b, spent } = self;
         let record = &mut records[side as usize];
@@ -130,8 +143,10 @@ impl Recorder {
         }))?;
         timed(&mut spent.transforms, || transform.inverse(&b.out, &mut b.window));
 
+        let frame = record[FRAMES];
         done(timed(&mut spent.calls[3], || tuppence::call4(record, store, number, &b.window, &mut out[..FRAME])))?;
         let [heard, probability, energy] = answer;
-        Ok(if heard == 0.0 { Heard::Silent } else { Heard::Voice { probability, energy } })
+        let heard = if heard == 0.0 { Heard::Silent } else { Heard::Voice { probability, energy } };
+        Ok(Frame { number: frame, heard, heard_so_far: record[HEARD] })
     }
 }

@@ -1,4 +1,5 @@
-//! WAV files: 16-bit PCM or f32 in, 16-bit PCM out. A sample is a number from -32768 to 32767, as the library takes it.
+//! WAV files: 16-bit PCM or f32 in, 16-bit PCM out. A sample is a number from -32768 to 32767, as the library takes it; a float beyond
+//! these, as full scale is, is taken for the nearer of the two.
 
 use std::fmt;
 
@@ -7,7 +8,13 @@ use std::fmt;
 pub struct Wav {
     pub rate: u32,
     pub channels: Vec<Vec<f32>>,
+    /// How many samples lay beyond the two ends.
+    pub clipped: usize,
 }
+
+/// The ends of what the library takes.
+const LOWEST: f32 = -32_768.0;
+const HIGHEST: f32 = 32_767.0;
 
 /// Why a file is not taken.
 #[derive(Debug, PartialEq)]
@@ -97,8 +104,10 @@ pub fn read(bytes: &[u8]) -> Result<Wav, Fault> {
     if let Some(at) = whole.iter().position(|x| !x.is_finite()) {
         return Err(Fault::NotFinite { channel: at % count, sample: at / count });
     }
-    let channels = (0..count).map(|c| whole.iter().skip(c).step_by(count).copied().collect()).collect();
-    Ok(Wav { rate: u32_at(format, 4).unwrap_or(0), channels })
+    let clipped = whole.iter().filter(|x| !(LOWEST..=HIGHEST).contains(*x)).count();
+    let taken = |x: &f32| x.clamp(LOWEST, HIGHEST);
+    let channels = (0..count).map(|c| whole.iter().skip(c).step_by(count).map(taken).collect()).collect();
+    Ok(Wav { rate: u32_at(format, 4).unwrap_or(0), channels, clipped })
 }
 
 /// One channel as 16-bit PCM: rounded, and kept within its ends; a NaN is 0.
@@ -116,7 +125,7 @@ pub fn write(rate: u32, samples: &[f32]) -> Vec<u8> {
     bytes.extend(b"data");
     bytes.extend(size.to_le_bytes());
     for x in samples {
-        bytes.extend((x.round().clamp(-32_768.0, 32_767.0) as i16).to_le_bytes());
+        bytes.extend((x.round().clamp(LOWEST, HIGHEST) as i16).to_le_bytes());
     }
     bytes
 }
@@ -129,7 +138,7 @@ mod tests {
     fn what_is_written_is_read() {
         let samples = [0.0, 1.4, -1.6, 40_000.0, -40_000.0];
         let wav = read(&write(48_000, &samples)).unwrap();
-        assert_eq!(wav, Wav { rate: 48_000, channels: vec![vec![0.0, 1.0, -2.0, 32_767.0, -32_768.0]] });
+        assert_eq!(wav, Wav { rate: 48_000, channels: vec![vec![0.0, 1.0, -2.0, 32_767.0, -32_768.0]], clipped: 0 });
     }
 
     /// A file of 32-bit floats.
@@ -140,6 +149,13 @@ mod tests {
             to.copy_from_slice(&x.to_le_bytes());
         }
         bytes
+    }
+
+    #[test]
+    fn full_scale_is_taken_for_the_ends() {
+        let wav = read(&floats(1, &[1.0, -1.0, 0.5, -1.5, 2.0, 32_767.0 / 32_768.0])).unwrap();
+        assert_eq!(wav.channels, [[32_767.0, -32_768.0, 16_384.0, -32_768.0, 32_767.0, 32_767.0]]);
+        assert_eq!(wav.clipped, 3);
     }
 
     #[test]

@@ -69,7 +69,7 @@ fn clean_writes_its_four_files() {
     wanted.sort();
     assert_eq!(names, wanted);
     let table = fs::read_to_string(given.path.join("out/frames.csv")).unwrap();
-    assert!(table.starts_with("side,frame,state,voice,energy\nleft,0,"));
+    assert!(table.starts_with("side,frame,heard so far,state,voice,energy\nleft,0,"));
     assert!(fs::read_to_string(given.path.join("out/benches.svg")).unwrap().starts_with("<svg"));
     let left = wav::read(&fs::read(given.path.join("out/left.wav")).unwrap()).unwrap();
     assert_eq!(left.channels[0].len(), dictation(0).noisy.len());
@@ -165,6 +165,19 @@ fn a_sample_that_is_not_finite() {
     floats[44 + 8..44 + 12].copy_from_slice(&f32::NAN.to_le_bytes());
     given.put("broken.wav", &floats);
     given.fails(given.clean("left.wav", "broken.wav", "house.rnn", "out"), &["broken.wav", "sample 2", "finite"]);
+}
+
+#[test]
+fn full_scale_is_clipped() {
+    let given = Given::new("clipped");
+    let mut floats = wav::write(48_000, &[0.0; 8]);
+    (floats[20], floats[34]) = (3, 32);
+    floats[44..48].copy_from_slice(&1.0f32.to_le_bytes());
+    given.put("loud.wav", &floats);
+    let output = given.clean("left.wav", "loud.wav", "house.rnn", "out");
+    assert!(output.status.success());
+    let told = String::from_utf8(output.stderr).unwrap();
+    assert!(told.contains("loud.wav: 1 samples were beyond full scale"), "{told}");
 }
 
 /// A folder stands in the table's place: the files that were put before it are taken back, and what they replaced is there again.

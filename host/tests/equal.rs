@@ -33,10 +33,11 @@ fn both_agree(left: Vec<f32>, right: Vec<f32>) {
         for (i, (a, b)) in bench.after.iter().zip(output).enumerate() {
             assert!(alike(*a, b), "{name}, sample {i}: {a} and {b}");
         }
-        for (i, (heard, voice)) in bench.heard.iter().zip(voices).enumerate() {
-            let ours = match heard {
+        for (i, (frame, voice)) in bench.frames.iter().zip(voices).enumerate() {
+            assert_eq!(frame.number as usize, i);
+            let ours = match frame.heard {
                 Heard::Silent => 0.0,
-                Heard::Voice { probability, .. } => *probability,
+                Heard::Voice { probability, .. } => probability,
             };
             assert!(alike(ours, voice), "{name}, frame {i}: voice {ours} and {voice}");
         }

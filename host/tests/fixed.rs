@@ -28,7 +28,7 @@ fn weights_of_0_give_halves() {
 
 #[test]
 fn a_lag_of_768_passes_and_769_gives_6() {
-    let (mut store, mut record) = (vec![1.0; 98_304], [0; 5]);
+    let (mut store, mut record) = (vec![1.0; 98_304], [0; 7]);
     let (mut window, mut sums) = ([2.0; 960], [3.0; 22]);
     assert_eq!(tuppence::open(&mut record, &mut store, 1, &smallest()), 0);
     assert_eq!(tuppence::call1(&mut record, &mut store, 1, &[100.0; 480], &mut window), 0);
@@ -36,7 +36,7 @@ fn a_lag_of_768_passes_and_769_gives_6() {
     assert_eq!(tuppence::call2(&mut record, &mut store, 1, &[0.5; 961], 769, &mut window, &mut sums), 6);
     assert!(before == (store.clone(), record, window, sums));
     assert_eq!(tuppence::call2(&mut record, &mut store, 1, &[0.5; 961], 768, &mut window, &mut sums), 0);
-    assert_eq!(record, [3, 0, 1, 1, 1]);
+    assert_eq!(record, [3, 0, 1, 1, 1, 0, 0]);
     // The other fifteen shares were never opened, and are as they were.
     assert!(store[..6_144].iter().chain(&store[12_288..]).all(|x| *x == 1.0));
 }
@@ -50,7 +50,7 @@ fn even_benches_are_left_and_odd_ones_right() {
 
 #[test]
 fn bench_15_is_the_last_and_98_304_numbers_are_the_only_store() {
-    let open = |side, len| tuppence::open(&mut [0; 5], &mut vec![1.0; len], side, &smallest());
+    let open = |side, len| tuppence::open(&mut [0; 7], &mut vec![1.0; len], side, &smallest());
     assert_eq!((open(15, 98_304), open(16, 98_304)), (0, 1));
     assert_eq!([12_288, 98_303, 98_305].map(|len| open(0, len)), [2; 3]);
 }

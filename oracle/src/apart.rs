@@ -3,7 +3,7 @@
 //! is compared bit for bit. Every bench is the one in its turn.
 
 use crate::ask::{Ask, Caller, OURS};
-use crate::desk::{BENCHES, DUE, STORE};
+use crate::desk::{BENCHES, DUE, RECORD, STORE};
 use crate::rng::{Mood, Rng};
 use crate::tally::{Given, Tally, Value};
 use crate::Options;
@@ -21,7 +21,7 @@ impl Run {
         let mut rng = Rng::new(seed);
         let store = rng.list_of(STORE, Mood::Any);
         let callers = std::array::from_fn(|bench| Caller::new(bench as u32));
-        Run { rng, store, records: vec![vec![0; 5]; BENCHES], callers }
+        Run { rng, store, records: vec![vec![0; RECORD]; BENCHES], callers }
     }
 
     /// Any number of calls of any other benches.

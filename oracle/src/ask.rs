@@ -114,8 +114,13 @@ impl Caller {
         Ask { model, ..Ask::default() }
     }
 
+    /// Mostly what a recorder gives. Now and then a sample is at an end or beyond it: the first, the last or any.
     fn samples(&mut self, rng: &mut Rng) -> Ask {
-        let samples = self.list(rng, 480, Mood::Audio);
+        let mut samples = self.list(rng, 480, Mood::Audio);
+        if rng.once_in(8) && !samples.is_empty() {
+            let (last, any) = (samples.len() - 1, rng.below(samples.len()));
+            samples[rng.pick(&[0, last, any])] = rng.pick(&ENDS);
+        }
         Ask { given: vec![samples], held: vec![held(rng, 960)], ..Ask::default() }
     }
 
@@ -187,6 +192,21 @@ impl Caller {
         (0..len).map(|i| if (from..to).contains(&i) { rng.of(Mood::Small) * loud } else { 0.0 }).collect()
     }
 }
+
+/// Both ends of what call 1 takes, what lies next to them, and what is no number.
+const ENDS: [f32; 11] = [
+    -32_768.0,
+    32_767.0,
+    -0.0,
+    f32::from_bits(0xC700_0001),
+    f32::from_bits(0x46FF_FE01),
+    32_768.0,
+    f32::INFINITY,
+    f32::NEG_INFINITY,
+    f32::NAN,
+    f32::MAX,
+    f32::MIN,
+];
 
 /// Mostly n.
 fn wrong(rng: &mut Rng, n: usize) -> usize {

@@ -163,7 +163,7 @@ fn smallest() -> Vec<u8> {
 fn an_index_above_7() {
     let (mut store, mut out, mut answer) = (vec![0.0; 98_304], [0.0; 961], [0.0; 3]);
     let mut third = |index| {
-        let mut record = [3, index, 1, 1, 1];
+        let mut record = [3, index, 1, 1, 1, 0, 0];
         tuppence::call3(&mut record, &mut store, 0, &[0.0; 961], &[0.0; 22], &smallest(), &mut out, &mut answer)
     };
     assert_eq!((third(8), third(7)), (2, 0));
@@ -171,9 +171,21 @@ fn an_index_above_7() {
 }
 
 #[test]
+fn a_sample_that_is_none() {
+    let first = |sample| {
+        let (mut store, mut record, mut samples) = (vec![0.0; 98_304], [1, 0, 1, 1, 1, 0, 0], [0.0; 480]);
+        samples[479] = sample;
+        tuppence::call1(&mut record, &mut store, 0, &samples, &mut [0.0; 960])
+    };
+    assert_eq!((first(32_768.0), first(32_767.0), first(-32_768.0)), (9, 0, 0));
+    assert_eq!([f32::NAN, f32::INFINITY, f32::NEG_INFINITY, -32_769.0].map(first), [9; 4]);
+    assert!(!panics(|| DenoiseFeatures::new().shift_and_filter_input(&[32_768.0; 480])));
+}
+
+#[test]
 fn a_lag_above_768() {
     let second = |lag| {
-        let (mut store, mut record) = (vec![0.0; 98_304], [2, 0, 1, 1, 1]);
+        let (mut store, mut record) = (vec![0.0; 98_304], [2, 0, 1, 1, 1, 0, 0]);
         tuppence::call2(&mut record, &mut store, 0, &[0.0; 961], lag, &mut [0.0; 960], &mut [0.0; 22])
     };
     assert_eq!((second(769), second(768)), (6, 0));

@@ -56,7 +56,7 @@ module _ (b : Record) (share : List Float) where
       kept (call1 x w) = frame-kept (call1-keeps share x w)
       kept (call2 x l w s) = frame-kept (call2-keeps share x l w s)
       kept (call3 x l m o) = frame-kept (call3-keeps share (b .index) (b .vad) (b .noise) (b .denoise) x l m o)
-      kept (call4 x o) = frame-kept (call4-keeps share x o)
+      kept (call4 x o) = frame-kept (call4-keeps share (b .frame) (b .heard) x o)
 
       go : (t : Bool) → Kept share (cond t (onShare b share ask) (refusal (Refused number) share))
       go true = kept ask

@@ -1,5 +1,5 @@
-// desk: an opening and the frame calls, for a host that has numbers alone. `record` is a side's record as five numbers: due call,
-// cepstral index and the three GRU counts. `answer` is call 3's as three: heard or not, voice, energy. Returned is 0 or the refusal.
+// desk: an opening and the frame calls, for a host that has numbers alone. `record` is a side's record as seven numbers: due call,
+// cepstral index, the three GRU counts, frames and heard frames. `answer` is call 3's as three: heard or not, voice, energy. Returned is 0 or the refusal.
 ghost use mathlib.Core.Path.{_≡_};
 ghost use mathlib.Core.Bool.{true, cond};
 ghost use mathlib.Core.List.{[], _∷_};
@@ -18,7 +18,7 @@ use frame::Lag;
 use frame::Reply;
 
 // How many numbers a record is.
-const RECORD: usize = 5;
+const RECORD: usize = 7;
 
 fn wide(x: u32) -> usize
     ensures { λ r. ⌜ r ≡ x ⌝ }
@@ -31,7 +31,7 @@ fn record_in(record: &[u32]) -> Record
     ensures { λ r. ⌜ r ≡ recordIn (now («record» .entry)) ⌝ }
 {
     if record.len() != RECORD {
-        return desk::record_of(5, 0, 0, 0, 0);
+        return desk::record_of(5, 0, 0, 0, 0, 0, 0);
     }
     desk::record_of(
         wide(record[0]),
@@ -39,6 +39,8 @@ fn record_in(record: &[u32]) -> Record
         wide(record[2]),
         wide(record[3]),
         wide(record[4]),
+        record[5],
+        record[6],
     )
 }
 
@@ -52,6 +54,8 @@ fn put_record(record: &mut [u32], rec: Record)
     record[2] = rec.vad as u32;
     record[3] = rec.noise as u32;
     record[4] = rec.denoise as u32;
+    record[5] = rec.frame;
+    record[6] = rec.heard;
 }
 
 // A reply as a number.
@@ -63,6 +67,7 @@ fn number_of(reply: Reply) -> u32
         Reply::Done => 0,
         Reply::Silent => 0,
         Reply::Heard(_, _) => 0,
+        Reply::Numbered(_, _) => 0,
         Reply::Refused(number) => number,
         Reply::Misread(number, layer) => crate::of_model::seven(number, layer),
     }
@@ -173,6 +178,7 @@ fn three_of(reply: Reply) -> Three
         },
         Reply::Done => none(),
         Reply::Silent => none(),
+        Reply::Numbered(_, _) => none(),
         Reply::Refused(_) => none(),
         Reply::Misread(_, _) => none(),
     }

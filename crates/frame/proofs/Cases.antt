@@ -1,6 +1,6 @@
 -- What a call can give: what holds of every refusal, and of what is right where nothing is refused, holds of the call. Assumes nothing.
 use Prim.Native.Nat.{ℕ, _≤_}
-use mathlib.Core.Bool.{Bool, true, false, cond}
+use mathlib.Core.Bool.{Bool, true, false, cond, not}
 use mathlib.Core.List.{List, [], _∷_}
 use mathlib.Core.Path.{_≡_, refl, sym}
 use borrow.Author.Tests.{ltb-false}
@@ -10,6 +10,7 @@ use lib.Ieee.{Float}
 use Rattle.rules.specs.Place.{get}
 use Rattle.rules.specs.Refusals.{Row, _when_}
 use Rattle.rules.proofs.Refused.{Right, right, Clear, by-rows}
+use Rattle.samples.specs.Samples.{good}
 use Rattle.model.specs.Model.{readOf}
 use Rattle.model.specs.declared.Model.{Model}
 use Rattle.model.specs.declared.Reading.{Reading}
@@ -33,7 +34,7 @@ module _ (share : List Float) (P : Effect → Type 0) (bad : (n : ℕ) → P (re
       → P (call1 share samples window)
   unfolding call1
   call1-by samples window h =
-      by-table ((length share, SHARE) ∷ (length samples, 480) ∷ (window, 960) ∷ []) [] (done1 share samples) (λ r _. h (r .0) (r .1 .0))
+      by-table ((length share, SHARE) ∷ (length samples, 480) ∷ (window, 960) ∷ []) (9 when not (good samples) ∷ []) (done1 share samples) (λ r _. h (r .0) (r .1 .0))
 
   pub call2-by : (spectrum : List Float) (lag window sums : ℕ) → (length share ≡ SHARE → P (done2 share spectrum lag))
       → P (call2 share spectrum lag window sums)
@@ -68,7 +69,8 @@ module _ (share : List Float) (P : Effect → Type 0) (bad : (n : ℕ) → P (re
       by-model l i (Unread n k) e = misread n k (sym e)
       by-model l i (Good m) e = by-count (counted vad noise denoise m) (done3 share index spectrum logs model m) (by-sound m e l i (soundOf (energy (get keptEx share))))
 
-  pub call4-by : (inverse : List Float) (out : ℕ) → (length share ≡ SHARE → P (done4 share inverse)) → P (call4 share inverse out)
+  pub call4-by : (frame heard : ℕ) (inverse : List Float) (out : ℕ) → (length share ≡ SHARE → P (done4 share frame heard inverse))
+      → P (call4 share frame heard inverse out)
   unfolding call4
-  call4-by inverse out h =
-      by-table ((length share, SHARE) ∷ (length inverse, 960) ∷ (out, 480) ∷ []) [] (done4 share inverse) (λ r _. h (r .0))
+  call4-by frame heard inverse out h =
+      by-table ((length share, SHARE) ∷ (length inverse, 960) ∷ (out, 480) ∷ []) [] (done4 share frame heard inverse) (λ r _. h (r .0))

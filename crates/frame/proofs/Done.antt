@@ -6,6 +6,7 @@ use mathlib.Core.Path.{_≡_, refl, sym, ap, _∙_}
 use borrow.Author.Tests.{eq-eqb, le-ltb}
 use lib.ListN.{length}
 use lib.Ieee.{Float}
+use Rattle.samples.specs.Samples.{good}
 use Rattle.model.specs.Model.{readOf}
 use Rattle.model.specs.declared.Model.{Model}
 use Rattle.model.specs.declared.Reading.{Reading}
@@ -19,9 +20,10 @@ use Rattle.frame.specs.Parts.{checked}
 use Rattle.frame.proofs.Truth.{true-false, false-true}
 
 module _ (share : List Float) (whole : length share ≡ SHARE) where
-  pub call1-done : (samples : List Float) (window : ℕ) → length samples ≡ 480 → window ≡ 960 → call1 share samples window ≡ done1 share samples
+  pub call1-done : (samples : List Float) (window : ℕ) → length samples ≡ 480 → window ≡ 960 → good samples ≡ true
+      → call1 share samples window ≡ done1 share samples
   unfolding call1
-  call1-done samples window a b = simp (eq-eqb _ _ whole, eq-eqb _ _ a, eq-eqb _ _ b)
+  call1-done samples window a b g = simp (eq-eqb _ _ whole, eq-eqb _ _ a, eq-eqb _ _ b, g)
 
   pub call2-done : (spectrum : List Float) (lag window sums : ℕ) → length spectrum ≡ 961 → window ≡ 960 → sums ≡ 22 → lag ≤ 768
       → call2 share spectrum lag window sums ≡ done2 share spectrum lag
@@ -35,9 +37,10 @@ module _ (share : List Float) (whole : length share ≡ SHARE) where
   unfolding call3
   call3-done index vad noise denoise spectrum logs model out a b d h = simp (eq-eqb _ _ whole, eq-eqb _ _ a, eq-eqb _ _ b, eq-eqb _ _ d, le-ltb 7 index h)
 
-  pub call4-done : (inverse : List Float) (out : ℕ) → length inverse ≡ 960 → out ≡ 480 → call4 share inverse out ≡ done4 share inverse
+  pub call4-done : (frame heard : ℕ) (inverse : List Float) (out : ℕ) → length inverse ≡ 960 → out ≡ 480
+      → call4 share frame heard inverse out ≡ done4 share frame heard inverse
   unfolding call4
-  call4-done inverse out a b = simp (eq-eqb _ _ whole, eq-eqb _ _ a, eq-eqb _ _ b)
+  call4-done frame heard inverse out a b = simp (eq-eqb _ _ whole, eq-eqb _ _ a, eq-eqb _ _ b)
 
 or-true : (a : Bool) → (a || true) ≡ true
 or-true true = refl

@@ -39,7 +39,7 @@ doneFirst share samples =
 -- from call 3's reply, its share and its spectrum on
 abbrev pub doneSecond : Reply → List Float → List Float → Effect
 doneSecond reply share spectrum =
-    let b = done4 share (inverseOf spectrum) in
+    let b = done4 share 0 0 (inverseOf spectrum) in
     record { reply = reply; share = b .share; written = b .written }
 
 module _ (share samples : List Float) (whole : length share ≡ SHARE) (l : length samples ≡ 480) where
@@ -55,7 +55,7 @@ module _ (share samples : List Float) (whole : length share ≡ SHARE) (l : leng
 
 synthesised-done : (reply : Reply) (share spectrum : List Float) (out : ℕ) → length share ≡ SHARE → out ≡ 480
     → synthesised reply share spectrum out ≡ doneSecond reply share spectrum
-synthesised-done reply share spectrum out whole e = rw (call4-done share whole (inverseOf spectrum) out (length-inverse spectrum) e)
+synthesised-done reply share spectrum out whole e = rw (call4-done share whole 0 0 (inverseOf spectrum) out (length-inverse spectrum) e)
 
 -- ---- the halves, for a claim P that every refusal meets
 

@@ -13,7 +13,7 @@ use Rattle.frame.specs.declared.Reply.{Reply}
 use Rattle.frame.specs.declared.Reply.the-variants.{Refused}
 use Rattle.frame.specs.Reply.{passed}
 use Rattle.frame.specs.Share.{SHARE}
-use Rattle.frame.specs.Frame.{Effect, refusal, call1, call3, call4}
+use Rattle.frame.specs.Frame.{Effect, refusal, call1, call3, done4, call4}
 use Rattle.frame.proofs.Done.{call4-done}
 use Rattle.frame.proofs.Keeps.{call3-keeps}
 use Rattle.frame.proofs.Truth.{false-true}
@@ -59,28 +59,37 @@ module _ (share : List Float) where
     abbrev three : Effect
     three = call3 share index vad noise denoise (forwardOf (lookedBack share)) logs model 961
 
-    abbrev four : Effect
-    four = call4 (three .share) (inverseOf (buffer three)) out
+    -- with whatever numbers of frames call 4 is told
+    module _ (frame heard : ℕ) where
+      abbrev four : Effect
+      four = call4 (three .share) frame heard (inverseOf (buffer three)) out
 
-    pub second-half-is : passed (secondHalf share index vad noise denoise logs model out .reply) ≡ true
-        → Both three four (secondHalf share index vad noise denoise logs model out) (three .reply) (four .written)
-    unfolding secondHalf
-    second-half-is =
-        by-rows (λ n. refusal (Refused n) share) (onward three second) Claim (5 when wrong lengths ∷ 5 when ltb 7 index ∷ []) (λ n e. absurd (false-true e))
-        (λ c. go (passed (three .reply)) refl (right lengths (c .0)))
-      where
-        lengths : List (ℕ × ℕ)
-        lengths = (length share, SHARE) ∷ (length logs, 22) ∷ (out, 480) ∷ []
+      pub second-half-is : passed (secondHalf share index vad noise denoise logs model out .reply) ≡ true
+          → Both three four (secondHalf share index vad noise denoise logs model out) (three .reply) (four .written)
+      unfolding secondHalf
+      second-half-is =
+          by-rows (λ n. refusal (Refused n) share) (onward three second) Claim (5 when wrong lengths ∷ 5 when ltb 7 index ∷ []) (λ n e. absurd (false-true e))
+          (λ c. go (passed (three .reply)) refl (right lengths (c .0)))
+        where
+          lengths : List (ℕ × ℕ)
+          lengths = (length share, SHARE) ∷ (length logs, 22) ∷ (out, 480) ∷ []
 
-        second : Effect → Effect
-        second a = synthesised (a .reply) (a .share) (buffer a) out
+          second : Effect → Effect
+          second a = synthesised (a .reply) (a .share) (buffer a) out
 
-        Claim : Effect → Type 0
-        Claim f = passed (f .reply) ≡ true → Both three four f (three .reply) (four .written)
+          Claim : Effect → Type 0
+          Claim f = passed (f .reply) ≡ true → Both three four f (three .reply) (four .written)
 
-        go : (t : Bool) → passed (three .reply) ≡ t → Right lengths → Claim (cond t (second three) three)
-        go true e r p =
-            let whole = call3-keeps share index vad noise denoise (forwardOf (lookedBack share)) logs model 961 .size ∙ r .0 in
-            let done = call4-done (three .share) whole (inverseOf (buffer three)) out (length-inverse (buffer three)) (r .1 .1 .0) in
-            record { first = e; last = ap (λ (f : Effect). passed (f .reply)) done; replies = refl; shares = refl; writes = refl }
-        go false e r p = absurd (false-true (sym e ∙ p))
+          go : (t : Bool) → passed (three .reply) ≡ t → Right lengths → Claim (cond t (second three) three)
+          go true e r p =
+              let whole = call3-keeps share index vad noise denoise (forwardOf (lookedBack share)) logs model 961 .size ∙ r .0 in
+              let done : (f h : ℕ) → call4 (three .share) f h (inverseOf (buffer three)) out ≡ done4 (three .share) f h (inverseOf (buffer three)) =
+              λ f h. call4-done (three .share) whole f h (inverseOf (buffer three)) out (length-inverse (buffer three)) (r .1 .1 .0) in
+              record {
+                first = e;
+                last = ap (λ (f : Effect). passed (f .reply)) (done frame heard);
+                replies = refl;
+                shares = ap (λ (f : Effect). f .share) (done 0 0) ∙ sym (ap (λ (f : Effect). f .share) (done frame heard));
+                writes = ap (λ (f : Effect). f .written) (done 0 0) ∙ sym (ap (λ (f : Effect). f .written) (done frame heard));
+              }
+          go false e r p = absurd (false-true (sym e ∙ p))

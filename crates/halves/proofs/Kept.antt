@@ -35,7 +35,7 @@ module _ (q : Place) where
   pub done-second-beside : (reply : Reply) (share after spectrum : List Float) → AllApart (synthesisMem ∷ []) q → Beside q share after
       → Beside q share (doneSecond reply after spectrum .share)
   done-second-beside reply share after spectrum apart b =
-      then q b (done4-beside q after (inverseOf spectrum) apart (b .size))
+      then q b (done4-beside q after 0 0 (inverseOf spectrum) apart (b .size))
 
 -- ---- lengths, and what a refusal leaves
 
@@ -72,14 +72,14 @@ module _ (share : List Float) where
   -- call 4 leaves the gains alone
   held-on : (reply : Reply) (after spectrum : List Float) {f : Effect} → f .reply ≡ reply → f .share ≡ after → length after ≡ SHARE → Holds share f → Holds share (doneSecond reply after spectrum)
   held-on reply after spectrum e d whole k =
-      let s = done4-beside lastg after (inverseOf spectrum) (inl (omega arith), tt) whole .same in
+      let s = done4-beside lastg after 0 0 (inverseOf spectrum) (inl (omega arith), tt) whole .same in
       record { number = λ i h n. rw (s, ← d) (k .number i h n); raised = λ i h n r. rw (s, ← d) (k .raised i h n (rw (← e) at r)) }
 
   pub second-half-holds : (index vad noise denoise : ℕ) (logs : List Float) (model : List ℕ) (out : ℕ) → Holds share (secondHalf share index vad noise denoise logs model out)
   second-half-holds index vad noise denoise logs model out =
       second-half-by share (Holds share) (λ n. same share (refusal (Refused n) share) refl refl) index vad noise denoise logs model out
       (λ n l _. same share (refusal (Misread n l) share) refl refl)
-      (λ whole. same share (doneSecond Silent share (get keptX share)) refl (done4-beside lastg share (inverseOf (get keptX share)) (inl (omega arith), tt) whole .same))
+      (λ whole. same share (doneSecond Silent share (get keptX share)) refl (done4-beside lastg share 0 0 (inverseOf (get keptX share)) (inl (omega arith), tt) whole .same))
       (λ e m good whole inside.
       let s = spoken share index (forwardOf (lookedBack share)) logs model m in
       held-on (Heard (s .voice) e) (s .share) (s .spectrum) {f = heard e s} refl refl

@@ -80,9 +80,9 @@ analysed-by share window sums {spectrum = spectrum} {n = n} e l w =
     record { replies = v .replies; shares = v .shares; writes = ap (drop 1) (v .writes) ∙ behind (passed (call2Own share (forwardOf window) 960 sums .reply)) _ _ }
 
 pub synthesised-by : {reply last : Reply} (share spectrum : List Float) (out : ℕ) {after : List Float} {held new : List (List Float)} → passed reply ≡ true
-    → length share ≡ SHARE → out ≡ 480 → Worked (call4 share (inverseOf spectrum) out) last after held new
+    → length share ≡ SHARE → out ≡ 480 → Worked (call4 share 0 0 (inverseOf spectrum) out) last after held new
     → Worked (synthesised reply share spectrum out) reply after held new
 synthesised-by {reply} {last} share spectrum out e whole l w =
-    let done = call4-done share whole (inverseOf spectrum) out (length-inverse spectrum) l in
+    let done = call4-done share whole 0 0 (inverseOf spectrum) out (length-inverse spectrum) l in
     let yes : passed last ≡ true = ap passed (w .replies) ∙ ap (λ (f : Effect). passed (f .reply)) done in
     record { replies = refl; shares = w .shares; writes = rw e (wrote w yes) }

@@ -54,10 +54,11 @@ wholeLag x = range 1 769 (lagStep x) 0
 unfoldable pub lookedBack : List Float → List Float
 lookedBack share = windowed (get (recent (wholeLag (at (get keptLag share) 0))) (get inputMem share))
 
--- the reply is call 3's
+-- the reply is call 3's. What call 4 answers with, frames and heard frames, stands in the record, where the desk moves it on: a share is told
+-- neither, and whatever call 4 is told, it leaves the same
 abbrev pub synthesised : Reply → List Float → List Float → ℕ → Effect
 synthesised reply share spectrum out =
-    let b = call4 share (inverseOf spectrum) out in
+    let b = call4 share 0 0 (inverseOf spectrum) out in
     record { reply = reply; share = b .share; written = b .written }
 
 unfoldable pub secondHalf : List Float → ℕ → ℕ → ℕ → ℕ → List Float → List ℕ → ℕ → Effect

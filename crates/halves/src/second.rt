@@ -46,12 +46,12 @@ fn look_back(spectrum: &mut [f32], share: &[f32])
 // Call 4 with the inverse of what call 3 wrote.
 fn synthesise(share: &mut [f32], spectrum: &[f32], out: &mut [f32]) -> Reply
     requires { ⌜ length (now spectrum) ≡ 961 ⌝ }
-    ensures { λ r. ⌜ Worked (call4 (now (share .entry)) (inverseOf (now (spectrum .entry))) (length (now (out .entry))))
+    ensures { λ r. ⌜ Worked (call4 (now (share .entry)) 0 0 (inverseOf (now (spectrum .entry))) (length (now (out .entry))))
         r (now (share .exit)) (now (out .entry) ∷ []) (now (out .exit) ∷ []) ⌝ }
 {
     let mut samples = [0.0f32; 960];
     transforms::inverse(&mut samples, spectrum);
-    frame::call4(share, &samples, out)
+    frame::call4(share, 0, 0, &samples, out)
 }
 
 // 22 logarithms and the model in, 480 samples written; silent, or heard with voice and energy.

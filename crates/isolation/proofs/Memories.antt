@@ -26,7 +26,7 @@ use Rattle.frame.specs.Reply.{passed}
 use Rattle.frame.specs.Share.{SHARE, lastg, cepstralMem, vadState, noiseState, denoiseState}
 use Rattle.frame.specs.Frame.{Effect, refusal}
 use Rattle.frame.specs.declared.Reply.{Reply}
-use Rattle.frame.specs.declared.Reply.the-variants.{Done, Silent, Heard, Refused, Misread}
+use Rattle.frame.specs.declared.Reply.the-variants.{Done, Silent, Heard, Numbered, Refused, Misread}
 use Rattle.frame.proofs.Beside.{done1-beside, done2-beside, done4-beside}
 use Rattle.frame.proofs.Cases.{call1-by, call2-by, call3-by, call4-by}
 use Rattle.frame.proofs.Held.{gainOf, isHeard, Holds, call1-holds, call2-holds, call3-holds, call4-holds}
@@ -62,13 +62,14 @@ module _ (b : Record) (share : List Float) (q : Place) (back : 3194 ≤ q .at) w
   frame-leaves (call3 x l m o) ne =
       call3-by share (Leaves q share) bad (b .index) (b .vad) (b .noise) (b .denoise) x l m o (λ _ _ _ _. refl) (λ _. refl) (λ e m _ _ _ u. absurd (u _ e refl))
   frame-leaves (call4 x o) ne =
-      call4-by share (Leaves q share) bad x o (λ whole _. done4-beside q share x (inl (omega arith), tt) whole .same)
+      call4-by share (Leaves q share) bad (b .frame) (b .heard) x o (λ whole _. done4-beside q share (b .frame) (b .heard) x (inl (omega arith), tt) whole .same)
 
 -- of a record, after a frame call that is not heard: the index
 index-kept : (b : Record) (p : Bool) (r : Reply) → Unheard r → cond p (advanced b r) b .index ≡ b .index
 index-kept b false r u = refl
 index-kept b true Done u = refl
 index-kept b true Silent u = refl
+index-kept b true (Numbered f h) u = refl
 index-kept b true (Heard v e) u = absurd (u v e refl)
 index-kept b true (Refused n) u = refl
 index-kept b true (Misread n l) u = refl
@@ -106,7 +107,7 @@ every-holds b share (opening m) = opened-holds share (readOf m)
 every-holds b share (call1 x w) = call1-holds share x w
 every-holds b share (call2 x l w s) = call2-holds share x l w s
 every-holds b share (call3 x l m o) = call3-holds share (b .index) (b .vad) (b .noise) (b .denoise) x l m o
-every-holds b share (call4 x o) = call4-holds share x o
+every-holds b share (call4 x o) = call4-holds share (b .frame) (b .heard) x o
 
 -- ---- the same of a desk of one bench
 

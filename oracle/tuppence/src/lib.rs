@@ -89,7 +89,7 @@ surface! {
     ) -> u32;
 }
 
-// A record is due call, cepstral index and the three GRU counts. Refusal 7 is 7 + 256 × the model's + 65,536 × its layer.
+// A record is due call, cepstral index, the three GRU counts, frames and heard frames. Refusal 7 is 7 + 256 × the model's + 65,536 × its layer.
 #[cfg(feature = "frame")]
 surface! {
     tuppence_side_of as side_of(bench: u32) -> u32;

@@ -8,7 +8,7 @@ use lib.ListN.{length, length-set, length-append, length-drop}
 use lib.Ieee.{Float}
 use Rattle.rules.specs.Place.{get, put}
 use Rattle.rules.proofs.Places.{put-sets}
-use Rattle.rules.proofs.Tests.{tests}
+use Rattle.rules.proofs.Tests.{tests, answered-no, answered-yes}
 use Rattle.numbers.specs.declared.filter.Memory.{Memory}
 use Rattle.frame.specs.Share.{inputMem, memHpX}
 use Rattle.numbers.specs.Filter.{memoryList}
@@ -31,13 +31,19 @@ unfolding call1
 returns-3 c = search tests
 
 returns-4 : tie.Need-returns-4
+unfolding call1
+returns-4 c = search (tests, answered-no (c .before .all-good .ensures) (c .if4 .taken))
+
+returns-5 : tie.Need-returns-5
 unfolding put get
-returns-4 c =
+returns-5 c =
     let w = c .before .before .before .before .take-in in
-    let a = c .before .before .before .before .before .before .before .before .before .before .before .before .before .before .before .args in
+    let g = c .before .before .before .before .before .before .before .before .before in
+    let a = g .before .before .before .before .before .before .before .before .args in
     let share = now (a .share) in
+    let fine = answered-yes (g .before .all-good .ensures) (g .if4 .left) in
     rw (
-      call1-done share (omega arith) (now (a .samples)) (length (now (a .window))) (omega arith) (omega arith),
+      call1-done share (omega arith) (now (a .samples)) (length (now (a .window))) (omega arith) (omega arith) fine,
       at-get memHpX share 0 (omega arith),
       at-get memHpX share 1 (omega arith),
     )
@@ -56,6 +62,8 @@ call1-spec =
     returns
     returns-2
     returns-3
+    (λ c κs. search needs)  -- all-good-requires
+    returns-4
     (λ c. search needs)  -- slice-read-t9
     (λ c. search needs)  -- slice-read-t11
     (λ c. search needs)  -- sub-take-in
@@ -66,4 +74,4 @@ call1-spec =
     (λ c. simp length-set (omega arith))  -- slice-write-share-2
     (λ c. search needs)  -- same-length
     (λ c. search needs)  -- same-length-2
-    returns-4)
+    returns-5)

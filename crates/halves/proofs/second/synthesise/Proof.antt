@@ -18,7 +18,7 @@ returns c =
     let f = o .before .before .before .before .before in
     let a = f .before .before .before .before .before .args in
     let made = fitted (f .inverse .ensures) (record { into = refl; from = omega arith }) in
-    as-is (ap (λ (x : List Float). call4 (now (a .share)) x (length (now (a .out)))) (sym made)) (o .call4 .ensures)
+    as-is (ap (λ (x : List Float). call4 (now (a .share)) 0 0 x (length (now (a .out)))) (sym made)) (o .call4 .ensures)
 
 pub synthesise-spec : {M : Type 1} → statement M
 synthesise-spec =

@@ -1,0 +1,13 @@
+-- Which samples are taken, from request 05.
+use mathlib.Core.Bool.{Bool, true, _&&_}
+use mathlib.Core.List.{List, [], _∷_}
+use lib.Ieee.{Float, le}
+use Rattle.rules.specs.F32.{f32}
+
+-- −32768 to 32767, both ends among them; NaN is not
+abbrev pub goodSample : Float → Bool
+goodSample x = le (f32 0xC7000000) x && le x (f32 0x46FFFE00)
+
+unfoldable pub good : List Float → Bool
+good [] = true
+good (x ∷ xs) = goodSample x && good xs

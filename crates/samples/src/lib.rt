@@ -1,0 +1,22 @@
+// Samples as a recorder may give them, request 05: -32768 to 32767.
+ghost use mathlib.Core.Path.{_≡_};
+ghost use Rattle.samples.specs.Samples.{good};
+
+const LOWEST: f32 = -32768.0;
+
+const HIGHEST: f32 = 32767.0;
+
+// Whether every sample is from the lowest to the highest. NaN is neither below nor above, so what is asked is whether it lies between.
+pub fn all_good(samples: &[f32]) -> bool
+    ensures { λ r. ⌜ r ≡ good (now (samples .entry)) ⌝ }
+{
+    for i in 0..samples.len() {
+        if !(LOWEST <= samples[i]) {
+            return false;
+        }
+        if !(samples[i] <= HIGHEST) {
+            return false;
+        }
+    }
+    true
+}
