@@ -2,7 +2,7 @@
 
 use crate::cleaned::Cleaned;
 use crate::folder::{told, Folder};
-use crate::recorder::{Recorder, Side};
+use crate::recorder::{LagBy, Recorder, Side};
 use crate::refusal::Refusal;
 use crate::{picture, table, wav, FRAME, RATE};
 use std::fs;
@@ -31,9 +31,10 @@ pub fn run(
     left: Vec<f32>,
     right: Vec<f32>,
     model: &[u8],
+    lag_by: LagBy,
     mut progress: impl FnMut(f64),
 ) -> Result<[Cleaned; 2], Refusal> {
-    let mut recorder = Recorder::default();
+    let mut recorder = Recorder::new(lag_by);
     for side in Side::BOTH {
         recorder.open(side, model)?;
     }
@@ -63,6 +64,7 @@ pub fn run(
 pub struct Job {
     pub inputs: Inputs,
     pub model: PathBuf,
+    pub lag_by: LagBy,
     pub out: PathBuf,
 }
 
@@ -130,7 +132,7 @@ pub fn clean(job: &Job) -> Result<[Cleaned; 2], String> {
         }
     };
     let progress = progress_of(left.len().max(right.len()));
-    let benches = run(left, right, &model, progress).map_err(|refusal| told(&job.model, refusal))?;
+    let benches = run(left, right, &model, job.lag_by, progress).map_err(|refusal| told(&job.model, refusal))?;
     store(&benches, &[], &job.out)?;
     Ok(benches)
 }

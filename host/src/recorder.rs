@@ -34,6 +34,13 @@ impl Side {
     }
 }
 
+/// Who finds the lag of a frame: the text's own finder, or the library, in the sister of call 2 (request 04).
+#[derive(Clone, Copy, Debug, PartialEq)]
+pub enum LagBy {
+    Finder,
+    Library,
+}
+
 /// What a frame gave besides its 480 samples.
 #[derive(Clone, Copy, Debug, PartialEq)]
 pub enum Heard {
@@ -71,6 +78,7 @@ struct Buffers {
 pub struct Recorder {
     store: Vec<f32>,
     records: [[u32; RECORD]; 2],
+    lag_by: LagBy,
     finders: [PitchFinder; 2],
     transform: Transform,
     buffers: Box<Buffers>,
@@ -79,9 +87,16 @@ pub struct Recorder {
 
 impl Default for Recorder {
     fn default() -> Recorder {
+        Recorder::new(LagBy::Finder)
+    }
+}
+
+impl Recorder {
+    pub fn new(lag_by: LagBy) -> Recorder {
         Recorder {
             store: vec![0.0; STORE],
             records: [[0; RECORD]; 2],
+            lag_by,
             finders: [PitchFinder::new(), PitchFinder::new()],
             transform: Transform::default(),
             buffers: Box::new(Buffers {
@@ -122,18 +137,24 @@ impl Recorder {
     /// One frame of a bench: 480 samples in, 480 out.
     pub fn frame(&mut self, side: Side, samples: &[f32], model: &[u8], out: &mut [f32]) -> Result<Frame, Refusal> {
         let number = side as u32;
-        let Recorder { store, records, finders, transform, buffers: b, spent } = self;
+        let Recorder { store, records, lag_by, finders, transform, buffers: b, spent } = self;
         let record = &mut records[side as usize];
 
         done(timed(&mut spent.calls[0], || tuppence::call1(record, store, number, samples, &mut b.window)))?;
         timed(&mut spent.transforms, || transform.forward(&b.window, &mut b.spectrum));
-        let share = side as usize * SHARE;
-        let input_mem = &store[share..share + INPUT_MEM];
-        let (lag, _gain) = timed(&mut spent.lag, || finders[side as usize].process(input_mem));
 
-        done(timed(&mut spent.calls[1], || {
-            tuppence::call2(record, store, number, &b.spectrum, lag as u32, &mut b.window, &mut b.sums)
-        }))?;
+        done(match lag_by {
+            LagBy::Finder => {
+                let input_mem = &store[side as usize * SHARE..][..INPUT_MEM];
+                let (lag, _gain) = timed(&mut spent.lag, || finders[side as usize].process(input_mem));
+                timed(&mut spent.calls[1], || {
+                    tuppence::call2(record, store, number, &b.spectrum, lag as u32, &mut b.window, &mut b.sums)
+                })
+            }
+            LagBy::Library => timed(&mut spent.calls[1], || {
+                tuppence::call2_own(record, store, number, &b.spectrum, &mut b.window, &mut b.sums)
+            }),
+        })?;
         timed(&mut spent.transforms, || transform.forward(&b.window, &mut b.spectrum));
         let logs = timed(&mut spent.logarithms, || b.sums.map(f32::log10));
 

@@ -107,6 +107,19 @@ fn a_stereo_file_is_both_benches() {
 }
 
 #[test]
+fn our_own_lag_is_used_where_it_is_asked_for() {
+    let given = Given::new("own-lag");
+    let [l, r, m, o] = ["left.wav", "right.wav", "house.rnn", "own"].map(|name| given.at(name));
+    let output = host(&["clean", "--left", &l, "--right", &r, "--own-lag", "--model", &m, "--out", &o]);
+    assert!(output.status.success(), "{}", String::from_utf8_lossy(&output.stderr));
+    assert!(given.clean("left.wav", "right.wav", "house.rnn", "out").status.success());
+    let left =
+        |out: &str| wav::read(&fs::read(given.path.join(out).join("left.wav")).unwrap()).unwrap().channels.remove(0);
+    assert_eq!(left("own").len(), left("out").len());
+    assert_ne!(left("own"), left("out"));
+}
+
+#[test]
 fn the_demo_needs_no_files() {
     let out = folder("demo").join("out");
     let output = host(&["demo", out.to_str().unwrap()]);
@@ -217,7 +230,7 @@ fn a_second_run_takes_the_place_of_the_first() {
 #[test]
 fn other_words() {
     let given = Given::new("words");
-    for words in [&[][..], &["clean"], &["clean", "--left", "x"], &["demo"], &["wash", "x"]] {
+    for words in [&[][..], &["clean"], &["clean", "--own-lag"], &["clean", "--left", "x"], &["demo"], &["wash", "x"]] {
         given.fails(host(words), &["--help"]);
     }
     let help = host(&["--help"]);

@@ -42,6 +42,35 @@ fn a_lag_of_768_passes_and_769_gives_6() {
 }
 
 #[test]
+fn the_sister_of_call_2_is_call_2_with_the_lag_of_that_sides_own_input() {
+    const PERIODS: [usize; 2] = [300, 500];
+    let (mut store, mut records) = (vec![1.0; 98_304], [[0; 5]; 2]);
+    for (side, period) in PERIODS.into_iter().enumerate() {
+        assert_eq!(tuppence::open(&mut records[side], &mut store, side as u32, &smallest()), 0);
+        records[side][0] = 2;
+        for (i, x) in store[6_144 * side..][..1_728].iter_mut().enumerate() {
+            *x = (i % period) as f32 - 0.5 * period as f32;
+        }
+    }
+    for side in [0, 1] {
+        let mut lag = [0];
+        assert_eq!(tuppence::lag(&mut lag, &store[6_144 * side..][..1_728]), 0);
+        assert_eq!(lag[0] as usize, PERIODS[side]);
+        let call = |own: bool| {
+            let (mut store, mut record, mut window, mut sums) = (store.clone(), records[side], [2.0; 960], [3.0; 22]);
+            let (r, s, x, w, u) = (&mut record, &mut store, &[0.5; 961], &mut window, &mut sums);
+            let number = if own {
+                tuppence::call2_own(r, s, side as u32, x, w, u)
+            } else {
+                tuppence::call2(r, s, side as u32, x, lag[0], w, u)
+            };
+            (number, store, record, window, sums)
+        };
+        assert!(call(true).0 == 0 && call(true) == call(false));
+    }
+}
+
+#[test]
 fn even_benches_are_left_and_odd_ones_right() {
     assert!((0..16).all(|bench| tuppence::side_of(bench) == u32::from(bench % 2 == 1)));
     assert_eq!([Side::Left, Side::Right].map(|side| tuppence::side_of(side as u32)), [0, 1]);

@@ -65,7 +65,7 @@ fn compare_one(tally: &mut Tally, one: usize, seed: u64, calls: u64) {
         let ((number, lent), (other, others)) = (a.one(one, ask.clone()), b.one(one, ask.clone()));
         let bits = |lists: &[Vec<f32>]| -> Vec<u32> { lists.iter().flatten().map(|x| x.to_bits()).collect() };
         let (got, gots) = (bits(&lent), bits(&others));
-        let words = [ask.call, ask.side, ask.lag];
+        let words = ask.words();
         let mut given = vec![("call, side, lag", Value::from(&words[..])), ("model", (&ask.model).into())];
         given.extend(ask.given.iter().map(|list| ("given", list.into())));
         tally.judge(

@@ -4,6 +4,7 @@
 //! text's functions for that part of the frame, and writes the memories back. The module
 //! `shadow` runs the same frames once more, whole, by `process_frame`.
 
+use crate::lag;
 use crate::reader::{self, Refusal};
 use nnnoiseless_text::probe::{bands, features, rnn};
 use nnnoiseless_text::{DenoiseFeatures, RnnModel};
@@ -172,6 +173,20 @@ pub fn call2(
     share[LAG] = lag as f32;
     record[DUE] = 3;
     0
+}
+
+/// Call 2 with the lag of the side's `input_mem`, by the text's leaves joined. A side or a store that has none is refused by call 2.
+pub fn call2_own(
+    record: &mut [u32],
+    store: &mut [f32],
+    side: u32,
+    spectrum: &[f32],
+    window: &mut [f32],
+    sums: &mut [f32],
+) -> u32 {
+    let share = store.get(side as usize * SHARE..).unwrap_or(&[]);
+    let lag = share.get(INPUT_MEM).map_or(0, lag::joined);
+    call2(record, store, side, spectrum, lag, window, sums)
 }
 
 pub fn call3(

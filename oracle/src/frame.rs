@@ -8,8 +8,14 @@ use crate::tally::{floats, kept, signed, By, Given, Tally, Value};
 use crate::Options;
 
 /// The desk by the text.
-const TEXT: Surface =
-    Surface { open: desk::open, call1: desk::call1, call2: desk::call2, call3: desk::call3, call4: desk::call4 };
+const TEXT: Surface = Surface {
+    open: desk::open,
+    call1: desk::call1,
+    call2: desk::call2,
+    call2_own: desk::call2_own,
+    call3: desk::call3,
+    call4: desk::call4,
+};
 
 /// A desk's store and all its records.
 #[derive(Clone)]
@@ -41,7 +47,7 @@ pub fn compare_with(options: &Options, desk: &Surface) -> Tally {
             damage.apply(world, side);
         }
         let (held, before) = (ours.clone(), rusts.clone());
-        let words = [ask.call, ask.side, ask.lag];
+        let words = ask.words();
         let given = given(&words, &ask, &held);
         let given = Given::new(&given);
         let (number, lent) = ask.put(desk, &mut ours.records[side], &mut ours.store);

@@ -193,6 +193,13 @@ fn a_lag_above_768() {
 }
 
 #[test]
+fn our_own_lag_of_silence_is_not_the_finders() {
+    let (mut ours, silence) = ([7], [0.0; 1728]);
+    assert_eq!((tuppence::lag(&mut ours, &silence), ours), (0, [768]));
+    assert_eq!(pitch::PitchFinder::new().process(&silence).0, 766);
+}
+
+#[test]
 fn the_first_lags_are_summed_from_plus_0_and_the_last_from_minus_0() {
     for (lags, zero) in [(1, -0.0), (4, 0.0)] {
         let mut ours = vec![7.5; lags];

@@ -22,7 +22,7 @@ use Rattle.frame.specs.declared.Reply.{Reply}
 use Rattle.frame.specs.declared.Reply.the-variants.{Done, Silent, Heard, Numbered, Refused, Misread}
 use Rattle.desk.specs.declared.Record.{Record}
 use Rattle.desk.specs.Gate.{allZero, inCounts, inRange, isFrame, gate, shareOf}
-use Rattle.desk.specs.Desk.{Ask, opening, call1, call2, call3, call4, callOf, nextDue, nextIndex, advanced, started, answered, onShare, opened, desk}
+use Rattle.desk.specs.Desk.{Ask, opening, call1, call2, call2Own, call3, call4, callOf, nextDue, nextIndex, advanced, started, answered, onShare, opened, desk}
 use Rattle.desk.proofs.Turned.{none}
 
 both : (a b : Bool) → (a && b) ≡ true → (a ≡ true) × (b ≡ true)
@@ -126,6 +126,7 @@ done-range : (b : Record) (share : List Float) (ask : Ask) → inRange b ≡ tru
 done-range b share (opening m) r o p = rw p (started-range m (readOf m) b share refl p)
 done-range b share (call1 x w) r o p = rw p (advanced-range b (onShare b share (call1 x w) .reply) (eqb-false (b .due) 0 o) r)
 done-range b share (call2 x l w s) r o p = rw p (advanced-range b (onShare b share (call2 x l w s) .reply) (eqb-false (b .due) 0 o) r)
+done-range b share (call2Own x w s) r o p = rw p (advanced-range b (onShare b share (call2Own x w s) .reply) (eqb-false (b .due) 0 o) r)
 done-range b share (call3 x l m k) r o p = rw p (advanced-range b (onShare b share (call3 x l m k) .reply) (eqb-false (b .due) 0 o) r)
 done-range b share (call4 x k) r o p = rw p (advanced-range b (onShare b share (call4 x k) .reply) (eqb-false (b .due) 0 o) r)
 

@@ -14,6 +14,7 @@ use Rattle.model.specs.declared.Reading.the-variants.{Good, Refused as Unread}
 use Rattle.frame.specs.Share.{SHARE}
 use Rattle.frame.specs.Frame.{Effect, refusal}
 use Rattle.frame.specs.Frame as frame
+use Rattle.halves.specs.Own as halves
 use Rattle.frame.specs.Reply.{passed, left, oneMore}
 use Rattle.frame.specs.declared.Reply.{Reply}
 use Rattle.frame.specs.declared.Reply.the-variants.{Done, Silent, Heard, Numbered, Refused, Misread}
@@ -26,6 +27,7 @@ pub data Ask : Type 0 where
   opening : (model : List ℕ) → Ask
   call1 : (samples : List Float) (window : ℕ) → Ask
   call2 : (spectrum : List Float) (lag window sums : ℕ) → Ask
+  call2Own : (spectrum : List Float) (window sums : ℕ) → Ask
   call3 : (spectrum logs : List Float) (model : List ℕ) (out : ℕ) → Ask
   call4 : (inverse : List Float) (out : ℕ) → Ask
 
@@ -34,6 +36,7 @@ abbrev pub callOf : Ask → ℕ
 callOf (opening m) = 0
 callOf (call1 x w) = 1
 callOf (call2 x l w s) = 2
+callOf (call2Own x w s) = 2
 callOf (call3 x l m o) = 3
 callOf (call4 x o) = 4
 
@@ -91,6 +94,7 @@ abbrev pub recorded : Record → Ask → Reply → Record
 recorded rec (opening m) reply = started rec (readOf m)
 recorded rec (call1 x w) reply = advanced rec reply
 recorded rec (call2 x l w s) reply = advanced rec reply
+recorded rec (call2Own x w s) reply = advanced rec reply
 recorded rec (call3 x l m o) reply = advanced rec reply
 recorded rec (call4 x o) reply = advanced rec reply
 
@@ -109,6 +113,7 @@ abbrev pub onShare : Record → List Float → Ask → Effect
 onShare rec share (opening m) = opened share (readOf m)
 onShare rec share (call1 x w) = frame.call1 share x w
 onShare rec share (call2 x l w s) = frame.call2 share x l w s
+onShare rec share (call2Own x w s) = halves.call2Own share x w s
 onShare rec share (call3 x l m o) = frame.call3 share (rec .index) (rec .vad) (rec .noise) (rec .denoise) x l m o
 onShare rec share (call4 x o) = frame.call4 share (rec .frame) (rec .heard) x o
 

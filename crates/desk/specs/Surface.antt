@@ -10,7 +10,7 @@ use Rattle.rules.specs.F32.{f32}
 use Rattle.frame.specs.Reply.{passed, left}
 use Rattle.frame.specs.declared.Reply.{Reply}
 use Rattle.frame.specs.declared.Reply.the-variants.{Done, Silent, Heard, Numbered, Refused, Misread}
-use Rattle.desk.specs.Desk.{Ask, opening, call1, call2, call3, call4, recordOf, Given, desk}
+use Rattle.desk.specs.Desk.{Ask, opening, call1, call2, call2Own, call3, call4, recordOf, Given, desk}
 use Rattle.desk.specs.declared.Record.{Record}
 
 -- a record is so many numbers; a list of another length is out of range
@@ -52,6 +52,7 @@ besides (call3 x l m o) reply = heardOf reply ∷ []
 besides (opening m) reply = []
 besides (call1 x w) reply = []
 besides (call2 x l w s) reply = []
+besides (call2Own x w s) reply = []
 besides (call4 x o) reply = []
 
 -- of another length, that buffer is a wrong length among the others, as an `out` of no places is

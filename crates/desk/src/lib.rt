@@ -3,7 +3,7 @@ ghost use mathlib.Core.Path.{_≡_};
 ghost use mathlib.Core.List.{[], _∷_};
 ghost use lib.ListN.{length};
 ghost use Rattle.desk.specs.Gate.{BENCHES, sideOf, allZero, inCounts, inRange, gate};
-ghost use Rattle.desk.specs.Desk.{opening, call1, call2, call3, call4, recordOf, nextIndex, nextFrame, nextHeard, nextDue, desk, Served};
+ghost use Rattle.desk.specs.Desk.{opening, call1, call2, call2Own, call3, call4, recordOf, nextIndex, nextFrame, nextHeard, nextDue, desk, Served};
 ghost use Rattle.desk.specs.Parts.{Admits, turnedAway, toldOf, openedOf};
 use frame::Lag;
 use frame::Reply;
@@ -343,6 +343,28 @@ pub fn call2(
         return turned_away(rec, number);
     }
     let reply = frame::call2(&mut store[start..end], spectrum, lag, window, sums);
+    told(rec, reply)
+}
+
+// Call 2 with our own lag, found in the side's `input_mem`: the first spectrum in, 960 windowed numbers and 22 sums written.
+pub fn call2_own(
+    side: Side,
+    rec: Record,
+    store: &mut [f32],
+    spectrum: &[f32],
+    window: &mut [f32],
+    sums: &mut [f32],
+) -> Answer
+    ensures { λ r. ⌜ Served
+        (desk BENCHES (side .0) rec (now (store .entry))
+        (call2Own (now (spectrum .entry)) (length (now (window .entry))) (length (now (sums .entry)))))
+        r (now (store .exit)) (now (window .entry) ∷ now (sums .entry) ∷ []) (now (window .exit) ∷ now (sums .exit) ∷ []) ⌝ }
+{
+    let Admission { number, start, end } = admit(side, rec, store.len(), 2);
+    if number != 0 {
+        return turned_away(rec, number);
+    }
+    let reply = halves::call2_own(&mut store[start..end], spectrum, window, sums);
     told(rec, reply)
 }
 

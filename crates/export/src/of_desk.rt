@@ -6,7 +6,7 @@ ghost use mathlib.Core.List.{[], _∷_};
 ghost use lib.ListN.{length};
 ghost use Rattle.frame.specs.Reply.{passed};
 ghost use Rattle.desk.specs.Gate.{BENCHES, sideOf};
-ghost use Rattle.desk.specs.Desk.{opening, call1, call2, call3, call4};
+ghost use Rattle.desk.specs.Desk.{opening, call1, call2, call2Own, call3, call4};
 ghost use Rattle.desk.specs.Surface.{RECORD, numbersOf, recordIn, replyNumber, heardOf, outOf, hosted, Hosted};
 ghost use Rattle.desk.proofs.Ranged.{Bounded};
 ghost use Rattle.desk.proofs.Replies.{Small};
@@ -154,6 +154,32 @@ pub extern "C" fn tuppence_call2(
         store,
         spectrum,
         Lag(lag as usize),
+        window,
+        sums,
+    );
+    hand_back(record, given)
+}
+
+#[no_mangle]
+pub extern "C" fn tuppence_call2_own(
+    record: &mut [u32],
+    store: &mut [f32],
+    side: u32,
+    spectrum: &[f32],
+    window: &mut [f32],
+    sums: &mut [f32],
+) -> u32
+    ensures { λ r. ⌜ Hosted
+        (hosted BENCHES side (now («record» .entry)) (now (store .entry))
+        (call2Own (now (spectrum .entry)) (length (now (window .entry))) (length (now (sums .entry)))))
+        r (now («record» .entry)) (now («record» .exit)) (now (store .exit))
+        (now (window .entry) ∷ now (sums .entry) ∷ []) (now (window .exit) ∷ now (sums .exit) ∷ []) ⌝ }
+{
+    let given = desk::call2_own(
+        Side(side as usize),
+        record_in(record),
+        store,
+        spectrum,
         window,
         sums,
     );

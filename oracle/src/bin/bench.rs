@@ -169,6 +169,18 @@ fn of_pitch(rng: &mut Rng) -> Vec<Row> {
     ]
 }
 
+#[cfg(feature = "lag")]
+fn of_lag(rng: &mut Rng) -> Vec<Row> {
+    let x = rng.list_of(1728, Mood::Audio);
+    let y = x.clone();
+    let mut finder = pitch::PitchFinder::new();
+    vec![row(
+        "our lag, beside PitchFinder::process",
+        move || tuppence::lag(black_box(&mut [0]), &x),
+        move || finder.process(black_box(&y)),
+    )]
+}
+
 #[cfg(feature = "transforms")]
 fn of_transforms(rng: &mut Rng) -> Vec<Row> {
     use oracle::transforms::{cosines, plain_forward, plain_inverse};
@@ -316,6 +328,8 @@ fn main() {
     rows.extend(of_bands(rng));
     #[cfg(feature = "pitch")]
     rows.extend(of_pitch(rng));
+    #[cfg(feature = "lag")]
+    rows.extend(of_lag(rng));
     #[cfg(feature = "transforms")]
     rows.extend(of_transforms(rng));
     #[cfg(feature = "network")]
