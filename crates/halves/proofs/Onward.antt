@@ -9,10 +9,11 @@ use lib.Ieee.{Float}
 use Rattle.rules.proofs.Tabs.{length-tab}
 use Rattle.transforms.specs.Transform.{forwardOf, inverseOf}
 use Rattle.frame.specs.declared.Reply.{Reply}
+use Rattle.frame.specs.declared.Reply.the-variants.{Refused}
 use Rattle.frame.specs.Reply.{passed, left}
 use Rattle.frame.specs.Share.{SHARE}
-use Rattle.frame.specs.Frame.{Effect, Worked, call1, call3, call4}
-use Rattle.frame.proofs.Done.{call4-done}
+use Rattle.frame.specs.Frame.{Effect, Worked, refusal, call1, call3, call4}
+use Rattle.frame.proofs.Done.{call4-done, or-true}
 use Rattle.halves.specs.Own.{call2Own}
 use Rattle.halves.specs.Halves.{onward, buffer, analysed, firstHalf, lookedBack, synthesised, secondHalf}
 
@@ -38,6 +39,12 @@ module _ (share : List Float) (whole : length share ≡ SHARE) where
       ≡ onward (call3 share index vad noise denoise spectrum logs model 961) (λ a. synthesised (a .reply) (a .share) (buffer a) out)
   unfolding secondHalf
   second-half-done index vad noise denoise logs model out a b h e = simp (eq-eqb _ _ whole, eq-eqb _ _ a, eq-eqb _ _ b, le-ltb 7 index h, e)
+
+-- the second half, where `out` has no place
+pub second-half-no-out : (share : List Float) (index vad noise denoise : ℕ) (logs : List Float) (model : List ℕ)
+    → secondHalf share index vad noise denoise logs model 0 ≡ refusal (Refused 5) share
+unfolding secondHalf
+second-half-no-out share index vad noise denoise logs model = simp or-true
 
 -- ---- the first call refused, and done
 

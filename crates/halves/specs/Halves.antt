@@ -17,7 +17,7 @@ use Rattle.frame.specs.Share.{SHARE, inputMem, keptLag}
 use Rattle.frame.specs.Reply.{passed}
 use Rattle.frame.specs.declared.Reply.{Reply}
 use Rattle.frame.specs.Frame.{Effect, unless, recent, call1, call3, call4}
-use Rattle.halves.specs.Own.{call2Own}
+pub use Rattle.halves.specs.Own.{call2Own}
 
 -- on to a second call with what the first gave, unless the first is refused
 abbrev pub onward : Effect → (Effect → Effect) → Effect
