@@ -4,7 +4,7 @@ use crate::cleaned::Cleaned;
 use crate::folder::{told, Folder};
 use crate::recorder::{LagBy, Recorder, Side};
 use crate::refusal::Refusal;
-use crate::{picture, table, wav, FRAME, RATE};
+use crate::{picture, side, table, wav, FRAME, RATE};
 use std::fs;
 use std::path::{Path, PathBuf};
 
@@ -94,14 +94,16 @@ fn channels_of(path: &Path, count: usize) -> Result<Vec<Vec<f32>>, String> {
     Ok(wav.channels)
 }
 
-/// Writes the two recordings, the table and the picture, and what else there is, by its name.
+/// Writes the two recordings, each with its side sheet, the table and the picture, and what else there is, by its name.
 pub fn store(benches: &[Cleaned; 2], more: &[(String, Vec<u8>)], out: &Path) -> Result<(), String> {
     let mut folder = Folder::new(out)?;
     for (name, bytes) in more {
         folder.write(name, bytes)?;
     }
     for bench in benches {
-        folder.write(&format!("{}.wav", bench.side.name()), &wav::write(RATE, &bench.after))?;
+        let name = format!("{}.wav", bench.side.name());
+        let file = side::with_sheet(bench).map_err(|refusal| told(name.as_ref(), refusal))?;
+        folder.write(&name, &file)?;
     }
     folder.write("frames.csv", table::csv(benches).as_bytes())?;
     folder.write("benches.svg", picture::svg(benches).as_bytes())?;

@@ -10,8 +10,8 @@ host: cleans two dictations, one for each bench
   host clean --both STEREO.wav --model M.rnn --out DIR
       Recordings of 48 kHz, 16-bit PCM or 32-bit float; of a stereo file the left
       channel is the left bench. Writes left.wav, right.wav, frames.csv and
-      benches.svg into DIR. With --own-lag the library finds each frame's lag, and
-      not the Rust text's finder.
+      benches.svg into DIR. Each recording carries its side sheet behind the audio.
+      With --own-lag the library finds each frame's lag, and not the Rust text's finder.
   host demo DIR
       The same with two dictations over a grinder and the house model, which come
       with the program; the recordings before cleaning are written too.

@@ -75,6 +75,26 @@ fn clean_writes_its_four_files() {
     assert_eq!(left.channels[0].len(), dictation(0).noisy.len());
 }
 
+/// The sheet has the side, and a record for each row of the table.
+#[test]
+fn each_recording_carries_its_sheet() {
+    let given = Given::new("sheets");
+    assert!(given.clean("left.wav", "right.wav", "house.rnn", "out").status.success());
+    let table = fs::read_to_string(given.path.join("out/frames.csv")).unwrap();
+    for side in ["left", "right"] {
+        let file = fs::read(given.path.join(format!("out/{side}.wav"))).unwrap();
+        let rows: Vec<&str> = table.lines().filter(|line| line.starts_with(side)).collect();
+        let heard = rows.iter().filter(|row| row.contains(",heard,")).count();
+        let sheet = host::side::Sheet::of(&file).unwrap();
+        assert_eq!((sheet.side.name(), sheet.frames, sheet.heard, &sheet.gaps[..]), (side, rows.len(), heard, &[][..]));
+        assert!(heard > 0);
+        // behind the audio, where `mend` looks for it
+        let mut start = [0; 3];
+        assert_eq!(tuppence::sheet_read(&mut start, &file), 0);
+        assert_eq!(start[0] as usize, wav::audio_end(&file).unwrap());
+    }
+}
+
 #[test]
 fn another_right_recording_leaves_the_left_file_as_it_is() {
     let given = Given::new("apart");

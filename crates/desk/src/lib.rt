@@ -34,6 +34,9 @@ pub const BENCHES: usize = 16;
 // The store's published length: a share for each bench.
 pub const STORE: usize = BENCHES * frame::SHARE;
 
+// From here an opening counts frames and heard frames.
+const FIRST: u32 = 0;
+
 // Left or right, 0 or 1: a bench's parity.
 pub fn side_of(bench: u32) -> u32
     ensures { λ r. ⌜ r ≡ sideOf bench ⌝ }
@@ -302,8 +305,8 @@ fn opened(rec: Record, read: Reading) -> Answer
                 m.vad_gru.neurons,
                 m.noise_gru.neurons,
                 m.denoise_gru.neurons,
-                0,
-                0,
+                FIRST,
+                FIRST,
             ),
         },
     }

@@ -272,7 +272,7 @@ struct Frame {
 fn of_frame(rng: &mut Rng) -> Vec<Row> {
     let frames: Vec<Frame> = (0..100)
         .map(|_| Frame {
-            samples: rng.list_of(480, Mood::Audio),
+            samples: rng.list_of(480, Mood::Audio).iter().map(|x| x.min(32_767.0)).collect(),
             spectra: std::array::from_fn(|_| rng.list_of(961, Mood::Audio)),
             lag: rng.below(769) as u32,
             logs: rng.list_of(22, Mood::Small),

@@ -11,7 +11,7 @@ use Rattle.export.proofs.of_desk.put_record.Tie as tie
 
 returns : tie.Need-returns
 returns c =
-    let start = c .before .before .before .before .before .before .before in
+    let start = c .before .before .before .before .before in
     sets-whole (now (start .args .«record»)) RECORD (start .pre .0) (numbersOf (start .args .rec)) refl
 
 pub put-record-spec : {M : Type 1} → statement M
