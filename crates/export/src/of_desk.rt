@@ -307,13 +307,7 @@ pub extern "C" fn tuppence_first_half(
         (firstHalf (now (samples .entry)) (length (now (sums .entry)))))
         r (now («record» .entry)) (now («record» .exit)) (now (store .exit)) (now (sums .entry) ∷ []) (now (sums .exit) ∷ []) ⌝ }
 {
-    let given = desk::first_half(
-        Side(side as usize),
-        record_in(record),
-        store,
-        samples,
-        sums,
-    );
+    let given = desk::first_half(Side(side as usize), record_in(record), store, samples, sums);
     hand_back(record, given)
 }
 

@@ -15,7 +15,7 @@ use Rattle.export.proofs.of_desk.tuppence_second_half.Tie as tie
 part-second-half-end : tie.Need-part-second-half-end
 part-second-half-end c =
     let p = c .before .before .before in
-    let a = p .before .before .before .before .before .before .before .before .args in
+    let a = p .before .before .before .before .before .before .before .args in
     omega (arith, p .places .ensures, no-more (length (now (a .answer))) (length (now (a .out))))
 
 tell-requires : tie.Need-tell-requires
@@ -24,7 +24,7 @@ tell-requires c κs =
     let d = c .before .before .before .before .before in
     let r = d .before .before .before in
     let p = r .before .before in
-    let a = p .before .before .before .before .before .before .before .before .args in
+    let a = p .before .before .before .before .before .before .before .args in
     three _ _ _ _ _ (secondHalf (now (a .logs)) (now (a .model))) (now (a .out)) (now (a .answer)) _ _ (p .places .result)
     (no-half-out BENCHES _ _ _ (now (a .logs)) (now (a .model))) (λ _ _. refl) (r .record-in .ensures) (p .places .ensures) (d .second-half .ensures)
 
@@ -41,7 +41,7 @@ returns c =
     let d = t .before .before .before .before .before .before in
     let r = d .before .before .before in
     let p = r .before .before in
-    let a = p .before .before .before .before .before .before .before .before .args in
+    let a = p .before .before .before .before .before .before .before .args in
     handed-three _ _ _ _ _ (secondHalf (now (a .logs)) (now (a .model))) (now (a .out)) (now (a .answer)) _ _ (p .places .result)
     (no-half-out BENCHES _ _ _ (now (a .logs)) (now (a .model))) (λ _ _. refl) (r .record-in .ensures) (p .places .ensures) (d .second-half .ensures)
     (omega (arith, d .second-half .kept)) (t .tell .ensures) (h .hand-back .ensures)
