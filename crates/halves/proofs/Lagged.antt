@@ -43,11 +43,11 @@ use Rattle.halves.specs.Halves.{buffer, lagStep, wholeLag, lookedBack}
 upto : (x : Float) (n : ℕ) → loop n (λ k. lagStep x (1 + k)) 0 ≤ n
 unfolding loop
 upto x zero = omega arith
-upto x (suc n) = either (le (ofInt binary32 (pos (1 + n))) x) (upto x n)
+upto x (suc n) = either (le (ofInt binary32 (pos (1 + n))) x) (omega arith) (upto x n)
   where
-    either : (t : Bool) {l : ℕ} → l ≤ n → cond t (1 + n) l ≤ suc n
-    either true h = omega arith
-    either false h = omega arith
+    either : (t : Bool) {k l : ℕ} → k ≤ suc n → l ≤ n → cond t k l ≤ suc n
+    either true g h = g
+    either false g h = omega arith
 
 pub lag-small : (x : Float) → wholeLag x ≤ 768
 unfolding wholeLag range
