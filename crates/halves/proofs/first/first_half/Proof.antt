@@ -13,15 +13,15 @@ use Rattle.halves.proofs.first.first_half.Tie as tie
 
 returns : tie.Need-returns
 unfolding firstHalf
-returns c = search tests
+returns c = search (tests, c .if1 .taken)
 
 returns-2 : tie.Need-returns-2
 unfolding firstHalf
-returns-2 c = search tests
+returns-2 c = search (tests, c .if2 .taken)
 
 returns-3 : tie.Need-returns-3
 unfolding firstHalf
-returns-3 c = search tests
+returns-3 c = search (tests, c .if3 .taken)
 
 returns-4 : tie.Need-returns-4
 returns-4 c =
