@@ -37,12 +37,18 @@ fn octave(a: f64, b: f64) -> bool {
     near(a, b) || near(a / 2.0, b) || near(a, b / 2.0)
 }
 
-/// How many percent of the pairs are near, and near or an octave apart.
+/// Near each other, an octave apart, or the greater near a multiple of the smaller.
+fn multiple(a: f64, b: f64) -> bool {
+    let (long, short) = (a.max(b), a.min(b));
+    octave(a, b) || near(long, short * (long / short).round())
+}
+
+/// How many percent of the pairs are near; or an octave apart besides; or a multiple besides.
 fn share(pairs: &[[f64; 2]]) -> String {
     let percent = |test: fn(f64, f64) -> bool| {
         100.0 * pairs.iter().filter(|[a, b]| test(*a, *b)).count() as f64 / pairs.len().max(1) as f64
     };
-    format!("{:.0} %, {:.0} %", percent(near), percent(octave))
+    format!("{:.0}, {:.0}, {:.0} %", percent(near), percent(octave), percent(multiple))
 }
 
 /// A voice of this period in samples, with overtones up to 4 kHz of seeded phases, and noise so many decibels below it.
@@ -95,7 +101,7 @@ fn effects() -> Result<(), String> {
 }
 
 pub fn lags() -> Result<(), String> {
-    println!("within 2 samples, and within 2 samples or an octave apart:\n");
+    println!("within 2 samples; or an octave apart; or one a multiple of the other:\n");
     println!("| voice | frames | ours and the text's | ours and the true period | the text's and the true period |");
     println!("|---|---|---|---|---|");
     for (bench, name) in ["left", "right"].into_iter().enumerate() {

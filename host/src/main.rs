@@ -11,7 +11,8 @@ host: cleans two dictations, one for each bench
       Recordings of 48 kHz, 16-bit PCM or 32-bit float; of a stereo file the left
       channel is the left bench. Writes left.wav, right.wav, frames.csv and
       benches.svg into DIR. Each recording carries its side sheet behind the audio.
-      With --own-lag the library finds each frame's lag, and not the Rust text's finder.
+      With --own-lag the library finds each frame's lag, and
+      not the Rust text's finder.
   host demo DIR
       The same with two dictations over a grinder and the house model, which come
       with the program; the recordings before cleaning are written too.

@@ -44,7 +44,7 @@ fn a_lag_of_768_passes_and_769_gives_6() {
 #[test]
 fn the_sister_of_call_2_is_call_2_with_the_lag_of_that_sides_own_input() {
     const PERIODS: [usize; 2] = [300, 500];
-    let (mut store, mut records) = (vec![1.0; 98_304], [[0; 5]; 2]);
+    let (mut store, mut records) = (vec![1.0; 98_304], [[0; 7]; 2]);
     for (side, period) in PERIODS.into_iter().enumerate() {
         assert_eq!(tuppence::open(&mut records[side], &mut store, side as u32, &smallest()), 0);
         records[side][0] = 2;
