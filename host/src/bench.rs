@@ -1,7 +1,7 @@
 //! `host bench`: how fast the box is, beside the Rust text's `process_frame` with the same transforms.
 
 use crate::demo::{grinder, HOUSE};
-use crate::recorder::{Recorder, Side};
+use crate::recorder::{Recorder, Side, Spent, Way};
 use crate::reference::Reference;
 use crate::FRAME;
 use std::time::{Duration, Instant};
@@ -15,18 +15,36 @@ fn median(mut times: Vec<Duration>) -> Duration {
     times[times.len() / 2]
 }
 
+/// The time of so many frames of one bench.
+fn frames(recorder: &mut Recorder, samples: &[f32]) -> Duration {
+    let mut out = [0.0; FRAME];
+    recorder.open(Side::Left, HOUSE).expect("the house model");
+    let start = Instant::now();
+    for frame in samples.chunks_exact(FRAME) {
+        recorder.frame(Side::Left, frame, HOUSE, &mut out).expect("a frame");
+    }
+    start.elapsed()
+}
+
+fn per_second(time: Duration) -> f64 {
+    FRAMES as f64 / time.as_secs_f64()
+}
+
+fn tell(way: &str, time: Duration) {
+    let times = per_second(time) / 100.0;
+    println!("{way}: {:.0} frames a second, {times:.0} times as fast as it is spoken", per_second(time));
+    // a bench speaks a frame every 10 ms
+    println!("  one core serves {:.0} benches in real time", times.floor());
+}
+
 pub fn bench() {
     let samples: Vec<f32> = grinder(FRAMES * FRAME, 7, 100.0, 340.0).iter().map(|x| (1_000.0 * x) as f32).collect();
     let mut out = [0.0; FRAME];
-    let (mut ours, mut text) = (Vec::new(), Vec::new());
-    let mut recorder = Recorder::default();
+    let (mut ours, mut own, mut text) = (Vec::new(), Vec::new(), Vec::new());
+    let (mut recorder, mut halves) = (Recorder::default(), Recorder::new(Way::Own));
     for _ in 0..ROUNDS {
-        recorder.open(Side::Left, HOUSE).expect("the house model");
-        let start = Instant::now();
-        for frame in samples.chunks_exact(FRAME) {
-            recorder.frame(Side::Left, frame, HOUSE, &mut out).expect("a frame");
-        }
-        ours.push(start.elapsed());
+        ours.push(frames(&mut recorder, &samples));
+        own.push(frames(&mut halves, &samples));
 
         let mut reference = Reference::new(HOUSE).expect("the house model");
         let start = Instant::now();
@@ -35,20 +53,20 @@ pub fn bench() {
         }
         text.push(start.elapsed());
     }
-    let (ours, text) = (median(ours), median(text));
-    let per_second = |time: Duration| FRAMES as f64 / time.as_secs_f64();
-    println!(
-        "one bench: {:.0} frames a second, {:.0} times as fast as it is spoken",
-        per_second(ours),
-        per_second(ours) / 100.0
-    );
-    // a bench speaks a frame every 10 ms
-    println!("one core serves {:.0} benches in real time", (per_second(ours) / 100.0).floor());
+    let (ours, own, text) = (median(ours), median(own), median(text));
+    tell("one bench, the text's lag and this program's transforms", ours);
+    tell("one bench, our own lag and transforms", own);
     println!("process_frame of the Rust text, same transforms: {:.0} frames a second", per_second(text));
-    println!("time, the Rust = 1: {:.2}", ours.as_secs_f64() / text.as_secs_f64());
+    println!("time of the first, the Rust = 1: {:.2}", ours.as_secs_f64() / text.as_secs_f64());
 
-    let spent = recorder.spent;
-    let parts = [
+    parts_of("of a frame in four calls", &of_calls(&recorder.spent));
+    let spent = halves.spent;
+    let own = [("first half", spent.halves[0]), ("second half", spent.halves[1]), ("logarithms", spent.logarithms)];
+    parts_of("of a frame in two halves", &own);
+}
+
+fn of_calls(spent: &Spent) -> [(&'static str, Duration); 7] {
+    [
         ("call 1", spent.calls[0]),
         ("call 2", spent.calls[1]),
         ("call 3", spent.calls[2]),
@@ -56,12 +74,15 @@ pub fn bench() {
         ("transforms", spent.transforms),
         ("lag", spent.lag),
         ("logarithms", spent.logarithms),
-    ];
+    ]
+}
+
+fn parts_of(what: &str, parts: &[(&str, Duration)]) {
     let whole: Duration = parts.iter().map(|p| p.1).sum();
-    println!("of a frame:");
+    println!("{what}:");
     for (name, time) in parts {
         println!(
-            "  {name:10} {:5.1} %  {:6.1} us",
+            "  {name:11} {:5.1} %  {:6.1} us",
             100.0 * time.as_secs_f64() / whole.as_secs_f64(),
             1e6 * time.as_secs_f64() / (ROUNDS * FRAMES) as f64
         );

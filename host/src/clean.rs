@@ -2,7 +2,7 @@
 
 use crate::cleaned::Cleaned;
 use crate::folder::{told, Folder};
-use crate::recorder::{LagBy, Recorder, Side};
+use crate::recorder::{Recorder, Side, Way};
 use crate::refusal::Refusal;
 use crate::{page, picture, side, table, wav, FRAME, RATE};
 use std::fs;
@@ -32,10 +32,10 @@ pub fn run(
     left: Vec<f32>,
     right: Vec<f32>,
     model: &[u8],
-    lag_by: LagBy,
+    way: Way,
     mut progress: impl FnMut(f64),
 ) -> Result<[Cleaned; 2], Refusal> {
-    let mut recorder = Recorder::new(lag_by);
+    let mut recorder = Recorder::new(way);
     for side in Side::BOTH {
         recorder.open(side, model)?;
     }
@@ -65,7 +65,7 @@ pub fn run(
 pub struct Job {
     pub inputs: Inputs,
     pub model: PathBuf,
-    pub lag_by: LagBy,
+    pub way: Way,
     /// Whether no progress is told.
     pub quiet: bool,
     pub out: PathBuf,
@@ -142,7 +142,7 @@ pub fn clean(job: &Job) -> Result<[Cleaned; 2], String> {
         }
     };
     let progress = progress_of(left.len().max(right.len()), job.quiet);
-    let benches = run(left, right, &model, job.lag_by, progress).map_err(|refusal| told(&job.model, refusal))?;
+    let benches = run(left, right, &model, job.way, progress).map_err(|refusal| told(&job.model, refusal))?;
     store(&benches, &[], &job.out)?;
     Ok(benches)
 }

@@ -2,7 +2,7 @@
 
 use crate::clean;
 use crate::cleaned::Cleaned;
-use crate::recorder::LagBy;
+use crate::recorder::Way;
 use crate::{wav, FRAME, RATE};
 use std::f64::consts::TAU;
 use std::path::Path;
@@ -141,15 +141,15 @@ pub fn effect(dictation: &Dictation, after: &[f32]) -> Effect {
 }
 
 /// Both dictations, cleaned with the house model.
-pub fn cleaned(dictations: &[Dictation; 2], lag_by: LagBy) -> Result<[Cleaned; 2], String> {
+pub fn cleaned(dictations: &[Dictation; 2], way: Way) -> Result<[Cleaned; 2], String> {
     let [left, right] = [&dictations[0], &dictations[1]].map(|d| d.noisy.clone());
-    clean::run(left, right, HOUSE, lag_by, |_| ()).map_err(|refusal| refusal.to_string())
+    clean::run(left, right, HOUSE, way, |_| ()).map_err(|refusal| refusal.to_string())
 }
 
 /// Makes the dictations, cleans them, and writes both into the folder.
 pub fn demo(out: &Path) -> Result<[Cleaned; 2], String> {
     let dictations = [dictation(0), dictation(1)];
-    let benches = cleaned(&dictations, LagBy::Finder)?;
+    let benches = cleaned(&dictations, Way::Text)?;
     let before =
         [&benches[0], &benches[1]].map(|b| (format!("{}-before.wav", b.side.name()), wav::write(RATE, &b.before)));
     clean::store(&benches, &before, out)?;

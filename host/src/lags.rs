@@ -1,7 +1,7 @@
 //! `host lags`: how often our own lag (request 04) and the text's `PitchFinder` agree, and how often each is right.
 
 use crate::demo::{cleaned, dictation, effect, filtered, power, Rng};
-use crate::recorder::LagBy;
+use crate::recorder::Way;
 use crate::{FRAME, RATE};
 use nnnoiseless_text::probe::pitch::PitchFinder;
 use std::f64::consts::TAU;
@@ -85,8 +85,8 @@ fn effects() -> Result<(), String> {
     println!("\nthe demo, cleaned with either lag:\n");
     println!("| bench | lag | noise in the pauses | voice | signal to noise, after |");
     println!("|---|---|---|---|---|");
-    for (name, lag_by) in [("the text's", LagBy::Finder), ("ours", LagBy::Library)] {
-        for (bench, dictation) in cleaned(&dictations, lag_by)?.iter().zip(&dictations) {
+    for (name, way) in [("the text's", Way::Text), ("ours", Way::OwnLag)] {
+        for (bench, dictation) in cleaned(&dictations, way)?.iter().zip(&dictations) {
             let e = effect(dictation, &bench.after);
             println!(
                 "| {} | {name} | {:.2} dB | {:.2} dB | {:.2} dB |",

@@ -1,5 +1,5 @@
 use host::clean::{clean, Inputs, Job};
-use host::recorder::LagBy;
+use host::recorder::Way;
 use std::path::PathBuf;
 use std::process::ExitCode;
 
@@ -12,7 +12,8 @@ host: cleans two dictations, one for each bench
       the left channel is the left bench. Writes left.wav, right.wav, frames.csv,
       benches.svg and index.html, a page with all of it, into DIR. Each recording
       carries its side sheet behind the audio.
-      With --own-lag the library finds each frame's lag, and not the Rust text's finder.
+      With --own the library transforms each frame and finds its lag itself; with
+      --own-lag it finds the lag, and not the Rust text's finder.
       A long recording's progress is told, unless -q stands there.
   host demo DIR
       The same with two dictations over a grinder and the house model, which come
@@ -51,16 +52,21 @@ fn options(words: &[String], names: &[&str]) -> Option<Vec<PathBuf>> {
 fn job(words: &[String]) -> Option<Job> {
     let mut words = words.to_vec();
     let mut flag = |name| words.iter().position(|word| word == name).map(|at| words.remove(at)).is_some();
-    let lag_by = if flag("--own-lag") { LagBy::Library } else { LagBy::Finder };
+    let way = match (flag("--own"), flag("--own-lag")) {
+        (true, true) => return None,
+        (true, false) => Way::Own,
+        (false, true) => Way::OwnLag,
+        (false, false) => Way::Text,
+    };
     let quiet = flag("-q");
     let words = &words[..];
     if let Some(mut paths) = options(words, &["--left", "--right", "--model", "--out"]) {
         let (out, model, right, left) = (paths.pop()?, paths.pop()?, paths.pop()?, paths.pop()?);
-        return Some(Job { inputs: Inputs::Two { left, right }, model, lag_by, quiet, out });
+        return Some(Job { inputs: Inputs::Two { left, right }, model, way, quiet, out });
     }
     let mut paths = options(words, &["--both", "--model", "--out"])?;
     let (out, model, both) = (paths.pop()?, paths.pop()?, paths.pop()?);
-    Some(Job { inputs: Inputs::Stereo(both), model, lag_by, quiet, out })
+    Some(Job { inputs: Inputs::Stereo(both), model, way, quiet, out })
 }
 
 fn run(words: &[String]) -> Result<(), String> {

@@ -34,11 +34,13 @@ impl Side {
     }
 }
 
-/// Who finds the lag of a frame: the text's own finder, or the library, in the sister of call 2 (request 04).
+/// How a frame is run: in four calls, with the lag of the text's own finder or with the library's (request 04); or in two halves, with
+/// the library's lag and transforms, so that the logarithms alone are left to this program (request 08).
 #[derive(Clone, Copy, Debug, PartialEq)]
-pub enum LagBy {
-    Finder,
-    Library,
+pub enum Way {
+    Text,
+    OwnLag,
+    Own,
 }
 
 /// What a frame gave besides its 480 samples.
@@ -61,6 +63,7 @@ pub struct Frame {
 #[derive(Clone, Copy, Default)]
 pub struct Spent {
     pub calls: [Duration; 4],
+    pub halves: [Duration; 2],
     pub transforms: Duration,
     pub lag: Duration,
     pub logarithms: Duration,
@@ -78,7 +81,7 @@ struct Buffers {
 pub struct Recorder {
     store: Vec<f32>,
     records: [[u32; RECORD]; 2],
-    lag_by: LagBy,
+    way: Way,
     finders: [PitchFinder; 2],
     transform: Transform,
     buffers: Box<Buffers>,
@@ -87,16 +90,16 @@ pub struct Recorder {
 
 impl Default for Recorder {
     fn default() -> Recorder {
-        Recorder::new(LagBy::Finder)
+        Recorder::new(Way::Text)
     }
 }
 
 impl Recorder {
-    pub fn new(lag_by: LagBy) -> Recorder {
+    pub fn new(way: Way) -> Recorder {
         Recorder {
             store: vec![0.0; STORE],
             records: [[0; RECORD]; 2],
-            lag_by,
+            way,
             finders: [PitchFinder::new(), PitchFinder::new()],
             transform: Transform::default(),
             buffers: Box::new(Buffers {
@@ -136,22 +139,47 @@ impl Recorder {
 
     /// One frame of a bench: 480 samples in, 480 out.
     pub fn frame(&mut self, side: Side, samples: &[f32], model: &[u8], out: &mut [f32]) -> Result<Frame, Refusal> {
+        let frame = self.records[side as usize][FRAMES];
+        let answer = match self.way {
+            Way::Own => self.halves(side, samples, model, out)?,
+            _ => self.calls(side, samples, model, out)?,
+        };
+        let [heard, probability, energy] = answer;
+        let heard = if heard == 0.0 { Heard::Silent } else { Heard::Voice { probability, energy } };
+        Ok(Frame { number: frame, heard, heard_so_far: self.records[side as usize][HEARD] })
+    }
+
+    /// In two halves.
+    fn halves(&mut self, side: Side, samples: &[f32], model: &[u8], out: &mut [f32]) -> Result<[f32; 3], Refusal> {
+        let Recorder { store, records, buffers: b, spent, .. } = self;
+        let (number, record) = (side as u32, &mut records[side as usize]);
+        done(timed(&mut spent.halves[0], || tuppence::first_half(record, store, number, samples, &mut b.sums)))?;
+        let logs = timed(&mut spent.logarithms, || b.sums.map(f32::log10));
+        let mut answer = [0.0; 3];
+        done(timed(&mut spent.halves[1], || {
+            tuppence::second_half(record, store, number, &logs, model, &mut out[..FRAME], &mut answer)
+        }))?;
+        Ok(answer)
+    }
+
+    /// In four calls.
+    fn calls(&mut self, side: Side, samples: &[f32], model: &[u8], out: &mut [f32]) -> Result<[f32; 3], Refusal> {
         let number = side as u32;
-        let Recorder { store, records, lag_by, finders, transform, buffers: b, spent } = self;
+        let Recorder { store, records, way, finders, transform, buffers: b, spent } = self;
         let record = &mut records[side as usize];
 
         done(timed(&mut spent.calls[0], || tuppence::call1(record, store, number, samples, &mut b.window)))?;
         timed(&mut spent.transforms, || transform.forward(&b.window, &mut b.spectrum));
 
-        done(match lag_by {
-            LagBy::Finder => {
+        done(match way {
+            Way::Text | Way::Own => {
                 let input_mem = &store[side as usize * SHARE..][..INPUT_MEM];
                 let (lag, _gain) = timed(&mut spent.lag, || finders[side as usize].process(input_mem));
                 timed(&mut spent.calls[1], || {
                     tuppence::call2(record, store, number, &b.spectrum, lag as u32, &mut b.window, &mut b.sums)
                 })
             }
-            LagBy::Library => timed(&mut spent.calls[1], || {
+            Way::OwnLag => timed(&mut spent.calls[1], || {
                 tuppence::call2_own(record, store, number, &b.spectrum, &mut b.window, &mut b.sums)
             }),
         })?;
@@ -164,10 +192,7 @@ impl Recorder {
         }))?;
         timed(&mut spent.transforms, || transform.inverse(&b.out, &mut b.window));
 
-        let frame = record[FRAMES];
         done(timed(&mut spent.calls[3], || tuppence::call4(record, store, number, &b.window, &mut out[..FRAME])))?;
-        let [heard, probability, energy] = answer;
-        let heard = if heard == 0.0 { Heard::Silent } else { Heard::Voice { probability, energy } };
-        Ok(Frame { number: frame, heard, heard_so_far: record[HEARD] })
+        Ok(answer)
     }
 }

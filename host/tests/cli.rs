@@ -155,6 +155,26 @@ fn the_demo_needs_no_files() {
     assert!(names.iter().all(|name| out.join(name).exists()) && !page.contains("://"), "{names:?}");
 }
 
+/// Our own lag and transforms clean the same dictation, a little otherwise.
+#[test]
+fn with_our_own_transforms() {
+    let given = Given::new("own");
+    let [l, r, m, one, two] = ["left.wav", "right.wav", "house.rnn", "one", "two"].map(|name| given.at(name));
+    let words = ["clean", "--left", &l, "--right", &r, "--model", &m, "--out"];
+    assert!(host(&[&words[..], &[&one, "--own"]].concat()).status.success());
+    assert!(host(&[&words[..], &[&two, "--own-lag"]].concat()).status.success());
+    assert_eq!(host(&[&words[..], &[&two, "--own-lag", "--own"]].concat()).status.code(), Some(2));
+    // the lag is the same, and the transforms' last bits are all that differs: a recording hardly moves
+    for name in ["left.wav", "right.wav"] {
+        let read = |folder: &str| {
+            wav::read(&fs::read(given.path.join(folder).join(name)).unwrap()).unwrap().channels.remove(0)
+        };
+        let (one, two) = (read("one"), read("two"));
+        let far = one.iter().zip(&two).map(|(a, b)| (a - b).abs()).fold(0.0, f32::max);
+        assert!(one.len() == two.len() && far <= 64.0, "{name}: {far}");
+    }
+}
+
 /// Over a minute of sound the progress is told, but not where `-q` stands.
 #[test]
 fn a_long_recording_tells_its_progress() {

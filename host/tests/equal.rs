@@ -3,7 +3,7 @@
 
 use host::clean::{frames_of, run, samples_of};
 use host::demo::{dictation, grinder, Rng, HOUSE};
-use host::recorder::{Heard, LagBy};
+use host::recorder::{Heard, Way};
 use host::reference::Reference;
 use host::{FRAME, RATE};
 
@@ -26,7 +26,7 @@ fn alike(a: f32, b: f32) -> bool {
 }
 
 fn both_agree(left: Vec<f32>, right: Vec<f32>) {
-    for bench in run(left, right, HOUSE, LagBy::Finder, |_| ()).unwrap() {
+    for bench in run(left, right, HOUSE, Way::Text, |_| ()).unwrap() {
         let (output, voices) = by_the_text(&bench.before);
         let name = bench.side.name();
         assert_eq!(bench.after.len(), output.len());

@@ -11,6 +11,8 @@ pub struct Surface {
     pub call2_own: fn(&mut [u32], &mut [f32], u32, &[f32], &mut [f32], &mut [f32]) -> u32,
     pub call3: fn(&mut [u32], &mut [f32], u32, &[f32], &[f32], &[u8], &mut [f32], &mut [f32]) -> u32,
     pub call4: fn(&mut [u32], &mut [f32], u32, &[f32], &mut [f32]) -> u32,
+    pub first_half: fn(&mut [u32], &mut [f32], u32, &[f32], &mut [f32]) -> u32,
+    pub second_half: fn(&mut [u32], &mut [f32], u32, &[f32], &[u8], &mut [f32], &mut [f32]) -> u32,
 }
 
 /// The proved desk.
@@ -21,14 +23,20 @@ pub const OURS: Surface = Surface {
     call2_own: tuppence::call2_own,
     call3: tuppence::call3,
     call4: tuppence::call4,
+    first_half: tuppence::first_half,
+    second_half: tuppence::second_half,
 };
+
+/// Calls 1 and 2, and calls 3 and 4, in one.
+pub const FIRST_HALF: u32 = 5;
+pub const SECOND_HALF: u32 = 6;
 
 /// One call: its arguments, and what its answer buffers hold before it. Call 0 is an opening.
 #[derive(Clone, Default)]
 pub struct Ask {
     pub call: u32,
     pub side: u32,
-    /// Samples; the first spectrum; the second spectrum and the logarithms; the inverse.
+    /// Samples; the first spectrum; the second spectrum and the logarithms; the inverse. Of the halves, samples; logarithms.
     pub given: Vec<Vec<f32>>,
     /// Call 2's; none for its sister, which finds its own.
     pub lag: Option<u32>,
@@ -56,6 +64,10 @@ impl Ask {
                 (desk.call3)(record, store, self.side, spectrum, logs, &self.model, out, answer)
             }
             (4, [inverse], [out]) => (desk.call4)(record, store, self.side, inverse, out),
+            (FIRST_HALF, [samples], [sums]) => (desk.first_half)(record, store, self.side, samples, sums),
+            (SECOND_HALF, [logs], [out, answer]) => {
+                (desk.second_half)(record, store, self.side, logs, &self.model, out, answer)
+            }
             _ => unreachable!("a call of another shape"),
         };
         (number, lent)
@@ -87,19 +99,27 @@ impl Caller {
         Caller { side, ..Caller::default() }
     }
 
-    /// The next call, where `due` is due.
+    /// The next call, where `due` is due. The plain sums that a half is held against take their time: one call in twelve is one.
     pub fn ask(&mut self, rng: &mut Rng, due: u32) -> Ask {
-        let call = match rng.below(80) {
-            0 => 0,
-            1..=3 => 1 + rng.below(4) as u32,
-            _ => due.min(4),
+        let call = match (rng.below(80), due.min(4)) {
+            (0, _) => 0,
+            (1..=3, _) => 1 + rng.below(6) as u32,
+            (4..=16, 1) => FIRST_HALF,
+            (4..=16, 3) => SECOND_HALF,
+            (_, due) => due,
         };
         let mut ask = match call {
             0 => self.opening(rng),
             1 => self.samples(rng),
             2 => self.first(rng),
             3 => self.second(rng),
-            _ => self.inverse(rng),
+            4 => self.inverse(rng),
+            FIRST_HALF => Ask { held: vec![held(rng, 22)], ..self.samples(rng) },
+            _ => {
+                let mut ask = self.second(rng);
+                ask.given.remove(0);
+                Ask { held: vec![held(rng, 480), held(rng, 3)], ..ask }
+            }
         };
         ask.call = call;
         ask.side = if rng.once_in(80) { rng.pick(&[16, 17, 256, 65_536, u32::MAX]) } else { self.side };
@@ -114,6 +134,7 @@ impl Caller {
                 self.spectrum.clone_from(&ask.given[0]);
                 self.sums.clone_from(&lent[1]);
             }
+            (FIRST_HALF, 0) => self.sums.clone_from(&lent[0]),
             _ => {}
         }
     }

@@ -6,6 +6,7 @@
 
 use crate::lag;
 use crate::reader::{self, Refusal};
+use crate::transforms::{cosines, plain_forward, plain_inverse};
 use nnnoiseless_text::probe::{bands, features, rnn};
 use nnnoiseless_text::{DenoiseFeatures, RnnModel};
 use std::ops::Range;
@@ -244,6 +245,46 @@ fn heard(text: &mut DenoiseFeatures, share: &mut [f32], model: &RnnModel) -> f32
     bands::interp_band_gain(&mut gf, &g);
     features::apply_gain(text, &gf);
     voice[0]
+}
+
+/// Request 08: call 1, the forward transform of its window as plain sums, and the sister of call 2.
+pub fn first_half(record: &mut [u32], store: &mut [f32], side: u32, samples: &[f32], sums: &mut [f32]) -> u32 {
+    let _ = share!(1, record, store, side, samples 480, sums 22);
+    let (mut window, mut spectrum) = ([0.0; 960], [0.0; 961]);
+    let refused = call1(record, store, side, samples, &mut window);
+    if refused != 0 {
+        return refused;
+    }
+    plain_forward(&cosines(), &mut spectrum, &window);
+    call2_own(record, store, side, &spectrum, &mut window, sums)
+}
+
+/// Request 08: call 3 with the spectrum of the window for the lag that call 2 kept, and call 4 with the inverse of what it wrote.
+pub fn second_half(
+    record: &mut [u32],
+    store: &mut [f32],
+    side: u32,
+    logs: &[f32],
+    model: &[u8],
+    out: &mut [f32],
+    answer: &mut [f32],
+) -> u32 {
+    let share = share!(3, record, store, side, logs 22, out 480, answer 3);
+    let mut text = loaded(share, record);
+    // the largest whole number of 0 to 768 that is not above what stands there
+    let lag = (0..=768).rev().find(|lag| *lag as f32 <= share[LAG]).unwrap_or(0);
+    feed::start();
+    feed::spectrum(&[0.0; 961]);
+    let mut window = features::window(&mut text, lag);
+    feed::finish();
+    let (mut spectrum, mut inverse) = ([0.0; 961], [0.0; 961]);
+    plain_forward(&cosines(), &mut spectrum, &window);
+    let refused = call3(record, store, side, &spectrum, logs, model, &mut inverse, answer);
+    if refused != 0 {
+        return refused;
+    }
+    plain_inverse(&cosines(), &mut window, &inverse);
+    call4(record, store, side, &window, out)
 }
 
 pub fn call4(record: &mut [u32], store: &mut [f32], side: u32, inverse: &[f32], out: &mut [f32]) -> u32 {

@@ -1,6 +1,6 @@
 //! features.rs and denoise.rs: whole frames in four calls, on the sides of one store.
 
-use crate::ask::{Ask, Caller, Surface, OURS};
+use crate::ask::{Ask, Caller, Surface, FIRST_HALF, OURS, SECOND_HALF};
 use crate::desk::{self, BENCHES, COUNTS, DUE, EX, INDEX, LAG, RECORD, SHARE, STORE, X};
 use crate::rng::{Mood, Rng};
 use crate::shadow::Shadow;
@@ -15,6 +15,8 @@ const TEXT: Surface = Surface {
     call2_own: desk::call2_own,
     call3: desk::call3,
     call4: desk::call4,
+    first_half: desk::first_half,
+    second_half: desk::second_half,
 };
 
 /// A desk's store and all its records.
@@ -54,7 +56,7 @@ pub fn compare_with(options: &Options, desk: &Surface) -> Tally {
         let (want, wanted) = ask.put(&TEXT, &mut rusts.records[side], &mut rusts.store);
         let left = all(&number, &lent, &ours, [floats; 2]);
         let right = match (want, ask.call) {
-            (0, 3) => all(&want, &wanted, &rusts, [floats; 2]),
+            (0, 3 | SECOND_HALF) => all(&want, &wanted, &rusts, [floats; 2]),
             // a maximum, which leaves the signs of zeros open, stands in call 3 alone
             (0, _) => all(&want, &wanted, &rusts, [signed, floats]),
             _ => all(&want, &ask.held, &held, [kept; 2]),
@@ -64,7 +66,10 @@ pub fn compare_with(options: &Options, desk: &Surface) -> Tally {
         if let Some(touched) = damage.befalls(side) {
             shadows[touched].touched();
         }
-        if want == 0 {
+        if want == 0 && ask.call >= FIRST_HALF {
+            // a half's two calls are not seen one by one
+            shadows[side].touched();
+        } else if want == 0 {
             let [was, is] = [&before, &rusts].map(|w| (&w.store[side * SHARE..][..SHARE], w.records[side][INDEX]));
             if let Some(what) = shadows[side].follow(&ask, &wanted, was, is) {
                 let what = format!("the text's process_frame differs from the four calls in {what}\n");
@@ -118,6 +123,8 @@ impl Damage {
                 Damage::Store(share + EX.start, ex)
             }
             36 => Damage::Store(share + LAG, vec![rng.float()]),
+            // a lag that no call kept
+            38..=41 => Damage::Store(share + LAG, vec![rng.pick(&LAGS)]),
             37 => Damage::Store(rng.below(STORE), vec![rng.of(mood)]),
             _ => Damage::None,
         }
@@ -148,6 +155,10 @@ impl Damage {
         }
     }
 }
+
+/// Lags at the borders of what a second half reads, between whole numbers, and none.
+const LAGS: [f32; 12] =
+    [-0.0, -1.0, 0.999, 1.0, 59.5, 767.999, 768.0, 768.5, 1e9, f32::INFINITY, f32::NEG_INFINITY, f32::NAN];
 
 /// Numbers at the borders of what a record may hold.
 const BORDERS: [u32; 16] = [0, 1, 2, 3, 4, 5, 6, 7, 8, 126, 127, 128, 255, 256, 65_536, u32::MAX];

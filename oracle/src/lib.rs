@@ -35,10 +35,10 @@ pub mod numbers;
 pub mod pitch;
 #[cfg(feature = "frame")]
 pub mod shadow;
-#[cfg(feature = "transforms")]
-pub mod transforms;
 #[cfg(feature = "sheet")]
 pub mod sheet;
+#[cfg(feature = "transforms")]
+pub mod transforms;
 #[cfg(feature = "model")]
 pub mod writer;
 

@@ -10,8 +10,7 @@ use crate::{values, Options};
 const EDGES: [u32; 9] = [0, 1, 2, 3, 127, 128, 255, 1 << 31, u32::MAX];
 
 /// The arrays as the surface names them.
-const NAMES: [&str; 15] =
-    ["w0", "b0", "w1", "r1", "b1", "w2", "r2", "b2", "w3", "r3", "b3", "w4", "b4", "w5", "b5"];
+const NAMES: [&str; 15] = ["w0", "b0", "w1", "r1", "b1", "w2", "r2", "b2", "w3", "r3", "b3", "w4", "b4", "w5", "b5"];
 
 /// What a writer is lent.
 #[derive(Clone)]

@@ -27,7 +27,7 @@ use Rattle.frame.specs.Reply.{passed}
 use Rattle.frame.specs.declared.Reply.the-variants.{Refused}
 use Rattle.desk.specs.declared.Record.{Record}
 use Rattle.desk.specs.Gate.{shareOf, gate, inRange, allZero}
-use Rattle.desk.specs.Desk.{Ask, opening, call1, call2, call2Own, call3, call4, callOf, closed, answered, opened, onShare, admitted, Given, desk}
+use Rattle.desk.specs.Desk.{Ask, opening, call1, call2, call2Own, call3, call4, firstHalf, secondHalf, callOf, closed, answered, opened, onShare, admitted, Given, desk}
 use Rattle.desk.proofs.Settled.{admitted-kept}
 use Rattle.desk.proofs.Turned.{through, gate-own, closed-opens}
 
@@ -141,6 +141,8 @@ module _ (b : Record) (xs ys : List Float) (l : length xs ≡ SHARE) (k : length
       admit (call2Own x w s) e = absurd (omega arith)
       admit (call3 x g m o) e = absurd (omega arith)
       admit (call4 x o) e = absurd (omega arith)
+      admit (firstHalf x s) e = absurd (omega arith)
+      admit (secondHalf g m o) e = absurd (omega arith)
 
       go : (t : Bool) → eqb number 0 ≡ t → Alike (givenOf b ask (admitted b xs ask number)) (givenOf b ask (admitted b ys ask number))
       go true e = rw e (admit ask (closed-opens 1 0 b SHARE (callOf ask) z (eqb-true number 0 e)))

@@ -1,6 +1,8 @@
 pub mod Apart
+pub mod Halved
 pub mod Ranged
 pub mod Replies
 mod Serve
 pub mod Settled
 pub mod Turned
+mod Twice

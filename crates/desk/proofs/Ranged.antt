@@ -16,13 +16,13 @@ use Rattle.model.specs.Model.{readOf}
 use Rattle.model.specs.declared.Reading.{Reading}
 use Rattle.model.specs.declared.Reading.the-variants.{Good, Refused as Unread}
 use Rattle.model.proofs.Shapes.{shaped}
-use Rattle.frame.specs.Reply.{passed}
+use Rattle.frame.specs.Reply.{passed, oneMore}
 use Rattle.frame.specs.Frame.{refusal}
 use Rattle.frame.specs.declared.Reply.{Reply}
 use Rattle.frame.specs.declared.Reply.the-variants.{Done, Silent, Heard, Numbered, Refused, Misread}
 use Rattle.desk.specs.declared.Record.{Record}
 use Rattle.desk.specs.Gate.{allZero, inCounts, inRange, isFrame, gate, shareOf}
-use Rattle.desk.specs.Desk.{Ask, opening, call1, call2, call2Own, call3, call4, callOf, nextDue, nextIndex, advanced, started, answered, onShare, opened, desk}
+use Rattle.desk.specs.Desk.{Ask, opening, call1, call2, call2Own, call3, call4, firstHalf, secondHalf, callOf, nextDue, nextIndex, advanced, started, answered, onShare, opened, desk}
 use Rattle.desk.proofs.Turned.{none}
 
 both : (a b : Bool) → (a && b) ≡ true → (a ≡ true) × (b ≡ true)
@@ -82,7 +82,7 @@ counted : (n : ℕ) → 1 ≤ n → n ≤ 127 → (leb 1 n && leb n 127) ≡ tru
 counted n h k = rw (le-leb 1 n h, le-leb n 127 k)
 
 module _ (b : Record) (reply : Reply) where
-  next-due : (d : ℕ) → (1 ≤ nextDue d) × (nextDue d ≤ 4)
+  pub next-due : (d : ℕ) → (1 ≤ nextDue d) × (nextDue d ≤ 4)
   next-due d = go (ltb d 4) refl
     where
       go : (t : Bool) → ltb d 4 ≡ t → (1 ≤ cond t (d + 1) 1) × (cond t (d + 1) 1 ≤ 4)
@@ -101,7 +101,7 @@ module _ (b : Record) (reply : Reply) where
   next-index i (Refused n) h = h
   next-index i (Misread n l) h = h
 
-  advanced-range : (b .due ≡ 0 → ⊥) → inRange b ≡ true → inRange (advanced b reply) ≡ true
+  pub advanced-range : (b .due ≡ 0 → ⊥) → inRange b ≡ true → inRange (advanced b reply) ≡ true
   unfolding inRange inCounts
   advanced-range ne e =
       let rest = both (leb (b .index) 7) (inCounts b) (both (leb (b .due) 4) (leb (b .index) 7 && inCounts b) (rw (ne-eqb (b .due) 0 ne) at e) .1) in
@@ -109,6 +109,15 @@ module _ (b : Record) (reply : Reply) where
       let i = next-index (b .index) reply (leb-true (b .index) 7 (rest .0)) in
       rw (ne-eqb (nextDue (b .due)) 0 (λ z. omega arith), le-leb (nextDue (b .due)) 4 (due .1), le-leb (nextIndex (b .index) reply) 7 i)
       (rest .1)
+
+-- what call 4 answers with this record
+abbrev lastly : Record → Reply
+lastly b = Numbered (oneMore (b .frame)) (b .heard)
+
+-- a half moves it on twice
+twice-range : (b : Record) (reply last : Reply) → (b .due ≡ 0 → ⊥) → inRange b ≡ true → inRange (advanced (advanced b reply) last) ≡ true
+twice-range b reply last ne e =
+    advanced-range (advanced b reply) last (λ z. let due = next-due b reply (b .due) in omega arith) (advanced-range b reply ne e)
 
 started-range : (s : List ℕ) (read : Reading) (b : Record) (share : List Float) → readOf s ≡ read → passed (opened share read .reply) ≡ true → inRange (started b read) ≡ true
 unfolding inRange inCounts
@@ -129,6 +138,8 @@ done-range b share (call2 x l w s) r o p = rw p (advanced-range b (onShare b sha
 done-range b share (call2Own x w s) r o p = rw p (advanced-range b (onShare b share (call2Own x w s) .reply) (eqb-false (b .due) 0 o) r)
 done-range b share (call3 x l m k) r o p = rw p (advanced-range b (onShare b share (call3 x l m k) .reply) (eqb-false (b .due) 0 o) r)
 done-range b share (call4 x k) r o p = rw p (advanced-range b (onShare b share (call4 x k) .reply) (eqb-false (b .due) 0 o) r)
+done-range b share (firstHalf x s) r o p = rw p (twice-range b (onShare b share (firstHalf x s) .reply) (onShare b share (firstHalf x s) .reply) (eqb-false (b .due) 0 o) r)
+done-range b share (secondHalf l m k) r o p = rw p (twice-range b (onShare b share (secondHalf l m k) .reply) (lastly (advanced b (onShare b share (secondHalf l m k) .reply))) (eqb-false (b .due) 0 o) r)
 
 module _ (benches side : ℕ) (b : Record) (store : List Float) where
   pub range-kept : (ask : Ask) → passed (desk benches side b store ask .answer .reply) ≡ true

@@ -1,6 +1,6 @@
 -- What a call may reply.
 --     small     a refused model's number is 11 to 22 and its layer 0 to 6, whatever call brings them
---     no-out    call 3 with no place for its spectrum is refused
+--     no-out, no-half-out    call 3 with no place for its spectrum, and a second half with none for its samples, are refused
 -- Assumes nothing.
 use Prim.Native.Nat.{ℕ, _≤_}
 use mathlib.Core.Bool.{Bool, true, false, cond}
@@ -20,10 +20,12 @@ use Rattle.frame.specs.Frame.{Effect, refusal}
 use Rattle.frame.specs.Reply.{passed}
 use Rattle.frame.proofs.Done.{call3-no-out}
 use Rattle.frame.proofs.Cases.{call1-by, call2-by, call3-by, call4-by}
+use Rattle.halves.proofs.Cases.{first-half-by, second-half-by}
+use Rattle.halves.proofs.Onward.{second-half-no-out}
 use Rattle.halves.proofs.Sister.{call2-own-by}
 use Rattle.desk.specs.declared.Record.{Record}
 use Rattle.desk.specs.Gate.{gate, shareOf}
-use Rattle.desk.specs.Desk.{Ask, opening, call1, call2, call2Own, call3, call4, callOf, opened, onShare, desk}
+use Rattle.desk.specs.Desk.{Ask, opening, call1, call2, call2Own, call3, call4, firstHalf, secondHalf, callOf, opened, onShare, desk}
 
 abbrev pub Small : Reply → Type 0
 Small (Misread n l) = (n ≤ 22) × (l ≤ 6)
@@ -51,6 +53,8 @@ module _ (b : Record) (share : List Float) where
   frames (call2Own x w s) = call2-own-by share SmallOf (λ _. tt) x w s (λ _. tt)
   frames (call3 x l m o) = call3-by share SmallOf (λ _. tt) (b .index) (b .vad) (b .noise) (b .denoise) x l m o (misread m) tt (λ _ _ _ _ _. tt)
   frames (call4 x o) = call4-by share SmallOf (λ _. tt) (b .frame) (b .heard) x o (λ _. tt)
+  frames (firstHalf x s) = first-half-by share SmallOf (λ _. tt) x s (λ _ _. tt)
+  frames (secondHalf l m o) = second-half-by share SmallOf (λ _. tt) (b .index) (b .vad) (b .noise) (b .denoise) l m o (misread m) (λ _. tt) (λ _ _ _ _ _. tt)
 
 pub small : (benches side : ℕ) (b : Record) (store : List Float) (ask : Ask) → Small (desk benches side b store ask .answer .reply)
 unfolding desk
@@ -66,18 +70,23 @@ small benches side b store ask = go (eqb number 0)
     go true = frames b share ask
     go false = tt
 
-pub no-out : (benches side : ℕ) (b : Record) (store spectrum logs : List Float) (model : List ℕ)
-    → passed (desk benches side b store (call3 spectrum logs model 0) .answer .reply) ≡ false
-unfolding desk
-no-out benches side b store spectrum logs model =
-    rw (call3-no-out share (b .index) (b .vad) (b .noise) (b .denoise) spectrum logs model) (go (eqb number 0))
-  where
-    number : ℕ
-    number = gate benches side b (length store) 3
+module _ (benches side : ℕ) (b : Record) (store : List Float) where
+  abbrev mine : List Float
+  mine = get (shareOf side) store
 
-    share : List Float
-    share = get (shareOf side) store
+  shut-out : (ask : Ask) → onShare b mine ask ≡ refusal (Refused 5) mine → passed (desk benches side b store ask .answer .reply) ≡ false
+  unfolding desk
+  shut-out ask e = rw e (go (eqb number 0))
+    where
+      number : ℕ
+      number = gate benches side b (length store) (callOf ask)
 
-    go : (t : Bool) → passed (cond t (refusal (Refused 5) share) (refusal (Refused number) share) .reply) ≡ false
-    go true = refl
-    go false = refl
+      go : (t : Bool) → passed (cond t (refusal (Refused 5) mine) (refusal (Refused number) mine) .reply) ≡ false
+      go true = refl
+      go false = refl
+
+  pub no-out : (spectrum logs : List Float) (model : List ℕ) → passed (desk benches side b store (call3 spectrum logs model 0) .answer .reply) ≡ false
+  no-out spectrum logs model = shut-out (call3 spectrum logs model 0) (call3-no-out mine (b .index) (b .vad) (b .noise) (b .denoise) spectrum logs model)
+
+  pub no-half-out : (logs : List Float) (model : List ℕ) → passed (desk benches side b store (secondHalf logs model 0) .answer .reply) ≡ false
+  no-half-out logs model = shut-out (secondHalf logs model 0) (second-half-no-out mine (b .index) (b .vad) (b .noise) (b .denoise) logs model)

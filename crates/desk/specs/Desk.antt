@@ -14,7 +14,7 @@ use Rattle.model.specs.declared.Reading.the-variants.{Good, Refused as Unread}
 use Rattle.frame.specs.Share.{SHARE}
 use Rattle.frame.specs.Frame.{Effect, refusal}
 use Rattle.frame.specs.Frame as frame
-use Rattle.halves.specs.Own as halves
+use Rattle.halves.specs.Halves as halves
 use Rattle.frame.specs.Reply.{passed, left, oneMore}
 use Rattle.frame.specs.declared.Reply.{Reply}
 use Rattle.frame.specs.declared.Reply.the-variants.{Done, Silent, Heard, Numbered, Refused, Misread}
@@ -30,8 +30,10 @@ pub data Ask : Type 0 where
   call2Own : (spectrum : List Float) (window sums : ℕ) → Ask
   call3 : (spectrum logs : List Float) (model : List ℕ) (out : ℕ) → Ask
   call4 : (inverse : List Float) (out : ℕ) → Ask
+  firstHalf : (samples : List Float) (sums : ℕ) → Ask
+  secondHalf : (logs : List Float) (model : List ℕ) (out : ℕ) → Ask
 
--- the call's number, 0 for an opening
+-- the call's number, 0 for an opening; a half's is that of the first of its two
 abbrev pub callOf : Ask → ℕ
 callOf (opening m) = 0
 callOf (call1 x w) = 1
@@ -39,6 +41,19 @@ callOf (call2 x l w s) = 2
 callOf (call2Own x w s) = 2
 callOf (call3 x l m o) = 3
 callOf (call4 x o) = 4
+callOf (firstHalf x s) = 1
+callOf (secondHalf l m o) = 3
+
+-- the number of the last call that is done
+abbrev pub lastOf : Ask → ℕ
+lastOf (opening m) = 0
+lastOf (call1 x w) = 1
+lastOf (call2 x l w s) = 2
+lastOf (call2Own x w s) = 2
+lastOf (call3 x l m o) = 3
+lastOf (call4 x o) = 4
+lastOf (firstHalf x s) = 2
+lastOf (secondHalf l m o) = 4
 
 -- ---- one side's record
 
@@ -85,11 +100,16 @@ advanced rec reply =
     recordOf (nextDue (rec .due)) (nextIndex (rec .index) reply) (rec .vad) (rec .noise) (rec .denoise)
     (nextFrame (rec .frame) reply) (nextHeard (rec .heard) reply)
 
+-- as what call 4 answers moves it on
+abbrev pub numbered : Record → Record
+numbered rec = advanced rec (Numbered (oneMore (rec .frame)) (rec .heard))
+
 -- an opening notes the GRU counts, makes call 1 due and numbers the frames from 0
 abbrev pub started : Record → Reading → Record
 started rec (Good m) = recordOf 1 0 (m .«vad_gru» .neurons) (m .«noise_gru» .neurons) (m .«denoise_gru» .neurons) 0 0
 started rec (Unread n l) = rec
 
+-- a half moves it on twice, the second by call 3's reply and then by call 4's
 abbrev pub recorded : Record → Ask → Reply → Record
 recorded rec (opening m) reply = started rec (readOf m)
 recorded rec (call1 x w) reply = advanced rec reply
@@ -97,6 +117,8 @@ recorded rec (call2 x l w s) reply = advanced rec reply
 recorded rec (call2Own x w s) reply = advanced rec reply
 recorded rec (call3 x l m o) reply = advanced rec reply
 recorded rec (call4 x o) reply = advanced rec reply
+recorded rec (firstHalf x s) reply = advanced (advanced rec reply) reply
+recorded rec (secondHalf l m o) reply = numbered (advanced rec reply)
 
 -- the answer with a reply; a refusal leaves the record
 abbrev pub answered : Record → Ask → Reply → Answer
@@ -116,6 +138,8 @@ onShare rec share (call2 x l w s) = frame.call2 share x l w s
 onShare rec share (call2Own x w s) = halves.call2Own share x w s
 onShare rec share (call3 x l m o) = frame.call3 share (rec .index) (rec .vad) (rec .noise) (rec .denoise) x l m o
 onShare rec share (call4 x o) = frame.call4 share (rec .frame) (rec .heard) x o
+onShare rec share (firstHalf x s) = halves.firstHalf share x s
+onShare rec share (secondHalf l m o) = halves.secondHalf share (rec .index) (rec .vad) (rec .noise) (rec .denoise) l m o
 
 -- a call that the gate lets through, with 0, or its refusal
 abbrev pub admitted : Record → List Float → Ask → ℕ → Effect

@@ -9,7 +9,7 @@ use Rattle.frame.specs.Reply.{passed}
 use Rattle.frame.specs.declared.Reply.{Reply}
 use Rattle.frame.specs.declared.Reply.the-variants.{Done, Refused, Misread}
 use Rattle.desk.specs.Gate.{gate, shareOf}
-use Rattle.desk.specs.Desk.{advanced, started}
+use Rattle.desk.specs.Desk.{advanced, numbered, started}
 use Rattle.desk.specs.declared.Record.{Record}
 use Rattle.desk.specs.declared.Answer.{Answer}
 use Rattle.desk.specs.declared.Admission.{Admission}
@@ -21,12 +21,18 @@ pub record Admits (benches side : ℕ) (rec : Record) (len call : ℕ) (a : Admi
   pub inside : a .end ≤ len
   pub share : a .number ≡ 0 → (a .start ≡ shareOf side .at) × (a .end ≡ shareOf side .at + SHARE)
 
--- the answers of a call that is turned away, of a frame call, and of an opening
+-- the answers of a call that is turned away, of a frame call, of the two halves, and of an opening
 abbrev pub turnedAway : Record → ℕ → Answer
 turnedAway rec number = record { reply = Refused number; rec = rec }
 
 abbrev pub toldOf : Record → Reply → Answer
 toldOf rec reply = record { reply = reply; rec = cond (passed reply) (advanced rec reply) rec }
+
+abbrev pub firstOf : Record → Reply → Answer
+firstOf rec reply = record { reply = reply; rec = cond (passed reply) (advanced (advanced rec reply) reply) rec }
+
+abbrev pub secondOf : Record → Reply → Answer
+secondOf rec reply = record { reply = reply; rec = cond (passed reply) (numbered (advanced rec reply)) rec }
 
 abbrev pub openedOf : Record → Reading → Answer
 openedOf rec (Good m) = record { reply = Done; rec = started rec (Good m) }

@@ -10,7 +10,7 @@ use Rattle.rules.specs.F32.{f32}
 use Rattle.frame.specs.Reply.{passed, left}
 use Rattle.frame.specs.declared.Reply.{Reply}
 use Rattle.frame.specs.declared.Reply.the-variants.{Done, Silent, Heard, Numbered, Refused, Misread}
-use Rattle.desk.specs.Desk.{Ask, opening, call1, call2, call2Own, call3, call4, recordOf, Given, desk}
+use Rattle.desk.specs.Desk.{Ask, opening, call1, call2, call2Own, call3, call4, firstHalf, secondHalf, recordOf, Given, desk}
 use Rattle.desk.specs.declared.Record.{Record}
 
 -- a record is so many numbers; a list of another length is out of range
@@ -38,7 +38,7 @@ replyNumber (Numbered f h) = 0
 replyNumber (Refused n) = n
 replyNumber (Misread n l) = sevenOf n l
 
--- call 3 has a buffer more, for its answer as three numbers: heard or not, voice, energy
+-- call 3 and the second half have a buffer more, for its answer as three numbers: heard or not, voice, energy
 abbrev pub heardOf : Reply → List Float
 heardOf (Heard v e) = f32 0x3F80_0000 ∷ v ∷ e ∷ []
 heardOf Done = replicate 3 (f32 0)
@@ -54,6 +54,8 @@ besides (call1 x w) reply = []
 besides (call2 x l w s) reply = []
 besides (call2Own x w s) reply = []
 besides (call4 x o) reply = []
+besides (firstHalf x s) reply = []
+besides (secondHalf l m o) reply = heardOf reply ∷ []
 
 -- of another length, that buffer is a wrong length among the others, as an `out` of no places is
 abbrev pub outOf : ℕ → ℕ → ℕ

@@ -3,8 +3,8 @@ ghost use mathlib.Core.Path.{_≡_};
 ghost use mathlib.Core.List.{[], _∷_};
 ghost use lib.ListN.{length};
 ghost use Rattle.desk.specs.Gate.{BENCHES, sideOf, allZero, inCounts, inRange, gate};
-ghost use Rattle.desk.specs.Desk.{opening, call1, call2, call2Own, call3, call4, recordOf, nextIndex, nextFrame, nextHeard, nextDue, desk, Served};
-ghost use Rattle.desk.specs.Parts.{Admits, turnedAway, toldOf, openedOf};
+ghost use Rattle.desk.specs.Desk.{opening, call1, call2, call2Own, call3, call4, firstHalf, secondHalf, recordOf, nextIndex, nextFrame, nextHeard, nextDue, desk, Served};
+ghost use Rattle.desk.specs.Parts.{Admits, turnedAway, toldOf, firstOf, secondOf, openedOf};
 use frame::Lag;
 use frame::Reply;
 use model::Reading;
@@ -262,6 +262,32 @@ fn told(rec: Record, reply: Reply) -> Answer
     }
 }
 
+// The answer to a first half, which is two calls.
+fn told_first(rec: Record, reply: Reply) -> Answer
+    ensures { λ r. ⌜ r ≡ firstOf rec reply ⌝ }
+{
+    let first = told(rec, reply);
+    let next = first.rec;
+    told(next, reply)
+}
+
+// The answer to a second half: its reply is call 3's, and call 4's numbers stand in the record.
+fn told_second(rec: Record, reply: Reply) -> Answer
+    ensures { λ r. ⌜ r ≡ secondOf rec reply ⌝ }
+{
+    if !frame::passed(reply) {
+        return Answer { reply, rec };
+    }
+    let first = told(rec, reply);
+    let next = first.rec;
+    let last = told(
+        next,
+        Reply::Numbered(frame::one_more(next.frame), next.heard),
+    );
+    let rec = last.rec;
+    Answer { reply, rec }
+}
+
 // The answer to an opening, once the model is read.
 fn opened(rec: Record, read: Reading) -> Answer
     ensures { λ r. ⌜ r ≡ openedOf rec read ⌝ }
@@ -417,4 +443,56 @@ pub fn call4(side: Side, rec: Record, store: &mut [f32], inverse: &[f32], out: &
     }
     let reply = frame::call4(&mut store[start..end], rec.frame, rec.heard, inverse, out);
     told(rec, reply)
+}
+
+// The first half of a frame, calls 1 and 2: 480 samples in, 22 sums written.
+pub fn first_half(
+    side: Side,
+    rec: Record,
+    store: &mut [f32],
+    samples: &[f32],
+    sums: &mut [f32],
+) -> Answer
+    ensures { λ r. ⌜ Served
+        (desk BENCHES (side .0) rec (now (store .entry))
+        (firstHalf (now (samples .entry)) (length (now (sums .entry)))))
+        r (now (store .exit)) (now (sums .entry) ∷ []) (now (sums .exit) ∷ []) ⌝ }
+{
+    let Admission { number, start, end } = admit(side, rec, store.len(), 1);
+    if number != 0 {
+        return turned_away(rec, number);
+    }
+    let reply = halves::first_half(&mut store[start..end], samples, sums);
+    told_first(rec, reply)
+}
+
+// The second half of a frame, calls 3 and 4: 22 logarithms and the model in, 480 numbers written; silent, or heard with voice and energy.
+pub fn second_half(
+    side: Side,
+    rec: Record,
+    store: &mut [f32],
+    logs: &[f32],
+    model: &[u8],
+    out: &mut [f32],
+) -> Answer
+    ensures { λ r. ⌜ Served
+        (desk BENCHES (side .0) rec (now (store .entry))
+        (secondHalf (now (logs .entry)) (now (model .entry)) (length (now (out .entry)))))
+        r (now (store .exit)) (now (out .entry) ∷ []) (now (out .exit) ∷ []) ⌝ }
+{
+    let Admission { number, start, end } = admit(side, rec, store.len(), 3);
+    if number != 0 {
+        return turned_away(rec, number);
+    }
+    let reply = halves::second_half(
+        &mut store[start..end],
+        rec.index,
+        rec.vad,
+        rec.noise,
+        rec.denoise,
+        logs,
+        model,
+        out,
+    );
+    told_second(rec, reply)
 }

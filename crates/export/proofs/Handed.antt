@@ -1,7 +1,7 @@
 -- What a host's call comes to, once for every call.
 --     hands-back      the desk's answer can be handed back as numbers
 --     handed          it is, and the call is what the desk gives
---     three, handed-three     call 3, which is lent `out`, or no place of it where `answer` has another length than three
+--     three, handed-three     a call with three numbers besides, which is lent `out`, or no place of it where `answer` has another length than three
 -- Assumes nothing.
 use Prim.Native.Nat.{ℕ, _-_, _≤_}
 use native.Mathlib.Omega.{arith}
@@ -15,13 +15,14 @@ use lib.Seq.{take-all}
 use lib.Ieee.{Float}
 use Rattle.rules.specs.Place.{Place, get, put}
 use Rattle.frame.specs.Reply.{passed}
+use Rattle.frame.specs.declared.Reply.{Reply}
 use Rattle.desk.specs.declared.Record.{Record}
 use Rattle.desk.specs.declared.Answer.{Answer}
 use Rattle.desk.specs.Gate.{BENCHES, inRange}
-use Rattle.desk.specs.Desk.{Ask, call3, desk, Served}
+use Rattle.desk.specs.Desk.{Ask, desk, Served}
 use Rattle.desk.specs.Surface.{RECORD, recordIn, numbersOf, replyNumber, heardOf, besides, outOf, hosted, Hosted}
 use Rattle.desk.proofs.Ranged.{bounded, range-kept}
-use Rattle.desk.proofs.Replies.{small, no-out}
+use Rattle.desk.proofs.Replies.{small}
 use Rattle.export.specs.Parts.{HandsBack}
 
 differ : {A : Type 0} → false ≡ true → A
@@ -65,7 +66,7 @@ module _ (side : ℕ) (ns : List ℕ) (b : Record) (store store′ : List Float)
         writes = rw alone (served .writes);
       })
 
--- ---- call 3, with its answer as three numbers
+-- ---- call 3 and the second half, with their answer as three numbers
 
 -- the first places of a buffer, as the code lends them
 abbrev upTo : ℕ → Place
@@ -101,15 +102,16 @@ joined : (p : Bool) (o o′ t t′ n : List Float) (w : List (List Float)) → (
 joined true o o′ t t′ n w e f = ap₂ (λ (x : List (List Float)) (y : List Float). x ++ (y ∷ [])) e f
 joined false o o′ t t′ n w e f = ap₂ (λ (x : List (List Float)) (y : List Float). x ++ (y ∷ [])) e f
 
-module _ (side : ℕ) (ns : List ℕ) (b : Record) (store store′ x l : List Float) (m : List ℕ) (out answer new : List Float) (given : Answer) (end : ℕ)
+module _ (side : ℕ) (ns : List ℕ) (b : Record) (store store′ : List Float) (ask : ℕ → Ask) (out answer new : List Float) (given : Answer) (end : ℕ)
+    (no-place : passed (desk BENCHES side b store (ask 0) .answer .reply) ≡ false) (with-three : (n : ℕ) (r : Reply) → besides (ask n) r ≡ (heardOf r ∷ []))
     (read : b ≡ recordIn ns) (ends : end ≡ outOf (length answer) (length out))
-    (served : Served (desk BENCHES side b store (call3 x l m (length (get (upTo end) out)))) given store′ (get (upTo end) out ∷ []) (new ∷ [])) where
+    (served : Served (desk BENCHES side b store (ask (length (get (upTo end) out)))) given store′ (get (upTo end) out ∷ []) (new ∷ [])) where
   -- of another length, the call is refused
   shut : eqb (length answer) 3 ≡ false → passed (given .reply) ≡ false
   shut e =
       let z : end ≡ 0 = rw e at ends in
       let s = rw (z, empty out) at served in
-      ap (λ (a : Answer). passed (a .reply)) (s .answers) ∙ no-out BENCHES side b store x l m
+      ap (λ (a : Answer). passed (a .reply)) (s .answers) ∙ no-place
 
   pub three : passed (given .reply) ≡ true → length answer ≡ 3
   three p = go (eqb (length answer) 3) refl
@@ -121,19 +123,19 @@ module _ (side : ℕ) (ns : List ℕ) (b : Record) (store store′ x l : List Fl
   pub handed-three : {number : ℕ} {ns′ : List ℕ} {answer′ : List Float} → length new ≡ length (get (upTo end) out)
       → answer′ ≡ cond (passed (given .reply)) (heardOf (given .reply)) answer
       → (number ≡ replyNumber (given .reply)) × (ns′ ≡ cond (passed (given .reply)) (numbersOf (given .rec)) ns)
-      → Hosted (hosted BENCHES side ns store (call3 x l m (outOf (length answer) (length out)))) number ns ns′ store′
+      → Hosted (hosted BENCHES side ns store (ask (outOf (length answer) (length out)))) number ns ns′ store′
       (out ∷ answer ∷ []) (put (upTo end) out new ∷ answer′ ∷ [])
   unfolding hosted
   handed-three {number} {ns′} {answer′} same told h = go (eqb (length answer) 3) refl
     where
       go : (t : Bool) → eqb (length answer) 3 ≡ t
-          → Hosted (hosted BENCHES side ns store (call3 x l m (outOf (length answer) (length out)))) number ns ns′ store′
+          → Hosted (hosted BENCHES side ns store (ask (outOf (length answer) (length out)))) number ns ns′ store′
           (out ∷ answer ∷ []) (put (upTo end) out new ∷ answer′ ∷ [])
       go true e =
           let z : end ≡ length out = rw e at ends in
           let s = rw (whole out end (omega arith)) at served in
-          let o = desk BENCHES side b store (call3 x l m (length out)) in
-          rw (e, ← read, replaced out end new (omega arith))
+          let o = desk BENCHES side b store (ask (length out)) in
+          rw (e, ← read, replaced out end new (omega arith), with-three (length out) (o .answer .reply))
           (record {
             numbers = rw (← s .answers) (h .0);
             records = rw (← s .answers) (h .1);
@@ -144,8 +146,8 @@ module _ (side : ℕ) (ns : List ℕ) (b : Record) (store store′ x l : List Fl
           let z : end ≡ 0 = rw e at ends in
           let s = rw (z, empty out) at served in
           let no = shut e in
-          let o = desk BENCHES side b store (call3 x l m 0) in
-          rw (e, ← read, z, kept out new (rw (z, empty out) at same))
+          let o = desk BENCHES side b store (ask 0) in
+          rw (e, ← read, z, with-three 0 (o .answer .reply), kept out new (rw (z, empty out) at same))
           (record {
             numbers = rw (← s .answers) (h .0);
             records = rw (← s .answers) (h .1);

@@ -6,7 +6,7 @@ ghost use mathlib.Core.List.{[], _∷_};
 ghost use lib.ListN.{length};
 ghost use Rattle.frame.specs.Reply.{passed};
 ghost use Rattle.desk.specs.Gate.{BENCHES, sideOf};
-ghost use Rattle.desk.specs.Desk.{opening, call1, call2, call2Own, call3, call4};
+ghost use Rattle.desk.specs.Desk.{opening, call1, call2, call2Own, call3, call4, firstHalf, secondHalf};
 ghost use Rattle.desk.specs.Surface.{RECORD, numbersOf, recordIn, replyNumber, heardOf, outOf, hosted, Hosted};
 ghost use Rattle.desk.proofs.Ranged.{Bounded};
 ghost use Rattle.desk.proofs.Replies.{Small};
@@ -186,7 +186,7 @@ pub extern "C" fn tuppence_call2_own(
     hand_back(record, given)
 }
 
-// Call 3's answer as three numbers.
+// What call 3 and the second half answer, as three numbers.
 struct Three {
     heard: f32,
     voice: f32,
@@ -234,7 +234,7 @@ fn tell(answer: &mut [f32], reply: Reply)
     answer[2] = three.energy;
 }
 
-// An `answer` of another length than three is a wrong length among the others: then call 3 is lent no place of `out`, and refuses.
+// An `answer` of another length than three is a wrong length among the others: then the call is lent no place of `out`, and refuses.
 fn places(answer: usize, out: usize) -> usize
     ensures { λ r. ⌜ r ≡ outOf answer out ⌝ }
 {
@@ -291,5 +291,52 @@ pub extern "C" fn tuppence_call4(
         r (now («record» .entry)) (now («record» .exit)) (now (store .exit)) (now (out .entry) ∷ []) (now (out .exit) ∷ []) ⌝ }
 {
     let given = desk::call4(Side(side as usize), record_in(record), store, inverse, out);
+    hand_back(record, given)
+}
+
+#[no_mangle]
+pub extern "C" fn tuppence_first_half(
+    record: &mut [u32],
+    store: &mut [f32],
+    side: u32,
+    samples: &[f32],
+    sums: &mut [f32],
+) -> u32
+    ensures { λ r. ⌜ Hosted
+        (hosted BENCHES side (now («record» .entry)) (now (store .entry))
+        (firstHalf (now (samples .entry)) (length (now (sums .entry)))))
+        r (now («record» .entry)) (now («record» .exit)) (now (store .exit)) (now (sums .entry) ∷ []) (now (sums .exit) ∷ []) ⌝ }
+{
+    let given = desk::first_half(Side(side as usize), record_in(record), store, samples, sums);
+    hand_back(record, given)
+}
+
+#[no_mangle]
+pub extern "C" fn tuppence_second_half(
+    record: &mut [u32],
+    store: &mut [f32],
+    side: u32,
+    logs: &[f32],
+    model: &[u8],
+    out: &mut [f32],
+    answer: &mut [f32],
+) -> u32
+    ensures { λ r. ⌜ Hosted
+        (hosted BENCHES side (now («record» .entry)) (now (store .entry))
+        (secondHalf (now (logs .entry)) (now (model .entry)) (outOf (length (now (answer .entry))) (length (now (out .entry))))))
+        r (now («record» .entry)) (now («record» .exit)) (now (store .exit))
+        (now (out .entry) ∷ now (answer .entry) ∷ []) (now (out .exit) ∷ now (answer .exit) ∷ []) ⌝ }
+{
+    let end = places(answer.len(), out.len());
+    let given = desk::second_half(
+        Side(side as usize),
+        record_in(record),
+        store,
+        logs,
+        model,
+        &mut out[0..end],
+    );
+    let reply = given.reply;
+    tell(answer, reply);
     hand_back(record, given)
 }

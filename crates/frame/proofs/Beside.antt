@@ -23,7 +23,7 @@ use Rattle.features.proofs.Lengths.{length-gained, length-with-cepstrum, length
 use Rattle.frame.specs.Share.{SHARE, inputMem, synthesisMem, keptX, keptEx, keptLag, memHpX, lastg, cepstralMem, vadState, noiseState, denoiseState}
 use Rattle.numbers.specs.Filter.{memoryOf}
 use Rattle.frame.specs.Heard.{scaled, energies, featured, rnnOf, spokenFrom, spoken}
-use Rattle.frame.specs.Frame.{shifted, done1, putKept, windowBuf, secondHalf, done4}
+use Rattle.frame.specs.Frame.{shifted, done1, putKept, windowBuf, laterHalf, done4}
 
 -- the place lies apart from each of these
 abbrev pub AllApart : List Place → Place → Type 0
@@ -39,7 +39,7 @@ module _ (q : Place) where
   put-beside p share ys inside apart whole l =
       record { size = length-put p share ys (omega arith) l ∙ whole; same = get-put-apart p q share ys (omega arith) l apart }
 
-  then : {a b c : List Float} → Beside q a b → Beside q b c → Beside q a c
+  pub then : {a b c : List Float} → Beside q a b → Beside q b c → Beside q a c
   then h k = record { size = k .size; same = k .same ∙ h .same }
 
   pub done1-beside : (share samples : List Float) → AllApart (inputMem ∷ memHpX ∷ []) q → length share ≡ SHARE → length samples ≡ 480
@@ -62,8 +62,8 @@ module _ (q : Place) where
 
   pub done4-beside : (share : List Float) (frame heard : ℕ) (inverse : List Float) → AllApart (synthesisMem ∷ []) q → length share ≡ SHARE
       → Beside q share (done4 share frame heard inverse .share)
-  unfolding secondHalf
-  done4-beside share frame heard inverse apart whole = put-beside synthesisMem share (secondHalf (windowBuf inverse)) (omega arith) (apart .0) whole (length-tab 480 _)
+  unfolding laterHalf
+  done4-beside share frame heard inverse apart whole = put-beside synthesisMem share (laterHalf (windowBuf inverse)) (omega arith) (apart .0) whole (length-tab 480 _)
 
   -- ---- a heard frame
 

@@ -1,15 +1,15 @@
 -- What a call can give: what holds of every refusal, and of what is right where nothing is refused, holds of the call. Assumes nothing.
 use Prim.Native.Nat.{ℕ, _≤_}
-use mathlib.Core.Bool.{Bool, true, false, cond, not, _||_}
+use mathlib.Core.Bool.{Bool, true, false, cond, not}
 use mathlib.Core.List.{List, [], _∷_}
 use mathlib.Core.Path.{_≡_, refl, sym}
-use borrow.Author.Tests.{eqb-true, ltb-false, not-false}
-use lib.Dec.{eqb, ltb}
+use borrow.Author.Tests.{ltb-false}
+use lib.Dec.{ltb}
 use lib.ListN.{length}
 use lib.Ieee.{Float}
 use Rattle.rules.specs.Place.{get}
 use Rattle.rules.specs.Refusals.{Row, _when_}
-use Rattle.rules.proofs.Refused.{Clear, by-rows}
+use Rattle.rules.proofs.Refused.{Right, right, Clear, by-rows}
 use Rattle.samples.specs.Samples.{good}
 use Rattle.model.specs.Model.{readOf}
 use Rattle.model.specs.declared.Model.{Model}
@@ -22,28 +22,11 @@ use Rattle.frame.specs.declared.Reply.the-variants.{Refused, Misread}
 use Rattle.frame.specs.Share.{SHARE, keptEx}
 use Rattle.frame.specs.Heard.{spoken}
 use Rattle.frame.specs.Frame.{Effect, refusal, wrong, unless, done1, call1, done2, call2, silent, heard, sounded, done3, counted, modelled, call3, done4, call4}
-use Rattle.frame.proofs.Truth.{true-false}
-
--- ---- where no length is wrong
-
-abbrev Right : List (ℕ × ℕ) → Type 0
-Right [] = Unit {0}
-Right (p ∷ ps) = (p .0 ≡ p .1) × Right ps
-
-neither : (a b : Bool) → (a || b) ≡ false → (a ≡ false) × (b ≡ false)
-neither true b h = absurd (true-false h)
-neither false b h = (refl, h)
-
-right : (ps : List (ℕ × ℕ)) → wrong ps ≡ false → Right ps
-right [] h = tt
-right (p ∷ ps) h =
-    let n = neither (not (eqb (p .0) (p .1))) (wrong ps) h in
-    (eqb-true (p .0) (p .1) (not-false (eqb (p .0) (p .1)) (n .0)), right ps (n .1))
 
 -- ---- the calls, for a claim P that every refusal meets
 
 module _ (share : List Float) (P : Effect → Type 0) (bad : (n : ℕ) → P (refusal (Refused n) share)) where
-  by-table : (ps : List (ℕ × ℕ)) (rows : List Row) (f : Effect) → (Right ps → Clear rows → P f) → P (unless (5 when wrong ps ∷ rows) share f)
+  pub by-table : (ps : List (ℕ × ℕ)) (rows : List Row) (f : Effect) → (Right ps → Clear rows → P f) → P (unless (5 when wrong ps ∷ rows) share f)
   by-table ps rows f h =
       by-rows (λ n. refusal (Refused n) share) f P (5 when wrong ps ∷ rows) bad (λ c. h (right ps (c .0)) (c .1))
 

@@ -42,7 +42,7 @@ module _ (share : List Float) (whole : length share ≡ SHARE) where
   unfolding call4
   call4-done frame heard inverse out a b = simp (eq-eqb _ _ whole, eq-eqb _ _ a, eq-eqb _ _ b)
 
-or-true : (a : Bool) → (a || true) ≡ true
+pub or-true : (a : Bool) → (a || true) ≡ true
 or-true true = refl
 or-true false = refl
 

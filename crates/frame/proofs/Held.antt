@@ -43,14 +43,14 @@ pub record Holds (share : List Float) (f : Effect) : Type 0 where
   pub raised : (i : ℕ) → i < 22 → isNan (gainOf share i) ≡ false → isHeard (f .reply) ≡ true → le (sixTenths (gainOf share i)) (gainOf (f .share) i) ≡ true
 
 module _ (share : List Float) where
-  same : (f : Effect) → isHeard (f .reply) ≡ false → get lastg (f .share) ≡ get lastg share → Holds share f
+  pub same : (f : Effect) → isHeard (f .reply) ≡ false → get lastg (f .share) ≡ get lastg share → Holds share f
   same f e s = record { number = λ i h n. rw s n; raised = λ i h n r. absurd (false-true (rw e at r)) }
 
   bad : (n : ℕ) → Holds share (refusal (told.Refused n) share)
   bad n = same (refusal (told.Refused n) share) refl refl
 
   -- the gains go in last, over a share whose gains are still the old ones
-  spoken-holds : (e : Float) (index : ℕ) (spectrum logs : List Float) (bytes : List ℕ) (m : Model) → readOf bytes ≡ Good m → length share ≡ SHARE → index ≤ 7
+  pub spoken-holds : (e : Float) (index : ℕ) (spectrum logs : List Float) (bytes : List ℕ) (m : Model) → readOf bytes ≡ Good m → length share ≡ SHARE → index ≤ 7
       → Holds share (heard e (spoken share index spectrum logs bytes m))
   unfolding spokenFrom
   spoken-holds e index spectrum logs bytes m good whole inside =

@@ -23,14 +23,14 @@ pub record Keeps (share : List Float) (f : Effect) : Type 0 where
   pub still : passed (f .reply) ≡ false → f .share ≡ share
 
 -- behind every field
-abbrev end : Place
+abbrev pub end : Place
 end = record { at = 3776; size = 0 }
 
 module _ (share : List Float) where
-  unmoved : (reply : Reply) (out : List (List Float)) → Keeps share (record { reply = reply; share = share; written = out })
+  pub unmoved : (reply : Reply) (out : List (List Float)) → Keeps share (record { reply = reply; share = share; written = out })
   unmoved reply out = record { size = refl; still = λ _. refl }
 
-  moved : (f : Effect) → passed (f .reply) ≡ true → length share ≡ SHARE → Beside end share (f .share) → Keeps share f
+  pub moved : (f : Effect) → passed (f .reply) ≡ true → length share ≡ SHARE → Beside end share (f .share) → Keeps share f
   moved f e whole b = record { size = b .size ∙ sym whole; still = λ h. absurd (true-false (sym e ∙ h)) }
 
   bad : (n : ℕ) → Keeps share (record { reply = Refused n; share = share; written = [] })

@@ -1,15 +1,17 @@
 -- The fields of a whole share have their sizes. Said here, where no function's facts are in reach, they cost nothing. Assumes nothing.
-use Prim.Native.Nat.{ℕ, _+_, _≤_, _<_}
+use Prim.Native.Nat.{ℕ, _+_, _-_, _≤_, _<_}
+use native.Mathlib.Nat.{zero-add}
 use native.Mathlib.Omega.{arith}
 use mathlib.Core.List.{List}
-use mathlib.Core.Path.{_≡_}
-use lib.ListN.{length}
+use mathlib.Core.Path.{_≡_, sym, ap, _∙_}
+use lib.ListN.{length, take, drop}
 use lib.Seq.{getD-take, getD-drop}
 use lib.Ieee.{Float}
 use Rattle.rules.specs.F32.{at}
 use Rattle.rules.specs.Place.{Place, get}
-use Rattle.rules.proofs.Places.{length-get}
-use Rattle.frame.specs.Share.{SHARE, keptX, keptEx, keptLag, cepstralMem, vadState, noiseState, denoiseState}
+use Rattle.rules.proofs.Places.{length-get, get-get}
+use Rattle.frame.specs.Share.{SHARE, inputMem, keptX, keptEx, keptLag, cepstralMem, vadState, noiseState, denoiseState}
+use Rattle.frame.specs.Frame.{recent}
 
 -- a place, number by number
 pub at-get : (p : Place) (xs : List Float) (i : ℕ) → i < p .size → at (get p xs) i ≡ at xs (p .at + i)
@@ -40,3 +42,13 @@ module _ (share : List Float) (whole : length share ≡ SHARE) where
 
 pub lag-at : (share : List Float) → at (get keptLag share) 0 ≡ at share 3191
 lag-at share = at-get keptLag share 0 (omega arith)
+
+-- the part of the share that the code lends is the part of the input memory
+pub looked-at : (share : List Float) (lag : ℕ) → length share ≡ SHARE → lag ≤ 768
+    → take (768 - lag + 960 - (768 - lag)) (drop (768 - lag) share) ≡ get (recent lag) (get inputMem share)
+unfolding get
+looked-at share lag l h =
+    let size : 768 - lag + 960 - (768 - lag) ≡ 960 = omega arith in
+    rw size
+    (ap (λ (n : ℕ). take 960 (drop n share)) (sym (zero-add (768 - lag)))
+    ∙ sym (get-get inputMem (recent lag) share (omega arith) (omega arith)))

@@ -149,8 +149,8 @@ unfoldable pub overlapped : List Float → List Float → List Float
 overlapped buf mem = tab 480 (λ i. at buf i ⊕ at mem i)
 
 -- self.synthesis_mem[i] = self.window_buf[FRAME_SIZE + i]
-unfoldable pub secondHalf : List Float → List Float
-secondHalf buf = tab 480 (λ i. at buf (480 + i))
+unfoldable pub laterHalf : List Float → List Float
+laterHalf buf = tab 480 (λ i. at buf (480 + i))
 
 -- the numbers of frames and of heard frames are answered as they then stand: request 07
 abbrev pub done4 : List Float → ℕ → ℕ → List Float → Effect
@@ -158,7 +158,7 @@ done4 share frame heard inverse =
     let buf = windowBuf inverse in
     record {
       reply = Numbered (oneMore frame) heard;
-      share = put synthesisMem share (secondHalf buf);
+      share = put synthesisMem share (laterHalf buf);
       written = overlapped buf (get synthesisMem share) ∷ [];
     }
 

@@ -3,7 +3,7 @@ ghost use mathlib.Core.Path.{_≡_};
 ghost use lib.ListN.{length};
 ghost use Rattle.rules.specs.F32.{_⊘_, at, f32};
 ghost use Rattle.rules.specs.Tab.{tab};
-ghost use Rattle.frame.specs.Frame.{windowBuf, overlapped, secondHalf};
+ghost use Rattle.frame.specs.Frame.{windowBuf, overlapped, laterHalf};
 
 // out is the inverse, each number over 2.
 fn halve(out: &mut [f32], inverse: &[f32])
@@ -18,7 +18,7 @@ fn halve(out: &mut [f32], inverse: &[f32])
 // The first half is added to what was kept and written; the second half is kept.
 fn overlap(kept: &mut [f32], buf: &[f32], out: &mut [f32])
     requires { ⌜ (length (now kept) ≡ 480) × (length (now buf) ≡ 960) × (length (now out) ≡ 480) ⌝ }
-    ensures { λ _. ⌜ now (kept .exit) ≡ secondHalf (now (buf .entry)) ⌝ }
+    ensures { λ _. ⌜ now (kept .exit) ≡ laterHalf (now (buf .entry)) ⌝ }
     ensures { λ _. ⌜ now (out .exit) ≡ overlapped (now (buf .entry)) (now (kept .entry)) ⌝ }
 {
     for i in 0..480 {
@@ -29,7 +29,7 @@ fn overlap(kept: &mut [f32], buf: &[f32], out: &mut [f32])
 
 fn synthesise_in(buf: &mut [f32], kept: &mut [f32], inverse: &[f32], out: &mut [f32])
     requires { ⌜ (length (now buf) ≡ 960) × (length (now kept) ≡ 480) × (length (now inverse) ≡ 960) × (length (now out) ≡ 480) ⌝ }
-    ensures { λ _. ⌜ now (kept .exit) ≡ secondHalf (windowBuf (now (inverse .entry))) ⌝ }
+    ensures { λ _. ⌜ now (kept .exit) ≡ laterHalf (windowBuf (now (inverse .entry))) ⌝ }
     ensures { λ _. ⌜ now (out .exit) ≡ overlapped (windowBuf (now (inverse .entry))) (now (kept .entry)) ⌝ }
 {
     halve(buf, inverse);
@@ -39,7 +39,7 @@ fn synthesise_in(buf: &mut [f32], kept: &mut [f32], inverse: &[f32], out: &mut [
 
 pub(crate) fn synthesise(kept: &mut [f32], inverse: &[f32], out: &mut [f32])
     requires { ⌜ (length (now kept) ≡ 480) × (length (now inverse) ≡ 960) × (length (now out) ≡ 480) ⌝ }
-    ensures { λ _. ⌜ now (kept .exit) ≡ secondHalf (windowBuf (now (inverse .entry))) ⌝ }
+    ensures { λ _. ⌜ now (kept .exit) ≡ laterHalf (windowBuf (now (inverse .entry))) ⌝ }
     ensures { λ _. ⌜ now (out .exit) ≡ overlapped (windowBuf (now (inverse .entry))) (now (kept .entry)) ⌝ }
 {
     let mut buf = [0.0f32; 960];

@@ -1,1 +1,6 @@
+pub mod Cases
+pub mod Joined
+pub mod Kept
+pub mod Lagged
+pub mod Onward
 pub mod Sister

@@ -31,11 +31,13 @@ use Rattle.frame.proofs.Beside.{done1-beside, done2-beside, done4-beside}
 use Rattle.frame.proofs.Cases.{call1-by, call2-by, call3-by, call4-by}
 use Rattle.frame.proofs.Held.{gainOf, isHeard, Holds, call1-holds, call2-holds, call3-holds, call4-holds}
 use Rattle.frame.proofs.Truth.{false-true}
+use Rattle.halves.proofs.Cases.{first-half-by, second-half-by}
+use Rattle.halves.proofs.Kept.{done-first-beside, first-half-holds, second-half-holds}
 use Rattle.halves.proofs.Sister.{call2-own-by, call2-own-holds}
 use Rattle.desk.specs.declared.Answer.{Answer}
 use Rattle.desk.specs.declared.Record.{Record}
 use Rattle.desk.specs.Gate.{shareOf, gate}
-use Rattle.desk.specs.Desk.{Ask, opening, call1, call2, call2Own, call3, call4, callOf, closed, advanced, answered, opened, onShare, Given, desk}
+use Rattle.desk.specs.Desk.{Ask, opening, call1, call2, call2Own, call3, call4, firstHalf, secondHalf, callOf, closed, advanced, numbered, answered, opened, onShare, Given, desk}
 use Rattle.desk.proofs.Apart.{givenOf, one-bench, its-own, own-share, other-share, same-length, anew}
 use Rattle.isolation.specs.Run.{Call, openingOf, State, given, after, ended}
 use Rattle.isolation.specs.Memory.{SilentLeaves, Since, NeverNan, HeardHolds}
@@ -66,6 +68,12 @@ module _ (b : Record) (share : List Float) (q : Place) (back : 3194 ≤ q .at) w
       call3-by share (Leaves q share) bad (b .index) (b .vad) (b .noise) (b .denoise) x l m o (λ _ _ _ _. refl) (λ _. refl) (λ e m _ _ _ u. absurd (u _ e refl))
   frame-leaves (call4 x o) ne =
       call4-by share (Leaves q share) bad (b .frame) (b .heard) x o (λ whole _. done4-beside q share (b .frame) (b .heard) x (inl (omega arith), tt) whole .same)
+  frame-leaves (firstHalf x s) ne =
+      first-half-by share (Leaves q share) bad x s
+      (λ whole l _. done-first-beside q share x (inl (omega arith), (inl (omega arith), (inl (omega arith), (inl (omega arith), (inl (omega arith), tt))))) whole l .same)
+  frame-leaves (secondHalf l m o) ne =
+      second-half-by share (Leaves q share) bad (b .index) (b .vad) (b .noise) (b .denoise) l m o (λ _ _ _ _. refl)
+      (λ whole _. done4-beside q share 0 0 _ (inl (omega arith), tt) whole .same) (λ e m _ _ _ u. absurd (u _ e refl))
 
 -- of a record, after a frame call that is not heard: the index
 index-kept : (b : Record) (p : Bool) (r : Reply) → Unheard r → cond p (advanced b r) b .index ≡ b .index
@@ -77,6 +85,15 @@ index-kept b true (Heard v e) u = absurd (u v e refl)
 index-kept b true (Refused n) u = refl
 index-kept b true (Misread n l) u = refl
 
+-- of one that a half moves on, twice
+twice-kept : (b : Record) (p : Bool) (r : Reply) → Unheard r → cond p (advanced (advanced b r) r) b .index ≡ b .index
+twice-kept b false r u = refl
+twice-kept b true r u = index-kept (advanced b r) true r u ∙ index-kept b true r u
+
+numbered-kept : (b : Record) (p : Bool) (r : Reply) → Unheard r → cond p (numbered (advanced b r)) b .index ≡ b .index
+numbered-kept b false r u = refl
+numbered-kept b true r u = index-kept b true r u
+
 record-kept : (b : Record) (ask : Ask) (r : Reply) → (callOf ask ≡ 0 → ⊥) → Unheard r → answered b ask r .rec .index ≡ b .index
 record-kept b (opening m) r ne u = absurd (ne refl)
 record-kept b (call1 x w) r ne u = index-kept b (passed r) r u
@@ -84,6 +101,8 @@ record-kept b (call2 x l w s) r ne u = index-kept b (passed r) r u
 record-kept b (call2Own x w s) r ne u = index-kept b (passed r) r u
 record-kept b (call3 x l m o) r ne u = index-kept b (passed r) r u
 record-kept b (call4 x o) r ne u = index-kept b (passed r) r u
+record-kept b (firstHalf x s) r ne u = twice-kept b (passed r) r u
+record-kept b (secondHalf l m o) r ne u = numbered-kept b (passed r) r u
 
 -- no remembered gain is NaN
 abbrev Numbers : List Float → Type 0
@@ -113,6 +132,8 @@ every-holds b share (call2 x l w s) = call2-holds share x l w s
 every-holds b share (call2Own x w s) = call2-own-holds share x w s
 every-holds b share (call3 x l m o) = call3-holds share (b .index) (b .vad) (b .noise) (b .denoise) x l m o
 every-holds b share (call4 x o) = call4-holds share (b .frame) (b .heard) x o
+every-holds b share (firstHalf x s) = first-half-holds share x s
+every-holds b share (secondHalf l m o) = second-half-holds share (b .index) (b .vad) (b .noise) (b .denoise) l m o
 
 -- ---- the same of a desk of one bench
 

@@ -25,10 +25,11 @@ use Rattle.frame.specs.declared.Reply.{Reply}
 use Rattle.frame.specs.declared.Reply.the-variants.{Refused}
 use Rattle.frame.proofs.Cases.{call1-by, call2-by, call3-by, call4-by}
 use Rattle.frame.proofs.Truth.{false-true}
+use Rattle.halves.proofs.Cases.{first-half-by, second-half-by}
 use Rattle.halves.proofs.Sister.{call2-own-by}
 use Rattle.desk.specs.declared.Record.{Record}
 use Rattle.desk.specs.Gate.{gate, shareOf}
-use Rattle.desk.specs.Desk.{Ask, opening, call1, call2, call2Own, call3, call4, callOf, started, answered, opened, onShare, desk}
+use Rattle.desk.specs.Desk.{Ask, opening, call1, call2, call2Own, call3, call4, firstHalf, secondHalf, callOf, lastOf, started, answered, opened, onShare, desk}
 use Rattle.isolation.specs.Run.{Call, openingOf, State, given, after, ended}
 use Rattle.isolation.specs.Numbering.{framed, heard, count, Unopened, Numbering}
 
@@ -51,7 +52,7 @@ both : {b : Record} {ask : Ask} {reply : Reply} → answered b ask reply .rec .f
 both f h = record { frame = f; heard = h }
 
 refused : (b : Record) (ask : Ask) (n : ℕ) → Counted b ask (Refused n)
-refused b ask n = both (rw (no (eqb (callOf ask) 4))) refl
+refused b ask n = both (rw (no (eqb (lastOf ask) 4))) refl
   where
     no : (t : Bool) → (t && false) ≡ false
     no true = refl
@@ -72,6 +73,10 @@ module _ (b : Record) (share : List Float) where
       (λ _ _ _. both refl refl) (both refl refl) (λ _ _ _ _ _. both refl refl)
   frame-step (call4 x o) shut =
       call4-by share (CountedOf b (call4 x o)) (refused b (call4 x o)) (b .frame) (b .heard) x o (λ _. both refl refl)
+  frame-step (firstHalf x s) shut = first-half-by share (CountedOf b (firstHalf x s)) (refused b (firstHalf x s)) x s (λ _ _. both refl refl)
+  frame-step (secondHalf l m o) shut =
+      second-half-by share (CountedOf b (secondHalf l m o)) (refused b (secondHalf l m o)) (b .index) (b .vad) (b .noise) (b .denoise) l m o
+      (λ _ _ _. both refl refl) (λ _. both refl refl) (λ _ _ _ _ _. both refl refl)
 
 step : (n side : ℕ) (b : Record) (store : List Float) (ask : Ask)
     → (callOf ask ≡ 0 → passed (desk n side b store ask .answer .reply) ≡ false)

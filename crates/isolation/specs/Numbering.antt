@@ -12,12 +12,12 @@ use Rattle.frame.specs.Reply.{passed}
 use Rattle.frame.specs.Share.{SHARE}
 use Rattle.frame.specs.declared.Reply.{Reply}
 use Rattle.frame.specs.declared.Reply.the-variants.{Done, Silent, Heard, Numbered, Refused, Misread}
-use Rattle.desk.specs.Desk.{Ask, callOf}
+use Rattle.desk.specs.Desk.{Ask, callOf, lastOf}
 use Rattle.isolation.specs.Run.{Call, openingOf, State, given, after, ended}
 
--- a call 4 that is done
+-- a call 4 that is done, by itself or in a second half
 abbrev pub framed : Ask → Reply → Bool
-framed ask reply = eqb (callOf ask) 4 && passed reply
+framed ask reply = eqb (lastOf ask) 4 && passed reply
 
 -- a heard call 3; no other call is answered so
 abbrev pub heard : Ask → Reply → Bool

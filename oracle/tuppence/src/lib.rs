@@ -111,6 +111,12 @@ surface! {
         out: &mut [f32], answer: &mut [f32]
     ) -> u32;
     tuppence_call4 as call4(record: &mut [u32], store: &mut [f32], side: u32, inverse: &[f32], out: &mut [f32]) -> u32;
+    tuppence_first_half as first_half(
+        record: &mut [u32], store: &mut [f32], side: u32, samples: &[f32], sums: &mut [f32]
+    ) -> u32;
+    tuppence_second_half as second_half(
+        record: &mut [u32], store: &mut [f32], side: u32, logs: &[f32], model: &[u8], out: &mut [f32], answer: &mut [f32]
+    ) -> u32;
 }
 
 // Start, number of records and side of a good sheet; an entry is its frame's number, and 2^32 more where it was heard;

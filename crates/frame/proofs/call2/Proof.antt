@@ -1,21 +1,17 @@
 -- `frame::call2` meets its contract. Assumes nothing.
-use Prim.Native.Nat.{ℕ, _+_, _-_, _≤_}
-use native.Mathlib.Nat.{zero-add}
 use mathlib.Core.List.{List, [], _∷_}
-use mathlib.Core.Path.{_≡_, refl, sym, ap, ap₂, _∙_}
+use mathlib.Core.Path.{refl, ap, ap₂, _∙_}
 use native.Mathlib.Omega.{arith}
 use borrow.Author.Needs.{needs}
 use denote.Ref.{now}
-use lib.ListN.{length, take, drop, length-take, length-drop}
+use lib.ListN.{length, length-take, length-drop}
 use lib.Ieee.{Float}
-use Rattle.rules.specs.Place.{get}
 use Rattle.rules.proofs.Called.{left as fitted}
-use Rattle.rules.proofs.Places.{get-get}
 use Rattle.rules.proofs.Tests.{tests}
 use Rattle.bands.specs.Windowed.{windowed}
-use Rattle.frame.specs.Share.{SHARE, inputMem}
-use Rattle.frame.specs.Frame.{recent, call2}
+use Rattle.frame.specs.Frame.{call2}
 use Rattle.frame.proofs.Done.{call2-done}
+use Rattle.frame.proofs.Sizes.{looked-at}
 use Rattle.frame.proofs.call2.Statement.{statement}
 use Rattle.frame.proofs.call2.Tie as tie
 
@@ -38,16 +34,6 @@ returns-4 c = search tests
 returns-5 : tie.Need-returns-5
 unfolding call2
 returns-5 c = search tests
-
--- the part of the share that the code lends is the part of the input memory
-looked-at : (share : List Float) (lag : ℕ) → length share ≡ SHARE → lag ≤ 768
-    → take (768 - lag + 960 - (768 - lag)) (drop (768 - lag) share) ≡ get (recent lag) (get inputMem share)
-unfolding get
-looked-at share lag l h =
-    let size : 768 - lag + 960 - (768 - lag) ≡ 960 = omega arith in
-    rw size
-    (ap (λ (n : ℕ). take 960 (drop n share)) (sym (zero-add (768 - lag)))
-    ∙ sym (get-get inputMem (recent lag) share (omega arith) (omega arith)))
 
 returns-6 : tie.Need-returns-6
 returns-6 c =

@@ -1,9 +1,13 @@
 -- `tuppence_call3` meets its contract: it is the call of the desk, and its answer is handed back as numbers. Assumes nothing.
+use mathlib.Core.Path.{refl}
 use native.Mathlib.Omega.{arith}
 use borrow.Author.Needs.{needs}
 use denote.Ref.{now}
 use lib.ListN.{length}
 use Rattle.rules.specs.Place.{get, put}
+use Rattle.desk.specs.Gate.{BENCHES}
+use Rattle.desk.specs.Desk.{call3}
+use Rattle.desk.proofs.Replies.{no-out}
 use Rattle.export.proofs.Handed.{hands-back, no-more, three, handed-three}
 use Rattle.export.proofs.of_desk.tuppence_call3.Statement.{statement}
 use Rattle.export.proofs.of_desk.tuppence_call3.Tie as tie
@@ -21,7 +25,8 @@ tell-requires c κs =
     let r = d .before .before .before in
     let p = r .before .before in
     let a = p .before .before .before .before .before .before .before .before .args in
-    three _ _ _ _ _ _ _ _ (now (a .out)) (now (a .answer)) _ _ (p .places .result) (r .record-in .ensures) (p .places .ensures) (d .call3 .ensures)
+    three _ _ _ _ _ (call3 (now (a .spectrum)) (now (a .logs)) (now (a .model))) (now (a .out)) (now (a .answer)) _ _ (p .places .result)
+    (no-out BENCHES _ _ _ (now (a .spectrum)) (now (a .logs)) (now (a .model))) (λ _ _. refl) (r .record-in .ensures) (p .places .ensures) (d .call3 .ensures)
 
 hand-back-requires : tie.Need-hand-back-requires
 hand-back-requires c κs =
@@ -37,7 +42,8 @@ returns c =
     let r = d .before .before .before in
     let p = r .before .before in
     let a = p .before .before .before .before .before .before .before .before .args in
-    handed-three _ _ _ _ _ _ _ _ (now (a .out)) (now (a .answer)) _ _ (p .places .result) (r .record-in .ensures) (p .places .ensures) (d .call3 .ensures)
+    handed-three _ _ _ _ _ (call3 (now (a .spectrum)) (now (a .logs)) (now (a .model))) (now (a .out)) (now (a .answer)) _ _ (p .places .result)
+    (no-out BENCHES _ _ _ (now (a .spectrum)) (now (a .logs)) (now (a .model))) (λ _ _. refl) (r .record-in .ensures) (p .places .ensures) (d .call3 .ensures)
     (omega (arith, d .call3 .kept)) (t .tell .ensures) (h .hand-back .ensures)
 
 pub tuppence-call3-spec : {M : Type 1} → statement M

@@ -7,7 +7,7 @@ use lib.Ieee.{Float}
 use denote.Ref.{now}
 use Rattle.rules.specs.F32.{_⊕_, at}
 use Rattle.rules.proofs.Filling.{Filling, filling-more, filling-ahead, fills}
-use Rattle.frame.specs.Frame.{overlapped, secondHalf}
+use Rattle.frame.specs.Frame.{overlapped, laterHalf}
 use Rattle.frame.proofs.output.overlap.Statement.{statement}
 use Rattle.frame.proofs.output.overlap.Tie as tie
 
@@ -29,7 +29,7 @@ loop-again c =
     )
 
 returns : tie.Need-returns Inv-loop μ-loop
-unfolding overlapped secondHalf
+unfolding overlapped laterHalf
 returns c = search fills
 
 pub overlap-spec : {M : Type 1} → statement M

@@ -6,7 +6,7 @@ use denote.Ref.{now}
 use lib.Ieee.{Float}
 use Rattle.rules.proofs.Called.{left as fitted}
 use Rattle.bands.specs.Windowed.{windowed}
-use Rattle.frame.specs.Frame.{windowBuf, overlapped, secondHalf}
+use Rattle.frame.specs.Frame.{windowBuf, overlapped, laterHalf}
 use Rattle.frame.proofs.output.synthesise_in.Statement.{statement}
 use Rattle.frame.proofs.output.synthesise_in.Tie as tie
 
@@ -18,7 +18,7 @@ returns c =
     let h = w .before .before .before .before in
     let a = h .before .before .before .before .before .before .args in
     let buf = fitted (w .apply-window-in-place .ensures) (search needs) ∙ ap windowed (h .halve .ensures) in (
-      o .overlap .ensures .0 ∙ ap secondHalf buf,
+      o .overlap .ensures .0 ∙ ap laterHalf buf,
       o .overlap .ensures .1 ∙ ap (λ (l : List Float). overlapped l (now (a .kept))) buf,
     )
 

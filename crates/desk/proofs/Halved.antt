@@ -1,0 +1,228 @@
+-- The law of request 08 over the desk: accepted, a half is its two calls in turn, the second handed the record and the store as the first left them. Assumes
+-- nothing.
+use Prim.Native.Nat.{ℕ, _+_, _*_, _≤_, _<_}
+use native.Mathlib.Omega.{arith}
+use mathlib.Core.Bool.{Bool, true, false, cond, not}
+use mathlib.Core.List.{List, [], _∷_, _++_}
+use mathlib.Core.Path.{_≡_, refl, sym, ap, _∙_}
+use borrow.Author.Tests.{lt-ltb, eq-eqb, ne-eqb, eqb-true, eqb-false, not-false}
+use lib.Dec.{eqb}
+use lib.ListN.{length, take, drop, length-take, getD}
+use lib.Seq.{take-at, drop-at}
+use lib.Ieee.{Float}
+use Rattle.rules.specs.Place.{Place, get, put}
+use Rattle.rules.proofs.Places.{Within, length-get, length-put, get-put}
+use Rattle.rules.proofs.Refused.{clear}
+use Rattle.transforms.specs.Transform.{forwardOf, inverseOf}
+use Rattle.frame.specs.Reply.{passed, oneMore}
+use Rattle.frame.specs.Share.{SHARE}
+use Rattle.frame.specs.Frame.{Effect, refusal}
+use Rattle.frame.specs.Frame as frame
+use Rattle.frame.specs.declared.Reply.{Reply}
+use Rattle.frame.specs.declared.Reply.the-variants.{Done, Numbered, Refused}
+use Rattle.frame.proofs.Cases.{call1-by, call4-by}
+use Rattle.frame.proofs.Keeps.{call1-keeps, call3-keeps}
+use Rattle.frame.proofs.Truth.{false-true}
+use Rattle.halves.specs.Halves.{lookedBack}
+use Rattle.halves.specs.Halves as halves
+use Rattle.halves.proofs.Joined.{Both, first-half-is, second-half-is}
+use Rattle.halves.proofs.Sister.{call2-own-by}
+use Rattle.desk.specs.declared.Record.{Record}
+use Rattle.desk.specs.declared.Answer.{Answer}
+use Rattle.desk.specs.Gate.{inRange, isFrame, refusals, gate, shareOf}
+use Rattle.desk.specs.Desk.{Ask, call1, call2Own, call3, call4, firstHalf, secondHalf, callOf, nextDue, advanced, numbered, answered, onShare, Given, desk}
+use Rattle.desk.proofs.Turned.{none, through}
+use Rattle.desk.proofs.Ranged.{next-due, advanced-range}
+
+-- a half that is two calls of the desk: both are done, it leaves the second's record and store, and this is its reply and what it writes
+pub record InTurn (one two half : Given) (reply : Reply) (written : List (List Float)) : Type 0 where
+  pub first : passed (one .answer .reply) ≡ true
+  pub last : passed (two .answer .reply) ≡ true
+  pub replies : half .answer .reply ≡ reply
+  pub records : half .answer .rec ≡ two .answer .rec
+  pub stores : half .store ≡ two .store
+  pub writes : half .written ≡ written
+
+-- two writes to one place: the second stays
+put-put : (p : Place) (xs ys zs : List Float) → Within p xs → length ys ≡ p .size → put p (put p xs ys) zs ≡ put p xs zs
+unfolding put
+put-put p xs ys zs w e =
+    let front : length (take (p .at) xs) ≡ p .at = simp length-take (omega arith) in
+    let rest = drop (p .size) (drop (p .at) xs) in
+    rw (take-at (take (p .at) xs) (ys ++ rest) (p .at) front, drop-at (take (p .at) xs) (ys ++ rest) (p .at) front, drop-at ys rest (p .size) e)
+
+-- ---- the gate
+
+-- behind a call that was let through, the next one is
+gate-next : (n side : ℕ) (b : Record) (len call : ℕ) (reply : Reply) → 1 ≤ call → call ≤ 3 → gate n side b len call ≡ 0 → gate n side (advanced b reply) len (call + 1) ≡ 0
+unfolding gate
+gate-next n side b len call reply some few e =
+    let c = none n side b len call e in
+    let is : eqb call 0 ≡ false = ne-eqb call 0 (λ z. omega arith) in
+    let ajar : b .due ≡ 0 → ⊥ = eqb-false (b .due) 0 (rw is at (c .1 .1 .1 .0)) in
+    let due : b .due ≡ call = eqb-true (b .due) call (not-false (eqb (b .due) call) (rw is at (c .1 .1 .1 .1 .0))) in
+    let next : nextDue (b .due) ≡ call + 1 = rw (due, lt-ltb call 4 (omega arith)) in
+    let later : eqb (call + 1) 0 ≡ false = ne-eqb (call + 1) 0 (λ z. omega arith) in
+    clear (λ k. k) 0 (refusals n side (advanced b reply) len (call + 1)) (
+      c .0,
+      (
+        c .1 .0,
+        (
+          rw (advanced-range b reply ajar (not-false (inRange b) (c .1 .1 .0))),
+          (
+            rw (next, later),
+            (rw (next, later, eq-eqb (call + 1) (call + 1) refl), tt),
+          ),
+        ),
+      ),
+    )
+
+module _ (n side : ℕ) (b : Record) (store : List Float) where
+  abbrev share : List Float
+  share = get (shareOf side) store
+
+  abbrev number : Ask → ℕ
+  number ask = gate n side b (length store) (callOf ask)
+
+  -- what comes of a share
+  abbrev of : Ask → Effect → Given
+  of ask f = record { answer = answered b ask (f .reply); store = put (shareOf side) store (f .share); written = f .written }
+
+  let-in : (ask : Ask) → number ask ≡ 0 → desk n side b store ask ≡ of ask (onShare b share ask)
+  unfolding desk
+  let-in ask e = rw (eq-eqb (number ask) 0 e)
+
+  -- a call that is done was let through
+  was-let-in : (ask : Ask) → passed (desk n side b store ask .answer .reply) ≡ true → number ask ≡ 0
+  unfolding desk
+  was-let-in ask = go (eqb (number ask) 0) refl
+    where
+      go : (t : Bool) → eqb (number ask) 0 ≡ t → passed (cond t (onShare b share ask) (refusal (Refused (number ask)) share) .reply) ≡ true → number ask ≡ 0
+      go true e p = eqb-true (number ask) 0 e
+      go false e p = absurd (false-true p)
+
+  -- a call on the share as another call left it
+  module _ (right : (side < n) × (length store ≡ n * SHARE)) (b₁ : Record) (left : List Float) (whole : length left ≡ SHARE) where
+    abbrev on : Ask → Given
+    on ask = desk n side b₁ (put (shareOf side) store left) ask
+
+    second-in : (ask : Ask) → gate n side b₁ (length store) (callOf ask) ≡ 0
+        → let c = onShare b₁ left ask in on ask ≡ record { answer = answered b₁ ask (c .reply); store = put (shareOf side) store (c .share); written = c .written }
+    unfolding desk
+    second-in ask e =
+        let inside : Within (shareOf side) store = omega (arith, right .0, right .1) in
+        rw (length-put (shareOf side) store left inside whole, get-put (shareOf side) store left inside whole, eq-eqb (gate n side b₁ (length store) (callOf ask)) 0 e)
+        (ap (λ (s : List Float). record { answer = answered b₁ ask (onShare b₁ left ask .reply); store = s; written = onShare b₁ left ask .written })
+        (put-put (shareOf side) store left (onShare b₁ left ask .share) inside whole))
+
+-- ---- what the calls that are done reply
+
+done-1 : (share samples : List Float) (window : ℕ) → passed (frame.call1 share samples window .reply) ≡ true → frame.call1 share samples window .reply ≡ Done
+done-1 share samples window = call1-by share (λ f. passed (f .reply) ≡ true → f .reply ≡ Done) (λ _ p. absurd (false-true p)) samples window (λ _ _ _. refl)
+
+done-2 : (share spectrum : List Float) (window sums : ℕ) → passed (halves.call2Own share spectrum window sums .reply) ≡ true → halves.call2Own share spectrum window sums .reply ≡ Done
+done-2 share spectrum window sums = call2-own-by share (λ f. passed (f .reply) ≡ true → f .reply ≡ Done) (λ _ p. absurd (false-true p)) spectrum window sums (λ _ _. refl)
+
+done-4 : (share : List Float) (n h : ℕ) (inverse : List Float) (out : ℕ) → passed (frame.call4 share n h inverse out .reply) ≡ true
+    → frame.call4 share n h inverse out .reply ≡ Numbered (oneMore n) h
+done-4 share n h inverse out =
+    call4-by share (λ f. passed (f .reply) ≡ true → f .reply ≡ Numbered (oneMore n) h) (λ _ p. absurd (false-true p)) n h inverse out (λ _ _. refl)
+
+-- ---- the halves
+
+-- the record after a half, and after its two calls: r, s and t are what these reply
+moved-first : (b : Record) (r s t : Reply) → r ≡ t → s ≡ Done → t ≡ Done → cond (passed r) (advanced (advanced b r) r) b ≡ cond (passed t) (advanced (advanced b s) t) (advanced b s)
+moved-first b r s t e d c = rw (e, c, d)
+
+moved-second : (b : Record) (r s t : Reply) → r ≡ s → passed s ≡ true → t ≡ Numbered (oneMore (advanced b s .frame)) (advanced b s .heard)
+    → cond (passed r) (numbered (advanced b r)) b ≡ cond (passed t) (advanced (advanced b s) t) (advanced b s)
+moved-second b r s t e p d = rw (e, d, p)
+
+-- and what call 4 answered stands in it
+answered-in : (b : Record) (t : Reply) → t ≡ Numbered (oneMore (b .frame)) (b .heard) → let r = cond (passed t) (advanced b t) b in t ≡ Numbered (r .frame) (r .heard)
+answered-in b t d = rw d
+
+done-record : (b : Record) (r : Reply) → passed r ≡ true → cond (passed r) (advanced b r) b ≡ advanced b r
+done-record b r p = rw p
+
+-- what a call wrote into its first answer buffer
+abbrev buffer : Given → List Float
+buffer o = getD (o .written) 0 []
+
+module _ (n side : ℕ) (b : Record) (store : List Float) where
+  module _ (samples : List Float) (sums : ℕ) where
+    abbrev one : Given
+    one = desk n side b store (call1 samples 960)
+
+    abbrev two : Given
+    two = desk n side (one .answer .rec) (one .store) (call2Own (forwardOf (buffer one)) 960 sums)
+
+    pub first-half-in-turn : let half = desk n side b store (firstHalf samples sums) in passed (half .answer .reply) ≡ true → InTurn one two half (two .answer .reply) (drop 1 (two .written))
+    first-half-in-turn p =
+        let e = was-let-in n side b store (firstHalf samples sums) p in
+        let right = through n side b (length store) 1 e in
+        let h = let-in n side b store (firstHalf samples sums) e in
+        let o = let-in n side b store (call1 samples 960) e in
+        let a = frame.call1 (get (shareOf side) store) samples 960 in
+        let both = first-half-is (get (shareOf side) store) samples sums (ap (λ (g : Given). passed (g .answer .reply)) (sym h) ∙ p) in
+        let spectrum = forwardOf (halves.buffer a) in
+        let whole = call1-keeps (get (shareOf side) store) samples 960 .size ∙ length-get (shareOf side) store (omega (arith, right .0, right .1)) in
+        let w =
+        ap (λ (g : Given). desk n side (g .answer .rec) (g .store) (call2Own (forwardOf (buffer g)) 960 sums)) o
+        ∙ ap (λ (r : Record). desk n side r (put (shareOf side) store (a .share)) (call2Own spectrum 960 sums)) (done-record b (a .reply) (both .first))
+        ∙ second-in n side b store right (advanced b (a .reply)) (a .share) whole (call2Own spectrum 960 sums) (gate-next n side b (length store) 1 (a .reply) (omega arith) (omega arith) e) in
+        record {
+          first = ap (λ (g : Given). passed (g .answer .reply)) o ∙ both .first;
+          last = ap (λ (g : Given). passed (g .answer .reply)) w ∙ both .last;
+          replies = ap (λ (g : Given). g .answer .reply) h ∙ both .replies ∙ sym (ap (λ (g : Given). g .answer .reply) w);
+          records =
+              ap (λ (g : Given). g .answer .rec) h
+              ∙ moved-first b _ (a .reply) _ (both .replies) (done-1 (get (shareOf side) store) samples 960 (both .first)) (done-2 (a .share) spectrum 960 sums (both .last))
+              ∙ sym (ap (λ (g : Given). g .answer .rec) w);
+          stores = ap (λ (g : Given). g .store) h ∙ ap (put (shareOf side) store) (both .shares) ∙ sym (ap (λ (g : Given). g .store) w);
+          writes = ap (λ (g : Given). g .written) h ∙ both .writes ∙ sym (ap (λ (g : Given). drop 1 (g .written)) w);
+        }
+
+  module _ (logs : List Float) (model : List ℕ) (out : ℕ) where
+    abbrev three : Given
+    three = desk n side b store (call3 (forwardOf (lookedBack (get (shareOf side) store))) logs model 961)
+
+    abbrev four : Given
+    four = desk n side (three .answer .rec) (three .store) (call4 (inverseOf (buffer three)) out)
+
+    pub second-half-in-turn : let half = desk n side b store (secondHalf logs model out) in passed (half .answer .reply) ≡ true → InTurn three four half (three .answer .reply) (four .written) × (four .answer .reply ≡ Numbered (half .answer .rec .frame) (half .answer .rec .heard))
+    second-half-in-turn p =
+        let e = was-let-in n side b store (secondHalf logs model out) p in
+        let right = through n side b (length store) 3 e in
+        let h = let-in n side b store (secondHalf logs model out) e in
+        let spectrum = forwardOf (lookedBack (get (shareOf side) store)) in
+        let o = let-in n side b store (call3 spectrum logs model 961) e in
+        let a = frame.call3 (get (shareOf side) store) (b .index) (b .vad) (b .noise) (b .denoise) spectrum logs model 961 in
+        let next = advanced b (a .reply) in
+        let both =
+        second-half-is (get (shareOf side) store) (b .index) (b .vad) (b .noise) (b .denoise) logs model out (next .frame) (next .heard)
+        (ap (λ (g : Given). passed (g .answer .reply)) (sym h) ∙ p) in
+        let inverse = inverseOf (halves.buffer a) in
+        let whole =
+        call3-keeps (get (shareOf side) store) (b .index) (b .vad) (b .noise) (b .denoise) spectrum logs model 961 .size ∙ length-get (shareOf side) store (omega (arith, right .0, right .1)) in
+        let w =
+        ap (λ (g : Given). desk n side (g .answer .rec) (g .store) (call4 (inverseOf (buffer g)) out)) o
+        ∙ ap (λ (r : Record). desk n side r (put (shareOf side) store (a .share)) (call4 inverse out)) (done-record b (a .reply) (both .first))
+        ∙ second-in n side b store right next (a .share) whole (call4 inverse out) (gate-next n side b (length store) 3 (a .reply) (omega arith) (omega arith) e) in
+        let last = done-4 (a .share) (next .frame) (next .heard) inverse out (both .last) in
+        let records =
+        ap (λ (g : Given). g .answer .rec) h
+        ∙ moved-second b _ (a .reply) _ (both .replies) (both .first) last
+        ∙ sym (ap (λ (g : Given). g .answer .rec) w) in (
+          record {
+            first = ap (λ (g : Given). passed (g .answer .reply)) o ∙ both .first;
+            last = ap (λ (g : Given). passed (g .answer .reply)) w ∙ both .last;
+            replies = ap (λ (g : Given). g .answer .reply) h ∙ both .replies ∙ sym (ap (λ (g : Given). g .answer .reply) o);
+            records = records;
+            stores = ap (λ (g : Given). g .store) h ∙ ap (put (shareOf side) store) (both .shares) ∙ sym (ap (λ (g : Given). g .store) w);
+            writes = ap (λ (g : Given). g .written) h ∙ both .writes ∙ sym (ap (λ (g : Given). g .written) w);
+          },
+          ap (λ (g : Given). g .answer .reply) w
+              ∙ answered-in next _ last
+              ∙ ap (λ (r : Record). Numbered (r .frame) (r .heard)) (sym (ap (λ (g : Given). g .answer .rec) w) ∙ sym records),
+        )

@@ -1,0 +1,24 @@
+-- `desk::first_half` meets its contract: the gate turns it away, or the side's share is lent to `halves::first_half`. Assumes nothing.
+use borrow.Author.Needs.{needs}
+use Rattle.rules.specs.Place.{get, put}
+use Rattle.desk.proofs.Serve.{turned-away, served}
+use Rattle.desk.proofs.first_half.Statement.{statement}
+use Rattle.desk.proofs.first_half.Tie as tie
+
+pub first-half-spec : {M : Type 1} → statement M
+unfolding get put
+first-half-spec =
+    tie.close
+    (tie.spec
+    (λ c κs. search needs)  -- admit-requires
+    (λ c κs. search needs)  -- turned-away-requires
+    (λ c. search turned-away depth 1)  -- returns
+    (λ c. search needs)  -- mul-first-half
+    (λ c. search needs)  -- sub-first-half
+    (λ c. search needs)  -- part-first-half-start
+    (λ c. search needs)  -- part-first-half-end
+    (λ c κs. search needs)  -- first-half-requires
+    (λ c κs. search needs)  -- told-first-requires
+    (λ c. search needs)  -- same-length
+    (λ c. search needs)  -- same-length-2
+    (λ c. search served depth 1))  -- returns-2

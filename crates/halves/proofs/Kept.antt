@@ -1,0 +1,88 @@
+-- What the halves keep, as the calls do: a share's length, and refused all of it; the remembered gains, which only a heard second half
+-- raises; and every place that lies apart from the written ones. Assumes nothing.
+use Prim.Native.Nat.{ℕ}
+use native.Mathlib.Omega.{arith}
+use mathlib.Core.List.{List, [], _∷_}
+use mathlib.Core.Logic.{inl}
+use mathlib.Core.Path.{_≡_, refl}
+use lib.ListN.{length}
+use lib.Ieee.{Float}
+use Rattle.rules.specs.Place.{Place, get}
+use Rattle.transforms.specs.Transform.{forwardOf, inverseOf}
+use Rattle.lag.specs.Lag.{ownLag}
+use Rattle.frame.specs.declared.Reply.{Reply}
+use Rattle.frame.specs.declared.Reply.the-variants.{Silent, Heard, Refused, Misread}
+use Rattle.frame.specs.Share.{SHARE, inputMem, synthesisMem, keptX, keptEx, keptLag, memHpX, lastg}
+use Rattle.frame.specs.Heard.{spoken}
+use Rattle.frame.specs.Frame.{Effect, refusal, done1, heard}
+use Rattle.frame.proofs.Beside.{Beside, AllApart, then, done1-beside, done2-beside, done3-beside, done4-beside}
+use Rattle.frame.proofs.Held.{Holds, same, spoken-holds}
+use Rattle.frame.proofs.Keeps.{Keeps, end, unmoved, moved}
+use Rattle.halves.specs.Halves.{buffer, lookedBack, firstHalf, secondHalf}
+use Rattle.halves.proofs.Cases.{doneFirst, doneSecond, first-half-by, second-half-by}
+
+-- ---- places apart
+
+module _ (q : Place) where
+  pub done-first-beside : (share samples : List Float) → AllApart (inputMem ∷ memHpX ∷ keptX ∷ keptEx ∷ keptLag ∷ []) q → length share ≡ SHARE → length samples ≡ 480
+      → Beside q share (doneFirst share samples .share)
+  done-first-beside share samples apart whole l =
+      let a = done1 share samples in
+      let one = done1-beside q share samples (apart .0, (apart .1 .0, tt)) whole l in
+      let two = done2-beside q (a .share) (forwardOf (buffer a)) (ownLag (get inputMem (a .share))) (apart .1 .1) (one .size) in
+      then q one two
+
+  pub done-second-beside : (reply : Reply) (share after spectrum : List Float) → AllApart (synthesisMem ∷ []) q → Beside q share after
+      → Beside q share (doneSecond reply after spectrum .share)
+  done-second-beside reply share after spectrum apart b =
+      then q b (done4-beside q after 0 0 (inverseOf spectrum) apart (b .size))
+
+-- ---- lengths, and what a refusal leaves
+
+module _ (share : List Float) where
+  refused : (reply : Reply) → Keeps share (refusal reply share)
+  refused reply = unmoved share reply []
+
+  as-it-was : (q : Place) → length share ≡ SHARE → Beside q share share
+  as-it-was q whole = record { size = whole; same = refl }
+
+  pub first-half-keeps : (samples : List Float) (sums : ℕ) → Keeps share (firstHalf share samples sums)
+  first-half-keeps samples sums =
+      first-half-by share (Keeps share) (λ n. refused (Refused n)) samples sums
+      (λ whole l. moved share (doneFirst share samples) refl whole (done-first-beside end share samples (inl (omega arith), (inl (omega arith), (inl (omega arith), (inl (omega arith), (inl (omega arith), tt))))) whole l))
+
+  pub second-half-keeps : (index vad noise denoise : ℕ) (logs : List Float) (model : List ℕ) (out : ℕ) → Keeps share (secondHalf share index vad noise denoise logs model out)
+  second-half-keeps index vad noise denoise logs model out =
+      second-half-by share (Keeps share) (λ n. refused (Refused n)) index vad noise denoise logs model out (λ n l _. refused (Misread n l))
+      (λ whole. moved share (doneSecond Silent share (get keptX share)) refl whole (done-second-beside end Silent share share (get keptX share) (inl (omega arith), tt) (as-it-was end whole)))
+      (λ e m good whole inside.
+      let s = spoken share index (forwardOf (lookedBack share)) logs model m in
+      moved share (doneSecond (Heard (s .voice) e) (s .share) (s .spectrum)) refl whole
+      (done-second-beside end (Heard (s .voice) e) share (s .share) (s .spectrum) (inl (omega arith), tt)
+      (done3-beside end share index (forwardOf (lookedBack share)) logs model m
+      (inl (omega arith), (inl (omega arith), (inl (omega arith), (inl (omega arith), (inl (omega arith), tt))))) good whole inside)))
+
+  -- ---- the remembered gains
+
+  pub first-half-holds : (samples : List Float) (sums : ℕ) → Holds share (firstHalf share samples sums)
+  first-half-holds samples sums =
+      first-half-by share (Holds share) (λ n. same share (refusal (Refused n) share) refl refl) samples sums
+      (λ whole l. same share (doneFirst share samples) refl (done-first-beside lastg share samples (inl (omega arith), (inl (omega arith), (inl (omega arith), (inl (omega arith), (inl (omega arith), tt))))) whole l .same))
+
+  -- call 4 leaves the gains alone
+  held-on : (reply : Reply) (after spectrum : List Float) {f : Effect} → f .reply ≡ reply → f .share ≡ after → length after ≡ SHARE → Holds share f → Holds share (doneSecond reply after spectrum)
+  held-on reply after spectrum e d whole k =
+      let s = done4-beside lastg after 0 0 (inverseOf spectrum) (inl (omega arith), tt) whole .same in
+      record { number = λ i h n. rw (s, ← d) (k .number i h n); raised = λ i h n r. rw (s, ← d) (k .raised i h n (rw (← e) at r)) }
+
+  pub second-half-holds : (index vad noise denoise : ℕ) (logs : List Float) (model : List ℕ) (out : ℕ) → Holds share (secondHalf share index vad noise denoise logs model out)
+  second-half-holds index vad noise denoise logs model out =
+      second-half-by share (Holds share) (λ n. same share (refusal (Refused n) share) refl refl) index vad noise denoise logs model out
+      (λ n l _. same share (refusal (Misread n l) share) refl refl)
+      (λ whole. same share (doneSecond Silent share (get keptX share)) refl (done4-beside lastg share 0 0 (inverseOf (get keptX share)) (inl (omega arith), tt) whole .same))
+      (λ e m good whole inside.
+      let s = spoken share index (forwardOf (lookedBack share)) logs model m in
+      held-on (Heard (s .voice) e) (s .share) (s .spectrum) {f = heard e s} refl refl
+      (done3-beside end share index (forwardOf (lookedBack share)) logs model m
+      (inl (omega arith), (inl (omega arith), (inl (omega arith), (inl (omega arith), (inl (omega arith), tt))))) good whole inside .size)
+      (spoken-holds share e index (forwardOf (lookedBack share)) logs model m good whole inside))

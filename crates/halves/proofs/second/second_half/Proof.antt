@@ -1,0 +1,75 @@
+-- `halves::second::second_half` meets its contract. Assumes nothing.
+use mathlib.Core.List.{[], _∷_}
+use mathlib.Core.Path.{_∙_}
+use native.Mathlib.Omega.{arith}
+use borrow.Author.Needs.{needs}
+use denote.Ref.{now}
+use lib.ListN.{length}
+use Rattle.rules.proofs.Tests.{tests, answered-no, answered-yes}
+use Rattle.halves.specs.Halves.{buffer, synthesised, secondHalf}
+use Rattle.halves.proofs.Onward.{second-half-done, as-is, refused-first, handed-on, synthesised-by}
+use Rattle.halves.proofs.second.second_half.Statement.{statement}
+use Rattle.halves.proofs.second.second_half.Tie as tie
+
+returns : tie.Need-returns
+unfolding secondHalf
+returns c = search tests
+
+returns-2 : tie.Need-returns-2
+unfolding secondHalf
+returns-2 c = search tests
+
+returns-3 : tie.Need-returns-3
+unfolding secondHalf
+returns-3 c = search tests
+
+returns-4 : tie.Need-returns-4
+unfolding secondHalf
+returns-4 c = search tests
+
+returns-5 : tie.Need-returns-5
+returns-5 c =
+    let w = c .before .before .before .before .before in
+    let l = w .before .before .before .before .before in
+    let a = l .before .before .before .before .before .before .before .before .before .before .before .args in
+    as-is
+    (second-half-done (now (a .share)) (omega arith) (a .index) (a .vad) (a .noise) (a .denoise) (now (a .logs)) (now (a .model)) (length (now (a .out)))
+    (omega arith) (omega arith) (omega arith) (l .look-back .ensures))
+    (refused-first (w .call3 .ensures) (λ f. synthesised (f .reply) (f .share) (buffer f) (length (now (a .out)))) (now (a .out) ∷ [])
+    (answered-no (c .before .passed .ensures) (c .if5 .taken)))
+
+returns-6 : tie.Need-returns-6
+returns-6 c =
+    let n = c .before .before .before .before in
+    let e = n .before .before .before .before in
+    let w = e .before .before .before .before .before in
+    let l = w .before .before .before .before .before in
+    let a = l .before .before .before .before .before .before .before .before .before .before .before .args in
+    let yes = answered-yes (e .before .passed .ensures) (e .if5 .left) in
+    as-is
+    (second-half-done (now (a .share)) (omega arith) (a .index) (a .vad) (a .noise) (a .denoise) (now (a .logs)) (now (a .model)) (length (now (a .out)))
+    (omega arith) (omega arith) (omega arith) (l .look-back .ensures)
+    ∙ handed-on (w .call3 .ensures) yes (λ reply share spectrum. synthesised reply share spectrum (length (now (a .out)))))
+    (synthesised-by _ _ _ yes (omega arith) (omega arith) (n .synthesise .ensures))
+
+pub second-half-spec : {M : Type 1} → statement M
+second-half-spec =
+    tie.close
+    (tie.spec
+    returns
+    returns-2
+    returns-3
+    returns-4
+    (λ c. search needs)  -- slice-aggregate-look-back
+    (λ c κs. search needs)  -- look-back-requires
+    (λ c. search needs)  -- slice-aggregate-call3
+    (λ c. search needs)  -- slice-aggregate-call3-2
+    (λ c κs. search needs)  -- call3-requires
+    (λ c κs. search needs)  -- passed-requires
+    (λ c. search needs)  -- same-length
+    returns-5
+    (λ c. search needs)  -- slice-aggregate-synthesise
+    (λ c κs. search needs)  -- synthesise-requires
+    (λ c. search needs)  -- same-length-2
+    (λ c. search needs)  -- same-length-3
+    returns-6)

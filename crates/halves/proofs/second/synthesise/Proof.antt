@@ -1,0 +1,33 @@
+-- `halves::second::synthesise` meets its contract. Assumes nothing.
+use mathlib.Core.List.{List}
+use mathlib.Core.Path.{refl, sym, ap}
+use native.Mathlib.Omega.{arith}
+use borrow.Author.Needs.{needs}
+use denote.Ref.{now}
+use lib.ListN.{length}
+use lib.Ieee.{Float}
+use Rattle.rules.proofs.Called.{left as fitted}
+use Rattle.frame.specs.Frame.{call4}
+use Rattle.halves.proofs.Onward.{as-is}
+use Rattle.halves.proofs.second.synthesise.Statement.{statement}
+use Rattle.halves.proofs.second.synthesise.Tie as tie
+
+returns : tie.Need-returns
+returns c =
+    let o = c .before .before .before .before in
+    let f = o .before .before .before .before .before in
+    let a = f .before .before .before .before .before .args in
+    let made = fitted (f .inverse .ensures) (record { into = refl; from = omega arith }) in
+    as-is (ap (λ (x : List Float). call4 (now (a .share)) 0 0 x (length (now (a .out)))) (sym made)) (o .call4 .ensures)
+
+pub synthesise-spec : {M : Type 1} → statement M
+synthesise-spec =
+    tie.close
+    (tie.spec
+    (λ c. search needs)  -- slice-aggregate-inverse
+    (λ c κs. search needs)  -- inverse-requires
+    (λ c. search needs)  -- slice-aggregate-call4
+    (λ c κs. search needs)  -- call4-requires
+    (λ c. search needs)  -- same-length
+    (λ c. search needs)  -- same-length-2
+    returns)

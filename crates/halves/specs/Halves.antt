@@ -1,0 +1,68 @@
+-- A frame in two halves, request 08: calls 1 and 2, and calls 3 and 4, with our own lag and our own transforms put in. What is left to a host is
+-- the logarithms of the first half's sums. A half tests all refusals of its two calls before it changes anything.
+use Prim.Native.Nat.{ℕ}
+use mathlib.Core.Bool.{cond}
+use mathlib.Core.List.{List, [], _∷_}
+use lib.Dec.{ltb}
+use lib.IntN.{pos}
+use lib.ListN.{length, getD, drop}
+use lib.Ieee.{Float, binary32, ofInt, le}
+use Rattle.rules.specs.F32.{at}
+use Rattle.rules.specs.Loop.{range}
+use Rattle.rules.specs.Place.{get}
+use Rattle.rules.specs.Refusals.{Row, _when_, wrong}
+use Rattle.bands.specs.Windowed.{windowed}
+use Rattle.transforms.specs.Transform.{forwardOf, inverseOf}
+use Rattle.frame.specs.Share.{SHARE, inputMem, keptLag}
+use Rattle.frame.specs.Reply.{passed}
+use Rattle.frame.specs.declared.Reply.{Reply}
+use Rattle.frame.specs.Frame.{Effect, unless, recent, call1, call3, call4}
+pub use Rattle.halves.specs.Own.{call2Own}
+
+-- on to a second call with what the first gave, unless the first is refused
+abbrev pub onward : Effect → (Effect → Effect) → Effect
+onward first second = cond (passed (first .reply)) (second first) first
+
+-- what a call wrote into its first answer buffer
+abbrev pub buffer : Effect → List Float
+buffer f = getD (f .written) 0 []
+
+-- ---- the first half: call 1, and call 2's sister with the spectrum of call 1's window
+
+-- of the sister's two buffers the sums alone are handed on: the second half makes the window again
+abbrev pub analysed : List Float → List Float → ℕ → Effect
+analysed share window sums =
+    let b = call2Own share (forwardOf window) 960 sums in
+    record { reply = b .reply; share = b .share; written = drop 1 (b .written) }
+
+unfoldable pub firstHalf : List Float → List Float → ℕ → Effect
+firstHalf share samples sums =
+    unless (5 when wrong ((length share, SHARE) ∷ (length samples, 480) ∷ (sums, 22) ∷ []) ∷ []) share
+    (onward (call1 share samples 960) (λ a. analysed (a .share) (buffer a) sums))
+
+-- ---- the second half: call 3 with the spectrum of the window that call 2 gave, and call 4 with the inverse of what call 3 wrote
+
+-- the largest whole number of 0 to 768 that is not above x; 0 where there is none, and for a NaN:
+-- for k in 1..769 { if k as f32 <= x { lag = k; } }
+abbrev pub lagStep : Float → ℕ → ℕ → ℕ
+lagStep x k lag = cond (le (ofInt binary32 (pos k)) x) k lag
+
+unfoldable pub wholeLag : Float → ℕ
+wholeLag x = range 1 769 (lagStep x) 0
+
+-- call 2's window for the lag that stands in the share, whoever made that call
+unfoldable pub lookedBack : List Float → List Float
+lookedBack share = windowed (get (recent (wholeLag (at (get keptLag share) 0))) (get inputMem share))
+
+-- the reply is call 3's. What call 4 answers with, frames and heard frames, stands in the record, where the desk moves it on: a share is told
+-- neither, and whatever call 4 is told, it leaves the same
+abbrev pub synthesised : Reply → List Float → List Float → ℕ → Effect
+synthesised reply share spectrum out =
+    let b = call4 share 0 0 (inverseOf spectrum) out in
+    record { reply = reply; share = b .share; written = b .written }
+
+unfoldable pub secondHalf : List Float → ℕ → ℕ → ℕ → ℕ → List Float → List ℕ → ℕ → Effect
+secondHalf share index vad noise denoise logs model out =
+    unless (5 when wrong ((length share, SHARE) ∷ (length logs, 22) ∷ (out, 480) ∷ []) ∷ 5 when ltb 7 index ∷ []) share
+    (onward (call3 share index vad noise denoise (forwardOf (lookedBack share)) logs model 961)
+    (λ a. synthesised (a .reply) (a .share) (buffer a) out))

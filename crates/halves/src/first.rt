@@ -1,0 +1,41 @@
+// The first half of a frame: call 1, the forward transform of its window, and call 2's sister.
+ghost use mathlib.Core.List.{[], _∷_};
+ghost use mathlib.Core.Path.{_≡_};
+ghost use lib.ListN.{length};
+ghost use Rattle.frame.specs.Frame.{Worked};
+ghost use Rattle.halves.specs.Halves.{analysed, firstHalf};
+use frame::Reply;
+use frame::SHARE;
+
+// Call 2's sister with the spectrum of call 1's window, in whose place it writes its own.
+fn analyse(share: &mut [f32], window: &mut [f32], sums: &mut [f32]) -> Reply
+    requires { ⌜ (length (now share) ≡ 6144) × (length (now window) ≡ 960) × (length (now sums) ≡ 22) ⌝ }
+    ensures { λ r. ⌜ Worked (analysed (now (share .entry)) (now (window .entry)) (length (now (sums .entry))))
+        r (now (share .exit)) (now (sums .entry) ∷ []) (now (sums .exit) ∷ []) ⌝ }
+{
+    let mut spectrum = [0.0f32; 961];
+    transforms::forward(&mut spectrum, window);
+    crate::own::call2_own(share, &spectrum, window, sums)
+}
+
+// 480 samples in, 22 sums written, for the logarithms of the second half.
+pub fn first_half(share: &mut [f32], samples: &[f32], sums: &mut [f32]) -> Reply
+    ensures { λ r. ⌜ Worked (firstHalf (now (share .entry)) (now (samples .entry)) (length (now (sums .entry))))
+        r (now (share .exit)) (now (sums .entry) ∷ []) (now (sums .exit) ∷ []) ⌝ }
+{
+    if share.len() != SHARE {
+        return Reply::Refused(5);
+    }
+    if samples.len() != 480 {
+        return Reply::Refused(5);
+    }
+    if sums.len() != 22 {
+        return Reply::Refused(5);
+    }
+    let mut window = [0.0f32; 960];
+    let reply = frame::call1(share, samples, &mut window);
+    if !frame::passed(reply) {
+        return reply;
+    }
+    analyse(share, &mut window, sums)
+}

@@ -1,0 +1,103 @@
+// The second half of a frame: call 3 with the spectrum of the window that call 2 gave, and call 4 with the inverse of what call 3 wrote.
+ghost use mathlib.Core.List.{[], _∷_};
+ghost use mathlib.Core.Path.{_≡_};
+ghost use Prim.Native.Nat.{_≤_};
+ghost use lib.ListN.{length};
+ghost use Rattle.transforms.specs.Transform.{forwardOf, inverseOf};
+ghost use Rattle.frame.specs.Frame.{Worked, call4};
+ghost use Rattle.halves.specs.Halves.{lagStep, wholeLag, lookedBack, secondHalf};
+use frame::Reply;
+use frame::SHARE;
+
+// k where it is not above x, and else the lag so far.
+fn nearer(x: f32, k: usize, lag: usize) -> usize
+    requires { ⌜ k ≤ 768 ⌝ }
+    ensures { λ r. ⌜ r ≡ lagStep x k lag ⌝ }
+{
+    if k as f32 <= x {
+        return k;
+    }
+    lag
+}
+
+// The largest whole number of 0 to 768 that is not above x; 0 where there is none, and for a NaN.
+fn whole_lag(x: f32) -> usize
+    ensures { λ r. ⌜ r ≡ wholeLag x ⌝ }
+{
+    let mut lag = 0;
+    for k in 1..769 {
+        lag = nearer(x, k, lag);
+    }
+    lag
+}
+
+// The spectrum of the window that call 2 gave, for the lag that stands in the share.
+fn look_back(spectrum: &mut [f32], share: &[f32])
+    requires { ⌜ (length (now spectrum) ≡ 961) × (length (now share) ≡ 6144) ⌝ }
+    ensures { λ _. ⌜ now (spectrum .exit) ≡ forwardOf (lookedBack (now (share .entry))) ⌝ }
+{
+    let lag = whole_lag(share[3191]);
+    let from = 768 - lag;
+    let mut window = [0.0f32; 960];
+    bands::apply_window(&mut window, &share[from..from + 960]);
+    transforms::forward(spectrum, &window);
+}
+
+// Call 4 with the inverse of what call 3 wrote.
+fn synthesise(share: &mut [f32], spectrum: &[f32], out: &mut [f32]) -> Reply
+    requires { ⌜ length (now spectrum) ≡ 961 ⌝ }
+    ensures { λ r. ⌜ Worked (call4 (now (share .entry)) 0 0 (inverseOf (now (spectrum .entry))) (length (now (out .entry))))
+        r (now (share .exit)) (now (out .entry) ∷ []) (now (out .exit) ∷ []) ⌝ }
+{
+    let mut samples = [0.0f32; 960];
+    transforms::inverse(&mut samples, spectrum);
+    frame::call4(share, 0, 0, &samples, out)
+}
+
+// 22 logarithms and the model in, 480 samples written; silent, or heard with voice and energy.
+pub fn second_half(
+    share: &mut [f32],
+    index: usize,
+    vad: usize,
+    noise: usize,
+    denoise: usize,
+    logs: &[f32],
+    model: &[u8],
+    out: &mut [f32],
+) -> Reply
+    ensures { λ r. ⌜ Worked
+        (secondHalf (now (share .entry)) index vad noise denoise (now (logs .entry)) (now (model .entry)) (length (now (out .entry))))
+        r (now (share .exit)) (now (out .entry) ∷ []) (now (out .exit) ∷ []) ⌝ }
+{
+    if share.len() != SHARE {
+        return Reply::Refused(5);
+    }
+    if logs.len() != 22 {
+        return Reply::Refused(5);
+    }
+    if out.len() != 480 {
+        return Reply::Refused(5);
+    }
+    if index > 7 {
+        return Reply::Refused(5);
+    }
+    let mut spectrum = [0.0f32; 961];
+    look_back(&mut spectrum, share);
+    let mut shaped = [0.0f32; 961];
+    let reply = frame::call3(
+        share,
+        index,
+        vad,
+        noise,
+        denoise,
+        &spectrum,
+        logs,
+        model,
+        &mut shaped,
+    );
+    if !frame::passed(reply) {
+        return reply;
+    }
+    synthesise(share, &shaped, out);
+    reply
+}
