@@ -1,0 +1,4 @@
+pub mod Calls
+pub mod Gains
+mod Heard
+pub mod Order
