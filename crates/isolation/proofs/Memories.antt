@@ -26,7 +26,8 @@ use Rattle.desk.specs.Gate.{shareOf}
 use Rattle.desk.specs.Desk.{callOf, Given, desk}
 use Rattle.desk.proofs.Apart.{its-own, own-share, other-share, same-length}
 use Rattle.memory.specs.Hear.{Recalled, blank, HeardFrame, heardAll, faded}
-use Rattle.memory.specs.Brought.{Brought, nothing, isHeard, brought, Noted, unnoted, noted, heardBy, recalledIn, notedIn}
+use Rattle.memory.specs.Brought.{recalledIn, isHeard, Noted, unnoted, brought}
+use Rattle.memory.proofs.Heard.{notedIn}
 use Rattle.memory.proofs.Calls.{Remembers, remembers, opens, either}
 use Rattle.memory.proofs.Gains.{stays-number, at-least}
 use Rattle.isolation.specs.Run.{Call, openingOf, State, given, after, ended}
@@ -80,17 +81,17 @@ module _ (n s : ℕ) (inside : s < n) where
     recalled-then : recalled s (after n st c) ≡ recalledIn (lone .answer .rec .index) (lone .store)
     recalled-then = ap₂ recalledIn recorded own
 
-  abbrev brings : State → Call → Brought
-  brings st c = cond (eqb (c .side) s) (brought (share st) (c .ask) (given n st c .answer .reply)) nothing
+  abbrev brings : State → Call → Noted × List HeardFrame
+  brings st c = let k = notedIn (share st) in cond (eqb (c .side) s) (brought (share st) k (c .ask) (given n st c .answer .reply)) (k, [])
 
   abbrev counted : State → Call → ℕ
   counted st c = cond (eqb (c .side) s && heard (c .ask) (given n st c .answer .reply)) 1 0
 
   -- a call that brings b, and with it k frames
-  record Moves (st : State) (c : Call) (b : Brought) (k : ℕ) : Type 0 where
-    recalls : recalled s (after n st c) ≡ heardAll (recalled s st) (heardBy (notedIn (share st)) b)
-    notes : notedIn (share (after n st c)) ≡ noted (notedIn (share st)) b
-    counts : length (heardBy (notedIn (share st)) b) ≡ k
+  record Moves (st : State) (c : Call) (b : Noted × List HeardFrame) (k : ℕ) : Type 0 where
+    recalls : recalled s (after n st c) ≡ heardAll (recalled s st) (b .1)
+    notes : notedIn (share (after n st c)) ≡ b .0
+    counts : length (b .1) ≡ k
 
   module _ (st : State) (l : Whole st) (c : Call) where
     own-moves : (e : c .side ≡ s) → Remembers (st .rec s) (share st) (c .ask) (lone st l c e) → Moves st c (brings st c) (counted st c)
@@ -125,11 +126,10 @@ module _ (n s : ℕ) (inside : s < n) where
   run (c ∷ cs) st l u =
       let m = one st l c (u .0) in
       let rest = run cs (after n st c) (kept st l c) (u .1) in
-      let first = heardBy (notedIn (share st)) (brings st c) in
       let further : Noted → List HeardFrame = λ k. frames n s k (after n st c) cs in
       record {
-        recalls = rest .recalls ∙ ap₂ (λ r k. heardAll r (further k)) (m .recalls) (m .notes) ∙ sym (heard-append (recalled s st) first (further (noted (notedIn (share st)) (brings st c))));
-        counts = length-append first (further (noted (notedIn (share st)) (brings st c))) ∙ ap₂ _+_ (m .counts) (ap (λ k. length (further k)) (sym (m .notes)) ∙ rest .counts);
+        recalls = rest .recalls ∙ ap₂ (λ r k. heardAll r (further k)) (m .recalls) (m .notes) ∙ sym (heard-append (recalled s st) (brings st c .1) (further (brings st c .0)));
+        counts = length-append (brings st c .1) (further (brings st c .0)) ∙ ap₂ _+_ (m .counts) (ap (λ k. length (further k)) (sym (m .notes)) ∙ rest .counts);
       }
 
   -- ---- since an opening
@@ -154,7 +154,7 @@ module _ (n s : ℕ) (inside : s < n) where
   numbers-after st l c numbers i band = go (eqb (c .side) s) refl
     where
       hears : Moves st c (brings st c) (counted st c) → isNan (at (recalled s (after n st c) .gains) i) ≡ false
-      hears m = rw (gains (m .recalls)) (stays-number i band (heardBy (notedIn (share st)) (brings st c)) (recalled s st) (numbers i band))
+      hears m = rw (gains (m .recalls)) (stays-number i band (brings st c .1) (recalled s st) (numbers i band))
 
       go : (t : Bool) → eqb (c .side) s ≡ t → isNan (at (recalled s (after n st c) .gains) i) ≡ false
       go true f =
@@ -219,5 +219,5 @@ heard-holds n s inside st h c e v x r i band =
     (λ t.
     let m = own-moves n s inside st (k .1) c e t in
     let single : counted n s inside st c ≡ 1 = rw (eq-eqb (c .side) s e, ap isHeard r) in
-    rw (gains (m .recalls)) (rw (m .counts ∙ single) at (at-least i band (heardBy (notedIn (share n s inside st)) (brings n s inside st c)) (recalled s st) (k .0 i band))))
+    rw (gains (m .recalls)) (rw (m .counts ∙ single) at (at-least i band (brings n s inside st c .1) (recalled s st) (k .0 i band))))
     (either (st .rec s) (share n s inside st) (fits n s inside st (k .1)) (c .ask))

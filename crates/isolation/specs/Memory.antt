@@ -19,7 +19,7 @@ use Rattle.frame.specs.Share.{SHARE}
 use Rattle.desk.specs.Gate.{shareOf}
 use Rattle.desk.specs.Desk.{callOf}
 use Rattle.memory.specs.Hear.{Recalled, blank, HeardFrame, heardAll, faded}
-use Rattle.memory.specs.Brought.{nothing, brought, Noted, unnoted, noted, heardBy, recalledIn}
+use Rattle.memory.specs.Brought.{recalledIn, Noted, unnoted, brought}
 use Rattle.isolation.specs.Run.{Call, openingOf, State, given, after, ended}
 use Rattle.isolation.specs.Numbering.{heard, count, Unopened}
 
@@ -29,12 +29,12 @@ recalled s st = recalledIn (st .rec s .index) (get (shareOf s) (st .store))
 
 -- ---- what it is made of
 
--- the frames that side s hears in a run, in order, where k is noted of a call 2 before it: its own calls, as they bring something
+-- the frames that side s hears in a run, in order, where k is noted of a call 2 before it: what its own calls bring
 unfoldable pub frames : ℕ → ℕ → Noted → State → List Call → List HeardFrame
 frames n s k st [] = []
 frames n s k st (c ∷ cs) =
-    let b = cond (eqb (c .side) s) (brought (get (shareOf s) (st .store)) (c .ask) (given n st c .answer .reply)) nothing in
-    heardBy k b ++ frames n s (noted k b) (after n st c) cs
+    let b = cond (eqb (c .side) s) (brought (get (shareOf s) (st .store)) k (c .ask) (given n st c .answer .reply)) (k, []) in
+    b .1 ++ frames n s (b .0) (after n st c) cs
 
 -- since an opening, until the next
 abbrev pub MadeOfHeard : ℕ → Type 0

@@ -36,8 +36,8 @@ use Rattle.desk.specs.Gate.{gate}
 use Rattle.desk.specs.Desk.{Ask, opening, call1, call2, call3, call4, callOf, opened, onShare, Given, desk}
 use Rattle.desk.proofs.Apart.{givenOf, one-bench}
 use Rattle.memory.specs.Hear.{blank, heardAll}
-use Rattle.memory.specs.Brought.{unnoted, isHeard, brought, noted, heardBy, recalledIn, notedIn}
-use Rattle.memory.proofs.Heard.{heard-frame}
+use Rattle.memory.specs.Brought.{recalledIn, isHeard, unnoted, noting, brought}
+use Rattle.memory.proofs.Heard.{notedIn, heard-frame}
 
 -- ---- what is left alone
 
@@ -50,7 +50,7 @@ same-noted xs ys same = cc (same keptX (omega arith) (omega arith), same keptEx 
 
 -- call 2 notes what it brought
 kept-noted : (share spectrum : List Float) (lag : ℕ) → length share ≡ SHARE
-    → notedIn (putKept share spectrum lag) ≡ record { x = scaled spectrum; ex = energies spectrum; lag = ofInt binary32 (pos lag) }
+    → notedIn (putKept share spectrum lag) ≡ noting spectrum (ofInt binary32 (pos lag))
 unfolding putKept energies scaled
 kept-noted share spectrum lag whole =
     let x = scaled spectrum in
@@ -71,10 +71,9 @@ kept-noted share spectrum lag whole =
 -- ---- one call on a share
 
 pub record Remembers (b : Record) (share : List Float) (ask : Ask) (o : Given) : Type 0 where
-  pub recalls : recalledIn (o .answer .rec .index) (o .store)
-      ≡ heardAll (recalledIn (b .index) share) (heardBy (notedIn share) (brought share ask (o .answer .reply)))
-  pub notes : notedIn (o .store) ≡ noted (notedIn share) (brought share ask (o .answer .reply))
-  pub counts : length (heardBy (notedIn share) (brought share ask (o .answer .reply))) ≡ cond (isHeard (o .answer .reply)) 1 0
+  pub recalls : recalledIn (o .answer .rec .index) (o .store) ≡ heardAll (recalledIn (b .index) share) (brought share (notedIn share) ask (o .answer .reply) .1)
+  pub notes : notedIn (o .store) ≡ brought share (notedIn share) ask (o .answer .reply) .0
+  pub counts : length (brought share (notedIn share) ask (o .answer .reply) .1) ≡ cond (isHeard (o .answer .reply)) 1 0
 
 -- an opening that is done
 pub record Opens (o : Given) : Type 0 where

@@ -1,4 +1,4 @@
 pub mod Calls
 pub mod Gains
-mod Heard
+pub mod Heard
 pub mod Order
