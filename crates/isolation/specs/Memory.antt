@@ -1,9 +1,9 @@
 -- What a bench remembers: what is claimed. The proofs are in proofs/Memories.antt.
 --
 -- A side remembers the gains last applied, the cepstra with their index, and the states of the three GRUs. Since an opening this is
--- what `hear` makes of the side's heard frames, one after another: their logarithms, normalised band correlations, lags and models
--- (request 13). So a silent frame, a refused call and another bench leave it alone; no remembered gain is ever NaN; and after k heard
--- frames each is at least its value before them multiplied k times by 0.6, rounded each time.
+-- what `hear` makes of the side's heard frames, one after another: of their logarithms, normalised band correlations, lags and models
+-- alone (request 13). A silent frame, a refused call and another bench leave it as it is. No remembered gain is ever NaN, and after k
+-- heard frames each is at least its value before them multiplied k times by 0.6, rounded each time.
 use Prim.Native.Nat.{ℕ, _*_, _<_}
 use mathlib.Core.Bool.{true, false, cond}
 use mathlib.Core.List.{List, [], _∷_, _++_}
@@ -29,7 +29,7 @@ recalled s st = recalledIn (st .rec s .index) (get (shareOf s) (st .store))
 
 -- ---- what it is made of
 
--- the frames that side s hears in a run, in order, where k is noted of a call 2 before it: what its own calls bring
+-- the frames that side s hears in a run, in order: what its own calls bring, where a call 2 before the run noted k
 unfoldable pub frames : ℕ → ℕ → Noted → State → List Call → List HeardFrame
 frames n s k st [] = []
 frames n s k st (c ∷ cs) =
