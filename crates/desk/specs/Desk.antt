@@ -4,9 +4,9 @@ use mathlib.Core.Bool.{cond}
 use mathlib.Core.List.{List, []}
 use mathlib.Core.Path.{_≡_}
 use lib.Dec.{eqb, ltb}
-use lib.ListN.{length, replicate}
+use lib.ListN.{length}
 use lib.Ieee.{Float}
-use Rattle.rules.specs.F32.{f32}
+use Rattle.rules.specs.F32.{zeros}
 use Rattle.rules.specs.Place.{get, put}
 use Rattle.model.specs.Model.{readOf}
 use Rattle.model.specs.declared.Reading.{Reading}
@@ -128,7 +128,7 @@ answered rec ask reply = record { reply = reply; rec = cond (passed reply) (reco
 
 -- an opening wipes the share, whatever it held
 abbrev pub opened : List Float → Reading → Effect
-opened share (Good m) = record { reply = Done; share = replicate SHARE (f32 0); written = [] }
+opened share (Good m) = record { reply = Done; share = zeros SHARE; written = [] }
 opened share (Unread n l) = refusal (Misread n l) share
 
 abbrev pub onShare : Record → List Float → Ask → Effect

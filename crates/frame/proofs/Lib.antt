@@ -1,7 +1,6 @@
 pub mod Beside
 pub mod Cases
 pub mod Done
-pub mod Held
 pub mod Keeps
 pub mod Settled
 pub mod Sizes

@@ -1,5 +1,5 @@
--- What the halves keep, as the calls do: a share's length, and refused all of it; the remembered gains, which only a heard second half
--- raises; and every place that lies apart from the written ones. Assumes nothing.
+-- What the halves keep, as the calls do: a share's length, and refused all of it; and every place that lies apart from the written ones.
+-- Assumes nothing.
 use Prim.Native.Nat.{ℕ}
 use native.Mathlib.Omega.{arith}
 use mathlib.Core.List.{List, [], _∷_}
@@ -12,11 +12,10 @@ use Rattle.transforms.specs.Transform.{forwardOf, inverseOf}
 use Rattle.lag.specs.Lag.{ownLag}
 use Rattle.frame.specs.declared.Reply.{Reply}
 use Rattle.frame.specs.declared.Reply.the-variants.{Silent, Heard, Refused, Misread}
-use Rattle.frame.specs.Share.{SHARE, inputMem, synthesisMem, keptX, keptEx, keptLag, memHpX, lastg}
+use Rattle.frame.specs.Share.{SHARE, inputMem, synthesisMem, keptX, keptEx, keptLag, memHpX}
 use Rattle.frame.specs.Heard.{spoken}
-use Rattle.frame.specs.Frame.{Effect, refusal, done1, heard}
+use Rattle.frame.specs.Frame.{refusal, done1}
 use Rattle.frame.proofs.Beside.{Beside, AllApart, then, done1-beside, done2-beside, done3-beside, done4-beside}
-use Rattle.frame.proofs.Held.{Holds, same, spoken-holds}
 use Rattle.frame.proofs.Keeps.{Keeps, end, unmoved, moved}
 use Rattle.halves.specs.Halves.{buffer, lookedBack, firstHalf, secondHalf}
 use Rattle.halves.proofs.Cases.{doneFirst, doneSecond, first-half-by, second-half-by}
@@ -61,28 +60,3 @@ module _ (share : List Float) where
       (done-second-beside end (Heard (s .voice) e) share (s .share) (s .spectrum) (inl (omega arith), tt)
       (done3-beside end share index (forwardOf (lookedBack share)) logs model m
       (inl (omega arith), (inl (omega arith), (inl (omega arith), (inl (omega arith), (inl (omega arith), tt))))) good whole inside)))
-
-  -- ---- the remembered gains
-
-  pub first-half-holds : (samples : List Float) (sums : ℕ) → Holds share (firstHalf share samples sums)
-  first-half-holds samples sums =
-      first-half-by share (Holds share) (λ n. same share (refusal (Refused n) share) refl refl) samples sums
-      (λ whole l. same share (doneFirst share samples) refl (done-first-beside lastg share samples (inl (omega arith), (inl (omega arith), (inl (omega arith), (inl (omega arith), (inl (omega arith), tt))))) whole l .same))
-
-  -- call 4 leaves the gains alone
-  held-on : (reply : Reply) (after spectrum : List Float) {f : Effect} → f .reply ≡ reply → f .share ≡ after → length after ≡ SHARE → Holds share f → Holds share (doneSecond reply after spectrum)
-  held-on reply after spectrum e d whole k =
-      let s = done4-beside lastg after 0 0 (inverseOf spectrum) (inl (omega arith), tt) whole .same in
-      record { number = λ i h n. rw (s, ← d) (k .number i h n); raised = λ i h n r. rw (s, ← d) (k .raised i h n (rw (← e) at r)) }
-
-  pub second-half-holds : (index vad noise denoise : ℕ) (logs : List Float) (model : List ℕ) (out : ℕ) → Holds share (secondHalf share index vad noise denoise logs model out)
-  second-half-holds index vad noise denoise logs model out =
-      second-half-by share (Holds share) (λ n. same share (refusal (Refused n) share) refl refl) index vad noise denoise logs model out
-      (λ n l _. same share (refusal (Misread n l) share) refl refl)
-      (λ whole. same share (doneSecond Silent share (get keptX share)) refl (done4-beside lastg share 0 0 (inverseOf (get keptX share)) (inl (omega arith), tt) whole .same))
-      (λ e m good whole inside.
-      let s = spoken share index (forwardOf (lookedBack share)) logs model m in
-      held-on (Heard (s .voice) e) (s .share) (s .spectrum) {f = heard e s} refl refl
-      (done3-beside end share index (forwardOf (lookedBack share)) logs model m
-      (inl (omega arith), (inl (omega arith), (inl (omega arith), (inl (omega arith), (inl (omega arith), tt))))) good whole inside .size)
-      (spoken-holds share e index (forwardOf (lookedBack share)) logs model m good whole inside))

@@ -20,7 +20,6 @@ use Rattle.frame.specs.declared.Reply.{Reply}
 use Rattle.frame.specs.declared.Reply.the-variants.{Refused}
 use Rattle.frame.proofs.Cases.{call2-by}
 use Rattle.frame.proofs.Keeps.{Keeps, call2-keeps}
-use Rattle.frame.proofs.Held.{Holds, call2-holds}
 use Rattle.halves.specs.Own.{call2Own}
 
 module _ (share : List Float) where
@@ -51,7 +50,3 @@ module _ (share : List Float) where
     pub call2-own-keeps : Keeps share (call2Own share spectrum window sums)
     unfolding call2Own
     call2-own-keeps = call2-keeps share spectrum (ownLag mem) window sums
-
-    pub call2-own-holds : Holds share (call2Own share spectrum window sums)
-    unfolding call2Own
-    call2-own-holds = call2-holds share spectrum (ownLag mem) window sums

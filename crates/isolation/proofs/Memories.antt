@@ -1,172 +1,53 @@
 -- What a bench remembers, from one call to any run.
---     leaves        a frame call that is not heard leaves what is remembered alone
---     stays-number  no call makes a remembered gain NaN
---     holds         a heard frame leaves each remembered gain at least 0.6 of its predecessor
---     silent-leaves, never-nan, heard-holds     what specs/Memory.antt claims
+--     one             a call makes of what is remembered what `hear` makes of what it brought
+--     run             so does a run
+--     made-of-heard, faded-gains, silent-leaves, never-nan, heard-holds     what specs/Memory.antt claims
 -- Assumes nothing.
-use Prim.Native.Nat.{ℕ, _+_, _*_, _≤_, _<_}
+use Prim.Native.Nat.{ℕ, _+_, _*_, _<_}
 use native.Mathlib.Omega.{arith}
-use mathlib.Core.Bool.{Bool, true, false, cond}
-use mathlib.Core.List.{List, [], _∷_}
-use mathlib.Core.Logic.{inl}
-use mathlib.Core.Path.{_≡_, refl, ap, _∙_}
+use mathlib.Core.Bool.{Bool, true, false, cond, _&&_}
+use mathlib.Core.List.{List, [], _∷_, _++_}
+use mathlib.Core.Logic.{⊎-elim}
+use mathlib.Core.Path.{_≡_, refl, sym, ap, ap₂, _∙_}
 use borrow.Author.Tests.{eq-eqb, eqb-true, eqb-false}
 use lib.Dec.{eqb}
-use lib.ListN.{length, replicate, getD-replicate}
-use lib.Seq.{getD-take, getD-drop}
-use lib.Ieee.{Float, isNan, le, ofBits}
+use lib.ListN.{length, length-append, getD-replicate}
+use lib.Ieee.{Float, nan, isNan, ofBits}
 use Rattle.rules.specs.F32.{at, f32}
-use Rattle.rules.specs.Place.{Place, get}
+use Rattle.rules.specs.Place.{get}
 use Rattle.rules.proofs.Places.{length-get}
-use Rattle.model.specs.Model.{readOf}
-use Rattle.model.specs.declared.Reading.{Reading}
-use Rattle.model.specs.declared.Reading.the-variants.{Good, Refused as Unread}
-use Rattle.features.specs.Gains.{sixTenths}
 use Rattle.frame.specs.Reply.{passed}
-use Rattle.frame.specs.Share.{SHARE, lastg, cepstralMem, vadState, noiseState, denoiseState}
-use Rattle.frame.specs.Frame.{Effect, refusal}
+use Rattle.frame.specs.Share.{SHARE}
 use Rattle.frame.specs.declared.Reply.{Reply}
 use Rattle.frame.specs.declared.Reply.the-variants.{Done, Silent, Heard, Numbered, Refused, Misread}
-use Rattle.frame.proofs.Beside.{done1-beside, done2-beside, done4-beside}
-use Rattle.frame.proofs.Cases.{call1-by, call2-by, call3-by, call4-by}
-use Rattle.frame.proofs.Held.{gainOf, isHeard, Holds, call1-holds, call2-holds, call3-holds, call4-holds}
 use Rattle.frame.proofs.Truth.{false-true}
-use Rattle.halves.proofs.Cases.{first-half-by, second-half-by}
-use Rattle.halves.proofs.Kept.{done-first-beside, first-half-holds, second-half-holds}
-use Rattle.halves.proofs.Sister.{call2-own-by, call2-own-holds}
 use Rattle.desk.specs.declared.Answer.{Answer}
-use Rattle.desk.specs.declared.Record.{Record}
-use Rattle.desk.specs.Gate.{shareOf, gate}
-use Rattle.desk.specs.Desk.{Ask, opening, call1, call2, call2Own, call3, call4, firstHalf, secondHalf, callOf, closed, advanced, numbered, answered, opened, onShare, Given, desk}
-use Rattle.desk.proofs.Apart.{givenOf, one-bench, its-own, own-share, other-share, same-length, anew}
+use Rattle.desk.specs.Gate.{shareOf}
+use Rattle.desk.specs.Desk.{callOf, Given, desk}
+use Rattle.desk.proofs.Apart.{its-own, own-share, other-share, same-length}
+use Rattle.memory.specs.Hear.{Recalled, blank, HeardFrame, heardAll, faded}
+use Rattle.memory.specs.Brought.{recalledIn, isHeard, Noted, unnoted, brought}
+use Rattle.memory.proofs.Heard.{notedIn}
+use Rattle.memory.proofs.Calls.{Remembers, remembers, opens, either}
+use Rattle.memory.proofs.Gains.{stays-number, at-least}
 use Rattle.isolation.specs.Run.{Call, openingOf, State, given, after, ended}
-use Rattle.isolation.specs.Memory.{SilentLeaves, Since, NeverNan, HeardHolds}
+use Rattle.isolation.specs.Numbering.{heard, count, Unopened}
+use Rattle.isolation.specs.Memory.{recalled, frames, MadeOfHeard, Since, Faded, SilentLeaves, NeverNan, HeardHolds}
 
--- ---- one call
+-- one run of frames behind another
+heard-append : (m : Recalled) (xs ys : List HeardFrame) → heardAll m (xs ++ ys) ≡ heardAll (heardAll m xs) ys
+unfolding heardAll
+heard-append m [] ys = refl
+heard-append m (x ∷ xs) ys = heard-append _ xs ys
 
--- no heard frame
-abbrev Unheard : Reply → Type 0
-Unheard r = (v e : Float) → r ≡ Heard v e → ⊥
+-- no frame
+none-heard : (m : Recalled) (fs : List HeardFrame) → length fs ≡ 0 → heardAll m fs ≡ m
+unfolding heardAll
+none-heard m [] e = refl
+none-heard m (f ∷ fs) e = absurd (omega arith)
 
--- what lies from the remembered gains on is left alone, unless a frame is heard
-abbrev Leaves : Place → List Float → Effect → Type 0
-Leaves q share f = Unheard (f .reply) → get q (f .share) ≡ get q share
-
-module _ (b : Record) (share : List Float) (q : Place) (back : 3194 ≤ q .at) where
-  bad : (n : ℕ) → Leaves q share (refusal (Refused n) share)
-  bad n _ = refl
-
-  frame-leaves : (ask : Ask) → (callOf ask ≡ 0 → ⊥) → Leaves q share (onShare b share ask)
-  frame-leaves (opening m) ne = absurd (ne refl)
-  frame-leaves (call1 x w) ne =
-      call1-by share (Leaves q share) bad x w (λ whole l _. done1-beside q share x (inl (omega arith), (inl (omega arith), tt)) whole l .same)
-  frame-leaves (call2 x l w s) ne =
-      call2-by share (Leaves q share) bad x l w s (λ whole _. done2-beside q share x l (inl (omega arith), (inl (omega arith), (inl (omega arith), tt))) whole .same)
-  frame-leaves (call2Own x w s) ne =
-      call2-own-by share (Leaves q share) bad x w s (λ whole _. done2-beside q share x _ (inl (omega arith), (inl (omega arith), (inl (omega arith), tt))) whole .same)
-  frame-leaves (call3 x l m o) ne =
-      call3-by share (Leaves q share) bad (b .index) (b .vad) (b .noise) (b .denoise) x l m o (λ _ _ _ _. refl) (λ _. refl) (λ e m _ _ _ u. absurd (u _ e refl))
-  frame-leaves (call4 x o) ne =
-      call4-by share (Leaves q share) bad (b .frame) (b .heard) x o (λ whole _. done4-beside q share (b .frame) (b .heard) x (inl (omega arith), tt) whole .same)
-  frame-leaves (firstHalf x s) ne =
-      first-half-by share (Leaves q share) bad x s
-      (λ whole l _. done-first-beside q share x (inl (omega arith), (inl (omega arith), (inl (omega arith), (inl (omega arith), (inl (omega arith), tt))))) whole l .same)
-  frame-leaves (secondHalf l m o) ne =
-      second-half-by share (Leaves q share) bad (b .index) (b .vad) (b .noise) (b .denoise) l m o (λ _ _ _ _. refl)
-      (λ whole _. done4-beside q share 0 0 _ (inl (omega arith), tt) whole .same) (λ e m _ _ _ u. absurd (u _ e refl))
-
--- of a record, after a frame call that is not heard: the index
-index-kept : (b : Record) (p : Bool) (r : Reply) → Unheard r → cond p (advanced b r) b .index ≡ b .index
-index-kept b false r u = refl
-index-kept b true Done u = refl
-index-kept b true Silent u = refl
-index-kept b true (Numbered f h) u = refl
-index-kept b true (Heard v e) u = absurd (u v e refl)
-index-kept b true (Refused n) u = refl
-index-kept b true (Misread n l) u = refl
-
--- of one that a half moves on, twice
-twice-kept : (b : Record) (p : Bool) (r : Reply) → Unheard r → cond p (advanced (advanced b r) r) b .index ≡ b .index
-twice-kept b false r u = refl
-twice-kept b true r u = index-kept (advanced b r) true r u ∙ index-kept b true r u
-
-numbered-kept : (b : Record) (p : Bool) (r : Reply) → Unheard r → cond p (numbered (advanced b r)) b .index ≡ b .index
-numbered-kept b false r u = refl
-numbered-kept b true r u = index-kept b true r u
-
-record-kept : (b : Record) (ask : Ask) (r : Reply) → (callOf ask ≡ 0 → ⊥) → Unheard r → answered b ask r .rec .index ≡ b .index
-record-kept b (opening m) r ne u = absurd (ne refl)
-record-kept b (call1 x w) r ne u = index-kept b (passed r) r u
-record-kept b (call2 x l w s) r ne u = index-kept b (passed r) r u
-record-kept b (call2Own x w s) r ne u = index-kept b (passed r) r u
-record-kept b (call3 x l m o) r ne u = index-kept b (passed r) r u
-record-kept b (call4 x o) r ne u = index-kept b (passed r) r u
-record-kept b (firstHalf x s) r ne u = twice-kept b (passed r) r u
-record-kept b (secondHalf l m o) r ne u = numbered-kept b (passed r) r u
-
--- no remembered gain is NaN
-abbrev Numbers : List Float → Type 0
-Numbers share = (i : ℕ) → i < 22 → isNan (gainOf share i) ≡ false
-
-wiped : List Float
-wiped = replicate SHARE (f32 0)
-
-zero-number : isNan (f32 0) ≡ false
-unfolding isNan ofBits
-zero-number = refl
-
-wiped-numbers : Numbers wiped
-unfolding get wiped
-wiped-numbers i h = let inside : lastg .at + i < SHARE = omega arith in rw (getD-take, getD-drop, getD-replicate) zero-number
-
--- every call holds them: an opening wipes them or leaves them, and the frame calls hold them as `frame` shows
-opened-holds : (share : List Float) (read : Reading) → Holds share (opened share read)
-unfolding wiped
-opened-holds share (Good m) = record { number = λ i h _. wiped-numbers i h; raised = λ i h _ r. absurd (false-true r) }
-opened-holds share (Unread n l) = record { number = λ i h k. k; raised = λ i h _ r. absurd (false-true r) }
-
-every-holds : (b : Record) (share : List Float) (ask : Ask) → Holds share (onShare b share ask)
-every-holds b share (opening m) = opened-holds share (readOf m)
-every-holds b share (call1 x w) = call1-holds share x w
-every-holds b share (call2 x l w s) = call2-holds share x l w s
-every-holds b share (call2Own x w s) = call2-own-holds share x w s
-every-holds b share (call3 x l m o) = call3-holds share (b .index) (b .vad) (b .noise) (b .denoise) x l m o
-every-holds b share (call4 x o) = call4-holds share (b .frame) (b .heard) x o
-every-holds b share (firstHalf x s) = first-half-holds share x s
-every-holds b share (secondHalf l m o) = second-half-holds share (b .index) (b .vad) (b .noise) (b .denoise) l m o
-
--- ---- the same of a desk of one bench
-
-module _ (b : Record) (share : List Float) (whole : length share ≡ SHARE) (ask : Ask) where
-  number : ℕ
-  number = gate 1 0 b SHARE (callOf ask)
-
-  -- a call is refused by the gate, or it is let through
-  by-gate : (P : Given → Type 0) → P (givenOf b ask (refusal (Refused number) share)) → P (givenOf b ask (onShare b share ask)) → P (desk 1 0 b share ask)
-  unfolding number
-  by-gate P turned let-in = rw (one-bench b share ask whole) (go (eqb number 0))
-    where
-      go : (t : Bool) → P (givenOf b ask (cond t (onShare b share ask) (refusal (Refused number) share)))
-      go true = let-in
-      go false = turned
-
-  leaves : (callOf ask ≡ 0 → ⊥) → Unheard (desk 1 0 b share ask .answer .reply)
-      → ((q : Place) → 3194 ≤ q .at → get q (desk 1 0 b share ask .store) ≡ get q share) × (desk 1 0 b share ask .answer .rec .index ≡ b .index)
-  leaves ne =
-      by-gate (λ o. Unheard (o .answer .reply) → ((q : Place) → 3194 ≤ q .at → get q (o .store) ≡ get q share) × (o .answer .rec .index ≡ b .index))
-      (λ _. (λ _ _. refl, refl))
-      (λ u. (λ q back. frame-leaves b share q back ask ne u, record-kept b ask (onShare b share ask .reply) ne u))
-
-  stays-number : Numbers share → Numbers (desk 1 0 b share ask .store)
-  stays-number numbers = by-gate (λ o. Numbers (o .store)) numbers (λ i h. every-holds b share ask .number i h (numbers i h))
-
-  holds : Numbers share → isHeard (desk 1 0 b share ask .answer .reply) ≡ true
-      → (i : ℕ) → i < 22 → le (sixTenths (gainOf share i)) (gainOf (desk 1 0 b share ask .store) i) ≡ true
-  holds numbers =
-      by-gate (λ o. isHeard (o .answer .reply) ≡ true → (i : ℕ) → i < 22 → le (sixTenths (gainOf share i)) (gainOf (o .store) i) ≡ true)
-      (λ h. absurd (false-true h)) (λ h i band. every-holds b share ask .raised i band (numbers i band) h)
-
--- ---- any run
+gains : {a b : Recalled} → a ≡ b → a .gains ≡ b .gains
+gains e = ap (λ (m : Recalled). m .gains) e
 
 module _ (n s : ℕ) (inside : s < n) where
   abbrev share : State → List Float
@@ -181,57 +62,162 @@ module _ (n s : ℕ) (inside : s < n) where
   kept : (st : State) → Whole st → (c : Call) → Whole (after n st c)
   kept st l c = same-length n (c .side) (st .rec (c .side)) (st .store) (c .ask) l ∙ l
 
+  -- ---- one call
+
   -- a call on side s is the bench's own
-  own : (st : State) → Whole st → (c : Call) → c .side ≡ s → share (after n st c) ≡ desk 1 0 (st .rec s) (share st) (c .ask) .store
-  own st l c e = rw e (own-share n s (st .rec s) (st .store) (c .ask) l inside)
+  module _ (st : State) (l : Whole st) (c : Call) (e : c .side ≡ s) where
+    abbrev lone : Given
+    lone = desk 1 0 (st .rec s) (share st) (c .ask)
 
-  replied : (st : State) → Whole st → (c : Call) → c .side ≡ s → given n st c .answer ≡ desk 1 0 (st .rec s) (share st) (c .ask) .answer
-  replied st l c e = rw e (ap (λ (o : Given). o .answer) (its-own n s (st .rec s) (st .store) (c .ask) l inside))
+    own : share (after n st c) ≡ lone .store
+    own = rw e (own-share n s (st .rec s) (st .store) (c .ask) l inside)
 
-  numbers-after : (st : State) → Whole st → (c : Call) → Numbers (share st) → Numbers (share (after n st c))
-  numbers-after st l c numbers = go (eqb (c .side) s) refl
+    replied : given n st c .answer ≡ lone .answer
+    replied = rw e (ap (λ (o : Given). o .answer) (its-own n s (st .rec s) (st .store) (c .ask) l inside))
+
+    recorded : after n st c .rec s .index ≡ lone .answer .rec .index
+    recorded = rw (eq-eqb (c .side) s e) (ap (λ (a : Answer). a .rec .index) replied)
+
+    recalled-then : recalled s (after n st c) ≡ recalledIn (lone .answer .rec .index) (lone .store)
+    recalled-then = ap₂ recalledIn recorded own
+
+  abbrev brings : State → Call → Noted × List HeardFrame
+  brings st c = let k = notedIn (share st) in cond (eqb (c .side) s) (brought (share st) k (c .ask) (given n st c .answer .reply)) (k, [])
+
+  abbrev counted : State → Call → ℕ
+  counted st c = cond (eqb (c .side) s && heard (c .ask) (given n st c .answer .reply)) 1 0
+
+  -- a call that brings b, and with it k frames
+  record Moves (st : State) (c : Call) (b : Noted × List HeardFrame) (k : ℕ) : Type 0 where
+    recalls : recalled s (after n st c) ≡ heardAll (recalled s st) (b .1)
+    notes : notedIn (share (after n st c)) ≡ b .0
+    counts : length (b .1) ≡ k
+
+  module _ (st : State) (l : Whole st) (c : Call) where
+    own-moves : (e : c .side ≡ s) → Remembers (st .rec s) (share st) (c .ask) (lone st l c e) → Moves st c (brings st c) (counted st c)
+    own-moves e r =
+        rw (eq-eqb (c .side) s e, replied st l c e)
+        (record { recalls = recalled-then st l c e ∙ r .recalls; notes = ap notedIn (own st l c e) ∙ r .notes; counts = r .counts })
+
+    other-moves : eqb (c .side) s ≡ false → Moves st c (brings st c) (counted st c)
+    unfolding heardAll
+    other-moves f =
+        let same = other-share n (c .side) (st .rec (c .side)) (st .store) (c .ask) l s (eqb-false (c .side) s f) in
+        rw f (record { recalls = rw f (ap (recalledIn (st .rec s .index)) same); notes = ap notedIn same; counts = refl })
+
+    one : (c .side ≡ s → callOf (c .ask) ≡ 0 → passed (given n st c .answer .reply) ≡ false) → Moves st c (brings st c) (counted st c)
+    one shut = go (eqb (c .side) s) refl
+      where
+        go : (t : Bool) → eqb (c .side) s ≡ t → Moves st c (brings st c) (counted st c)
+        go true f =
+            let e = eqb-true (c .side) s f in
+            own-moves e (remembers (st .rec s) (share st) (fits st l) (c .ask) (rw (replied st l c e) at (shut e)))
+        go false f = other-moves f
+
+  -- ---- any run
+
+  record Made (st : State) (cs : List Call) : Type 0 where
+    recalls : recalled s (ended n st cs) ≡ heardAll (recalled s st) (frames n s (notedIn (share st)) st cs)
+    counts : length (frames n s (notedIn (share st)) st cs) ≡ count heard n s st cs
+
+  run : (cs : List Call) (st : State) → Whole st → Unopened n s st cs → Made st cs
+  unfolding ended frames count Unopened heardAll
+  run [] st l u = record { recalls = refl; counts = refl }
+  run (c ∷ cs) st l u =
+      let m = one st l c (u .0) in
+      let rest = run cs (after n st c) (kept st l c) (u .1) in
+      let further : Noted → List HeardFrame = λ k. frames n s k (after n st c) cs in
+      record {
+        recalls = rest .recalls ∙ ap₂ (λ r k. heardAll r (further k)) (m .recalls) (m .notes) ∙ sym (heard-append (recalled s st) (brings st c .1) (further (brings st c .0)));
+        counts = length-append (brings st c .1) (further (brings st c .0)) ∙ ap₂ _+_ (m .counts) (ap (λ k. length (further k)) (sym (m .notes)) ∙ rest .counts);
+      }
+
+  -- ---- since an opening
+
+  abbrev Numbers : State → Type 0
+  Numbers st = (i : ℕ) → i < 22 → isNan (at (recalled s st .gains) i) ≡ false
+
+  -- an opening that is done leaves nothing remembered, nor noted
+  fresh : (st : State) → Whole st → (model : List ℕ) → passed (given n st (openingOf s model) .answer .reply) ≡ true
+      → (recalled s (after n st (openingOf s model)) ≡ blank) × (notedIn (share (after n st (openingOf s model))) ≡ unnoted)
+  fresh st l model done =
+      let c = openingOf s model in
+      let o = opens (st .rec s) (share st) (fits st l) model (rw (replied st l c refl) at done) in
+      (recalled-then st l c refl ∙ o .forgets, ap notedIn (own st l c refl) ∙ o .unnotes)
+
+  blank-number : (i : ℕ) → i < 22 → isNan (at (blank .gains) i) ≡ false
+  unfolding isNan ofBits
+  blank-number i h = rw (getD-replicate 22 i (f32 0) nan h)
+
+  -- no call makes a gain NaN: it opens the side anew, or it hears what it brings
+  numbers-after : (st : State) → Whole st → (c : Call) → Numbers st → Numbers (after n st c)
+  numbers-after st l c numbers i band = go (eqb (c .side) s) refl
     where
-      go : (t : Bool) → eqb (c .side) s ≡ t → Numbers (share (after n st c))
-      go true e = rw (own st l c (eqb-true (c .side) s e)) (stays-number (st .rec s) (share st) (fits st l) (c .ask) numbers)
-      go false e = rw (other-share n (c .side) (st .rec (c .side)) (st .store) (c .ask) l s (eqb-false (c .side) s e)) numbers
+      hears : Moves st c (brings st c) (counted st c) → isNan (at (recalled s (after n st c) .gains) i) ≡ false
+      hears m = rw (gains (m .recalls)) (stays-number i band (brings st c .1) (recalled s st) (numbers i band))
 
-  numbers-run : (cs : List Call) (st : State) → Whole st → Numbers (share st) → Numbers (share (ended n st cs)) × Whole (ended n st cs)
+      go : (t : Bool) → eqb (c .side) s ≡ t → isNan (at (recalled s (after n st c) .gains) i) ≡ false
+      go true f =
+          let e = eqb-true (c .side) s f in
+          ⊎-elim (λ o. rw (gains (recalled-then st l c e ∙ o .forgets)) (blank-number i band)) (λ r. hears (own-moves st l c e r))
+          (either (st .rec s) (share st) (fits st l) (c .ask))
+      go false f = hears (other-moves st l c f)
+
+  numbers-run : (cs : List Call) (st : State) → Whole st → Numbers st → Numbers (ended n st cs) × Whole (ended n st cs)
   unfolding ended
   numbers-run [] st l numbers = (numbers, l)
   numbers-run (c ∷ cs) st l numbers = numbers-run cs (after n st c) (kept st l c) (numbers-after st l c numbers)
 
-  -- from an opening on
-  since : (st : State) → Since n s st → Numbers (share st) × Whole st
-  unfolding ended wiped
+  since : (st : State) → Since n s st → Numbers st × Whole st
+  unfolding ended
   since st h =
-      let st₀ = h .start in
-      let first = openingOf s (h .model) in
-      let b = st₀ .rec s in
-      let done = rw (replied st₀ (h .sized) first refl) at (h .opened) in
-      let same = anew b (share st₀) wiped (fits st₀ (h .sized)) refl (h .model) done in
-      let numbers : Numbers (desk 1 0 b (share st₀) (opening (h .model)) .store) = rw same (stays-number closed wiped refl (opening (h .model)) wiped-numbers) in
-      rw (← h .led)
-      (numbers-run (h .calls) (after n st₀ first) (kept st₀ (h .sized) first) (rw (own st₀ (h .sized) first refl) numbers))
+      let c = openingOf s (h .model) in
+      let f = fresh (h .start) (h .sized) (h .model) (h .opened) in
+      rw (← h .led) (numbers-run (h .calls) (after n (h .start) c) (kept (h .start) (h .sized) c) (λ i band. rw (gains (f .0)) (blank-number i band)))
 
 -- ---- what is claimed
 
+pub made-of-heard : (n : ℕ) → MadeOfHeard n
+made-of-heard n s inside st l model done calls u =
+    let opened = after n st (openingOf s model) in
+    let f = fresh n s inside st l model done in
+    run n s inside calls opened (kept n s inside st l (openingOf s model)) u .recalls
+    ∙ ap₂ (λ m k. heardAll m (frames n s k opened calls)) (f .0) (f .1)
+
+pub faded-gains : (n : ℕ) → Faded n
+faded-gains n s inside st h calls u =
+    let k = since n s inside st h in
+    let m = run n s inside calls st (k .1) u in
+    let fs = frames n s (notedIn (share n s inside st)) st calls in (
+      λ i band. rw (← m .counts, gains (m .recalls)) (at-least i band fs (recalled s st) (k .0 i band)),
+      λ z. m .recalls ∙ none-heard (recalled s st) fs (m .counts ∙ z),
+    )
+
+not-heard : (r : Reply) → ((voice energy : Float) → r ≡ Heard voice energy → ⊥) → isHeard r ≡ false
+not-heard Done u = refl
+not-heard Silent u = refl
+not-heard (Heard v e) u = absurd (u v e refl)
+not-heard (Numbered f h) u = refl
+not-heard (Refused k) u = refl
+not-heard (Misread k l) u = refl
+
 pub silent-leaves : (n : ℕ) → SilentLeaves n
 silent-leaves n s inside st l c e ne u =
-    let xs = get (shareOf s) (st .store) in
-    let k = leaves (st .rec s) xs (fits n s inside st l) (c .ask) ne (rw (replied n s inside st l c e) at u) in
-    let o = own n s inside st l c e in
-    let place : (q : Place) → 3194 ≤ q .at → get q (get (shareOf s) (after n st c .store)) ≡ get q xs = λ q back. ap (get q) o ∙ k .0 q back in
-    let index : after n st c .rec s .index ≡ st .rec s .index =
-    rw (eq-eqb (c .side) s e) (ap (λ (a : Answer). a .rec .index) (replied n s inside st l c e) ∙ k .1) in
-    cc (index, place lastg (omega arith), place cepstralMem (omega arith), place vadState (omega arith), place noiseState (omega arith), place denoiseState (omega arith))
+    let m = one n s inside st l c (λ _ z. absurd (ne z)) in
+    let none : counted n s inside st c ≡ 0 = rw (eq-eqb (c .side) s e, not-heard (given n st c .answer .reply) u) in
+    m .recalls ∙ none-heard (recalled s st) _ (m .counts ∙ none)
 
 pub never-nan : (n : ℕ) → NeverNan n
 never-nan n s inside st h = since n s inside st h .0
 
 pub heard-holds : (n : ℕ) → HeardHolds n
+unfolding faded
 heard-holds n s inside st h c e v x r i band =
     let k = since n s inside st h in
-    let xs = get (shareOf s) (st .store) in
-    let told : isHeard (given n st c .answer .reply) ≡ true = ap isHeard r in
-    let heard : isHeard (desk 1 0 (st .rec s) xs (c .ask) .answer .reply) ≡ true = rw (replied n s inside st (k .1) c e) at told in
-    rw (own n s inside st (k .1) c e) (holds (st .rec s) xs (fits n s inside st (k .1)) (c .ask) (k .0) heard i band)
+    let told : isHeard (lone n s inside st (k .1) c e .answer .reply) ≡ true = ap isHeard (sym (ap (λ (a : Answer). a .reply) (replied n s inside st (k .1) c e)) ∙ r) in
+    ⊎-elim (λ o. absurd (false-true (sym (o .unheard) ∙ told)))
+    (λ t.
+    let m = own-moves n s inside st (k .1) c e t in
+    let single : counted n s inside st c ≡ 1 = rw (eq-eqb (c .side) s e, ap isHeard r) in
+    rw (gains (m .recalls)) (rw (m .counts ∙ single) at (at-least i band (brings n s inside st c .1) (recalled s st) (k .0 i band))))
+    (either (st .rec s) (share n s inside st) (fits n s inside st (k .1)) (c .ask))

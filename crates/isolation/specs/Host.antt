@@ -5,9 +5,9 @@ use mathlib.Core.Bool.{cond}
 use mathlib.Core.List.{List, [], _∷_, map}
 use mathlib.Core.Path.{_≡_}
 use lib.Dec.{eqb}
-use lib.ListN.{length, replicate}
+use lib.ListN.{length}
 use lib.Ieee.{Float}
-use Rattle.rules.specs.F32.{f32}
+use Rattle.rules.specs.F32.{zeros}
 use Rattle.frame.specs.Reply.{passed, left}
 use Rattle.frame.specs.Share.{SHARE}
 use Rattle.desk.specs.Desk.{Ask, Given, closed}
@@ -53,7 +53,7 @@ hostReceived n s h (c ∷ cs) =
     cond (eqb (c .side) s) (returned n h c ∷ rest) rest
 
 unfoldable pub hostAlone : List Ask → List Returned
-hostAlone asks = hostReceived 1 0 (allZeros (replicate SHARE (f32 0))) (map lonely asks)
+hostAlone asks = hostReceived 1 0 (allZeros (zeros SHARE)) (map lonely asks)
 
 -- the law, for n benches
 abbrev pub AsCalled : ℕ → Type 0

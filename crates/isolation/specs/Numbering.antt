@@ -11,8 +11,8 @@ use lib.ListN.{length}
 use Rattle.frame.specs.Reply.{passed}
 use Rattle.frame.specs.Share.{SHARE}
 use Rattle.frame.specs.declared.Reply.{Reply}
-use Rattle.frame.specs.declared.Reply.the-variants.{Done, Silent, Heard, Numbered, Refused, Misread}
 use Rattle.desk.specs.Desk.{Ask, callOf, lastOf}
+use Rattle.memory.specs.Brought.{isHeard}
 use Rattle.isolation.specs.Run.{Call, openingOf, State, given, after, ended}
 
 -- a call 4 that is done, by itself or in a second half
@@ -21,12 +21,7 @@ framed ask reply = eqb (lastOf ask) 4 && passed reply
 
 -- a heard call 3; no other call is answered so
 abbrev pub heard : Ask → Reply → Bool
-heard ask (Heard v e) = true
-heard ask Done = false
-heard ask Silent = false
-heard ask (Numbered f h) = false
-heard ask (Refused n) = false
-heard ask (Misread n l) = false
+heard ask reply = isHeard reply
 
 -- how many of side s's calls in a run are answered so
 unfoldable pub count : (Ask → Reply → Bool) → ℕ → ℕ → State → List Call → ℕ

@@ -3,9 +3,8 @@ use Prim.Native.Nat.{ℕ}
 use mathlib.Core.Bool.{cond}
 use mathlib.Core.List.{List, [], _∷_, map}
 use lib.Dec.{eqb}
-use lib.ListN.{replicate}
 use lib.Ieee.{Float}
-use Rattle.rules.specs.F32.{f32}
+use Rattle.rules.specs.F32.{zeros}
 use Rattle.frame.specs.Reply.{passed, left}
 use Rattle.frame.specs.Share.{SHARE}
 use Rattle.desk.specs.declared.Answer.{Answer}
@@ -75,4 +74,4 @@ lonely ask = record { side = 0; ask = ask; held = [] }
 
 unfoldable pub alone : List Ask → List Received
 unfolding received
-alone asks = received 1 0 (allClosed (replicate SHARE (f32 0))) (map lonely asks)
+alone asks = received 1 0 (allClosed (zeros SHARE)) (map lonely asks)

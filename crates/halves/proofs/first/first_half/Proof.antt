@@ -11,6 +11,18 @@ use Rattle.halves.proofs.Onward.{first-half-done, as-is, refused-first,
 use Rattle.halves.proofs.first.first_half.Statement.{statement}
 use Rattle.halves.proofs.first.first_half.Tie as tie
 
+returns : tie.Need-returns
+unfolding firstHalf
+returns c = search tests
+
+returns-2 : tie.Need-returns-2
+unfolding firstHalf
+returns-2 c = search tests
+
+returns-3 : tie.Need-returns-3
+unfolding firstHalf
+returns-3 c = search tests
+
 returns-4 : tie.Need-returns-4
 returns-4 c =
     let w = c .before .before .before .before .before in
@@ -29,18 +41,6 @@ returns-5 c =
     (first-half-done (now (a .share)) (omega arith) (now (a .samples)) (length (now (a .sums))) (omega arith) (omega arith)
     ∙ handed-on (w .call1 .ensures) (answered-yes (e .before .passed .ensures) (e .if4 .left)) (λ _ share window. analysed share window (length (now (a .sums)))))
     (n .analyse .ensures)
-
-returns : tie.Need-returns
-unfolding firstHalf
-returns c = search tests
-
-returns-2 : tie.Need-returns-2
-unfolding firstHalf
-returns-2 c = search tests
-
-returns-3 : tie.Need-returns-3
-unfolding firstHalf
-returns-3 c = search tests
 
 pub first-half-spec : {M : Type 1} → statement M
 first-half-spec =

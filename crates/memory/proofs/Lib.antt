@@ -1,0 +1,4 @@
+pub mod Calls
+pub mod Gains
+pub mod Heard
+pub mod Order

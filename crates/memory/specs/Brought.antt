@@ -1,0 +1,73 @@
+-- What a call brings to the memory of its side, in a frame: call 2 the first spectrum and the lag, a heard call 3 the second spectrum,
+-- the logarithms and the model, by themselves or in a half. Nothing else does.
+use Prim.Native.Nat.{ℕ}
+use mathlib.Core.Bool.{Bool, true, false, cond}
+use mathlib.Core.List.{List, [], _∷_}
+use lib.IntN.{pos}
+use lib.Ieee.{Float, binary32, ofInt}
+use Rattle.rules.specs.F32.{f32, zeros}
+use Rattle.rules.specs.Place.{get}
+use Rattle.features.specs.Features.{normalisedCorr}
+use Rattle.transforms.specs.Transform.{forwardOf}
+use Rattle.lag.specs.Lag.{ownLag}
+use Rattle.frame.specs.Share.{inputMem, lastg, cepstralMem, vadState, noiseState, denoiseState}
+use Rattle.frame.specs.Heard.{scaled, energies}
+use Rattle.frame.specs.Reply.{passed}
+use Rattle.frame.specs.declared.Reply.{Reply}
+use Rattle.frame.specs.declared.Reply.the-variants.{Done, Silent, Heard, Numbered, Refused, Misread}
+use Rattle.frame.specs.Frame.{done1}
+use Rattle.halves.specs.Halves.{buffer, lookedBack}
+use Rattle.desk.specs.Desk.{Ask, opening, call1, call2, call2Own, call3, call4, firstHalf, secondHalf}
+use Rattle.memory.specs.Hear.{Recalled, HeardFrame}
+
+-- what is remembered in a share; the index stands in the record
+abbrev pub recalledIn : ℕ → List Float → Recalled
+recalledIn index share =
+    record {
+      gains = get lastg share;
+      cepstra = get cepstralMem share;
+      index = index;
+      vad = get vadState share;
+      noise = get noiseState share;
+      denoise = get denoiseState share;
+    }
+
+abbrev pub isHeard : Reply → Bool
+isHeard (Heard v e) = true
+isHeard Done = false
+isHeard Silent = false
+isHeard (Numbered f h) = false
+isHeard (Refused n) = false
+isHeard (Misread n l) = false
+
+-- what is noted from call 2 to call 3: the first spectrum, scaled, its band energies, and the lag; zeros at an opening
+pub record Noted : Type 0 where
+  pub x : List Float
+  pub ex : List Float
+  pub lag : Float
+
+abbrev pub unnoted : Noted
+unnoted = record { x = zeros 961; ex = zeros 22; lag = f32 0 }
+
+abbrev pub noting : List Float → Float → Noted
+noting spectrum lag = record { x = scaled spectrum; ex = energies spectrum; lag = lag }
+
+-- with the second spectrum: the correlations of both, normalised by the energies of both
+abbrev pub heardFrame : Noted → List Float → List Float → List ℕ → HeardFrame
+heardFrame k p logs model =
+    record { logs = logs; correlations = normalisedCorr (k .x) (scaled p) (k .ex) (energies p); lag = k .lag; model = model }
+
+-- the lag that the sister of call 2 finds in the share
+abbrev pub foundLag : List Float → Float
+foundLag share = ofInt binary32 (pos (ownLag (get inputMem share)))
+
+-- of a call that finds the share so, and k noted, and is answered with the reply: what is noted then, and the frame that it hears, if one
+abbrev pub brought : List Float → Noted → Ask → Reply → Noted × List HeardFrame
+brought share k (opening m) reply = (k, [])
+brought share k (call1 x w) reply = (k, [])
+brought share k (call2 x lag w s) reply = (cond (passed reply) (noting x (ofInt binary32 (pos lag))) k, [])
+brought share k (call2Own x w s) reply = (cond (passed reply) (noting x (foundLag share)) k, [])
+brought share k (call3 x logs m o) reply = (k, cond (isHeard reply) (heardFrame k x logs m ∷ []) [])
+brought share k (call4 x o) reply = (k, [])
+brought share k (firstHalf x s) reply = let a = done1 share x in (cond (passed reply) (noting (forwardOf (buffer a)) (foundLag (a .share))) k, [])
+brought share k (secondHalf logs m o) reply = (k, cond (isHeard reply) (heardFrame k (forwardOf (lookedBack share)) logs m ∷ []) [])
