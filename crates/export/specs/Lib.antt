@@ -2,4 +2,3 @@ pub mod OfLag
 pub mod OfNetwork
 pub mod OfNumbers
 pub mod OfPitch
-pub mod Parts

@@ -1,0 +1,329 @@
+// The desk for a host that has numbers alone: an opening and the calls, as the C surface has them. `record` is a side's record as seven numbers: due call,
+// cepstral index, the three GRU counts, frames and heard frames. `answer` is call 3's as three: heard or not, voice, energy. Returned is 0 or the refusal.
+ghost use mathlib.Core.Path.{_≡_};
+ghost use mathlib.Core.Bool.{true, cond};
+ghost use mathlib.Core.List.{[], _∷_};
+ghost use lib.ListN.{length};
+ghost use Rattle.frame.specs.Reply.{passed};
+ghost use Rattle.desk.specs.Gate.{BENCHES};
+ghost use Rattle.desk.specs.Desk.{opening, call1, call2, call2Own, call3, call4, firstHalf, secondHalf};
+ghost use Rattle.desk.specs.Surface.{RECORD, numbersOf, recordIn, sevenOf, replyNumber, heardOf, outOf, hosted, Hosted};
+ghost use Rattle.desk.proofs.Ranged.{Bounded};
+ghost use Rattle.desk.proofs.Replies.{Small};
+ghost use Rattle.hosting.specs.Parts.{HandsBack};
+use desk::Answer;
+use desk::Record;
+use desk::Side;
+use frame::Lag;
+use frame::Reply;
+
+// How many numbers a record is.
+const RECORD: usize = 7;
+
+fn wide(x: u32) -> usize
+    ensures { λ r. ⌜ r ≡ x ⌝ }
+{
+    x as usize
+}
+
+// A record from its numbers; a list of another length is out of range.
+fn record_in(record: &[u32]) -> Record
+    ensures { λ r. ⌜ r ≡ recordIn (now («record» .entry)) ⌝ }
+{
+    if record.len() != RECORD {
+        return desk::record_of(5, 0, 0, 0, 0, 0, 0);
+    }
+    desk::record_of(
+        wide(record[0]),
+        wide(record[1]),
+        wide(record[2]),
+        wide(record[3]),
+        wide(record[4]),
+        record[5],
+        record[6],
+    )
+}
+
+// A record as its numbers.
+fn put_record(record: &mut [u32], rec: Record)
+    requires { ⌜ (length (now «record») ≡ RECORD) × Bounded rec ⌝ }
+    ensures { λ _. ⌜ now («record» .exit) ≡ numbersOf rec ⌝ }
+{
+    record[0] = rec.due as u32;
+    record[1] = rec.index as u32;
+    record[2] = rec.vad as u32;
+    record[3] = rec.noise as u32;
+    record[4] = rec.denoise as u32;
+    record[5] = rec.frame;
+    record[6] = rec.heard;
+}
+
+// Refusal 7 with the number and the layer of a model that does not read.
+pub fn seven(number: u32, layer: u32) -> u64
+    ensures { λ r. ⌜ r ≡ sevenOf number layer ⌝ }
+{
+    7 + 256 * (number as u64) + 65536 * (layer as u64)
+}
+
+// A reply as a number.
+fn number_of(reply: Reply) -> u32
+    requires { ⌜ Small reply ⌝ }
+    ensures { λ r. ⌜ r ≡ replyNumber reply ⌝ }
+{
+    match reply {
+        Reply::Done => 0,
+        Reply::Silent => 0,
+        Reply::Heard(_, _) => 0,
+        Reply::Numbered(_, _) => 0,
+        Reply::Refused(number) => number,
+        Reply::Misread(number, layer) => seven(number, layer) as u32,
+    }
+}
+
+// The record of a call that is done is handed back, and the number returned.
+fn hand_back(record: &mut [u32], given: Answer) -> u32
+    requires { ⌜ HandsBack (now «record») given ⌝ }
+    ensures { λ r. ⌜ (r ≡ replyNumber (given .reply))
+        × (now («record» .exit) ≡ cond (passed (given .reply)) (numbersOf (given .rec)) (now («record» .entry))) ⌝ }
+{
+    let reply = given.reply;
+    if !frame::passed(reply) {
+        return number_of(reply);
+    }
+    put_record(record, given.rec);
+    number_of(reply)
+}
+
+pub fn open(record: &mut [u32], store: &mut [f32], side: u32, model: &[u8]) -> u32
+    ensures { λ r. ⌜ Hosted
+        (hosted BENCHES side (now («record» .entry)) (now (store .entry)) (opening (now (model .entry))))
+        r (now («record» .entry)) (now («record» .exit)) (now (store .exit)) [] [] ⌝ }
+{
+    let given = desk::open(Side(side as usize), record_in(record), store, model);
+    hand_back(record, given)
+}
+
+pub fn call1(
+    record: &mut [u32],
+    store: &mut [f32],
+    side: u32,
+    samples: &[f32],
+    window: &mut [f32],
+) -> u32
+    ensures { λ r. ⌜ Hosted
+        (hosted BENCHES side (now («record» .entry)) (now (store .entry))
+        (call1 (now (samples .entry)) (length (now (window .entry)))))
+        r (now («record» .entry)) (now («record» .exit)) (now (store .exit)) (now (window .entry) ∷ []) (now (window .exit) ∷ []) ⌝ }
+{
+    let given = desk::call1(
+        Side(side as usize),
+        record_in(record),
+        store,
+        samples,
+        window,
+    );
+    hand_back(record, given)
+}
+
+pub fn call2(
+    record: &mut [u32],
+    store: &mut [f32],
+    side: u32,
+    spectrum: &[f32],
+    lag: u32,
+    window: &mut [f32],
+    sums: &mut [f32],
+) -> u32
+    ensures { λ r. ⌜ Hosted
+        (hosted BENCHES side (now («record» .entry)) (now (store .entry))
+        (call2 (now (spectrum .entry)) lag (length (now (window .entry))) (length (now (sums .entry)))))
+        r (now («record» .entry)) (now («record» .exit)) (now (store .exit))
+        (now (window .entry) ∷ now (sums .entry) ∷ []) (now (window .exit) ∷ now (sums .exit) ∷ []) ⌝ }
+{
+    let given = desk::call2(
+        Side(side as usize),
+        record_in(record),
+        store,
+        spectrum,
+        Lag(lag as usize),
+        window,
+        sums,
+    );
+    hand_back(record, given)
+}
+
+pub fn call2_own(
+    record: &mut [u32],
+    store: &mut [f32],
+    side: u32,
+    spectrum: &[f32],
+    window: &mut [f32],
+    sums: &mut [f32],
+) -> u32
+    ensures { λ r. ⌜ Hosted
+        (hosted BENCHES side (now («record» .entry)) (now (store .entry))
+        (call2Own (now (spectrum .entry)) (length (now (window .entry))) (length (now (sums .entry)))))
+        r (now («record» .entry)) (now («record» .exit)) (now (store .exit))
+        (now (window .entry) ∷ now (sums .entry) ∷ []) (now (window .exit) ∷ now (sums .exit) ∷ []) ⌝ }
+{
+    let given = desk::call2_own(
+        Side(side as usize),
+        record_in(record),
+        store,
+        spectrum,
+        window,
+        sums,
+    );
+    hand_back(record, given)
+}
+
+// What call 3 and the second half answer, as three numbers.
+struct Three {
+    heard: f32,
+    voice: f32,
+    energy: f32,
+}
+
+fn three_of(reply: Reply) -> Three
+    ensures { λ r. ⌜ (r .heard ∷ r .voice ∷ r .energy ∷ []) ≡ heardOf reply ⌝ }
+{
+    match reply {
+        Reply::Heard(voice, energy) => Three {
+            heard: 1.0,
+            voice,
+            energy,
+        },
+        Reply::Done => none(),
+        Reply::Silent => none(),
+        Reply::Numbered(_, _) => none(),
+        Reply::Refused(_) => none(),
+        Reply::Misread(_, _) => none(),
+    }
+}
+
+fn none() -> Three
+    ensures { λ r. ⌜ (r .heard ∷ r .voice ∷ r .energy ∷ []) ≡ heardOf Reply.Silent ⌝ }
+{
+    Three {
+        heard: 0.0,
+        voice: 0.0,
+        energy: 0.0,
+    }
+}
+
+// A call that is done writes them.
+fn tell(answer: &mut [f32], reply: Reply)
+    requires { ⌜ (passed reply ≡ true → length (now answer) ≡ 3) ⌝ }
+    ensures { λ _. ⌜ now (answer .exit) ≡ cond (passed reply) (heardOf reply) (now (answer .entry)) ⌝ }
+{
+    if !frame::passed(reply) {
+        return;
+    }
+    let three = three_of(reply);
+    answer[0] = three.heard;
+    answer[1] = three.voice;
+    answer[2] = three.energy;
+}
+
+// An `answer` of another length than three is a wrong length among the others: then the call is lent no place of `out`, and refuses.
+fn places(answer: usize, out: usize) -> usize
+    ensures { λ r. ⌜ r ≡ outOf answer out ⌝ }
+{
+    if answer != 3 {
+        return 0;
+    }
+    out
+}
+
+pub fn call3(
+    record: &mut [u32],
+    store: &mut [f32],
+    side: u32,
+    spectrum: &[f32],
+    logs: &[f32],
+    model: &[u8],
+    out: &mut [f32],
+    answer: &mut [f32],
+) -> u32
+    ensures { λ r. ⌜ Hosted
+        (hosted BENCHES side (now («record» .entry)) (now (store .entry))
+        (call3 (now (spectrum .entry)) (now (logs .entry)) (now (model .entry))
+        (outOf (length (now (answer .entry))) (length (now (out .entry))))))
+        r (now («record» .entry)) (now («record» .exit)) (now (store .exit))
+        (now (out .entry) ∷ now (answer .entry) ∷ []) (now (out .exit) ∷ now (answer .exit) ∷ []) ⌝ }
+{
+    let end = places(answer.len(), out.len());
+    let given = desk::call3(
+        Side(side as usize),
+        record_in(record),
+        store,
+        spectrum,
+        logs,
+        model,
+        &mut out[0..end],
+    );
+    let reply = given.reply;
+    tell(answer, reply);
+    hand_back(record, given)
+}
+
+pub fn call4(
+    record: &mut [u32],
+    store: &mut [f32],
+    side: u32,
+    inverse: &[f32],
+    out: &mut [f32],
+) -> u32
+    ensures { λ r. ⌜ Hosted
+        (hosted BENCHES side (now («record» .entry)) (now (store .entry))
+        (call4 (now (inverse .entry)) (length (now (out .entry)))))
+        r (now («record» .entry)) (now («record» .exit)) (now (store .exit)) (now (out .entry) ∷ []) (now (out .exit) ∷ []) ⌝ }
+{
+    let given = desk::call4(Side(side as usize), record_in(record), store, inverse, out);
+    hand_back(record, given)
+}
+
+pub fn first_half(
+    record: &mut [u32],
+    store: &mut [f32],
+    side: u32,
+    samples: &[f32],
+    sums: &mut [f32],
+) -> u32
+    ensures { λ r. ⌜ Hosted
+        (hosted BENCHES side (now («record» .entry)) (now (store .entry))
+        (firstHalf (now (samples .entry)) (length (now (sums .entry)))))
+        r (now («record» .entry)) (now («record» .exit)) (now (store .exit)) (now (sums .entry) ∷ []) (now (sums .exit) ∷ []) ⌝ }
+{
+    let given = desk::first_half(Side(side as usize), record_in(record), store, samples, sums);
+    hand_back(record, given)
+}
+
+pub fn second_half(
+    record: &mut [u32],
+    store: &mut [f32],
+    side: u32,
+    logs: &[f32],
+    model: &[u8],
+    out: &mut [f32],
+    answer: &mut [f32],
+) -> u32
+    ensures { λ r. ⌜ Hosted
+        (hosted BENCHES side (now («record» .entry)) (now (store .entry))
+        (secondHalf (now (logs .entry)) (now (model .entry)) (outOf (length (now (answer .entry))) (length (now (out .entry))))))
+        r (now («record» .entry)) (now («record» .exit)) (now (store .exit))
+        (now (out .entry) ∷ now (answer .entry) ∷ []) (now (out .exit) ∷ now (answer .exit) ∷ []) ⌝ }
+{
+    let end = places(answer.len(), out.len());
+    let given = desk::second_half(
+        Side(side as usize),
+        record_in(record),
+        store,
+        logs,
+        model,
+        &mut out[0..end],
+    );
+    let reply = given.reply;
+    tell(answer, reply);
+    hand_back(record, given)
+}
