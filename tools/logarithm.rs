@@ -97,13 +97,13 @@ fn split(a: Fine, places: usize) -> [f64; 2] {
 }
 
 // 33 rows: a centre near 32 / (32 + i), of 20 binary digits, and minus its logarithm in two parts.
-fn rows(ln_10: Fine) -> Vec<f64> {
+fn rows(ln_10: Fine) -> Vec<[f64; 3]> {
     let row = |i: u64| {
         let units = ((1 << 26) / (32 + i) + 1) / 2;
         let [high, low] = split(ratio(logarithm((1 << 20) - units, (1 << 20) + units), ln_10), 40);
         [units as f64 / 1048576.0, high, low]
     };
-    (0..=32).flat_map(row).collect()
+    (0..=32).map(row).collect()
 }
 
 // What else there is: by name in the code, by name in the definition.
@@ -132,38 +132,45 @@ fn logarithm_tables() {
     let ln_10 = plus(times(ln_2, 3), logarithm(1, 9));
     let rows = rows(ln_10);
     let constants = constants(ln_2, ln_10);
-    let last = rows.len() - 1;
-    let arms: String = rows[..last].iter().enumerate().map(|(i, x)| format!("        {i} => {x:?},\n")).collect();
+    let row = |[centre, high, low]: &[f64; 3]| format!("Row {{ centre: {centre:?}, high: {high:?}, low: {low:?} }},\n");
+    let arms: String = rows[..32].iter().enumerate().map(|(i, x)| format!("        {i} => {}", row(x))).collect();
     let named: String = constants.iter().map(|(name, _, x)| format!("pub(crate) const {name}: f64 = {x:?};\n\n")).collect();
     let code = format!(
         "// The constants of `log10`, made by tools/make_tables.sh. High parts are whole numbers of 2^-40, and what they lack is in the low parts.
 ghost use mathlib.Core.Path.{{_≡_}};
 ghost use Prim.Native.Nat.{{_≤_}};
-ghost use Rattle.rules.specs.F32.{{at}};
-ghost use Rattle.logs.specs.Tables.{{rows}};
+ghost use Rattle.logs.specs.Tables.{{rowAt}};
 
 // log10(2), 1 / ln(10), and the numbers of the series of log10(1 + r) from r^2 on.
-{named}// 33 rows: a centre, and the two parts of minus its logarithm. A match is compiled to a table that is never filled.
-pub(crate) fn entry(i: u64) -> f64
-    requires {{ ⌜ i ≤ {last} ⌝ }}
-    ensures {{ λ r. ⌜ r ≡ at rows i ⌝ }}
+{named}// A centre near 32 / (32 + i), of 20 binary digits, and the two parts of minus its logarithm.
+pub(crate) struct Row {{
+    pub centre: f64,
+    pub high: f64,
+    pub low: f64,
+}}
+
+// One of 33: a match is compiled to a table that is never filled.
+pub(crate) fn row_at(i: u64) -> Row
+    requires {{ ⌜ i ≤ 32 ⌝ }}
+    ensures {{ λ r. ⌜ r ≡ rowAt i ⌝ }}
 {{
     match i {{
-{arms}        _ => {:?},
-    }}
+{arms}        _ => {}    }}
 }}
 ",
-        rows[last]
+        row(&rows[32])
     );
     let bits = |x: f64| format!("0x{:016X}", x.to_bits());
-    let lines: Vec<String> = rows.chunks(3).map(|row| format!("    {} ∷", row.iter().map(|x| bits(*x)).collect::<Vec<_>>().join(" ∷ "))).collect();
+    let lines: Vec<String> = rows.iter().map(|row| format!("    {} ∷", row.map(bits).join(" ∷ "))).collect();
     let named: String = constants.iter().map(|(_, name, x)| format!("\nabbrev pub {name} : Float\n{name} = f64 {}\n", bits(*x))).collect();
     let text = format!(
         "-- The constants of `log10`, made by tools/make_tables.sh: by their bit patterns.
 use mathlib.Core.List.{{List, [], _∷_, map}}
-use Prim.Native.Nat.{{ℕ}}
+use Prim.Native.Nat.{{ℕ, _+_, _*_}}
 use lib.Ieee.{{Float, ofBits}}
+use Rattle.rules.specs.F32.{{at}}
 use Rattle.logs.specs.F64.{{f64}}
+use Rattle.logs.specs.declared.table.Row.{{Row}}
 
 -- 33 rows: a centre near 32 / (32 + i), of 20 binary digits, and the high and the low part of minus its logarithm
 unfoldable pub rowBits : List ℕ
@@ -173,6 +180,9 @@ rowBits =
 unfoldable pub rows : List Float
 unfolding rowBits ofBits
 rows = map f64 rowBits
+
+abbrev pub rowAt : ℕ → Row
+rowAt i = record {{ centre = at rows (3 * i); high = at rows (3 * i + 1); low = at rows (3 * i + 2) }}
 
 -- log10(2), 1 / ln(10), and the numbers of the series of log10(1 + r) from r^2 on
 {named}",

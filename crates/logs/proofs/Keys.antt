@@ -1,15 +1,12 @@
 -- What the arms of a `match` on a number tell. Assumes nothing.
 use mathlib.Core.Path.{_≡_, sym, ap}
 use mathlib.Core.Logic.{⊎-elim}
-use mathlib.Core.List.{List}
 use Prim.Native.Nat.{ℕ, zero, suc, _≤_, zero-le}
 use native.Mathlib.Nat.{eq-or-lt-of-le}
-use lib.Ieee.{Float}
-use Rattle.rules.specs.F32.{at}
 
 -- an arm by its key, of a match that is a table
-pub keyed : (table : List Float) {k i : ℕ} → i ≡ k → at table k ≡ at table i
-keyed table e = ap (at table) (sym e)
+pub keyed : {A : Type 0} (table : ℕ → A) {k i : ℕ} → i ≡ k → table k ≡ table i
+keyed table e = ap table (sym e)
 
 -- none of the keys 0 to n - 1: what the last arm is told
 abbrev pub Missed : ℕ → ℕ → Type 0

@@ -1,4 +1,4 @@
--- The last step by its cases: t stays where it is off every midpoint of two f32, or lost nothing; else it moves by one bit, and stays a number. Assumes nothing.
+-- The last step by its cases: t stays where it is a NaN, off every midpoint of two f32, or lost nothing; else it moves by one bit, and stays a number. Assumes nothing.
 use mathlib.Core.Path.{_≡_, refl}
 use mathlib.Core.Bool.{Bool, true, false, cond, not, _&&_, Bool·beq}
 use Prim.Native.Nat.{ℕ, _+_, _-_, _*_, _%_, _^_, _≤_, _<_}
@@ -11,13 +11,13 @@ use Rattle.numbers.proofs.NoNan.{magnitude-le, real-pattern}
 use Rattle.logs.specs.F64.{f64}
 use Rattle.logs.specs.Log10.{nudged}
 
-pub nudged-nan : (z : Float) → nudged nan z ≡ nan
-unfolding nudged toBits
-nudged-nan z = refl
-
 module _ (t z : Float) where
   abbrev bits : ℕ
   bits = toBits binary64 t
+
+  pub broken : t ≡ nan → nudged t z ≡ t
+  unfolding nudged toBits
+  broken e = rw e
 
   pub off-middle : (bits % 2 ^ 29 ≡ 2 ^ 28 → ⊥) → nudged t z ≡ t
   unfolding nudged

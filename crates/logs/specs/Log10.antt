@@ -12,7 +12,7 @@ use Rattle.rules.specs.F32.{at}
 use Rattle.rules.specs.Tab.{tab}
 use Rattle.numbers.specs.Narrowed.{narrowed}
 use Rattle.logs.specs.F64.{f64, _+₆₄_, _-₆₄_, _*₆₄_}
-use Rattle.logs.specs.Tables.{rows, twoHigh, twoLow, slopeHigh, slopeLow, series2, series3, series4, series5, series6, series7}
+use Rattle.logs.specs.Tables.{rowAt, twoHigh, twoLow, slopeHigh, slopeLow, series2, series3, series4, series5, series6, series7}
 
 -- ---- x = 2^e * m, by its bits as an f64: every f32 above 0 is a normal f64
 
@@ -28,25 +28,16 @@ mantissaOf bits = f64 (0x3FF0000000000000 + bits % 2 ^ 52)
 abbrev pub rowOf : ℕ → ℕ
 rowOf bits = (bits % 2 ^ 52 + 2 ^ 46) / 2 ^ 47
 
-abbrev pub centreAt : ℕ → Float
-centreAt i = at rows (3 * i)
-
-abbrev pub highAt : ℕ → Float
-highAt i = at rows (3 * i + 1)
-
-abbrev pub lowAt : ℕ → Float
-lowAt i = at rows (3 * i + 2)
-
 -- m * centre - 1, which is exact
 unfoldable pub restOf : ℕ → Float
-restOf bits = mantissaOf bits *₆₄ centreAt (rowOf bits) -₆₄ f64 0x3FF0000000000000
+restOf bits = mantissaOf bits *₆₄ rowAt (rowOf bits) .centre -₆₄ f64 0x3FF0000000000000
 
 -- e * log10(2) - log10(centre), in two parts, of which the high one is exact
 unfoldable pub highOf : ℕ → Float
-highOf bits = exponentOf bits *₆₄ twoHigh +₆₄ highAt (rowOf bits)
+highOf bits = exponentOf bits *₆₄ twoHigh +₆₄ rowAt (rowOf bits) .high
 
 unfoldable pub lowOf : ℕ → Float
-lowOf bits = exponentOf bits *₆₄ twoLow +₆₄ lowAt (rowOf bits)
+lowOf bits = exponentOf bits *₆₄ twoLow +₆₄ rowAt (rowOf bits) .low
 
 -- ---- log10(1 + r), and the sum
 

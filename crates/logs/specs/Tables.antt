@@ -1,8 +1,10 @@
 -- The constants of `log10`, made by tools/make_tables.sh: by their bit patterns.
 use mathlib.Core.List.{List, [], _∷_, map}
-use Prim.Native.Nat.{ℕ}
+use Prim.Native.Nat.{ℕ, _+_, _*_}
 use lib.Ieee.{Float, ofBits}
+use Rattle.rules.specs.F32.{at}
 use Rattle.logs.specs.F64.{f64}
+use Rattle.logs.specs.declared.table.Row.{Row}
 
 -- 33 rows: a centre near 32 / (32 + i), of 20 binary digits, and the high and the low part of minus its logarithm
 unfoldable pub rowBits : List ℕ
@@ -44,6 +46,9 @@ rowBits =
 unfoldable pub rows : List Float
 unfolding rowBits ofBits
 rows = map f64 rowBits
+
+abbrev pub rowAt : ℕ → Row
+rowAt i = record { centre = at rows (3 * i); high = at rows (3 * i + 1); low = at rows (3 * i + 2) }
 
 -- log10(2), 1 / ln(10), and the numbers of the series of log10(1 + r) from r^2 on
 

@@ -4,6 +4,7 @@
 ghost use mathlib.Core.Path.{_≡_};
 ghost use lib.ListN.{length};
 ghost use Rattle.rules.specs.Leaf.{Leaf, _leaving_};
+ghost use Rattle.logs.specs.F64.{_-₆₄_};
 ghost use Rattle.logs.specs.Log10.{series, lostOf, nudged, summed, logOfBits, log10Of, logsOf, LogsFits};
 
 pub mod table;
@@ -29,9 +30,9 @@ fn lost_of(hi: f64, p: f64, s: f64) -> f64
     (hi - (s - back)) + (p - back)
 }
 
-// Where t lies on a midpoint of two f32, one bit towards z, which t lost. A NaN has no bits to read.
-fn nudge(t: f64, z: f64) -> f64
-    ensures { λ y. ⌜ y ≡ nudged t z ⌝ }
+// Where t = s + w lies on a midpoint of two f32, one bit towards what it lost. That is asked for there only. A NaN has no bits to read.
+fn nudge(t: f64, s: f64, w: f64) -> f64
+    ensures { λ y. ⌜ y ≡ nudged t (w -₆₄ (t -₆₄ s)) ⌝ }
 {
     if t != t {
         return t;
@@ -40,6 +41,7 @@ fn nudge(t: f64, z: f64) -> f64
     if bits % 0x2000_0000 != 0x1000_0000 {
         return t;
     }
+    let z = w - (t - s);
     if z == 0.0 {
         return t;
     }
@@ -56,8 +58,7 @@ fn sum_of(hi: f64, lo: f64, r: f64) -> f64
     let p = table::SLOPE_HIGH * r;
     let s = hi + p;
     let w = lost_of(hi, p, s) + (table::SLOPE_LOW * r + (series_of(r) + lo));
-    let t = s + w;
-    nudge(t, w - (t - s))
+    nudge(s + w, s, w)
 }
 
 // The logarithm of what these are the bits of: a normal f64 above 0.
@@ -67,10 +68,10 @@ fn log_of_bits(bits: u64) -> f64
     let digits: u64 = bits % LEAD;
     let e = (bits >> 52) as f64 - 1023.0;
     let m = f64::from_bits(ONE + digits);
-    let row: u64 = 3 * ((digits + 0x4000_0000_0000) >> 47);
-    let hi = e * table::TWO_HIGH + table::entry(row + 1);
-    let lo = e * table::TWO_LOW + table::entry(row + 2);
-    sum_of(hi, lo, m * table::entry(row) - 1.0)
+    let row = table::row_at((digits + 0x4000_0000_0000) >> 47);
+    let hi = e * table::TWO_HIGH + row.high;
+    let lo = e * table::TWO_LOW + row.low;
+    sum_of(hi, lo, m * row.centre - 1.0)
 }
 
 // The logarithm to base 10. Both zeros give minus infinity, and what is below zero a NaN.

@@ -1,12 +1,16 @@
 -- `logs::log_of_bits` meets its contract. Assumes nothing.
 use borrow.Author.Needs.{needs}
+use mathlib.Core.Path.{ap, _∙_}
 use native.Mathlib.Omega.{arith}
 use Prim.Native.Nat.{ℕ, _≤_, _^_}
 use lib.Dec.{T, le→leb}
 use lib.IntN.{pos}
-use lib.Ieee.{binary64, inFloat}
+use lib.Ieee.{Float, binary64, inFloat}
 use Rattle.numbers.proofs.NoNan.{real-pattern}
-use Rattle.logs.specs.Log10.{restOf, highOf, lowOf, logOfBits}
+use Rattle.logs.specs.F64.{f64, _+₆₄_, _-₆₄_, _*₆₄_}
+use Rattle.logs.specs.Tables.{twoHigh, twoLow}
+use Rattle.logs.specs.declared.table.Row.{Row}
+use Rattle.logs.specs.Log10.{exponentOf, mantissaOf, restOf, highOf, lowOf, summed, logOfBits}
 use Rattle.logs.proofs.log_of_bits.Statement.{statement}
 use Rattle.logs.proofs.log_of_bits.Tie as tie
 
@@ -23,7 +27,10 @@ float-from-bits-m c = real-pattern binary64 _ (omega arith)
 
 returns : tie.Need-returns
 unfolding logOfBits restOf highOf lowOf
-returns c = cc
+returns c =
+    let bits = c .before .before .before .before .before .before .args .bits in
+    let by : Row → Float = λ w. summed (exponentOf bits *₆₄ twoHigh +₆₄ w .high) (exponentOf bits *₆₄ twoLow +₆₄ w .low) (mantissaOf bits *₆₄ w .centre -₆₄ f64 0x3FF0000000000000) in
+    c .sum-of .ensures ∙ ap by (c .before .before .before .before .row-at .ensures)
 
 pub log-of-bits-spec : {M : Type 1} → statement M
 log-of-bits-spec =
@@ -32,12 +39,7 @@ log-of-bits-spec =
     int-to-float-e
     (λ c. search needs)  -- add-m
     float-from-bits-m
-    (λ c. search needs)  -- add-row
-    (λ c. search needs)  -- mul-row
-    (λ c. search needs)  -- add-entry
-    (λ c κs. search needs)  -- entry-requires
-    (λ c. search needs)  -- add-entry-2
-    (λ c κs. search needs)  -- entry-requires-2
-    (λ c κs. search needs)  -- entry-requires-3
+    (λ c. search needs)  -- add-row-at
+    (λ c κs. search needs)  -- row-at-requires
     (λ c κs. search needs)  -- sum-of-requires
     returns)

@@ -1,12 +1,13 @@
 -- `logs::nudge` meets its contract: each way through it is a case of proofs/Nudged. Assumes nothing.
 use borrow.Author.Needs.{needs}
-use mathlib.Core.Path.{_≡_, sym, subst}
+use mathlib.Core.Path.{sym, subst}
 use mathlib.Core.Bool.{true, false}
 use lib.Dec.{T}
-use lib.Ieee.{nan, binary64, fits}
+use lib.Ieee.{Float, binary64, fits}
 use lib.Ieee.Compare.{differs-from-itself}
 use Rattle.numbers.proofs.NoNan.{real-of}
-use Rattle.logs.proofs.Nudged.{nudged-nan, off-middle, nothing-lost, moved, Beside, beside}
+use Rattle.logs.specs.F64.{_-₆₄_}
+use Rattle.logs.proofs.Nudged.{broken, off-middle, nothing-lost, moved, Beside, beside}
 use Rattle.logs.proofs.nudge.Statement.{statement}
 use Rattle.logs.proofs.nudge.Tie as tie
 
@@ -14,20 +15,23 @@ use Rattle.logs.proofs.nudge.Tie as tie
 held : (c : tie.Start) → T (fits binary64 (c .args .t))
 held c = subst T (sym (c .good .0 .1)) tt
 
+-- what t lost
+abbrev lost : tie.Start → Float
+lost c = c .args .w -₆₄ (c .args .t -₆₄ c .args .s)
+
 returns : tie.Need-returns
 returns c =
-    let a = c .before .args in
-    let broken : a .t ≡ nan = differs-from-itself (a .t) (subst T (sym (c .if1 .taken)) tt) in
-    rw broken (sym (nudged-nan (a .z)))
+    let start = c .before in
+    sym (broken (start .args .t) (lost start) (differs-from-itself (start .args .t) (subst T (sym (c .if1 .taken)) tt)))
 
 float-to-bits-bits : tie.Need-float-to-bits-bits
 float-to-bits-bits c = real-of (c .before .args .t) (c .if1 .left)
 
 returns-2 : tie.Need-returns-2
-returns-2 c = let a = c .before .before .args in sym (off-middle (a .t) (a .z) (c .if2 .taken))
+returns-2 c = let start = c .before .before in sym (off-middle (start .args .t) (lost start) (c .if2 .taken))
 
 returns-3 : tie.Need-returns-3
-returns-3 c = let a = c .before .before .before .args in sym (nothing-lost (a .t) (a .z) (c .if3 .taken))
+returns-3 c = let start = c .before .before .before in sym (nothing-lost (start .args .t) (lost start) (c .if3 .taken))
 
 next-to : (c : tie.Else3) → Beside (c .before .before .before .args .t)
 next-to c =
@@ -36,13 +40,13 @@ next-to c =
 
 returns-4 : tie.Need-returns-4
 returns-4 c =
-    let a = c .before .before .before .before .args in
-    sym (moved (a .t) (a .z) true (c .before .before .if2 .left) (c .before .if3 .left) (c .if4 .taken))
+    let start = c .before .before .before .before in
+    sym (moved (start .args .t) (lost start) true (c .before .before .if2 .left) (c .before .if3 .left) (c .if4 .taken))
 
 returns-5 : tie.Need-returns-5
 returns-5 c =
-    let a = c .before .before .before .before .args in
-    sym (moved (a .t) (a .z) false (c .before .before .if2 .left) (c .before .if3 .left) (c .if4 .left))
+    let start = c .before .before .before .before in
+    sym (moved (start .args .t) (lost start) false (c .before .before .if2 .left) (c .before .if3 .left) (c .if4 .left))
 
 pub nudge-spec : {M : Type 1} → statement M
 nudge-spec =
