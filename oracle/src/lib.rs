@@ -21,6 +21,8 @@ pub mod bands;
 pub mod desk;
 #[cfg(feature = "frame")]
 pub mod frame;
+#[cfg(feature = "logs")]
+pub mod logs;
 #[cfg(feature = "sheet")]
 pub mod mend;
 #[cfg(feature = "model")]
@@ -76,6 +78,8 @@ pub const GROUPS: &[Group] = &[
     ("pitch", pitch::compare),
     #[cfg(feature = "transforms")]
     ("transforms", transforms::compare),
+    #[cfg(feature = "logs")]
+    ("logs", logs::compare),
     #[cfg(feature = "model")]
     ("model", model::compare),
     #[cfg(feature = "sheet")]
