@@ -184,3 +184,27 @@ fn lists(tally: &mut Tally, fine: &Fine, rng: &mut Rng, calls: u64) {
         tally.leaf("logs", named![out, sums], fits, &out, |out| tuppence::logs(out, &sums), rusts);
     }
 }
+
+#[cfg(test)]
+mod tests {
+    use super::*;
+
+    /// Worked out elsewhere, to 300 binary digits.
+    #[test]
+    fn the_reference_beside_midpoints() {
+        let fine = Fine::new();
+        let known = [
+            (0x0197_b60d, 0xc215_0401),
+            (0x0220_be43, 0xc213_b609),
+            (0x0225_f259, 0xc213_a7de),
+            (0x0efe_ee7a, 0xc1e9_9d23),
+            (0x7d59_4696, 0x4215_06a5),
+            (0x7f63_62e7, 0x4219_ebe5),
+        ];
+        for (x, nearest) in known {
+            assert!(NEAR_MIDPOINTS.contains(&x));
+            assert_eq!(fine.nearest(f32::from_bits(x)).to_bits(), nearest);
+        }
+        assert_eq!([1.0, 10.0, 1e10].map(|x| fine.nearest(x)), [0.0, 1.0, 10.0]);
+    }
+}

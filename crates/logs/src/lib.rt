@@ -7,7 +7,7 @@ ghost use Rattle.rules.specs.Leaf.{Leaf, _leaving_};
 ghost use Rattle.logs.specs.F64.{_-₆₄_};
 ghost use Rattle.logs.specs.Log10.{series, lostOf, nudged, summed, logOfBits, log10Of, logsOf, LogsFits};
 
-pub mod table;
+mod table;
 
 // Patterns of an f64: the weight of the exponent's field, and 1.0.
 const LEAD: u64 = 0x10_0000_0000_0000;
@@ -18,8 +18,8 @@ const ONE: u64 = 0x3ff0_0000_0000_0000;
 fn series_of(r: f64) -> f64
     ensures { λ y. ⌜ y ≡ series r ⌝ }
 {
-    let high = table::SERIES_5 + r * (table::SERIES_6 + r * table::SERIES_7);
-    r * r * (table::SERIES_2 + r * (table::SERIES_3 + r * (table::SERIES_4 + r * high)))
+    let rest = table::SERIES_5 + r * (table::SERIES_6 + r * table::SERIES_7);
+    r * r * (table::SERIES_2 + r * (table::SERIES_3 + r * (table::SERIES_4 + r * rest)))
 }
 
 // What was lost in s = hi + p.
