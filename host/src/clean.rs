@@ -2,9 +2,9 @@
 
 use crate::cleaned::Cleaned;
 use crate::folder::{told, Folder};
-use crate::recorder::{Recorder, Side};
+use crate::recorder::{LagBy, Recorder, Side};
 use crate::refusal::Refusal;
-use crate::{picture, table, wav, FRAME, RATE};
+use crate::{picture, side, table, wav, FRAME, RATE};
 use std::fs;
 use std::path::{Path, PathBuf};
 
@@ -31,13 +31,14 @@ pub fn run(
     left: Vec<f32>,
     right: Vec<f32>,
     model: &[u8],
+    lag_by: LagBy,
     mut progress: impl FnMut(f64),
 ) -> Result<[Cleaned; 2], Refusal> {
-    let mut recorder = Recorder::default();
+    let mut recorder = Recorder::new(lag_by);
     for side in Side::BOTH {
         recorder.open(side, model)?;
     }
-    let bench = |side, before| Cleaned { side, before, after: Vec::new(), heard: Vec::new() };
+    let bench = |side, before| Cleaned { side, before, after: Vec::new(), frames: Vec::new() };
     let mut benches = [bench(Side::Left, left), bench(Side::Right, right)];
     let most = benches.iter().map(|b| frames_of(&b.before)).max().unwrap_or(0);
     for frame in 0..most {
@@ -45,7 +46,7 @@ pub fn run(
             if frame < frames_of(&bench.before) {
                 let mut out = [0.0; FRAME];
                 let samples = samples_of(&bench.before, frame);
-                bench.heard.push(recorder.frame(bench.side, &samples, model, &mut out)?);
+                bench.frames.push(recorder.frame(bench.side, &samples, model, &mut out)?);
                 bench.after.extend(out);
             }
         }
@@ -63,6 +64,7 @@ pub fn run(
 pub struct Job {
     pub inputs: Inputs,
     pub model: PathBuf,
+    pub lag_by: LagBy,
     pub out: PathBuf,
 }
 
@@ -92,14 +94,16 @@ fn channels_of(path: &Path, count: usize) -> Result<Vec<Vec<f32>>, String> {
     Ok(wav.channels)
 }
 
-/// Writes the two recordings, the table and the picture, and what else there is, by its name.
+/// Writes the two recordings, each with its side sheet, the table and the picture, and what else there is, by its name.
 pub fn store(benches: &[Cleaned; 2], more: &[(String, Vec<u8>)], out: &Path) -> Result<(), String> {
     let mut folder = Folder::new(out)?;
     for (name, bytes) in more {
         folder.write(name, bytes)?;
     }
     for bench in benches {
-        folder.write(&format!("{}.wav", bench.side.name()), &wav::write(RATE, &bench.after))?;
+        let name = format!("{}.wav", bench.side.name());
+        let file = side::with_sheet(bench).map_err(|refusal| told(name.as_ref(), refusal))?;
+        folder.write(&name, &file)?;
     }
     folder.write("frames.csv", table::csv(benches).as_bytes())?;
     folder.write("benches.svg", picture::svg(benches).as_bytes())?;
@@ -130,7 +134,7 @@ pub fn clean(job: &Job) -> Result<[Cleaned; 2], String> {
         }
     };
     let progress = progress_of(left.len().max(right.len()));
-    let benches = run(left, right, &model, progress).map_err(|refusal| told(&job.model, refusal))?;
+    let benches = run(left, right, &model, job.lag_by, progress).map_err(|refusal| told(&job.model, refusal))?;
     store(&benches, &[], &job.out)?;
     Ok(benches)
 }

@@ -2,6 +2,7 @@
 
 use crate::clean;
 use crate::cleaned::Cleaned;
+use crate::recorder::LagBy;
 use crate::{wav, FRAME, RATE};
 use std::f64::consts::TAU;
 use std::path::Path;
@@ -34,7 +35,7 @@ impl Rng {
     }
 }
 
-fn power(samples: &[f64]) -> f64 {
+pub fn power(samples: &[f64]) -> f64 {
     samples.iter().map(|x| x * x).sum::<f64>() / samples.len().max(1) as f64
 }
 
@@ -112,7 +113,7 @@ pub struct Effect {
 }
 
 /// The samples through the library's high-pass filter, which the box puts in front of everything.
-fn filtered(samples: &[f32]) -> Vec<f64> {
+pub fn filtered(samples: &[f32]) -> Vec<f64> {
     let mut out = vec![0.0; samples.len()];
     assert_eq!(tuppence::filter(&mut out, &mut [0.0; 2], &[-1.99599, 0.996, -2.0, 1.0], samples), 0);
     out.into_iter().map(f64::from).collect()
@@ -139,11 +140,16 @@ pub fn effect(dictation: &Dictation, after: &[f32]) -> Effect {
     }
 }
 
+/// Both dictations, cleaned with the house model.
+pub fn cleaned(dictations: &[Dictation; 2], lag_by: LagBy) -> Result<[Cleaned; 2], String> {
+    let [left, right] = [&dictations[0], &dictations[1]].map(|d| d.noisy.clone());
+    clean::run(left, right, HOUSE, lag_by, |_| ()).map_err(|refusal| refusal.to_string())
+}
+
 /// Makes the dictations, cleans them, and writes both into the folder.
 pub fn demo(out: &Path) -> Result<[Cleaned; 2], String> {
     let dictations = [dictation(0), dictation(1)];
-    let [left, right] = [&dictations[0], &dictations[1]].map(|d| d.noisy.clone());
-    let benches = clean::run(left, right, HOUSE, |_| ()).map_err(|refusal| refusal.to_string())?;
+    let benches = cleaned(&dictations, LagBy::Finder)?;
     let before =
         [&benches[0], &benches[1]].map(|b| (format!("{}-before.wav", b.side.name()), wav::write(RATE, &b.before)));
     clean::store(&benches, &before, out)?;

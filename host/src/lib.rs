@@ -6,6 +6,7 @@ pub mod clean;
 pub mod cleaned;
 pub mod demo;
 pub mod folder;
+pub mod lags;
 pub mod mend;
 pub mod pack;
 pub mod picture;

@@ -1,4 +1,5 @@
 use host::clean::{clean, Inputs, Job};
+use host::recorder::LagBy;
 use std::path::PathBuf;
 use std::process::ExitCode;
 
@@ -9,7 +10,9 @@ host: cleans two dictations, one for each bench
   host clean --both STEREO.wav --model M.rnn --out DIR
       Recordings of 48 kHz, 16-bit PCM or 32-bit float; of a stereo file the left
       channel is the left bench. Writes left.wav, right.wav, frames.csv and
-      benches.svg into DIR.
+      benches.svg into DIR. Each recording carries its side sheet behind the audio.
+      With --own-lag the library finds each frame's lag, and
+      not the Rust text's finder.
   host demo DIR
       The same with two dictations over a grinder and the house model, which come
       with the program; the recordings before cleaning are written too.
@@ -27,6 +30,9 @@ host: cleans two dictations, one for each bench
       is kept, and the sheet closed again. FILE2 must not exist.
   host bench
       Frames a second, where a frame's time goes, and the ratio to the Rust text.
+  host lags
+      How often our own lag and that of the Rust text agree, on the demo's voices
+      and on seeded ones of known pitch.
   host --help
 
 Exit status: 0 done, 2 something was not right; then nothing is written.
@@ -42,19 +48,24 @@ fn options(words: &[String], names: &[&str]) -> Option<Vec<PathBuf>> {
 }
 
 fn job(words: &[String]) -> Option<Job> {
+    let mut words = words.to_vec();
+    let own = words.iter().position(|word| word == "--own-lag").map(|at| words.remove(at));
+    let lag_by = if own.is_some() { LagBy::Library } else { LagBy::Finder };
+    let words = &words[..];
     if let Some(mut paths) = options(words, &["--left", "--right", "--model", "--out"]) {
         let (out, model, right, left) = (paths.pop()?, paths.pop()?, paths.pop()?, paths.pop()?);
-        return Some(Job { inputs: Inputs::Two { left, right }, model, out });
+        return Some(Job { inputs: Inputs::Two { left, right }, model, lag_by, out });
     }
     let mut paths = options(words, &["--both", "--model", "--out"])?;
     let (out, model, both) = (paths.pop()?, paths.pop()?, paths.pop()?);
-    Some(Job { inputs: Inputs::Stereo(both), model, out })
+    Some(Job { inputs: Inputs::Stereo(both), model, lag_by, out })
 }
 
 fn run(words: &[String]) -> Result<(), String> {
     match words {
         [help] if help == "--help" || help == "-h" => print!("{HELP}"),
         [bench] if bench == "bench" => host::bench::bench(),
+        [lags] if lags == "lags" => host::lags::lags()?,
         [demo, dir] if demo == "demo" => {
             host::demo::demo(dir.as_ref())?;
             println!("Look at {dir}/benches.svg, and listen to {dir}/left-before.wav and {dir}/left.wav.");
@@ -64,7 +75,8 @@ fn run(words: &[String]) -> Result<(), String> {
             host::side::side(&paths)?;
         }
         [word, rest @ ..] if word == "pack" => {
-            let paths = options(rest, &["--layers", "--out"]).ok_or("pack: the options are not right; see host --help")?;
+            let paths =
+                options(rest, &["--layers", "--out"]).ok_or("pack: the options are not right; see host --help")?;
             println!("{}: {} bytes", paths[1].display(), host::pack::pack(&paths[0], &paths[1])?);
         }
         [word, model, rest @ ..] if word == "unpack" => {
@@ -79,7 +91,7 @@ fn run(words: &[String]) -> Result<(), String> {
             let job = job(rest).ok_or("clean: the options are not right; see host --help")?;
             let benches = clean(&job)?;
             for bench in &benches {
-                println!("{}: {} frames", bench.side.name(), bench.heard.len());
+                println!("{}: {} frames", bench.side.name(), bench.frames.len());
             }
         }
         _ => return Err("what shall be done? See host --help".into()),

@@ -1,7 +1,7 @@
 //! One picture of both benches before and after, with the heard stretches marked.
 
 use crate::cleaned::Cleaned;
-use crate::recorder::Heard;
+use crate::recorder::{Frame, Heard};
 use crate::{FRAME, RATE};
 use std::fmt::Write;
 
@@ -31,10 +31,10 @@ fn outline(samples: &[f32], seconds: f64, middle: f64, peak: f32) -> String {
 }
 
 /// The stretches of frames in a row for which `test` holds, in seconds.
-fn stretches(heard: &[Heard], test: impl Fn(&Heard) -> bool) -> Vec<(f64, f64)> {
+fn stretches(frames: &[Frame], test: impl Fn(&Heard) -> bool) -> Vec<(f64, f64)> {
     let second = |frame: usize| frame as f64 * FRAME as f64 / f64::from(RATE);
     let mut found: Vec<(f64, f64)> = Vec::new();
-    for frame in heard.iter().enumerate().filter(|(_, h)| test(h)).map(|(i, _)| i) {
+    for frame in frames.iter().filter(|f| test(&f.heard)).map(|f| f.number as usize) {
         match found.last_mut() {
             Some(last) if last.1 == second(frame) => last.1 = second(frame + 1),
             _ => found.push((second(frame), second(frame + 1))),
@@ -64,7 +64,7 @@ fn labelled(seconds: usize) -> impl Iterator<Item = usize> {
 /// A strip for each recording, the heard stretches as a bar below it, and where a voice is likely the bar is dark.
 pub fn svg(benches: &[Cleaned; 2]) -> String {
     let seconds = benches.iter().map(|b| b.before.len()).max().unwrap_or(0).max(1) as f64 / f64::from(RATE);
-    let height = TOP + 4.0 * (STRIP + GAP) + 30.0;
+    let height = TOP + 4.0 * (STRIP + GAP) + 46.0;
     let mut text = format!(
         "<svg xmlns=\"http://www.w3.org/2000/svg\" viewBox=\"0 0 {} {height}\" font-family=\"sans-serif\" font-size=\"13\">\n\
          <rect width=\"100%\" height=\"100%\" fill=\"white\"/>\n\
@@ -81,7 +81,7 @@ pub fn svg(benches: &[Cleaned; 2]) -> String {
             writeln!(text, "<polygon fill=\"{colour}\" points=\"{}\"/>", outline(samples, seconds, middle, peak))
                 .unwrap();
             for (test, shade) in [(is_heard as fn(&Heard) -> bool, "#f2d7a6"), (is_voice, "#c0562f")] {
-                for (from, to) in stretches(&bench.heard, test) {
+                for (from, to) in stretches(&bench.frames, test) {
                     let x = |s: f64| LEFT + WIDTH * (s / seconds).min(1.0);
                     let (y, wide) = (top + STRIP, x(to) - x(from));
                     writeln!(
@@ -99,11 +99,15 @@ pub fn svg(benches: &[Cleaned; 2]) -> String {
         let x = LEFT + WIDTH * second as f64 / seconds;
         writeln!(
             text,
-            "<text x=\"{x:.0}\" y=\"{:.0}\" text-anchor=\"middle\" fill=\"#555555\">{second} s</text>",
-            top + 14.0
+            "<text x=\"{x:.0}\" y=\"{:.0}\" text-anchor=\"middle\" fill=\"#555555\">{second} s</text>\n\
+             <text x=\"{x:.0}\" y=\"{:.0}\" text-anchor=\"middle\" fill=\"#999999\">{}</text>",
+            top + 14.0,
+            top + 30.0,
+            second * RATE as usize / FRAME
         )
         .unwrap();
     }
+    writeln!(text, "<text x=\"8\" y=\"{:.0}\" fill=\"#999999\">frame</text>", top + 30.0).unwrap();
     text + "</svg>\n"
 }
 

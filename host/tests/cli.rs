@@ -69,10 +69,30 @@ fn clean_writes_its_four_files() {
     wanted.sort();
     assert_eq!(names, wanted);
     let table = fs::read_to_string(given.path.join("out/frames.csv")).unwrap();
-    assert!(table.starts_with("side,frame,state,voice,energy\nleft,0,"));
+    assert!(table.starts_with("side,frame,heard so far,state,voice,energy\nleft,0,"));
     assert!(fs::read_to_string(given.path.join("out/benches.svg")).unwrap().starts_with("<svg"));
     let left = wav::read(&fs::read(given.path.join("out/left.wav")).unwrap()).unwrap();
     assert_eq!(left.channels[0].len(), dictation(0).noisy.len());
+}
+
+/// The sheet has the side, and a record for each row of the table.
+#[test]
+fn each_recording_carries_its_sheet() {
+    let given = Given::new("sheets");
+    assert!(given.clean("left.wav", "right.wav", "house.rnn", "out").status.success());
+    let table = fs::read_to_string(given.path.join("out/frames.csv")).unwrap();
+    for side in ["left", "right"] {
+        let file = fs::read(given.path.join(format!("out/{side}.wav"))).unwrap();
+        let rows: Vec<&str> = table.lines().filter(|line| line.starts_with(side)).collect();
+        let heard = rows.iter().filter(|row| row.contains(",heard,")).count();
+        let sheet = host::side::Sheet::of(&file).unwrap();
+        assert_eq!((sheet.side.name(), sheet.frames, sheet.heard, &sheet.gaps[..]), (side, rows.len(), heard, &[][..]));
+        assert!(heard > 0);
+        // behind the audio, where `mend` looks for it
+        let mut start = [0; 3];
+        assert_eq!(tuppence::sheet_read(&mut start, &file), 0);
+        assert_eq!(start[0] as usize, wav::audio_end(&file).unwrap());
+    }
 }
 
 #[test]
@@ -104,6 +124,19 @@ fn a_stereo_file_is_both_benches() {
         let read = |folder: &str| fs::read(given.path.join(folder).join(name)).unwrap();
         assert!(read("one") == read("two"), "{name}");
     }
+}
+
+#[test]
+fn our_own_lag_is_used_where_it_is_asked_for() {
+    let given = Given::new("own-lag");
+    let [l, r, m, o] = ["left.wav", "right.wav", "house.rnn", "own"].map(|name| given.at(name));
+    let output = host(&["clean", "--left", &l, "--right", &r, "--own-lag", "--model", &m, "--out", &o]);
+    assert!(output.status.success(), "{}", String::from_utf8_lossy(&output.stderr));
+    assert!(given.clean("left.wav", "right.wav", "house.rnn", "out").status.success());
+    let left =
+        |out: &str| wav::read(&fs::read(given.path.join(out).join("left.wav")).unwrap()).unwrap().channels.remove(0);
+    assert_eq!(left("own").len(), left("out").len());
+    assert_ne!(left("own"), left("out"));
 }
 
 #[test]
@@ -217,7 +250,7 @@ fn a_second_run_takes_the_place_of_the_first() {
 #[test]
 fn other_words() {
     let given = Given::new("words");
-    for words in [&[][..], &["clean"], &["clean", "--left", "x"], &["demo"], &["wash", "x"]] {
+    for words in [&[][..], &["clean"], &["clean", "--own-lag"], &["clean", "--left", "x"], &["demo"], &["wash", "x"]] {
         given.fails(host(words), &["--help"]);
     }
     let help = host(&["--help"]);

@@ -3,7 +3,7 @@
 
 use host::clean::{frames_of, run, samples_of};
 use host::demo::{dictation, grinder, Rng, HOUSE};
-use host::recorder::Heard;
+use host::recorder::{Heard, LagBy};
 use host::reference::Reference;
 use host::{FRAME, RATE};
 
@@ -26,17 +26,18 @@ fn alike(a: f32, b: f32) -> bool {
 }
 
 fn both_agree(left: Vec<f32>, right: Vec<f32>) {
-    for bench in run(left, right, HOUSE, |_| ()).unwrap() {
+    for bench in run(left, right, HOUSE, LagBy::Finder, |_| ()).unwrap() {
         let (output, voices) = by_the_text(&bench.before);
         let name = bench.side.name();
         assert_eq!(bench.after.len(), output.len());
         for (i, (a, b)) in bench.after.iter().zip(output).enumerate() {
             assert!(alike(*a, b), "{name}, sample {i}: {a} and {b}");
         }
-        for (i, (heard, voice)) in bench.heard.iter().zip(voices).enumerate() {
-            let ours = match heard {
+        for (i, (frame, voice)) in bench.frames.iter().zip(voices).enumerate() {
+            assert_eq!(frame.number as usize, i);
+            let ours = match frame.heard {
                 Heard::Silent => 0.0,
-                Heard::Voice { probability, .. } => *probability,
+                Heard::Voice { probability, .. } => probability,
             };
             assert!(alike(ours, voice), "{name}, frame {i}: voice {ours} and {voice}");
         }

@@ -28,7 +28,7 @@ fn weights_of_0_give_halves() {
 
 #[test]
 fn a_lag_of_768_passes_and_769_gives_6() {
-    let (mut store, mut record) = (vec![1.0; 98_304], [0; 5]);
+    let (mut store, mut record) = (vec![1.0; 98_304], [0; 7]);
     let (mut window, mut sums) = ([2.0; 960], [3.0; 22]);
     assert_eq!(tuppence::open(&mut record, &mut store, 1, &smallest()), 0);
     assert_eq!(tuppence::call1(&mut record, &mut store, 1, &[100.0; 480], &mut window), 0);
@@ -36,9 +36,38 @@ fn a_lag_of_768_passes_and_769_gives_6() {
     assert_eq!(tuppence::call2(&mut record, &mut store, 1, &[0.5; 961], 769, &mut window, &mut sums), 6);
     assert!(before == (store.clone(), record, window, sums));
     assert_eq!(tuppence::call2(&mut record, &mut store, 1, &[0.5; 961], 768, &mut window, &mut sums), 0);
-    assert_eq!(record, [3, 0, 1, 1, 1]);
+    assert_eq!(record, [3, 0, 1, 1, 1, 0, 0]);
     // The other fifteen shares were never opened, and are as they were.
     assert!(store[..6_144].iter().chain(&store[12_288..]).all(|x| *x == 1.0));
+}
+
+#[test]
+fn the_sister_of_call_2_is_call_2_with_the_lag_of_that_sides_own_input() {
+    const PERIODS: [usize; 2] = [300, 500];
+    let (mut store, mut records) = (vec![1.0; 98_304], [[0; 7]; 2]);
+    for (side, period) in PERIODS.into_iter().enumerate() {
+        assert_eq!(tuppence::open(&mut records[side], &mut store, side as u32, &smallest()), 0);
+        records[side][0] = 2;
+        for (i, x) in store[6_144 * side..][..1_728].iter_mut().enumerate() {
+            *x = (i % period) as f32 - 0.5 * period as f32;
+        }
+    }
+    for side in [0, 1] {
+        let mut lag = [0];
+        assert_eq!(tuppence::lag(&mut lag, &store[6_144 * side..][..1_728]), 0);
+        assert_eq!(lag[0] as usize, PERIODS[side]);
+        let call = |own: bool| {
+            let (mut store, mut record, mut window, mut sums) = (store.clone(), records[side], [2.0; 960], [3.0; 22]);
+            let (r, s, x, w, u) = (&mut record, &mut store, &[0.5; 961], &mut window, &mut sums);
+            let number = if own {
+                tuppence::call2_own(r, s, side as u32, x, w, u)
+            } else {
+                tuppence::call2(r, s, side as u32, x, lag[0], w, u)
+            };
+            (number, store, record, window, sums)
+        };
+        assert!(call(true).0 == 0 && call(true) == call(false));
+    }
 }
 
 #[test]
@@ -50,7 +79,7 @@ fn even_benches_are_left_and_odd_ones_right() {
 
 #[test]
 fn bench_15_is_the_last_and_98_304_numbers_are_the_only_store() {
-    let open = |side, len| tuppence::open(&mut [0; 5], &mut vec![1.0; len], side, &smallest());
+    let open = |side, len| tuppence::open(&mut [0; 7], &mut vec![1.0; len], side, &smallest());
     assert_eq!((open(15, 98_304), open(16, 98_304)), (0, 1));
     assert_eq!([12_288, 98_303, 98_305].map(|len| open(0, len)), [2; 3]);
 }

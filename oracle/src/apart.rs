@@ -3,7 +3,7 @@
 //! is compared bit for bit. Every bench is the one in its turn.
 
 use crate::ask::{Ask, Caller, OURS};
-use crate::desk::{BENCHES, DUE, STORE};
+use crate::desk::{BENCHES, DUE, RECORD, STORE};
 use crate::rng::{Mood, Rng};
 use crate::tally::{Given, Tally, Value};
 use crate::Options;
@@ -21,7 +21,7 @@ impl Run {
         let mut rng = Rng::new(seed);
         let store = rng.list_of(STORE, Mood::Any);
         let callers = std::array::from_fn(|bench| Caller::new(bench as u32));
-        Run { rng, store, records: vec![vec![0; 5]; BENCHES], callers }
+        Run { rng, store, records: vec![vec![0; RECORD]; BENCHES], callers }
     }
 
     /// Any number of calls of any other benches.
@@ -65,7 +65,7 @@ fn compare_one(tally: &mut Tally, one: usize, seed: u64, calls: u64) {
         let ((number, lent), (other, others)) = (a.one(one, ask.clone()), b.one(one, ask.clone()));
         let bits = |lists: &[Vec<f32>]| -> Vec<u32> { lists.iter().flatten().map(|x| x.to_bits()).collect() };
         let (got, gots) = (bits(&lent), bits(&others));
-        let words = [ask.call, ask.side, ask.lag];
+        let words = ask.words();
         let mut given = vec![("call, side, lag", Value::from(&words[..])), ("model", (&ask.model).into())];
         given.extend(ask.given.iter().map(|list| ("given", list.into())));
         tally.judge(

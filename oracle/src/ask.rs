@@ -3,11 +3,12 @@
 use crate::models::{self, Shape};
 use crate::rng::{Mood, Rng};
 
-/// The five functions of a desk.
+/// The functions of a desk.
 pub struct Surface {
     pub open: fn(&mut [u32], &mut [f32], u32, &[u8]) -> u32,
     pub call1: fn(&mut [u32], &mut [f32], u32, &[f32], &mut [f32]) -> u32,
     pub call2: fn(&mut [u32], &mut [f32], u32, &[f32], u32, &mut [f32], &mut [f32]) -> u32,
+    pub call2_own: fn(&mut [u32], &mut [f32], u32, &[f32], &mut [f32], &mut [f32]) -> u32,
     pub call3: fn(&mut [u32], &mut [f32], u32, &[f32], &[f32], &[u8], &mut [f32], &mut [f32]) -> u32,
     pub call4: fn(&mut [u32], &mut [f32], u32, &[f32], &mut [f32]) -> u32,
 }
@@ -17,6 +18,7 @@ pub const OURS: Surface = Surface {
     open: tuppence::open,
     call1: tuppence::call1,
     call2: tuppence::call2,
+    call2_own: tuppence::call2_own,
     call3: tuppence::call3,
     call4: tuppence::call4,
 };
@@ -28,19 +30,28 @@ pub struct Ask {
     pub side: u32,
     /// Samples; the first spectrum; the second spectrum and the logarithms; the inverse.
     pub given: Vec<Vec<f32>>,
-    pub lag: u32,
+    /// Call 2's; none for its sister, which finds its own.
+    pub lag: Option<u32>,
     pub model: Vec<u8>,
     pub held: Vec<Vec<f32>>,
 }
 
 impl Ask {
+    /// The numbers of a call: its own, the side, and call 2's lag.
+    pub fn words(&self) -> Vec<u32> {
+        [self.call, self.side].into_iter().chain(self.lag).collect()
+    }
+
     /// Asks a desk. The number returned, and what the answer buffers hold afterwards.
     pub fn put(&self, desk: &Surface, record: &mut [u32], store: &mut [f32]) -> (u32, Vec<Vec<f32>>) {
         let mut lent = self.held.clone();
         let number = match (self.call, &self.given[..], &mut lent[..]) {
             (0, [], []) => (desk.open)(record, store, self.side, &self.model),
             (1, [samples], [window]) => (desk.call1)(record, store, self.side, samples, window),
-            (2, [spectrum], [window, sums]) => (desk.call2)(record, store, self.side, spectrum, self.lag, window, sums),
+            (2, [spectrum], [window, sums]) => match self.lag {
+                Some(lag) => (desk.call2)(record, store, self.side, spectrum, lag, window, sums),
+                None => (desk.call2_own)(record, store, self.side, spectrum, window, sums),
+            },
             (3, [spectrum, logs], [out, answer]) => {
                 (desk.call3)(record, store, self.side, spectrum, logs, &self.model, out, answer)
             }
@@ -126,13 +137,14 @@ impl Caller {
 
     fn first(&mut self, rng: &mut Rng) -> Ask {
         let spectrum = self.spectrum(rng);
-        let lag = match rng.below(20) {
-            0 => 0,
-            1 => 60,
-            2 | 3 => 768,
-            4 => 769,
-            5 => rng.pick(&[770, 65_536, 65_536 + 768, u32::MAX - 1, u32::MAX]),
-            _ => rng.below(769) as u32,
+        let lag = match rng.below(30) {
+            0 => Some(0),
+            1 => Some(60),
+            2 | 3 => Some(768),
+            4 => Some(769),
+            5 => Some(rng.pick(&[770, 65_536, 65_536 + 768, u32::MAX - 1, u32::MAX])),
+            6..=15 => None,
+            _ => Some(rng.below(769) as u32),
         };
         Ask { given: vec![spectrum], lag, held: vec![held(rng, 960), held(rng, 22)], ..Ask::default() }
     }

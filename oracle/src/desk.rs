@@ -4,6 +4,7 @@
 //! text's functions for that part of the frame, and writes the memories back. The module
 //! `shadow` runs the same frames once more, whole, by `process_frame`.
 
+use crate::lag;
 use crate::reader::{self, Refusal};
 use nnnoiseless_text::probe::{bands, features, rnn};
 use nnnoiseless_text::{DenoiseFeatures, RnnModel};
@@ -25,15 +26,18 @@ pub const LASTG: Range<usize> = 3194..3216;
 pub const CEPSTRAL_MEM: Range<usize> = 3216..3392;
 pub const STATES: [usize; 3] = [3392, 3520, 3648];
 
-// A record: due call, cepstral index, and the three GRU counts.
+// A record: due call, cepstral index, the three GRU counts, frames and heard frames.
 pub const DUE: usize = 0;
 pub const INDEX: usize = 1;
 pub const COUNTS: Range<usize> = 2..5;
+pub const FRAME: usize = 5;
+pub const HEARD: usize = 6;
+pub const RECORD: usize = 7;
 
 fn in_range(record: &[u32]) -> bool {
     match *record {
-        [0, index, vad, noise, denoise] => [index, vad, noise, denoise] == [0; 4],
-        [due, index, vad, noise, denoise] => {
+        [0, ref rest @ ..] if rest.len() == RECORD - 1 => rest.iter().all(|n| *n == 0),
+        [due, index, vad, noise, denoise, _, _] => {
             due <= 4 && index <= 7 && [vad, noise, denoise].iter().all(|n| (1..=127).contains(n))
         }
         _ => false,
@@ -117,8 +121,8 @@ pub fn open(record: &mut [u32], store: &mut [f32], side: u32, model: &[u8]) -> u
         Err(refusal) => return misread(refusal),
     };
     store[side as usize * SHARE..][..SHARE].fill(0.0);
+    record.fill(0);
     record[DUE] = 1;
-    record[INDEX] = 0;
     record[COUNTS].copy_from_slice(&counts(&layers));
     0
 }
@@ -171,6 +175,20 @@ pub fn call2(
     0
 }
 
+/// Call 2 with the lag of the side's `input_mem`, by the text's leaves joined. A side or a store that has none is refused by call 2.
+pub fn call2_own(
+    record: &mut [u32],
+    store: &mut [f32],
+    side: u32,
+    spectrum: &[f32],
+    window: &mut [f32],
+    sums: &mut [f32],
+) -> u32 {
+    let share = store.get(side as usize * SHARE..).unwrap_or(&[]);
+    let lag = share.get(INPUT_MEM).map_or(0, lag::joined);
+    call2(record, store, side, spectrum, lag, window, sums)
+}
+
 pub fn call3(
     record: &mut [u32],
     store: &mut [f32],
@@ -200,6 +218,7 @@ pub fn call3(
         let model = RnnModel::from_bytes(model).expect("the text reads what the table accepts");
         answer.copy_from_slice(&[1.0, heard(&mut text, share, &model), text.ex.iter().fold(0.0, |e, x| e + x)]);
         save(&mut text, share, record);
+        record[HEARD] = record[HEARD].wrapping_add(1);
     }
     text.x.write(out);
     record[DUE] = 4;
@@ -236,5 +255,6 @@ pub fn call4(record: &mut [u32], store: &mut [f32], side: u32, inverse: &[f32], 
     feed::finish();
     save(&mut text, share, record);
     record[DUE] = 1;
+    record[FRAME] = record[FRAME].wrapping_add(1);
     0
 }

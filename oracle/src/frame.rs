@@ -1,15 +1,21 @@
 //! features.rs and denoise.rs: whole frames in four calls, on the sides of one store.
 
 use crate::ask::{Ask, Caller, Surface, OURS};
-use crate::desk::{self, BENCHES, COUNTS, DUE, EX, INDEX, LAG, SHARE, STORE, X};
+use crate::desk::{self, BENCHES, COUNTS, DUE, EX, INDEX, LAG, RECORD, SHARE, STORE, X};
 use crate::rng::{Mood, Rng};
 use crate::shadow::Shadow;
 use crate::tally::{floats, kept, signed, By, Given, Tally, Value};
 use crate::Options;
 
 /// The desk by the text.
-const TEXT: Surface =
-    Surface { open: desk::open, call1: desk::call1, call2: desk::call2, call3: desk::call3, call4: desk::call4 };
+const TEXT: Surface = Surface {
+    open: desk::open,
+    call1: desk::call1,
+    call2: desk::call2,
+    call2_own: desk::call2_own,
+    call3: desk::call3,
+    call4: desk::call4,
+};
 
 /// A desk's store and all its records.
 #[derive(Clone)]
@@ -26,7 +32,7 @@ pub fn compare(options: &Options) -> Tally {
 pub fn compare_with(options: &Options, desk: &Surface) -> Tally {
     let mut tally = Tally::new("frame");
     let rng = &mut Rng::new(options.seed);
-    let mut ours = World { store: rng.list(STORE), records: vec![vec![0; 5]; BENCHES] };
+    let mut ours = World { store: rng.list(STORE), records: vec![vec![0; RECORD]; BENCHES] };
     let mut rusts = ours.clone();
     let mut callers: [_; BENCHES] = std::array::from_fn(|side| Caller::new(side as u32));
     let mut shadows: [_; BENCHES] = std::array::from_fn(|_| Shadow::default());
@@ -41,7 +47,7 @@ pub fn compare_with(options: &Options, desk: &Surface) -> Tally {
             damage.apply(world, side);
         }
         let (held, before) = (ours.clone(), rusts.clone());
-        let words = [ask.call, ask.side, ask.lag];
+        let words = ask.words();
         let given = given(&words, &ask, &held);
         let given = Given::new(&given);
         let (number, lent) = ask.put(desk, &mut ours.records[side], &mut ours.store);
@@ -98,8 +104,8 @@ impl Damage {
         let share = side * SHARE;
         let mood = if rng.once_in(4) { rng.mood() } else { rng.pick(&[Mood::Small, Mood::Unit, Mood::Whole]) };
         match rng.below(800) {
-            0..=14 => Damage::Record(rng.below(5), rng.pick(&RECORD)),
-            15..=19 => Damage::RecordLength(rng.pick(&[0, 1, 4, 6])),
+            0..=14 => Damage::Record(rng.below(RECORD), rng.pick(&BORDERS)),
+            15..=19 => Damage::RecordLength(rng.pick(&[0, 1, 5, 6, 8])),
             20..=24 => Damage::Closed,
             25..=30 => Damage::StoreLength(rng.pick(&[0, SHARE, 2 * SHARE, STORE - 1, STORE + 1, 2 * STORE])),
             31 => Damage::Store(share, rng.list_of(SHARE, mood)),
@@ -144,7 +150,7 @@ impl Damage {
 }
 
 /// Numbers at the borders of what a record may hold.
-const RECORD: [u32; 16] = [0, 1, 2, 3, 4, 5, 6, 7, 8, 126, 127, 128, 255, 256, 65_536, u32::MAX];
+const BORDERS: [u32; 16] = [0, 1, 2, 3, 4, 5, 6, 7, 8, 126, 127, 128, 255, 256, 65_536, u32::MAX];
 
 /// All that a call is given.
 fn given<'a>(words: &'a [u32], ask: &'a Ask, world: &'a World) -> Vec<(&'static str, Value<'a>)> {

@@ -21,6 +21,8 @@ pub mod bands;
 pub mod desk;
 #[cfg(feature = "frame")]
 pub mod frame;
+#[cfg(feature = "lag")]
+pub mod lag;
 #[cfg(feature = "logs")]
 pub mod logs;
 #[cfg(feature = "sheet")]
@@ -76,6 +78,8 @@ pub const GROUPS: &[Group] = &[
     ("bands", bands::compare),
     #[cfg(feature = "pitch")]
     ("pitch", pitch::compare),
+    #[cfg(feature = "lag")]
+    ("lag", lag::compare),
     #[cfg(feature = "transforms")]
     ("transforms", transforms::compare),
     #[cfg(feature = "logs")]

@@ -1,7 +1,7 @@
 //! The same frames, whole: what the desk by the text answered in four calls is held against the text's `process_frame`.
 
 use crate::ask::Ask;
-use crate::desk::{self, CEPSTRAL_MEM, INPUT_MEM, LASTG, MEM_HP_X, STATES, SYNTHESIS_MEM};
+use crate::desk::{self, CEPSTRAL_MEM, INPUT_MEM, LAG, LASTG, MEM_HP_X, STATES, SYNTHESIS_MEM};
 use crate::tally::exactly;
 use nnnoiseless_text::probe::{denoise, features, rnn};
 use nnnoiseless_text::{DenoiseState, RnnModel};
@@ -44,7 +44,12 @@ impl Shadow {
         if ask.call == 1 {
             self.before = (before.0.to_vec(), before.1);
         }
-        self.frame.push((ask.clone(), lent.to_vec()));
+        let mut done = (ask.clone(), lent.to_vec());
+        if ask.call == 2 {
+            // the lag that it was given or found
+            done.0.lag.get_or_insert(after.0[LAG] as u32);
+        }
+        self.frame.push(done);
         if ask.call < 4 {
             return None;
         }
@@ -66,7 +71,7 @@ impl Shadow {
 
         feed::start();
         feed::spectrum(&second.0.given[0]);
-        feed::lag(second.0.lag as usize);
+        feed::lag(second.0.lag.expect("call 2 has a lag") as usize);
         feed::spectrum(&third.0.given[0]);
         feed::logs(&third.0.given[1]);
         feed::inverse(&fourth.0.given[0]);

@@ -27,7 +27,7 @@ use Rattle.frame.specs.Reply.{passed}
 use Rattle.frame.specs.declared.Reply.the-variants.{Refused}
 use Rattle.desk.specs.declared.Record.{Record}
 use Rattle.desk.specs.Gate.{shareOf, gate, inRange, allZero}
-use Rattle.desk.specs.Desk.{Ask, opening, call1, call2, call3, call4, callOf, closed, answered, opened, onShare, admitted, Given, desk}
+use Rattle.desk.specs.Desk.{Ask, opening, call1, call2, call2Own, call3, call4, callOf, closed, answered, opened, onShare, admitted, Given, desk}
 use Rattle.desk.proofs.Settled.{admitted-kept}
 use Rattle.desk.proofs.Turned.{through, gate-own, closed-opens}
 
@@ -138,6 +138,7 @@ module _ (b : Record) (xs ys : List Float) (l : length xs ≡ SHARE) (k : length
       admit (opening m) e = opens (readOf m) m
       admit (call1 x w) e = absurd (omega arith)
       admit (call2 x g w s) e = absurd (omega arith)
+      admit (call2Own x w s) e = absurd (omega arith)
       admit (call3 x g m o) e = absurd (omega arith)
       admit (call4 x o) e = absurd (omega arith)
 

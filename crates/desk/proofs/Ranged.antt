@@ -19,10 +19,10 @@ use Rattle.model.proofs.Shapes.{shaped}
 use Rattle.frame.specs.Reply.{passed}
 use Rattle.frame.specs.Frame.{refusal}
 use Rattle.frame.specs.declared.Reply.{Reply}
-use Rattle.frame.specs.declared.Reply.the-variants.{Done, Silent, Heard, Refused, Misread}
+use Rattle.frame.specs.declared.Reply.the-variants.{Done, Silent, Heard, Numbered, Refused, Misread}
 use Rattle.desk.specs.declared.Record.{Record}
 use Rattle.desk.specs.Gate.{allZero, inCounts, inRange, isFrame, gate, shareOf}
-use Rattle.desk.specs.Desk.{Ask, opening, call1, call2, call3, call4, callOf, nextDue, nextIndex, advanced, started, answered, onShare, opened, desk}
+use Rattle.desk.specs.Desk.{Ask, opening, call1, call2, call2Own, call3, call4, callOf, nextDue, nextIndex, advanced, started, answered, onShare, opened, desk}
 use Rattle.desk.proofs.Turned.{none}
 
 both : (a b : Bool) → (a && b) ≡ true → (a ≡ true) × (b ≡ true)
@@ -55,12 +55,13 @@ bounded b e = go (eqb (b .due) 0) refl
         let i = both _ _ (rw h at e) in
         let v = both _ _ (i .1) in
         let n = both _ _ (v .1) in
+        let d = both _ _ (n .1) in
         record {
           due = omega arith;
           index = omega (arith, eqb-true (b .index) 0 (i .0));
           vad = omega (arith, eqb-true (b .vad) 0 (v .0));
           noise = omega (arith, eqb-true (b .noise) 0 (n .0));
-          denoise = omega (arith, eqb-true (b .denoise) 0 (n .1));
+          denoise = omega (arith, eqb-true (b .denoise) 0 (d .0));
         }
     go false h =
         let d = both _ _ (rw h at e) in
@@ -96,6 +97,7 @@ module _ (b : Record) (reply : Reply) where
       go false k = omega arith
   next-index i Done h = h
   next-index i Silent h = h
+  next-index i (Numbered f n) h = h
   next-index i (Refused n) h = h
   next-index i (Misread n l) h = h
 
@@ -124,6 +126,7 @@ done-range : (b : Record) (share : List Float) (ask : Ask) → inRange b ≡ tru
 done-range b share (opening m) r o p = rw p (started-range m (readOf m) b share refl p)
 done-range b share (call1 x w) r o p = rw p (advanced-range b (onShare b share (call1 x w) .reply) (eqb-false (b .due) 0 o) r)
 done-range b share (call2 x l w s) r o p = rw p (advanced-range b (onShare b share (call2 x l w s) .reply) (eqb-false (b .due) 0 o) r)
+done-range b share (call2Own x w s) r o p = rw p (advanced-range b (onShare b share (call2Own x w s) .reply) (eqb-false (b .due) 0 o) r)
 done-range b share (call3 x l m k) r o p = rw p (advanced-range b (onShare b share (call3 x l m k) .reply) (eqb-false (b .due) 0 o) r)
 done-range b share (call4 x k) r o p = rw p (advanced-range b (onShare b share (call4 x k) .reply) (eqb-false (b .due) 0 o) r)
 

@@ -15,20 +15,22 @@ use Rattle.model.specs.declared.Reading.{Reading}
 use Rattle.model.specs.declared.Reading.the-variants.{Good, Refused as Unread}
 use Rattle.model.proofs.Bounds.{refused-in}
 use Rattle.frame.specs.declared.Reply.{Reply}
-use Rattle.frame.specs.declared.Reply.the-variants.{Done, Silent, Heard, Refused, Misread}
+use Rattle.frame.specs.declared.Reply.the-variants.{Done, Silent, Heard, Numbered, Refused, Misread}
 use Rattle.frame.specs.Frame.{Effect, refusal}
 use Rattle.frame.specs.Reply.{passed}
 use Rattle.frame.proofs.Done.{call3-no-out}
 use Rattle.frame.proofs.Cases.{call1-by, call2-by, call3-by, call4-by}
+use Rattle.halves.proofs.Sister.{call2-own-by}
 use Rattle.desk.specs.declared.Record.{Record}
 use Rattle.desk.specs.Gate.{gate, shareOf}
-use Rattle.desk.specs.Desk.{Ask, opening, call1, call2, call3, call4, callOf, opened, onShare, desk}
+use Rattle.desk.specs.Desk.{Ask, opening, call1, call2, call2Own, call3, call4, callOf, opened, onShare, desk}
 
 abbrev pub Small : Reply → Type 0
 Small (Misread n l) = (n ≤ 22) × (l ≤ 6)
 Small Done = Unit
 Small Silent = Unit
 Small (Heard v e) = Unit
+Small (Numbered f h) = Unit
 Small (Refused n) = Unit
 
 misread : (s : List ℕ) (n l : ℕ) → Unread n l ≡ readOf s → Small (Misread n l)
@@ -46,8 +48,9 @@ module _ (b : Record) (share : List Float) where
   frames (opening m) = opens m (readOf m) share refl
   frames (call1 x w) = call1-by share SmallOf (λ _. tt) x w (λ _ _. tt)
   frames (call2 x l w s) = call2-by share SmallOf (λ _. tt) x l w s (λ _. tt)
+  frames (call2Own x w s) = call2-own-by share SmallOf (λ _. tt) x w s (λ _. tt)
   frames (call3 x l m o) = call3-by share SmallOf (λ _. tt) (b .index) (b .vad) (b .noise) (b .denoise) x l m o (misread m) tt (λ _ _ _ _ _. tt)
-  frames (call4 x o) = call4-by share SmallOf (λ _. tt) x o (λ _. tt)
+  frames (call4 x o) = call4-by share SmallOf (λ _. tt) (b .frame) (b .heard) x o (λ _. tt)
 
 pub small : (benches side : ℕ) (b : Record) (store : List Float) (ask : Ask) → Small (desk benches side b store ask .answer .reply)
 unfolding desk

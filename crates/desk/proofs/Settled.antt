@@ -20,10 +20,11 @@ use Rattle.frame.specs.Frame.{Effect, refusal}
 use Rattle.frame.specs.Reply.{passed}
 use Rattle.frame.specs.declared.Reply.the-variants.{Refused}
 use Rattle.frame.proofs.Keeps.{Keeps, call1-keeps, call2-keeps, call3-keeps, call4-keeps}
+use Rattle.halves.proofs.Sister.{call2-own-keeps}
 use Rattle.desk.specs.declared.Answer.{Answer}
 use Rattle.desk.specs.declared.Record.{Record}
 use Rattle.desk.specs.Gate.{shareOf, gate}
-use Rattle.desk.specs.Desk.{Ask, opening, call1, call2, call3, call4, callOf, opened, onShare, admitted, Given, desk, Served}
+use Rattle.desk.specs.Desk.{Ask, opening, call1, call2, call2Own, call3, call4, callOf, opened, onShare, admitted, Given, desk, Served}
 use Rattle.desk.specs.Surface.{Hosted}
 
 pub settled : {o : Given} {a a′ : Answer} {store store′ : List Float} {held out out′ : List (List Float)}
@@ -55,8 +56,9 @@ module _ (b : Record) (share : List Float) where
       kept (opening m) = opened-kept (readOf m)
       kept (call1 x w) = frame-kept (call1-keeps share x w)
       kept (call2 x l w s) = frame-kept (call2-keeps share x l w s)
+      kept (call2Own x w s) = frame-kept (call2-own-keeps share x w s)
       kept (call3 x l m o) = frame-kept (call3-keeps share (b .index) (b .vad) (b .noise) (b .denoise) x l m o)
-      kept (call4 x o) = frame-kept (call4-keeps share x o)
+      kept (call4 x o) = frame-kept (call4-keeps share (b .frame) (b .heard) x o)
 
       go : (t : Bool) → Kept share (cond t (onShare b share ask) (refusal (Refused number) share))
       go true = kept ask

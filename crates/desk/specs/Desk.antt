@@ -14,9 +14,10 @@ use Rattle.model.specs.declared.Reading.the-variants.{Good, Refused as Unread}
 use Rattle.frame.specs.Share.{SHARE}
 use Rattle.frame.specs.Frame.{Effect, refusal}
 use Rattle.frame.specs.Frame as frame
-use Rattle.frame.specs.Reply.{passed, left}
+use Rattle.halves.specs.Own as halves
+use Rattle.frame.specs.Reply.{passed, left, oneMore}
 use Rattle.frame.specs.declared.Reply.{Reply}
-use Rattle.frame.specs.declared.Reply.the-variants.{Done, Silent, Heard, Refused, Misread}
+use Rattle.frame.specs.declared.Reply.the-variants.{Done, Silent, Heard, Numbered, Refused, Misread}
 use Rattle.desk.specs.Gate.{gate, shareOf}
 use Rattle.desk.specs.declared.Record.{Record}
 use Rattle.desk.specs.declared.Answer.{Answer}
@@ -26,6 +27,7 @@ pub data Ask : Type 0 where
   opening : (model : List ℕ) → Ask
   call1 : (samples : List Float) (window : ℕ) → Ask
   call2 : (spectrum : List Float) (lag window sums : ℕ) → Ask
+  call2Own : (spectrum : List Float) (window sums : ℕ) → Ask
   call3 : (spectrum logs : List Float) (model : List ℕ) (out : ℕ) → Ask
   call4 : (inverse : List Float) (out : ℕ) → Ask
 
@@ -34,17 +36,19 @@ abbrev pub callOf : Ask → ℕ
 callOf (opening m) = 0
 callOf (call1 x w) = 1
 callOf (call2 x l w s) = 2
+callOf (call2Own x w s) = 2
 callOf (call3 x l m o) = 3
 callOf (call4 x o) = 4
 
 -- ---- one side's record
 
 -- every record is made here
-abbrev pub recordOf : ℕ → ℕ → ℕ → ℕ → ℕ → Record
-recordOf due index vad noise denoise = record { due = due; index = index; vad = vad; noise = noise; denoise = denoise }
+abbrev pub recordOf : ℕ → ℕ → ℕ → ℕ → ℕ → ℕ → ℕ → Record
+recordOf due index vad noise denoise frame heard =
+    record { due = due; index = index; vad = vad; noise = noise; denoise = denoise; frame = frame; heard = heard }
 
 abbrev pub closed : Record
-closed = recordOf 0 0 0 0 0
+closed = recordOf 0 0 0 0 0 0 0
 
 -- call 1 is due after call 4
 abbrev pub nextDue : ℕ → ℕ
@@ -55,21 +59,42 @@ abbrev pub nextIndex : ℕ → Reply → ℕ
 nextIndex i (Heard v e) = cond (ltb i 7) (i + 1) 0
 nextIndex i Done = i
 nextIndex i Silent = i
+nextIndex i (Numbered f h) = i
 nextIndex i (Refused n) = i
 nextIndex i (Misread n l) = i
 
-abbrev pub advanced : Record → Reply → Record
-advanced rec reply = recordOf (nextDue (rec .due)) (nextIndex (rec .index) reply) (rec .vad) (rec .noise) (rec .denoise)
+-- request 07: the frames are numbered as call 4 answers, and a heard call 3 is one more
+abbrev pub nextFrame : ℕ → Reply → ℕ
+nextFrame n (Numbered f h) = f
+nextFrame n Done = n
+nextFrame n Silent = n
+nextFrame n (Heard v e) = n
+nextFrame n (Refused r) = n
+nextFrame n (Misread r l) = n
 
--- an opening notes the GRU counts and makes call 1 due
+abbrev pub nextHeard : ℕ → Reply → ℕ
+nextHeard n (Heard v e) = oneMore n
+nextHeard n Done = n
+nextHeard n Silent = n
+nextHeard n (Numbered f h) = n
+nextHeard n (Refused r) = n
+nextHeard n (Misread r l) = n
+
+abbrev pub advanced : Record → Reply → Record
+advanced rec reply =
+    recordOf (nextDue (rec .due)) (nextIndex (rec .index) reply) (rec .vad) (rec .noise) (rec .denoise)
+    (nextFrame (rec .frame) reply) (nextHeard (rec .heard) reply)
+
+-- an opening notes the GRU counts, makes call 1 due and numbers the frames from 0
 abbrev pub started : Record → Reading → Record
-started rec (Good m) = recordOf 1 0 (m .«vad_gru» .neurons) (m .«noise_gru» .neurons) (m .«denoise_gru» .neurons)
+started rec (Good m) = recordOf 1 0 (m .«vad_gru» .neurons) (m .«noise_gru» .neurons) (m .«denoise_gru» .neurons) 0 0
 started rec (Unread n l) = rec
 
 abbrev pub recorded : Record → Ask → Reply → Record
 recorded rec (opening m) reply = started rec (readOf m)
 recorded rec (call1 x w) reply = advanced rec reply
 recorded rec (call2 x l w s) reply = advanced rec reply
+recorded rec (call2Own x w s) reply = advanced rec reply
 recorded rec (call3 x l m o) reply = advanced rec reply
 recorded rec (call4 x o) reply = advanced rec reply
 
@@ -88,8 +113,9 @@ abbrev pub onShare : Record → List Float → Ask → Effect
 onShare rec share (opening m) = opened share (readOf m)
 onShare rec share (call1 x w) = frame.call1 share x w
 onShare rec share (call2 x l w s) = frame.call2 share x l w s
+onShare rec share (call2Own x w s) = halves.call2Own share x w s
 onShare rec share (call3 x l m o) = frame.call3 share (rec .index) (rec .vad) (rec .noise) (rec .denoise) x l m o
-onShare rec share (call4 x o) = frame.call4 share x o
+onShare rec share (call4 x o) = frame.call4 share (rec .frame) (rec .heard) x o
 
 -- a call that the gate lets through, with 0, or its refusal
 abbrev pub admitted : Record → List Float → Ask → ℕ → Effect

@@ -19,9 +19,11 @@ sideOf bench = bench % 2
 abbrev pub shareOf : ℕ → Place
 shareOf side = record { at = side * SHARE; size = SHARE }
 
--- the three GRU counts, and the cepstral index with them, are all 0
+-- cepstral index, GRU counts and both numbers of frames are all 0
 unfoldable pub allZero : Record → Bool
-allZero rec = eqb (rec .index) 0 && (eqb (rec .vad) 0 && (eqb (rec .noise) 0 && eqb (rec .denoise) 0))
+allZero rec =
+    eqb (rec .index) 0
+    && (eqb (rec .vad) 0 && (eqb (rec .noise) 0 && (eqb (rec .denoise) 0 && (eqb (rec .frame) 0 && eqb (rec .heard) 0))))
 
 -- a GRU count is 1 to 127
 abbrev pub inCount : ℕ → Bool

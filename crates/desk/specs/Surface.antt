@@ -9,20 +9,22 @@ use lib.Ieee.{Float}
 use Rattle.rules.specs.F32.{f32}
 use Rattle.frame.specs.Reply.{passed, left}
 use Rattle.frame.specs.declared.Reply.{Reply}
-use Rattle.frame.specs.declared.Reply.the-variants.{Done, Silent, Heard, Refused, Misread}
-use Rattle.desk.specs.Desk.{Ask, opening, call1, call2, call3, call4, recordOf, Given, desk}
+use Rattle.frame.specs.declared.Reply.the-variants.{Done, Silent, Heard, Numbered, Refused, Misread}
+use Rattle.desk.specs.Desk.{Ask, opening, call1, call2, call2Own, call3, call4, recordOf, Given, desk}
 use Rattle.desk.specs.declared.Record.{Record}
 
 -- a record is so many numbers; a list of another length is out of range
 abbrev pub RECORD : ℕ
-RECORD = 5
+RECORD = 7
 
 abbrev pub numbersOf : Record → List ℕ
-numbersOf rec = rec .due ∷ rec .index ∷ rec .vad ∷ rec .noise ∷ rec .denoise ∷ []
+numbersOf rec = rec .due ∷ rec .index ∷ rec .vad ∷ rec .noise ∷ rec .denoise ∷ rec .frame ∷ rec .heard ∷ []
 
 unfoldable pub recordIn : List ℕ → Record
 recordIn ns =
-    cond (eqb (length ns) RECORD) (recordOf (getD ns 0 0) (getD ns 1 0) (getD ns 2 0) (getD ns 3 0) (getD ns 4 0)) (recordOf 5 0 0 0 0)
+    cond (eqb (length ns) RECORD)
+    (recordOf (getD ns 0 0) (getD ns 1 0) (getD ns 2 0) (getD ns 3 0) (getD ns 4 0) (getD ns 5 0) (getD ns 6 0))
+    (recordOf 5 0 0 0 0 0 0)
 
 -- a reply is a number: 0, or the refusal; 7 with the model's number and layer
 abbrev pub sevenOf : ℕ → ℕ → ℕ
@@ -32,6 +34,7 @@ abbrev pub replyNumber : Reply → ℕ
 replyNumber Done = 0
 replyNumber Silent = 0
 replyNumber (Heard v e) = 0
+replyNumber (Numbered f h) = 0
 replyNumber (Refused n) = n
 replyNumber (Misread n l) = sevenOf n l
 
@@ -40,6 +43,7 @@ abbrev pub heardOf : Reply → List Float
 heardOf (Heard v e) = f32 0x3F80_0000 ∷ v ∷ e ∷ []
 heardOf Done = replicate 3 (f32 0)
 heardOf Silent = replicate 3 (f32 0)
+heardOf (Numbered f h) = replicate 3 (f32 0)
 heardOf (Refused n) = replicate 3 (f32 0)
 heardOf (Misread n l) = replicate 3 (f32 0)
 
@@ -48,6 +52,7 @@ besides (call3 x l m o) reply = heardOf reply ∷ []
 besides (opening m) reply = []
 besides (call1 x w) reply = []
 besides (call2 x l w s) reply = []
+besides (call2Own x w s) reply = []
 besides (call4 x o) reply = []
 
 -- of another length, that buffer is a wrong length among the others, as an `out` of no places is

@@ -3,7 +3,7 @@ ghost use mathlib.Core.Path.{_≡_};
 ghost use mathlib.Core.List.{[], _∷_};
 ghost use lib.ListN.{length};
 ghost use Rattle.desk.specs.Gate.{BENCHES, sideOf, allZero, inCounts, inRange, gate};
-ghost use Rattle.desk.specs.Desk.{opening, call1, call2, call3, call4, recordOf, nextIndex, nextDue, desk, Served};
+ghost use Rattle.desk.specs.Desk.{opening, call1, call2, call2Own, call3, call4, recordOf, nextIndex, nextFrame, nextHeard, nextDue, desk, Served};
 ghost use Rattle.desk.specs.Parts.{Admits, turnedAway, toldOf, openedOf};
 use frame::Lag;
 use frame::Reply;
@@ -19,6 +19,8 @@ pub struct Record {
     pub vad: usize,
     pub noise: usize,
     pub denoise: usize,
+    pub frame: u32,
+    pub heard: u32,
 }
 
 // What a call gives back: its reply, and the record as it now stands.
@@ -32,6 +34,9 @@ pub const BENCHES: usize = 16;
 // The store's published length: a share for each bench.
 pub const STORE: usize = BENCHES * frame::SHARE;
 
+// From here an opening counts frames and heard frames.
+const FIRST: u32 = 0;
+
 // Left or right, 0 or 1: a bench's parity.
 pub fn side_of(bench: u32) -> u32
     ensures { λ r. ⌜ r ≡ sideOf bench ⌝ }
@@ -40,8 +45,16 @@ pub fn side_of(bench: u32) -> u32
 }
 
 // Every record is made here.
-pub fn record_of(due: usize, index: usize, vad: usize, noise: usize, denoise: usize) -> Record
-    ensures { λ r. ⌜ r ≡ recordOf due index vad noise denoise ⌝ }
+pub fn record_of(
+    due: usize,
+    index: usize,
+    vad: usize,
+    noise: usize,
+    denoise: usize,
+    frame: u32,
+    heard: u32,
+) -> Record
+    ensures { λ r. ⌜ r ≡ recordOf due index vad noise denoise frame heard ⌝ }
 {
     Record {
         due,
@@ -49,10 +62,12 @@ pub fn record_of(due: usize, index: usize, vad: usize, noise: usize, denoise: us
         vad,
         noise,
         denoise,
+        frame,
+        heard,
     }
 }
 
-// Whether the index and the counts of a closed record are all 0.
+// Whether everything in a closed record is 0.
 fn all_zero(rec: Record) -> bool
     ensures { λ r. ⌜ r ≡ allZero rec ⌝ }
 {
@@ -65,7 +80,13 @@ fn all_zero(rec: Record) -> bool
     if rec.noise != 0 {
         return false;
     }
-    rec.denoise == 0
+    if rec.denoise != 0 {
+        return false;
+    }
+    if rec.frame != 0 {
+        return false;
+    }
+    rec.heard == 0
 }
 
 // Whether the GRU counts of an open record are in range.
@@ -180,8 +201,37 @@ fn next_index(index: usize, reply: Reply) -> usize
         }
         Reply::Done => index,
         Reply::Silent => index,
+        Reply::Numbered(_, _) => index,
         Reply::Refused(_) => index,
         Reply::Misread(_, _) => index,
+    }
+}
+
+// The number of frames after a reply: call 4 answers with it.
+fn next_frame(number: u32, reply: Reply) -> u32
+    ensures { λ r. ⌜ r ≡ nextFrame number reply ⌝ }
+{
+    match reply {
+        Reply::Numbered(frame, _) => frame,
+        Reply::Done => number,
+        Reply::Silent => number,
+        Reply::Heard(_, _) => number,
+        Reply::Refused(_) => number,
+        Reply::Misread(_, _) => number,
+    }
+}
+
+// The number of heard frames after a reply.
+fn next_heard(number: u32, reply: Reply) -> u32
+    ensures { λ r. ⌜ r ≡ nextHeard number reply ⌝ }
+{
+    match reply {
+        Reply::Heard(_, _) => frame::one_more(number),
+        Reply::Done => number,
+        Reply::Silent => number,
+        Reply::Numbered(_, _) => number,
+        Reply::Refused(_) => number,
+        Reply::Misread(_, _) => number,
     }
 }
 
@@ -204,9 +254,11 @@ fn told(rec: Record, reply: Reply) -> Answer
     }
     let due = next_due(rec.due);
     let index = next_index(rec.index, reply);
+    let frame = next_frame(rec.frame, reply);
+    let heard = next_heard(rec.heard, reply);
     Answer {
         reply,
-        rec: record_of(due, index, rec.vad, rec.noise, rec.denoise),
+        rec: record_of(due, index, rec.vad, rec.noise, rec.denoise, frame, heard),
     }
 }
 
@@ -227,6 +279,8 @@ fn opened(rec: Record, read: Reading) -> Answer
                 m.vad_gru.neurons,
                 m.noise_gru.neurons,
                 m.denoise_gru.neurons,
+                FIRST,
+                FIRST,
             ),
         },
     }
@@ -295,6 +349,28 @@ pub fn call2(
     told(rec, reply)
 }
 
+// Call 2 with our own lag, found in the side's `input_mem`: the first spectrum in, 960 windowed numbers and 22 sums written.
+pub fn call2_own(
+    side: Side,
+    rec: Record,
+    store: &mut [f32],
+    spectrum: &[f32],
+    window: &mut [f32],
+    sums: &mut [f32],
+) -> Answer
+    ensures { λ r. ⌜ Served
+        (desk BENCHES (side .0) rec (now (store .entry))
+        (call2Own (now (spectrum .entry)) (length (now (window .entry))) (length (now (sums .entry)))))
+        r (now (store .exit)) (now (window .entry) ∷ now (sums .entry) ∷ []) (now (window .exit) ∷ now (sums .exit) ∷ []) ⌝ }
+{
+    let Admission { number, start, end } = admit(side, rec, store.len(), 2);
+    if number != 0 {
+        return turned_away(rec, number);
+    }
+    let reply = halves::call2_own(&mut store[start..end], spectrum, window, sums);
+    told(rec, reply)
+}
+
 // Call 3: the second spectrum, 22 logarithms and the model in, 961 numbers written; silent, or heard with voice and energy.
 pub fn call3(
     side: Side,
@@ -328,7 +404,7 @@ pub fn call3(
     told(rec, reply)
 }
 
-// Call 4: 960 inverse samples in, 480 numbers written.
+// Call 4: 960 inverse samples in, 480 numbers written; the frames and the heard frames so far.
 pub fn call4(side: Side, rec: Record, store: &mut [f32], inverse: &[f32], out: &mut [f32]) -> Answer
     ensures { λ r. ⌜ Served
         (desk BENCHES (side .0) rec (now (store .entry))
@@ -339,6 +415,6 @@ pub fn call4(side: Side, rec: Record, store: &mut [f32], inverse: &[f32], out: &
     if number != 0 {
         return turned_away(rec, number);
     }
-    let reply = frame::call4(&mut store[start..end], inverse, out);
+    let reply = frame::call4(&mut store[start..end], rec.frame, rec.heard, inverse, out);
     told(rec, reply)
 }

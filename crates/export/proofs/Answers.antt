@@ -1,6 +1,9 @@
--- What the number of an answer says of a leaf whose answer is an enum. Assumes nothing.
-use mathlib.Core.Path.{_≡_, ap, _∙_, sym}
+-- What the number of an answer says of a leaf whose answer is an enum, and an answer that goes into one place. Assumes nothing.
+use mathlib.Core.Path.{_≡_, refl, ap, _∙_, sym}
+use mathlib.Core.List.{List, [], _∷_}
 use Prim.Native.Nat.{ℕ}
+use native.Mathlib.Omega.{arith}
+use lib.ListN.{length, set}
 use Rattle.rules.specs.Leaf.{Leaf, done, refused}
 
 module _ {Answer : Type 0} {Fits : Type 0} (number : Answer → ℕ) {got new old : Answer} (promise : Leaf Fits got new old) where
@@ -17,3 +20,8 @@ module _ {Answer : Type 0} {Fits : Type 0} (number : Answer → ℕ) {got new ol
       go : Leaf Fits got new old → Fits × (got ≡ new)
       go (done f e) = (f, e)
       go (refused n e) = absurd (some (sym (ap number e) ∙ z))
+
+pub stored : {A : Type 0} (xs : List A) {v w : A} → length xs ≡ 1 → v ≡ w → set xs 0 v ≡ (w ∷ [])
+stored [] h e = absurd (omega arith)
+stored {A} (x ∷ []) h e = ap (λ (v : A). v ∷ []) e
+stored (x ∷ y ∷ xs) h e = absurd (omega arith)

@@ -1,3 +1,4 @@
+pub mod OfLag
 pub mod OfNetwork
 pub mod OfNumbers
 pub mod OfPitch

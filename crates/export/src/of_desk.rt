@@ -1,12 +1,12 @@
-// desk: an opening and the frame calls, for a host that has numbers alone. `record` is a side's record as five numbers: due call,
-// cepstral index and the three GRU counts. `answer` is call 3's as three: heard or not, voice, energy. Returned is 0 or the refusal.
+// desk: an opening and the frame calls, for a host that has numbers alone. `record` is a side's record as seven numbers: due call,
+// cepstral index, the three GRU counts, frames and heard frames. `answer` is call 3's as three: heard or not, voice, energy. Returned is 0 or the refusal.
 ghost use mathlib.Core.Path.{_≡_};
 ghost use mathlib.Core.Bool.{true, cond};
 ghost use mathlib.Core.List.{[], _∷_};
 ghost use lib.ListN.{length};
 ghost use Rattle.frame.specs.Reply.{passed};
 ghost use Rattle.desk.specs.Gate.{BENCHES, sideOf};
-ghost use Rattle.desk.specs.Desk.{opening, call1, call2, call3, call4};
+ghost use Rattle.desk.specs.Desk.{opening, call1, call2, call2Own, call3, call4};
 ghost use Rattle.desk.specs.Surface.{RECORD, numbersOf, recordIn, replyNumber, heardOf, outOf, hosted, Hosted};
 ghost use Rattle.desk.proofs.Ranged.{Bounded};
 ghost use Rattle.desk.proofs.Replies.{Small};
@@ -18,7 +18,7 @@ use frame::Lag;
 use frame::Reply;
 
 // How many numbers a record is.
-const RECORD: usize = 5;
+const RECORD: usize = 7;
 
 fn wide(x: u32) -> usize
     ensures { λ r. ⌜ r ≡ x ⌝ }
@@ -31,7 +31,7 @@ fn record_in(record: &[u32]) -> Record
     ensures { λ r. ⌜ r ≡ recordIn (now («record» .entry)) ⌝ }
 {
     if record.len() != RECORD {
-        return desk::record_of(5, 0, 0, 0, 0);
+        return desk::record_of(5, 0, 0, 0, 0, 0, 0);
     }
     desk::record_of(
         wide(record[0]),
@@ -39,6 +39,8 @@ fn record_in(record: &[u32]) -> Record
         wide(record[2]),
         wide(record[3]),
         wide(record[4]),
+        record[5],
+        record[6],
     )
 }
 
@@ -52,6 +54,8 @@ fn put_record(record: &mut [u32], rec: Record)
     record[2] = rec.vad as u32;
     record[3] = rec.noise as u32;
     record[4] = rec.denoise as u32;
+    record[5] = rec.frame;
+    record[6] = rec.heard;
 }
 
 // A reply as a number.
@@ -63,6 +67,7 @@ fn number_of(reply: Reply) -> u32
         Reply::Done => 0,
         Reply::Silent => 0,
         Reply::Heard(_, _) => 0,
+        Reply::Numbered(_, _) => 0,
         Reply::Refused(number) => number,
         Reply::Misread(number, layer) => crate::of_model::seven(number, layer),
     }
@@ -155,6 +160,32 @@ pub extern "C" fn tuppence_call2(
     hand_back(record, given)
 }
 
+#[no_mangle]
+pub extern "C" fn tuppence_call2_own(
+    record: &mut [u32],
+    store: &mut [f32],
+    side: u32,
+    spectrum: &[f32],
+    window: &mut [f32],
+    sums: &mut [f32],
+) -> u32
+    ensures { λ r. ⌜ Hosted
+        (hosted BENCHES side (now («record» .entry)) (now (store .entry))
+        (call2Own (now (spectrum .entry)) (length (now (window .entry))) (length (now (sums .entry)))))
+        r (now («record» .entry)) (now («record» .exit)) (now (store .exit))
+        (now (window .entry) ∷ now (sums .entry) ∷ []) (now (window .exit) ∷ now (sums .exit) ∷ []) ⌝ }
+{
+    let given = desk::call2_own(
+        Side(side as usize),
+        record_in(record),
+        store,
+        spectrum,
+        window,
+        sums,
+    );
+    hand_back(record, given)
+}
+
 // Call 3's answer as three numbers.
 struct Three {
     heard: f32,
@@ -173,6 +204,7 @@ fn three_of(reply: Reply) -> Three
         },
         Reply::Done => none(),
         Reply::Silent => none(),
+        Reply::Numbered(_, _) => none(),
         Reply::Refused(_) => none(),
         Reply::Misread(_, _) => none(),
     }

@@ -60,9 +60,10 @@ module _ (q : Place) where
       let two = then one (put-beside keptEx (put keptX share x) (energies spectrum) (omega arith) (apart .1 .0) (one .size) (length-corr x x)) in
       then two (put-beside keptLag (put keptEx (put keptX share x) (energies spectrum)) _ (omega arith) (apart .1 .1 .0) (two .size) refl)
 
-  pub done4-beside : (share inverse : List Float) → AllApart (synthesisMem ∷ []) q → length share ≡ SHARE → Beside q share (done4 share inverse .share)
+  pub done4-beside : (share : List Float) (frame heard : ℕ) (inverse : List Float) → AllApart (synthesisMem ∷ []) q → length share ≡ SHARE
+      → Beside q share (done4 share frame heard inverse .share)
   unfolding secondHalf
-  done4-beside share inverse apart whole = put-beside synthesisMem share (secondHalf (windowBuf inverse)) (omega arith) (apart .0) whole (length-tab 480 _)
+  done4-beside share frame heard inverse apart whole = put-beside synthesisMem share (secondHalf (windowBuf inverse)) (omega arith) (apart .0) whole (length-tab 480 _)
 
   -- ---- a heard frame
 

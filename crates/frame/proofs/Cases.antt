@@ -86,7 +86,8 @@ module _ (share : List Float) (P : Effect → Type 0) (bad : (n : ℕ) → P (re
       by-model l i (Unread n k) e = misread n k (sym e)
       by-model l i (Good m) e = by-count (counted vad noise denoise m) (done3 share index spectrum logs model m) (by-sound m e l i (soundOf (energy (get keptEx share))))
 
-  pub call4-by : (inverse : List Float) (out : ℕ) → (length share ≡ SHARE → P (done4 share inverse)) → P (call4 share inverse out)
+  pub call4-by : (frame heard : ℕ) (inverse : List Float) (out : ℕ) → (length share ≡ SHARE → P (done4 share frame heard inverse))
+      → P (call4 share frame heard inverse out)
   unfolding call4
-  call4-by inverse out h =
-      by-table ((length share, SHARE) ∷ (length inverse, 960) ∷ (out, 480) ∷ []) [] (done4 share inverse) (λ r _. h (r .0))
+  call4-by frame heard inverse out h =
+      by-table ((length share, SHARE) ∷ (length inverse, 960) ∷ (out, 480) ∷ []) [] (done4 share frame heard inverse) (λ r _. h (r .0))

@@ -37,9 +37,10 @@ module _ (share : List Float) (whole : length share ≡ SHARE) where
   unfolding call3
   call3-done index vad noise denoise spectrum logs model out a b d h = simp (eq-eqb _ _ whole, eq-eqb _ _ a, eq-eqb _ _ b, eq-eqb _ _ d, le-ltb 7 index h)
 
-  pub call4-done : (inverse : List Float) (out : ℕ) → length inverse ≡ 960 → out ≡ 480 → call4 share inverse out ≡ done4 share inverse
+  pub call4-done : (frame heard : ℕ) (inverse : List Float) (out : ℕ) → length inverse ≡ 960 → out ≡ 480
+      → call4 share frame heard inverse out ≡ done4 share frame heard inverse
   unfolding call4
-  call4-done inverse out a b = simp (eq-eqb _ _ whole, eq-eqb _ _ a, eq-eqb _ _ b)
+  call4-done frame heard inverse out a b = simp (eq-eqb _ _ whole, eq-eqb _ _ a, eq-eqb _ _ b)
 
 or-true : (a : Bool) → (a || true) ≡ true
 or-true true = refl

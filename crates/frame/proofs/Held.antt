@@ -34,6 +34,7 @@ abbrev pub isHeard : Reply → Bool
 isHeard (told.Heard v e) = true
 isHeard told.Done = false
 isHeard told.Silent = false
+isHeard (told.Numbered f h) = false
 isHeard (told.Refused n) = false
 isHeard (told.Misread n l) = false
 
@@ -90,7 +91,7 @@ module _ (share : List Float) where
       (λ n l _. same (refusal (told.Misread n l) share) refl refl) (same (silent share) refl refl)
       (λ e m good whole inside. spoken-holds e index spectrum logs model m good whole inside)
 
-  pub call4-holds : (inverse : List Float) (out : ℕ) → Holds share (call4 share inverse out)
-  call4-holds inverse out =
-      call4-by share (Holds share) bad inverse out
-      (λ whole. same (done4 share inverse) refl (done4-beside lastg share inverse (inl (omega arith), tt) whole .same))
+  pub call4-holds : (frame heard : ℕ) (inverse : List Float) (out : ℕ) → Holds share (call4 share frame heard inverse out)
+  call4-holds frame heard inverse out =
+      call4-by share (Holds share) bad frame heard inverse out
+      (λ whole. same (done4 share frame heard inverse) refl (done4-beside lastg share frame heard inverse (inl (omega arith), tt) whole .same))

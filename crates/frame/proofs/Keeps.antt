@@ -55,7 +55,7 @@ module _ (share : List Float) where
       (done3-beside end share index spectrum logs model m
       (inl (omega arith), (inl (omega arith), (inl (omega arith), (inl (omega arith), (inl (omega arith), tt))))) good whole inside))
 
-  pub call4-keeps : (inverse : List Float) (out : ℕ) → Keeps share (call4 share inverse out)
-  call4-keeps inverse out =
-      call4-by share (Keeps share) bad inverse out
-      (λ whole. moved (done4 share inverse) refl whole (done4-beside end share inverse (inl (omega arith), tt) whole))
+  pub call4-keeps : (frame heard : ℕ) (inverse : List Float) (out : ℕ) → Keeps share (call4 share frame heard inverse out)
+  call4-keeps frame heard inverse out =
+      call4-by share (Keeps share) bad frame heard inverse out
+      (λ whole. moved (done4 share frame heard inverse) refl whole (done4-beside end share frame heard inverse (inl (omega arith), tt) whole))

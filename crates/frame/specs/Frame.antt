@@ -22,12 +22,12 @@ use Rattle.model.specs.declared.Reading.the-variants.{Good, Refused as Unread}
 use Rattle.features.specs.Silence.{energy, soundOf}
 use Rattle.features.specs.declared.Sound.{Sound}
 use Rattle.features.specs.declared.Sound.the-variants.{Silent as Quiet, Heard as Loud, Refused as Unfit}
-use Rattle.frame.specs.Reply.{left}
+use Rattle.frame.specs.Reply.{left, oneMore}
 pub use Rattle.frame.specs.Share.{SHARE}
 use Rattle.frame.specs.Share.{inputMem, synthesisMem, keptX, keptEx, keptLag, memHpX}
 use Rattle.frame.specs.Heard.{scaled, energies, Spoken, spoken}
 use Rattle.frame.specs.declared.Reply.{Reply}
-use Rattle.frame.specs.declared.Reply.the-variants.{Done, Silent, Heard, Refused, Misread}
+use Rattle.frame.specs.declared.Reply.the-variants.{Done, Silent, Heard, Numbered, Refused, Misread}
 
 -- ---- what a call gives
 
@@ -152,12 +152,17 @@ overlapped buf mem = tab 480 (λ i. at buf i ⊕ at mem i)
 unfoldable pub secondHalf : List Float → List Float
 secondHalf buf = tab 480 (λ i. at buf (480 + i))
 
-abbrev pub done4 : List Float → List Float → Effect
-done4 share inverse =
+-- the numbers of frames and of heard frames are answered as they then stand: request 07
+abbrev pub done4 : List Float → ℕ → ℕ → List Float → Effect
+done4 share frame heard inverse =
     let buf = windowBuf inverse in
-    record { reply = Done; share = put synthesisMem share (secondHalf buf); written = overlapped buf (get synthesisMem share) ∷ [] }
+    record {
+      reply = Numbered (oneMore frame) heard;
+      share = put synthesisMem share (secondHalf buf);
+      written = overlapped buf (get synthesisMem share) ∷ [];
+    }
 
-unfoldable pub call4 : List Float → List Float → ℕ → Effect
-call4 share inverse out =
+unfoldable pub call4 : List Float → ℕ → ℕ → List Float → ℕ → Effect
+call4 share frame heard inverse out =
     unless (5 when wrong ((length share, SHARE) ∷ (length inverse, 960) ∷ (out, 480) ∷ []) ∷ []) share
-    (done4 share inverse)
+    (done4 share frame heard inverse)

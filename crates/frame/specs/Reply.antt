@@ -1,17 +1,24 @@
 -- What the replies mean.
+use Prim.Native.Nat.{ℕ, _+_}
 use mathlib.Core.Bool.{Bool, true, false, cond}
 use mathlib.Core.List.{List}
+use lib.Dec.{ltb}
 use lib.Ieee.{Float}
 use Rattle.frame.specs.declared.Reply.{Reply}
-use Rattle.frame.specs.declared.Reply.the-variants.{Done, Silent, Heard, Refused, Misread}
+use Rattle.frame.specs.declared.Reply.the-variants.{Done, Silent, Heard, Numbered, Refused, Misread}
 
 -- whether a reply is no refusal
 abbrev pub passed : Reply → Bool
 passed Done = true
 passed Silent = true
 passed (Heard v e) = true
+passed (Numbered f h) = true
 passed (Refused n) = false
 passed (Misread n l) = false
+
+-- frames and heard frames are counted so: 0 after 4,294,967,295
+abbrev pub oneMore : ℕ → ℕ
+oneMore number = cond (ltb number 4294967295) (number + 1) 0
 
 -- what the answer buffers hold afterwards, in order: what the call wrote, or, refused, what they held
 abbrev pub left : Reply → List (List Float) → List (List Float) → List (List Float)

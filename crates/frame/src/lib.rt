@@ -3,7 +3,7 @@ ghost use mathlib.Core.Path.{_≡_};
 ghost use mathlib.Core.List.{[], _∷_};
 ghost use lib.ListN.{length};
 ghost use Rattle.frame.specs.Frame.{Worked, call1, call2, call3, call4};
-ghost use Rattle.frame.specs.Reply.{passed};
+ghost use Rattle.frame.specs.Reply.{passed, oneMore};
 
 mod heard;
 mod input;
@@ -12,12 +12,13 @@ mod output;
 
 use numbers::Memory;
 
-// What a call is told: done, or for call 3 silent or heard with voice and energy; refused with a number, or with 7 and the model's
-// number and layer.
+// What a call is told: done, for call 3 silent or heard with voice and energy, for call 4 the frames and the heard frames so far;
+// refused with a number, or with 7 and the model's number and layer.
 pub enum Reply {
     Done,
     Silent,
     Heard(f32, f32),
+    Numbered(u32, u32),
     Refused(u32),
     Misread(u32, u32),
 }
@@ -30,6 +31,7 @@ pub fn passed(reply: Reply) -> bool
         Reply::Done => true,
         Reply::Silent => true,
         Reply::Heard(_, _) => true,
+        Reply::Numbered(_, _) => true,
         Reply::Refused(_) => false,
         Reply::Misread(_, _) => false,
     }
@@ -39,6 +41,16 @@ pub fn passed(reply: Reply) -> bool
 pub struct Lag(pub usize);
 
 pub const SHARE: usize = 6144;
+
+// One more, and 0 after the last number.
+pub fn one_more(number: u32) -> u32
+    ensures { λ r. ⌜ r ≡ oneMore number ⌝ }
+{
+    if number < 4294967295 {
+        return number + 1;
+    }
+    0
+}
 
 // Call 1: 480 samples in, none of them broken, 960 windowed numbers written.
 pub fn call1(share: &mut [f32], samples: &[f32], window: &mut [f32]) -> Reply
@@ -141,9 +153,10 @@ pub fn call3(
     heard::listen(share, out, index, spectrum, logs, model)
 }
 
-// Call 4: 960 inverse samples in, 480 numbers written.
-pub fn call4(share: &mut [f32], inverse: &[f32], out: &mut [f32]) -> Reply
-    ensures { λ r. ⌜ Worked (call4 (now (share .entry)) (now (inverse .entry)) (length (now (out .entry))))
+// Call 4: 960 inverse samples in, 480 numbers written. Of the record it is told how many frames and heard frames there were; it
+// answers with both as they then stand.
+pub fn call4(share: &mut [f32], frame: u32, heard: u32, inverse: &[f32], out: &mut [f32]) -> Reply
+    ensures { λ r. ⌜ Worked (call4 (now (share .entry)) frame heard (now (inverse .entry)) (length (now (out .entry))))
         r (now (share .exit)) (now (out .entry) ∷ []) (now (out .exit) ∷ []) ⌝ }
 {
     if share.len() != SHARE {
@@ -156,5 +169,5 @@ pub fn call4(share: &mut [f32], inverse: &[f32], out: &mut [f32]) -> Reply
         return Reply::Refused(5);
     }
     output::synthesise(&mut share[1728..2208], inverse, out);
-    Reply::Done
+    Reply::Numbered(one_more(frame), heard)
 }

@@ -1,3 +1,4 @@
 pub mod Hosts
 pub mod Isolated
 pub mod Memories
+pub mod Numberings

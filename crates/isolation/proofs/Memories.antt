@@ -26,15 +26,16 @@ use Rattle.frame.specs.Reply.{passed}
 use Rattle.frame.specs.Share.{SHARE, lastg, cepstralMem, vadState, noiseState, denoiseState}
 use Rattle.frame.specs.Frame.{Effect, refusal}
 use Rattle.frame.specs.declared.Reply.{Reply}
-use Rattle.frame.specs.declared.Reply.the-variants.{Done, Silent, Heard, Refused, Misread}
+use Rattle.frame.specs.declared.Reply.the-variants.{Done, Silent, Heard, Numbered, Refused, Misread}
 use Rattle.frame.proofs.Beside.{done1-beside, done2-beside, done4-beside}
 use Rattle.frame.proofs.Cases.{call1-by, call2-by, call3-by, call4-by}
 use Rattle.frame.proofs.Held.{gainOf, isHeard, Holds, call1-holds, call2-holds, call3-holds, call4-holds}
 use Rattle.frame.proofs.Truth.{false-true}
+use Rattle.halves.proofs.Sister.{call2-own-by, call2-own-holds}
 use Rattle.desk.specs.declared.Answer.{Answer}
 use Rattle.desk.specs.declared.Record.{Record}
 use Rattle.desk.specs.Gate.{shareOf, gate}
-use Rattle.desk.specs.Desk.{Ask, opening, call1, call2, call3, call4, callOf, closed, advanced, answered, opened, onShare, Given, desk}
+use Rattle.desk.specs.Desk.{Ask, opening, call1, call2, call2Own, call3, call4, callOf, closed, advanced, answered, opened, onShare, Given, desk}
 use Rattle.desk.proofs.Apart.{givenOf, one-bench, its-own, own-share, other-share, same-length, anew}
 use Rattle.isolation.specs.Run.{Call, openingOf, State, given, after, ended}
 use Rattle.isolation.specs.Memory.{SilentLeaves, Since, NeverNan, HeardHolds}
@@ -59,16 +60,19 @@ module _ (b : Record) (share : List Float) (q : Place) (back : 3194 ≤ q .at) w
       call1-by share (Leaves q share) bad x w (λ whole l _. done1-beside q share x (inl (omega arith), (inl (omega arith), tt)) whole l .same)
   frame-leaves (call2 x l w s) ne =
       call2-by share (Leaves q share) bad x l w s (λ whole _. done2-beside q share x l (inl (omega arith), (inl (omega arith), (inl (omega arith), tt))) whole .same)
+  frame-leaves (call2Own x w s) ne =
+      call2-own-by share (Leaves q share) bad x w s (λ whole _. done2-beside q share x _ (inl (omega arith), (inl (omega arith), (inl (omega arith), tt))) whole .same)
   frame-leaves (call3 x l m o) ne =
       call3-by share (Leaves q share) bad (b .index) (b .vad) (b .noise) (b .denoise) x l m o (λ _ _ _ _. refl) (λ _. refl) (λ e m _ _ _ u. absurd (u _ e refl))
   frame-leaves (call4 x o) ne =
-      call4-by share (Leaves q share) bad x o (λ whole _. done4-beside q share x (inl (omega arith), tt) whole .same)
+      call4-by share (Leaves q share) bad (b .frame) (b .heard) x o (λ whole _. done4-beside q share (b .frame) (b .heard) x (inl (omega arith), tt) whole .same)
 
 -- of a record, after a frame call that is not heard: the index
 index-kept : (b : Record) (p : Bool) (r : Reply) → Unheard r → cond p (advanced b r) b .index ≡ b .index
 index-kept b false r u = refl
 index-kept b true Done u = refl
 index-kept b true Silent u = refl
+index-kept b true (Numbered f h) u = refl
 index-kept b true (Heard v e) u = absurd (u v e refl)
 index-kept b true (Refused n) u = refl
 index-kept b true (Misread n l) u = refl
@@ -77,6 +81,7 @@ record-kept : (b : Record) (ask : Ask) (r : Reply) → (callOf ask ≡ 0 → ⊥
 record-kept b (opening m) r ne u = absurd (ne refl)
 record-kept b (call1 x w) r ne u = index-kept b (passed r) r u
 record-kept b (call2 x l w s) r ne u = index-kept b (passed r) r u
+record-kept b (call2Own x w s) r ne u = index-kept b (passed r) r u
 record-kept b (call3 x l m o) r ne u = index-kept b (passed r) r u
 record-kept b (call4 x o) r ne u = index-kept b (passed r) r u
 
@@ -105,8 +110,9 @@ every-holds : (b : Record) (share : List Float) (ask : Ask) → Holds share (onS
 every-holds b share (opening m) = opened-holds share (readOf m)
 every-holds b share (call1 x w) = call1-holds share x w
 every-holds b share (call2 x l w s) = call2-holds share x l w s
+every-holds b share (call2Own x w s) = call2-own-holds share x w s
 every-holds b share (call3 x l m o) = call3-holds share (b .index) (b .vad) (b .noise) (b .denoise) x l m o
-every-holds b share (call4 x o) = call4-holds share x o
+every-holds b share (call4 x o) = call4-holds share (b .frame) (b .heard) x o
 
 -- ---- the same of a desk of one bench
 

@@ -45,8 +45,8 @@ unfoldable pub ended : ℕ → State → List Call → State
 ended n st [] = st
 ended n st (c ∷ cs) = ended n (after n st c) cs
 
--- what the side of a call receives: the answer, that is the reply (done, silent, heard with voice and energy, or a refusal's number, with
--- 7 the model's number and layer) and the record; and every number of every buffer that was lent to the call. A refused call leaves the
+-- what the side of a call receives: the answer, that is the reply (done, silent, heard with voice and energy, the numbers of frames, or a
+-- refusal's number, with 7 the model's number and layer) and the record; and every number of every buffer that was lent to the call. A refused call leaves the
 -- buffers as they were held: what it receives is the answer alone.
 pub record Received : Type 0 where
   pub answer : Answer

@@ -13,40 +13,17 @@ use Rattle.rules.specs.Loop.{loop}
 use Rattle.rules.specs.Tab.{tab}
 use Rattle.rules.proofs.Loops.{more}
 use Rattle.rules.proofs.Lengths.{same-length}
-use Rattle.rules.proofs.Tabs.{length-tab, getD-tab, tab-four-more}
+use Rattle.rules.proofs.Fused.{behind}
+use Rattle.rules.proofs.Tabs.{length-tab, getD-tab, tab-same, tab-four-more}
 use Rattle.matrix.specs.Sums.{ofByte, columnStep, addColumn, mulStep, mulAdd, MulAddFits}
 use Rattle.matrix.specs.Parts.{addedAt, plusFour, plusSixteen, sixteenSums, fourAt, sixteenAt, neuron, spot, storeFour}
 use Rattle.matrix.specs.declared.lanes.Sixteen.{Sixteen}
 use Rattle.matrix.proofs.Columns.{byte-of}
 use Rattle.matrix.proofs.Lengths.{length-addColumn, length-mulAdd}
 
--- ---- a loop over places, at one of them
-module _ (f : ℕ → Float → Float) where
-  abbrev turn : ℕ → List Float → List Float
-  turn j s = set s j (f j (at s j))
-
-  as-long : (n : ℕ) (s : List Float) → length (loop n turn s) ≡ length s
-  as-long n s = same-length turn (λ i t. simp length-set) n s
-
-  ahead : (n k : ℕ) (s : List Float) → n ≤ k → at (loop n turn s) k ≡ at s k
-  unfolding loop
-  ahead zero k s h = refl
-  ahead (suc n) k s h = getD-set-other (loop n turn s) n k (f n (at (loop n turn s) n)) nan (λ e. omega arith) ∙ ahead n k s (omega arith)
-
-  behind : (n k : ℕ) (s : List Float) → k < n → n ≤ length s → at (loop n turn s) k ≡ f k (at s k)
-  unfolding loop
-  behind zero k s h r = absurd (omega arith)
-  behind (suc n) k s h r = ⊎-elim here (λ b. there b (behind n k s b (omega arith))) (eq-or-lt-of-le (le-of-suc-le-suc h))
-    where
-      here : k ≡ n → at (loop (suc n) turn s) k ≡ f k (at s k)
-      here e = rw e (getD-set-same (loop n turn s) n (f n (at (loop n turn s) n)) nan (rw (as-long n s) (omega arith)) ∙ ap (f n) (ahead n n s (omega arith)))
-
-      there : k < n → at (loop n turn s) k ≡ f k (at s k) → at (loop (suc n) turn s) k ≡ f k (at s k)
-      there b e = getD-set-other (loop n turn s) n k (f n (at (loop n turn s) n)) nan (λ q. omega arith) ∙ e
-
 -- ---- the columns, at one place
 at-addColumn : (out : List Float) (col : List ℕ) (x : Float) (j : ℕ) → j < length out → at (addColumn out col x) j ≡ at out j ⊕ ofByte (getD col j 0) ⊗ x
-at-addColumn out col x j h = behind (λ k a. a ⊕ ofByte (getD col k 0) ⊗ x) (length out) j out h (omega arith)
+at-addColumn out col x j h = behind nan (λ k a. a ⊕ ofByte (getD col k 0) ⊗ x) (length out) j out h (omega arith)
 
 module _ (weights : List ℕ) (stride offset : ℕ) (input out : List Float) where
   columns-long : (n : ℕ) → length (loop n (mulStep weights stride offset input) out) ≡ length out
@@ -119,11 +96,6 @@ pub four-stored : (f : ℕ → Float) (d m : List Float) (i : ℕ) {v w x y : Fl
     → next ≡ storeFour m i v w x y → v ≡ f i → w ≡ f (i + 1) → x ≡ f (i + 2) → y ≡ f (i + 3) → next ≡ tab (i + 4) f ++ drop (i + 4) d
 unfolding storeFour
 four-stored f d m i now room e p q r s = e ∙ tab-four-more f d m i now p q r s room
-
-pub tab-same : {A : Type 0} (n : ℕ) (f g : ℕ → A) → ((i : ℕ) → i < n → f i ≡ g i) → tab n f ≡ tab n g
-unfolding tab
-tab-same zero f g h = refl
-tab-same (suc n) f g h = rw (tab-same n f g (λ i b. h i (omega arith)), h n (omega arith))
 
 -- sixteen in order again
 pub block-ordered : (kept out now : List Float) (a : ℕ) {m₁ m₂ m₃ m₄ : List Float} → a % 16 ≡ 0 → a + 16 ≤ length out → now ≡ tab a (λ j. at kept (spot j)) ++ drop a out

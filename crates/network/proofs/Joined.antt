@@ -1,27 +1,28 @@
 -- The parts of a layer, put together: from what each call leaves to the layer's definition. Assumes nothing.
 use mathlib.Core.Path.{_≡_, ap, _∙_}
-use mathlib.Core.List.{List, _++_}
+use mathlib.Core.List.{List, _++_, map}
 use Prim.Native.Nat.{ℕ, _+_, _*_, _≤_}
 use native.Mathlib.Omega.{arith}
 use lib.ListN.{length, take, drop}
 use lib.Ieee.{Float}
 use Rattle.rules.specs.Loop.{loop}
-use Rattle.rules.specs.F32.{part}
+use Rattle.rules.specs.F32.{part, _⊗_}
 use Rattle.rules.proofs.Called.{left}
 use Rattle.matrix.specs.Sums.{mulAdd, MulAddFits, MulAdd}
-use Rattle.network.specs.Layers.{copied, activateStep, denseOf, gateSums, updateStep, resetStep, blendStep, gruOf, DenseArrays, GruArrays}
+use Rattle.network.specs.Layers.{weightsScale, copied, activated, denseOf, gateSums, updateStep, resetStep, blendStep, gruOf, DenseArrays, GruArrays}
 use Rattle.network.specs.Parts.{GateFits}
 use Rattle.network.specs.Compute.{Frame, denseAt, gruAt, frameOf, sixLayers, layersInPlace}
 use Rattle.model.specs.declared.Activation.{Activation}
 use Rattle.model.specs.declared.Model.{Model}
+use Rattle.network.proofs.Listed.{activated-all}
 
 pub dense-joined : (weights bias : List ℕ) (activation : Activation) (input : List Float) {n k : ℕ} {a b r : List Float}
     → DenseArrays n (length weights) (length bias) (length input) → a ≡ copied bias → length a ≡ n → MulAdd a weights n 0 input k b → length b ≡ length a
-    → r ≡ loop (length b) (activateStep activation) b → r ≡ denseOf weights bias activation input
+    → r ≡ map (λ x. activated activation (weightsScale ⊗ x)) b → r ≡ denseOf weights bias activation input
 unfolding denseOf
 dense-joined weights bias activation input {n} {k} {a} {b} arrays e la add lb e′ =
     let fits : MulAddFits (length a) (length weights) n 0 (length input) = record { rows = omega arith; columns = arrays .weighted } in
-    e′ ∙ rw (lb ∙ la, left add fits, e, arrays .biased)
+    e′ ∙ activated-all activation b ∙ rw (lb ∙ la, left add fits, e, arrays .biased)
 
 pub sums-joined : (weights recurrent bias : List ℕ) (input state : List Float) (n offset : ℕ) {k l : ℕ} {a b r : List Float}
     → GateFits n (length weights) (length recurrent) (length bias) offset (length input) (length state) → a ≡ copied (part offset (offset + n) bias) → length a ≡ n

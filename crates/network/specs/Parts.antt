@@ -1,11 +1,23 @@
--- What the private functions ask for.
+-- What the private functions promise and ask for.
 use mathlib.Core.Path.{_≡_}
+use mathlib.Core.List.{List}
 use Prim.Native.Nat.{ℕ, _+_, _*_, _≤_}
+use lib.ListN.{set}
+use lib.Ieee.{Float}
+use Rattle.rules.specs.F32.{one, at, _⊕_, _⊖_, _⊗_}
 use Rattle.model.specs.Parts.{LiesIn}
 use Rattle.model.specs.declared.Kind.{Kind}
 use Rattle.model.specs.declared.Kind.the-variants.{Dense, Gru}
 use Rattle.model.specs.declared.Header.{Header}
 use Rattle.model.specs.declared.Model.{Model}
+
+-- *r = s * *r
+abbrev pub timesStep : List Float → ℕ → List Float → List Float
+timesStep state j r = set r j (at state j ⊗ at r j)
+
+-- *s = z * *s + (1.0 - z) * new
+abbrev pub mixStep : List Float → List Float → ℕ → List Float → List Float
+mixStep z new j state = set state j (at z j ⊗ at state j ⊕ (one ⊖ at z j) ⊗ at new j)
 
 -- the sums of one gate, over `state` or over the reset gates
 pub record GateFits (out weights recurrent bias offset input state : ℕ) : Type 0 where

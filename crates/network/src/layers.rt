@@ -1,12 +1,14 @@
 // The layers for lengths that fit. The table of the activations is lent, so that a frame takes it once.
 ghost use mathlib.Core.Path.{_≡_};
+ghost use mathlib.Core.List.{map};
 ghost use Prim.Native.Nat.{_+_, _*_, _≤_};
 ghost use lib.ListN.{length};
+ghost use Rattle.rules.specs.F32.{_⊗_};
 ghost use Rattle.rules.specs.Loop.{loop};
 ghost use Rattle.numbers.specs.Tansig.{tansig};
-ghost use Rattle.network.specs.Layers.{copied, activated, activateStep, updateStep, resetStep, blendStep, gateSums};
+ghost use Rattle.network.specs.Layers.{weightsScale, copied, activated, updateStep, resetStep, blendStep, gateSums};
 ghost use Rattle.network.specs.Layers.{denseOf, DenseArrays, gruOf, GruArrays};
-ghost use Rattle.network.specs.Parts.{GateFits, ScratchFits};
+ghost use Rattle.network.specs.Parts.{timesStep, mixStep, GateFits, ScratchFits};
 use model::Activation;
 
 const WEIGHTS_SCALE: f32 = 1.0 / 256.0;
@@ -21,23 +23,24 @@ fn copy_weights(out: &mut [f32], bytes: &[u8])
     }
 }
 
-fn activate(table: &[f32; 201], activation: Activation, x: f32) -> f32
-    requires { ⌜ now table ≡ tansig ⌝ }
-    ensures { λ r. ⌜ r ≡ activated activation x ⌝ }
+fn scale(xs: &mut [f32])
+    ensures { λ _. ⌜ now (xs .exit) ≡ map (λ x. weightsScale ⊗ x) (now (xs .entry)) ⌝ }
 {
-    match activation {
-        Activation::Tanh => numbers::tansig_in(table, x),
-        Activation::Sigmoid => numbers::sigmoid_in(table, x),
-        Activation::Relu => numbers::relu(x),
+    for j in 0..xs.len() {
+        xs[j] = WEIGHTS_SCALE * xs[j];
     }
 }
 
-fn activate_all(out: &mut [f32], table: &[f32; 201], activation: Activation)
+// What the activation makes of the sums.
+fn activate(sums: &mut [f32], table: &[f32; 201], activation: Activation)
     requires { ⌜ now table ≡ tansig ⌝ }
-    ensures { λ _. ⌜ now (out .exit) ≡ loop (length (now (out .entry))) (activateStep activation) (now (out .entry)) ⌝ }
+    ensures { λ _. ⌜ now (sums .exit) ≡ map (λ x. activated activation (weightsScale ⊗ x)) (now (sums .entry)) ⌝ }
 {
-    for j in 0..out.len() {
-        out[j] = activate(table, activation, out[j] * WEIGHTS_SCALE);
+    scale(sums);
+    match activation {
+        Activation::Tanh => numbers::lists::tansigs(sums, table),
+        Activation::Sigmoid => numbers::lists::sigmoids(sums, table),
+        Activation::Relu => numbers::lists::relus(sums),
     }
 }
 
@@ -56,16 +59,25 @@ pub(crate) fn dense(
     let n = output.len();
     copy_weights(output, bias);
     matrix::mul_add_at(weights, n, 0, output, input);
-    activate_all(output, table, activation);
+    activate(output, table, activation);
 }
 
-// Sums to update gates.
-fn update(z: &mut [f32], table: &[f32; 201])
+// Sums to gates.
+fn update(gates: &mut [f32], table: &[f32; 201])
     requires { ⌜ now table ≡ tansig ⌝ }
-    ensures { λ _. ⌜ now (z .exit) ≡ loop (length (now (z .entry))) updateStep (now (z .entry)) ⌝ }
+    ensures { λ _. ⌜ now (gates .exit) ≡ loop (length (now (gates .entry))) updateStep (now (gates .entry)) ⌝ }
 {
-    for j in 0..z.len() {
-        z[j] = numbers::sigmoid_in(table, WEIGHTS_SCALE * z[j]);
+    scale(gates);
+    numbers::lists::sigmoids(gates, table);
+}
+
+// Each reset gate times the old state.
+fn times(gates: &mut [f32], state: &[f32])
+    requires { ⌜ length (now gates) ≡ length (now state) ⌝ }
+    ensures { λ _. ⌜ now (gates .exit) ≡ loop (length (now (gates .entry))) (timesStep (now (state .entry))) (now (gates .entry)) ⌝ }
+{
+    for j in 0..gates.len() {
+        gates[j] = state[j] * gates[j];
     }
 }
 
@@ -74,22 +86,29 @@ fn reset(r: &mut [f32], state: &[f32], table: &[f32; 201])
     requires { ⌜ (length (now r) ≡ length (now state)) × (now table ≡ tansig) ⌝ }
     ensures { λ _. ⌜ now (r .exit) ≡ loop (length (now (r .entry))) (resetStep (now (state .entry))) (now (r .entry)) ⌝ }
 {
-    for j in 0..r.len() {
-        r[j] = state[j] * numbers::sigmoid_in(table, WEIGHTS_SCALE * r[j]);
+    update(r, table);
+    times(r, state);
+}
+
+// The new state, from the update gates and the candidates.
+fn mix(state: &mut [f32], z: &[f32], new: &[f32])
+    requires { ⌜ (length (now z) ≡ length (now state)) × (length (now new) ≡ length (now state)) ⌝ }
+    ensures { λ _. ⌜ now (state .exit) ≡ loop (length (now (state .entry))) (mixStep (now (z .entry)) (now (new .entry))) (now (state .entry)) ⌝ }
+{
+    for j in 0..state.len() {
+        let keep = z[j];
+        state[j] = keep * state[j] + (1.0 - keep) * new[j];
     }
 }
 
-// The new state, from the update gates and the candidates' sums.
-fn blend(state: &mut [f32], z: &[f32], h: &[f32], activation: Activation, table: &[f32; 201])
+// The new state, from the update gates and the candidates' sums, which become the candidates.
+fn blend(state: &mut [f32], z: &[f32], h: &mut [f32], activation: Activation, table: &[f32; 201])
     requires { ⌜ (length (now z) ≡ length (now state)) × (length (now h) ≡ length (now state)) × (now table ≡ tansig) ⌝ }
     ensures { λ _. ⌜ now (state .exit) ≡ loop (length (now (state .entry))) (blendStep activation (now (z .entry)) (now (h .entry)))
         (now (state .entry)) ⌝ }
 {
-    for j in 0..state.len() {
-        let keep = z[j];
-        let new = activate(table, activation, WEIGHTS_SCALE * h[j]);
-        state[j] = keep * state[j] + (1.0 - keep) * new;
-    }
+    activate(h, table, activation);
+    mix(state, z, &h[..]);
 }
 
 // The sums of one gate, at this offset: bias, inputs, recurrent.
@@ -141,7 +160,7 @@ pub(crate) fn gru(
     gate_sums(r, weights, recurrent, bias, n, input, &state[..]);
     reset(r, &state[..], table);
     gate_sums(h, weights, recurrent, bias, last, input, &r[..]);
-    blend(state, &z[..], &h[..], activation, table);
+    blend(state, &z[..], h, activation, table);
 }
 
 // A GRU layer over scratch of its own.

@@ -15,3 +15,4 @@ pub mod Rooted
 pub mod Special
 pub mod Squares
 pub mod UpToEight
+pub mod Widened

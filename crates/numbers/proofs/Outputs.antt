@@ -5,7 +5,8 @@ use Prim.Native.Nat.{ℕ, zero, suc, _+_, _≤_, _<_}
 use native.Mathlib.Numerals.{add-one}
 use native.Mathlib.Omega.{arith}
 use lib.ListN.{length, set, drop, length-append, drop-of-length-le}
-use lib.Ieee.{Float}
+use lib.Dec.{T}
+use lib.Ieee.{Float, binary32, binary64, fits, add, sub, mul}
 use Rattle.rules.specs.F32.{at}
 use Rattle.rules.specs.Leaf.{Leaf, _leaving_}
 use Rattle.rules.specs.Loop.{loop}
@@ -14,7 +15,14 @@ use Rattle.rules.proofs.Tabs.{front-more}
 use Rattle.numbers.specs.declared.filter.Biquad.{Biquad}
 use Rattle.numbers.specs.declared.filter.Memory.{Memory}
 use Rattle.numbers.specs.declared.filter.Filtered.{Filtered}
+use Rattle.numbers.specs.Narrowed.{narrowed}
 use Rattle.numbers.specs.Filter.{filterStep, filtered, memoryAfter, outputs, answer}
+use Rattle.numbers.proofs.Widened.{narrowed-fits, narrowed-held}
+
+-- each number of a memory is an `f32`, at all times
+pub record Held (mem : Memory) : Type 0 where
+  pub first : T (fits binary32 (mem .m0))
+  pub second : T (fits binary32 (mem .m1))
 
 module _ (k : Biquad) (mem : Memory) (input : List Float) where
   -- the memories and the outputs of i samples
@@ -47,11 +55,29 @@ module _ (k : Biquad) (mem : Memory) (input : List Float) where
         front = rw (add-one i) (rw (add-one i) at (stored ∙ ap (λ (t : List Float). (after i .1 ++ t) ++ drop (i + 1) d) new));
       }
 
-  pub filter-ended : (d : List Float) (i : ℕ) {kept : Memory} {now : List Float} → Filtering d i kept now → i ≡ length input → length d ≤ i
-      → (kept ≡ memoryAfter k mem input) × (now ≡ outputs k mem input)
+  filter-held : Held mem → (n : ℕ) → Held (after n .0)
+  unfolding loop filterStep
+  filter-held h zero = h
+  filter-held h (suc n) =
+      let x = at input n in
+      let y = add binary64 x (after n .0 .m0) in
+      record {
+        first = narrowed-fits (add binary64 (after n .0 .m1) (sub binary64 (mul binary64 (k .b0) x) (mul binary64 (k .a0) y)));
+        second = narrowed-fits (sub binary64 (mul binary64 (k .b1) x) (mul binary64 (k .a1) y));
+      }
+
+  -- so what is kept of it as an `f64` is narrowed to itself
+  pub filter-ended : (d : List Float) (i : ℕ) {kept left : Memory} {now : List Float} → Filtering d i kept now → i ≡ length input → length d ≤ i
+      → Held mem → left .m0 ≡ narrowed (kept .m0) → left .m1 ≡ narrowed (kept .m1)
+      → (left ≡ memoryAfter k mem input) × (now ≡ outputs k mem input)
   unfolding filtered
-  filter-ended d i h e all =
-      (h .memory ∙ ap (λ (n : ℕ). after n .0) e, h .front ∙ rw (drop-of-length-le d all, append-nil (after i .1), e))
+  filter-ended d i {left = left} h e all start l₀ l₁ =
+      let last = after (length input) .0 in
+      let same = h .memory ∙ ap (λ (n : ℕ). after n .0) e in
+      let held = filter-held start (length input) in
+      let a : left .m0 ≡ last .m0 = l₀ ∙ ap (λ (m : Memory). narrowed (m .m0)) same ∙ narrowed-held (last .m0) (held .first) in
+      let b : left .m1 ≡ last .m1 = l₁ ∙ ap (λ (m : Memory). narrowed (m .m1)) same ∙ narrowed-held (last .m1) (held .second) in
+      ((λ i. record { m0 = a i; m1 = b i }), h .front ∙ rw (drop-of-length-le d all, append-nil (after i .1), e))
 
   pub length-outputs : length (outputs k mem input) ≡ length input
   unfolding filtered

@@ -8,6 +8,8 @@ use lib.Ieee.{Float, nan, inf, fin, Format, binary32, binary64, up, down, neg, l
 use Rattle.rules.specs.F32.{f32, one, at, _⊖_, _⊗_}
 use Rattle.numbers.specs.Activations.{eight, magnitude, signOf, place, curve}
 use Rattle.numbers.specs.Narrowed.{narrowed}
+use Rattle.numbers.specs.declared.filter.Kept.{Kept}
+use Rattle.numbers.specs.declared.filter.Memory.{Memory}
 
 -- neither a NaN nor an infinity, and from 0 to 8, -0 included: what `tansig_approx` looks up
 abbrev pub UpToEight : Float → Type 0
@@ -38,6 +40,10 @@ endedBy x inner = cond (isNan x) (f32 0) (cond (lt x eight) (cond (lt (neg eight
 abbrev pub followed : Float → Float → Float
 followed x y = endedBy x (signOf x ⊗ curve y (insideOf x ⊖ f32 0x3D23D70A ⊗ placeIn x))
 
+-- what the filter keeps within a call, as the memory that it is
+abbrev pub memoryIn : Kept → Memory
+memoryIn kept = record { m0 = kept .m0; m1 = kept .m1 }
+
 -- a sign's bit, and the pattern b of a magnitude
 abbrev pub withSign : Format → Bool → ℕ → ℕ
 withSign f s b = cond s (top f) 0 + b
@@ -46,10 +52,3 @@ withSign f s b = cond s (top f) 0 + b
 pub record Narrows (a r : ℕ) : Type 0 where
   pub small : r ≤ ones binary32 * hid binary32
   pub value : (s : Bool) → ofBits binary32 (withSign binary32 s r) ≡ narrowed (ofBits binary64 (withSign binary64 s a))
-
--- the root of n is at least `from`, and below from + gap
-pub record Spans (n from gap : ℕ) : Type 0 where
-  pub some : 0 < gap
-  pub few : gap ≤ 2 ^ 27
-  pub low : from * from ≤ n
-  pub high : n < (from + gap) * (from + gap)

@@ -1,9 +1,12 @@
 // The high-pass filter of util.rs. It works in `f64` and rounds what it stores.
 ghost use mathlib.Core.Path.{_≡_};
 ghost use mathlib.Core.List.{[], _∷_};
+ghost use lib.Dec.{T};
 ghost use lib.ListN.{length};
+ghost use lib.Ieee.{binary32, fits};
 ghost use Rattle.rules.specs.Leaf.{Leaf, _leaving_};
 ghost use Rattle.numbers.specs.Filter.{memoryAfter, outputs, answer};
+ghost use Rattle.numbers.specs.Parts.{memoryIn};
 
 // The coefficients of y[n] = x[n] + b0 * x[n-1] + b1 * x[n-2] - a0 * y[n-1] - a1 * y[n-2].
 pub struct Biquad {
@@ -25,9 +28,15 @@ pub struct Filtered {
     pub memory: Memory,
 }
 
+// A memory within a call, each number an `f32` still: so a turn waits for no conversion of what the turn before it kept.
+struct Kept {
+    m0: f64,
+    m1: f64,
+}
+
 // What a turn leaves.
 struct Turned {
-    memory: Memory,
+    kept: Kept,
     y: f32,
 }
 
@@ -49,30 +58,37 @@ impl Biquad {
         if output.len() != input.len() {
             return Filtered { number: 5, memory };
         }
-        let mut kept = memory;
+        let mut kept = Kept {
+            m0: wide(memory.m0),
+            m1: wide(memory.m1),
+        };
         for i in 0..input.len() {
             let turned = self.turn(kept, input[i]);
-            kept = turned.memory;
+            kept = turned.kept;
             output[i] = turned.y;
         }
         Filtered {
             number: 0,
-            memory: kept,
+            memory: Memory {
+                m0: crate::narrow(kept.m0),
+                m1: crate::narrow(kept.m1),
+            },
         }
     }
 
     // The filter over one sample. What is fed back is `y64`, before it is rounded.
-    fn turn(self, memory: Memory, x: f32) -> Turned
-        ensures { λ r. ⌜ (r .memory ≡ memoryAfter self memory (x ∷ [])) × (r .y ∷ [] ≡ outputs self memory (x ∷ [])) ⌝ }
+    fn turn(self, kept: Kept, x: f32) -> Turned
+        ensures { λ r. ⌜ (memoryIn (r .kept) ≡ memoryAfter self (memoryIn kept) (x ∷ []))
+            × (r .y ∷ [] ≡ outputs self (memoryIn kept) (x ∷ [])) ⌝ }
     {
         let x64 = wide(x);
-        let y64 = x64 + wide(memory.m0);
-        let m0 = wide(memory.m1) + (wide(self.b0) * x64 - wide(self.a0) * y64);
+        let y64 = x64 + kept.m0;
+        let m0 = kept.m1 + (wide(self.b0) * x64 - wide(self.a0) * y64);
         let m1 = wide(self.b1) * x64 - wide(self.a1) * y64;
         Turned {
-            memory: Memory {
-                m0: crate::narrow(m0),
-                m1: crate::narrow(m1),
+            kept: Kept {
+                m0: crate::shortened(m0),
+                m1: crate::shortened(m1),
             },
             y: crate::narrow(y64),
         }
@@ -81,7 +97,7 @@ impl Biquad {
 
 // `x as f64`, a NaN too.
 fn wide(x: f32) -> f64
-    ensures { λ r. ⌜ r ≡ x ⌝ }
+    ensures { λ r. ⌜ (r ≡ x) × T (fits binary32 r) ⌝ }
 {
     std::num::f32_to_f64_with_nan(x)
 }

@@ -1,21 +1,25 @@
 // The numbers of util.rs, and what the language leaves out of IEEE 754. Each function has a result for every input, and
 // its contract is an equation with a definition of `specs/`.
 //     max, min, clamp, relu            two numbers compared
-//     tansig_approx, sigmoid_approx    the activations; with `_in`, over a table that a loop takes once
+//     tansig_approx, sigmoid_approx    the activations
+//     lists                            the activations of each number of a list, over a table that is lent
 //     Biquad                           the high-pass filter, in filter.rt
 //     narrow, sqrt                     `x as f32` of an `f64`, and the square root, from the bits
 ghost use mathlib.Core.Path.{_≡_};
+ghost use mathlib.Core.Bool.{_||_};
 ghost use Prim.Native.Nat.{_*_, _^_, _<_, _≤_};
 ghost use lib.IntN.{pos};
-ghost use lib.Ieee.{binary32, ofInt};
+ghost use lib.Ieee.{binary32, lt, ofInt};
 ghost use lib.Ieee.Nearest.{closest};
+ghost use Rattle.rules.specs.F32.{f32};
 ghost use Rattle.numbers.specs.Narrowed.{narrowed};
 ghost use Rattle.numbers.specs.Root.{twiceRoot, root};
 ghost use Rattle.numbers.specs.Larger.{yields, larger, smaller, clamped, rectified};
-ghost use Rattle.numbers.specs.Activations.{magnitude, signOf, place, tansigIn, sigmoidIn, tansigApprox, sigmoidApprox};
-ghost use Rattle.numbers.specs.Parts.{UpToEight, overshoot, insideOf, placeIn, entryIn, endedBy, followed, Narrows, Spans};
+ghost use Rattle.numbers.specs.Activations.{magnitude, signOf, place, tansigIn, tansigApprox, sigmoidApprox};
+ghost use Rattle.numbers.specs.Parts.{UpToEight, overshoot, insideOf, placeIn, entryIn, endedBy, followed, Narrows};
 
 pub mod filter;
+pub mod lists;
 pub mod table;
 
 pub use filter::Biquad;
@@ -35,10 +39,24 @@ fn gives_way(a: f32, b: f32) -> bool
     1.0 / a < 0.0
 }
 
-// The larger of a and b: the other one where one is a NaN, and +0 of two zeros.
+// Whether x is neither a zero nor a NaN.
+fn off_zero(x: f32) -> bool
+    ensures { λ r. ⌜ r ≡ (lt x (f32 0) || lt (f32 0) x) ⌝ }
+{
+    if x < 0.0 {
+        return true;
+    }
+    x > 0.0
+}
+
+// The larger of a and b: the other one where one is a NaN, and +0 of two zeros. Off zero it is one predictable test and a choice
+// without a branch.
 pub fn max(a: f32, b: f32) -> f32
     ensures { λ r. ⌜ r ≡ larger a b ⌝ }
 {
+    if off_zero(a) {
+        return if a < b { b } else { a };
+    }
     if a != a {
         return b;
     }
@@ -153,18 +171,12 @@ fn follow(x: f32, y: f32) -> f32
     ended(x, sign_of(x) * (y + rest * dy * (1.0 - y * rest)))
 }
 
-// `tansig_approx` over a lent table. A loop takes `table::all` once: each mention of it fills it anew.
-pub fn tansig_in(table: &[f32; 201], x: f32) -> f32
+// `tansig_approx` over a lent table.
+fn tansig_in(table: &[f32; 201], x: f32) -> f32
     ensures { λ r. ⌜ r ≡ tansigIn (now (table .entry)) x ⌝ }
 {
     let place = place_of(inside(x));
     follow(x, entry_at(table, place, x))
-}
-
-pub fn sigmoid_in(table: &[f32; 201], x: f32) -> f32
-    ensures { λ r. ⌜ r ≡ sigmoidIn (now (table .entry)) x ⌝ }
-{
-    0.5 + 0.5 * tansig_in(table, 0.5 * x)
 }
 
 // The hyperbolic tangent, nearly.
@@ -183,7 +195,7 @@ pub fn sigmoid_approx(x: f32) -> f32
 }
 
 // Patterns of an `f64`: the leading digit's weight, 896 in the exponent's field, 2^-126, which is the
-// smallest normal `f32`, and 2^-150, half of the smallest. The last is the infinity of an `f32`.
+// smallest normal `f32`, 2^-150, half of the smallest, and 2^127. The last is the infinity of an `f32`.
 const LEAD: u64 = 0x10_0000_0000_0000;
 
 const MOVED: u64 = 0x3800_0000_0000_0000;
@@ -192,7 +204,12 @@ const NORMAL: u64 = 0x3810_0000_0000_0000;
 
 const HALF_SMALLEST: u64 = 0x3690_0000_0000_0000;
 
+const HALF_LARGEST: u64 = 0x47e0_0000_0000_0000;
+
 const INFINITY: u64 = 0x7f80_0000;
+
+// The pattern of 2^48: what is added to it counts sixteenths.
+const SIXTEENTHS: u64 = 0x42f0_0000_0000_0000;
 
 // x as an `f32`: the nearest one, and of two that are as near the one whose last digit is even.
 // Past the largest it is an infinity, and a NaN stays one.
@@ -208,7 +225,24 @@ pub fn narrow(x: f64) -> f32
     f32::from_bits((sign * 0x8000_0000 + narrow_magnitude(size)) as u32)
 }
 
-// The same on bit patterns without their sign. An `f32` counts its exponent from 896 less, and has
+// The same, as an `f64` still: from 2^-126 to below 2^127 the last 29 digits are rounded away where they stand.
+pub(crate) fn shortened(x: f64) -> f64
+    ensures { λ r. ⌜ r ≡ narrowed x ⌝ }
+{
+    if x != x {
+        return 0.0 / 0.0;
+    }
+    let bits: u64 = f64::to_bits(x);
+    let size: u64 = bits % 0x8000_0000_0000_0000;
+    if size >= NORMAL {
+        if size < HALF_LARGEST {
+            return f64::from_bits(rounded(bits, 29) * 0x2000_0000);
+        }
+    }
+    std::num::f32_to_f64_with_nan(narrow(x))
+}
+
+// `narrow` on bit patterns without their sign. An `f32` counts its exponent from 896 less, and has
 // 29 digits less: where it is normal, the pattern is that of the `f64`, moved down by 896 and rounded.
 // Below that the digits, with the leading one, are shifted by what the exponent lacks.
 fn narrow_magnitude(a: u64) -> u64
@@ -230,7 +264,7 @@ fn narrow_magnitude(a: u64) -> u64
 
 // v / 2^k to the nearest whole number, and a tie to the even one.
 fn rounded(v: u64, k: u64) -> u64
-    requires { ⌜ (v < 2 ^ 63) × (0 < k) × (k < 63) ⌝ }
+    requires { ⌜ (v < 7 * 2 ^ 61) × (0 < k) × (k < 62) ⌝ }
     ensures { λ r. ⌜ r ≡ closest v (2 ^ k) ⌝ }
 {
     let half: u64 = 1 << (k - 1);
@@ -249,11 +283,44 @@ pub fn sqrt(x: f32) -> f32
             return x;
         }
         let digits: u64 = LEAD + bits % LEAD;
-        // an even power of two is left, and a root of 27 digits, of which 24 are kept
-        let root: u64 = rounded(twice_root(digits * (2 - field % 2)), 4);
+        // an even power of two is left
+        let root: u64 = root_digits(digits * (2 - field % 2));
         return f32::from_bits(((field - 771) / 2 * 0x80_0000 + root) as u32);
     }
     if x == 0.0 { x } else { 0.0 / 0.0 }
+}
+
+// The 24 leading digits of the root of n, rounded: a guess that proves right, and else by the whole root.
+fn root_digits(n: u64) -> u64
+    requires { ⌜ n < 2 ^ 54 ⌝ }
+    ensures { λ r. ⌜ r ≡ closest (twiceRoot n) (2 ^ 4) ⌝ }
+{
+    let near = guessed_digits(n);
+    if near > 0 {
+        let low = 8 * near - 4;
+        let high = low + 8;
+        if low * low < n {
+            if n < high * high {
+                return near;
+            }
+        }
+    }
+    rounded(twice_root(n), 4)
+}
+
+// An eighth of the root of an n from 2^52 to 2^54, to the nearest whole number: two of Newton's steps from a parabola. With 2^52
+// added, a number keeps no digits behind the point. Nothing else is promised of it.
+fn guessed_digits(n: u64) -> u64
+    ensures { λ r. ⌜ r < 2 ^ 25 ⌝ }
+{
+    let x = f64::from_bits(SIXTEENTHS + n / 4 % LEAD) - 281474976710656.0;
+    let start = 4349954.1 + x * (6.27052e-8 - x * 6.69834e-23);
+    let nearer = 0.5 * (start + x / start);
+    let root = 0.5 * (nearer + x / nearer) + 4503599627370496.0;
+    if root != root {
+        return 0;
+    }
+    f64::to_bits(root) % 0x200_0000
 }
 
 // Twice the root of n, cut to a whole number, and 1 more where n is no square. The root is searched
@@ -262,9 +329,8 @@ fn twice_root(n: u64) -> u64
     requires { ⌜ n < 2 ^ 54 ⌝ }
     ensures { λ r. ⌜ r ≡ twiceRoot n ⌝ }
 {
-    let span = span_of_root(n);
-    let mut r: u64 = span.from;
-    let mut gap: u64 = span.gap;
+    let mut r: u64 = 0;
+    let mut gap: u64 = 0x800_0000;
     while gap > 1 {
         let next: u64 = r + (gap - gap / 2);
         if next * next <= n {
@@ -273,48 +339,4 @@ fn twice_root(n: u64) -> u64
         gap = gap - gap / 2;
     }
     if r * r == n { 2 * r } else { 2 * r + 1 }
-}
-
-// The whole numbers from `from` up to, and without, `from + gap`.
-struct Span {
-    from: u64,
-    gap: u64,
-}
-
-// Where the root of n lies: around a guess that proves right, and else anywhere. The guess only saves
-// turns of the search, 27 at most.
-fn span_of_root(n: u64) -> Span
-    requires { ⌜ n < 2 ^ 54 ⌝ }
-    ensures { λ r. ⌜ Spans n (r .from) (r .gap) ⌝ }
-{
-    let near = guessed_root(n);
-    if near > 0 {
-        if near <= 0x800_0000 {
-            let from = near - 1;
-            if from * from <= n {
-                if n < (from + 2) * (from + 2) {
-                    return Span { from, gap: 2 };
-                }
-            }
-        }
-    }
-    Span {
-        from: 0,
-        gap: 0x800_0000,
-    }
-}
-
-// The root of an n from 2^52 to 2^54, or the next number up: two of Newton's steps from a parabola.
-// Nothing is promised of it.
-fn guessed_root(n: u64) -> u64 {
-    let x = std::num::nearest_u64_to_f64(n);
-    let start = 34799632.9 + x * (7.83815e-9 - x * 1.30827e-25);
-    let nearer = 0.5 * (start + x / start);
-    let root = 0.5 * (nearer + x / nearer);
-    if root > -1.0 {
-        if root < 18446744073709551616.0 {
-            return std::num::truncating_f64_to_u64(root);
-        }
-    }
-    0
 }

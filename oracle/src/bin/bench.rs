@@ -78,7 +78,14 @@ fn of_numbers(rng: &mut Rng) -> Vec<Row> {
     let (mut outs, mut memories) = (vec![0.0; 480], [0.0; 2]);
     let curve = rng.list_of(1000, Mood::Small);
     let curves = curve.clone();
+    let pairs: Vec<[f32; 2]> = (0..1000).map(|_| std::array::from_fn(|_| rng.of(Mood::Small))).collect();
+    let again_pairs = pairs.clone();
     vec![
+        row(
+            "max, 1,000 pairs",
+            move || pairs.iter().fold(0.0, |_, [a, b]| black_box(tuppence::max(black_box(*a), black_box(*b)))),
+            move || again_pairs.iter().fold(0.0, |_, [a, b]| black_box(f32::max(black_box(*a), black_box(*b)))),
+        ),
         row(
             "tansig, 1,000 numbers",
             move || curve.iter().fold(0.0, |_, x| black_box(tuppence::tansig(black_box(*x)))),
@@ -167,6 +174,18 @@ fn of_pitch(rng: &mut Rng) -> Vec<Row> {
             move || pitch::pitch_downsample(&d2, black_box(&mut b864)),
         ),
     ]
+}
+
+#[cfg(feature = "lag")]
+fn of_lag(rng: &mut Rng) -> Vec<Row> {
+    let x = rng.list_of(1728, Mood::Audio);
+    let y = x.clone();
+    let mut finder = pitch::PitchFinder::new();
+    vec![row(
+        "our lag, beside PitchFinder::process",
+        move || tuppence::lag(black_box(&mut [0]), &x),
+        move || finder.process(black_box(&y)),
+    )]
 }
 
 #[cfg(feature = "transforms")]
@@ -283,7 +302,7 @@ fn of_frame(rng: &mut Rng) -> Vec<Row> {
     let frames: &'static [Frame] = Box::leak(frames.into_boxed_slice());
     let model = models::of_shape(rng, models::USUAL);
     let mut text = DenoiseState::from_model(RnnModel::from_bytes(&model).unwrap());
-    let (mut record, mut store) = ([0; 5], vec![0.0; 98_304]);
+    let (mut record, mut store) = ([0; 7], vec![0.0; 98_304]);
     assert_eq!(tuppence::open(&mut record, &mut store, 1, &model), 0);
     let mut window = [0.0; 960];
     let (mut sums, mut spectrum, mut answer, mut out) = ([0.0; 22], [0.0; 961], [0.0; 3], [0.0; 480]);
@@ -329,6 +348,8 @@ fn main() {
     rows.extend(of_bands(rng));
     #[cfg(feature = "pitch")]
     rows.extend(of_pitch(rng));
+    #[cfg(feature = "lag")]
+    rows.extend(of_lag(rng));
     #[cfg(feature = "transforms")]
     rows.extend(of_transforms(rng));
     #[cfg(feature = "logs")]

@@ -61,6 +61,11 @@ surface! {
     tuppence_downsample as downsample(x_lp: &mut [f32], x: &[f32]) -> u32;
 }
 
+#[cfg(feature = "lag")]
+surface! {
+    tuppence_lag as lag(lag: &mut [u32], input_mem: &[f32]) -> u32;
+}
+
 #[cfg(feature = "transforms")]
 surface! {
     tuppence_forward as forward(spectrum: &mut [f32], samples: &[f32]) -> u32;
@@ -95,7 +100,7 @@ surface! {
     ) -> u32;
 }
 
-// A record is due call, cepstral index and the three GRU counts. Refusal 7 is 7 + 256 × the model's + 65,536 × its layer.
+// A record is due call, cepstral index, the three GRU counts, frames and heard frames. Refusal 7 is 7 + 256 × the model's + 65,536 × its layer.
 #[cfg(feature = "frame")]
 surface! {
     tuppence_side_of as side_of(bench: u32) -> u32;
@@ -103,6 +108,9 @@ surface! {
     tuppence_call1 as call1(record: &mut [u32], store: &mut [f32], side: u32, samples: &[f32], window: &mut [f32]) -> u32;
     tuppence_call2 as call2(
         record: &mut [u32], store: &mut [f32], side: u32, spectrum: &[f32], lag: u32, window: &mut [f32], sums: &mut [f32]
+    ) -> u32;
+    tuppence_call2_own as call2_own(
+        record: &mut [u32], store: &mut [f32], side: u32, spectrum: &[f32], window: &mut [f32], sums: &mut [f32]
     ) -> u32;
     tuppence_call3 as call3(
         record: &mut [u32], store: &mut [f32], side: u32, spectrum: &[f32], logs: &[f32], model: &[u8],

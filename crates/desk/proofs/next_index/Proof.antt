@@ -15,8 +15,10 @@ next-index-spec =
     (λ c. search needs)  -- enum-told-3
     (λ c. search needs)  -- enum-told-4
     (λ c. search needs)  -- enum-told-5
+    (λ c. search needs)  -- enum-told-6
     (λ c. search (tests, c .before .enum-told .given .1))  -- returns-2
     (λ c. search needs)  -- returns-3
     (λ c. search needs)  -- returns-4
     (λ c. search needs)  -- returns-5
-    (λ c. search needs))  -- returns-6
+    (λ c. search needs)  -- returns-6
+    (λ c. search needs))  -- returns-7

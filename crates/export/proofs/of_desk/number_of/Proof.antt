@@ -15,6 +15,7 @@ number-of-spec =
     (λ c. search needs)  -- enum-told
     (λ c. search needs)  -- enum-told-2
     (λ c. search needs)  -- enum-told-3
+    (λ c. search needs)  -- enum-told-4
     (λ c. search needs)  -- enum-known-reply
     (λ c. search needs)  -- enum-known-reply-2
     seven-requires
@@ -22,4 +23,5 @@ number-of-spec =
     (λ c. search needs)  -- returns-2
     (λ c. search needs)  -- returns-3
     (λ c. search needs)  -- returns-4
-    (λ c. c .seven .ensures ∙ sym (ap replyNumber (c .before .before .reply2 .given .1))))  -- returns-5
+    (λ c. search needs)  -- returns-5
+    (λ c. c .seven .ensures ∙ sym (ap replyNumber (c .before .before .reply2 .given .1))))  -- returns-6

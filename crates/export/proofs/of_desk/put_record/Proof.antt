@@ -28,5 +28,7 @@ put-record-spec =
     (λ c. search needs)  -- slice-write-record-4
     (λ c. search needs)  -- cast-record-5
     (λ c. simp length-set (omega arith))  -- slice-write-record-5
+    (λ c. simp length-set (omega arith))  -- slice-write-record-6
+    (λ c. simp length-set (omega arith))  -- slice-write-record-7
     (λ c. search needs)  -- same-length
     returns)

@@ -8,7 +8,7 @@ use Rattle.export.proofs.of_desk.record_in.Tie as tie
 returns-2 : tie.Need-returns-2
 unfolding recordIn
 returns-2 c =
-    let w5 = c .before in
+    let w5 = c .before .before .before in
     let w4 = w5 .before .before in
     let w3 = w4 .before .before in
     let w2 = w3 .before .before in
@@ -32,5 +32,7 @@ record-in-spec =
     (λ c κs. search needs)  -- wide-requires-4
     (λ c. search needs)  -- shared-slice-read-wide-5
     (λ c κs. search needs)  -- wide-requires-5
+    (λ c. search needs)  -- shared-slice-read-t
+    (λ c. search needs)  -- shared-slice-read-t-2
     (λ c κs. search needs)  -- record-of-requires-2
     returns-2)

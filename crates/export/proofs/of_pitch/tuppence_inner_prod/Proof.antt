@@ -1,22 +1,15 @@
 -- `tuppence_inner_prod` meets its contract. Assumes nothing.
 use mathlib.Core.Path.{_≡_, refl, sym, ap, _∙_}
-use mathlib.Core.List.{List, [], _∷_}
 use native.Mathlib.Omega.{arith}
 use borrow.Author.Needs.{needs}
 use denote.Ref.{now}
-use lib.Ieee.{Float}
-use lib.ListN.{length, set}
+use lib.ListN.{length}
 use Rattle.rules.specs.Leaf.{done, refused}
 use Rattle.rules.proofs.Leaves.{leaves}
 use Rattle.pitch_search.specs.Inner.{productNumber, sumOf}
-use Rattle.export.proofs.Answers.{turned-down, taken-up}
+use Rattle.export.proofs.Answers.{turned-down, taken-up, stored}
 use Rattle.export.proofs.of_pitch.tuppence_inner_prod.Statement.{statement}
 use Rattle.export.proofs.of_pitch.tuppence_inner_prod.Tie as tie
-
-stored : (xs : List Float) {v w : Float} → length xs ≡ 1 → v ≡ w → set xs 0 v ≡ (w ∷ [])
-stored [] h e = absurd (omega arith)
-stored (x ∷ []) h e = ap (λ (v : Float). v ∷ []) e
-stored (x ∷ y ∷ xs) h e = absurd (omega arith)
 
 returns-2 : tie.Need-returns-2
 returns-2 c =

@@ -6,7 +6,7 @@ use Rattle.network.proofs.layers.dense.Tie as tie
 
 returns : tie.Need-returns
 returns c =
-    let activate = c .before .before .activate-all in
+    let activate = c .before .before .activate in
     let at-add = c .before .before .before .before .before .before in
     let at-copy = at-add .before .before .before .before in
     let start = at-copy .before .before .before .before .before .before in
@@ -19,6 +19,6 @@ dense-spec =
     (tie.spec
     (λ c κs. search needs)  -- copy-weights-requires
     (λ c κs. search needs)  -- mul-add-at-requires
-    (λ c κs. search needs)  -- activate-all-requires
+    (λ c κs. search needs)  -- activate-requires
     (λ c. search needs)  -- same-length
     returns)

@@ -40,13 +40,13 @@ blend-requires c κs =
 
 same-length-2 : tie.Need-same-length-2
 same-length-2 c =
-    let update = c .before .before .before .before .before .before .before .before .before .before .before .before .before .before .before .before .before .before .before .before .before .before .before in
+    let update = c .before .before .before .before .before .before .before .before .before .before .before .before .before .before .before .before .before .before .before .before .before .before .before .before .before in
     let sums = update .before .before .before .before in
     update .update .kept .0 ∙ sums .gate-sums .kept .0
 
 returns : tie.Need-returns
 returns c =
-    let blend = c .before .before in
+    let blend = c .before .before .before .before in
     let new = blend .before .before .before .before .before .before in
     let reset = new .before .before .before .before .before in
     let reset-sums = reset .before .before .before .before .before in

@@ -18,9 +18,7 @@ turn-spec =
     (λ c κs. search needs)  -- wide-requires-3
     (λ c κs. search needs)  -- wide-requires-4
     (λ c κs. search needs)  -- wide-requires-5
-    (λ c κs. search needs)  -- wide-requires-6
-    (λ c κs. search needs)  -- wide-requires-7
+    (λ c κs. search needs)  -- shortened-requires
+    (λ c κs. search needs)  -- shortened-requires-2
     (λ c κs. search needs)  -- narrow-requires
-    (λ c κs. search needs)  -- narrow-requires-2
-    (λ c κs. search needs)  -- narrow-requires-3
     returns)

@@ -1,0 +1,7 @@
+-- The lengths of our own lag, whose answer goes into a lent slice.
+use mathlib.Core.Path.{_≡_}
+use Prim.Native.Nat.{ℕ}
+
+pub record LagFits (place mem : ℕ) : Type 0 where
+  pub one : place ≡ 1
+  pub whole : mem ≡ 1728

@@ -1,0 +1,26 @@
+// lag: our own lag, in one place.
+ghost use mathlib.Core.List.{[], _∷_};
+ghost use lib.ListN.{length};
+ghost use Rattle.rules.specs.Leaf.{Leaf, _leaving_};
+ghost use Rattle.lag.specs.Lag.{ownLag};
+ghost use Rattle.export.specs.OfLag.{LagFits};
+
+// place has one place.
+#[no_mangle]
+pub extern "C" fn tuppence_lag(place: &mut [u32], input_mem: &[f32]) -> u32
+    ensures { λ r. ⌜ Leaf (LagFits (length (now (place .entry))) (length (now («input_mem» .entry))))
+        (r leaving now (place .exit))
+        (0 leaving ownLag (now («input_mem» .entry)) ∷ [])
+        (5 leaving now (place .entry)) ⌝ }
+{
+    if place.len() != 1 {
+        return 5;
+    }
+    let found = lag::lag_of(input_mem);
+    let number = found.number();
+    if number != 0 {
+        return number;
+    }
+    place[0] = found.lag() as u32;
+    0
+}

@@ -1,0 +1,171 @@
+-- Numbered frames, from one call to any run.
+--     step            a call that opens nothing moves both numbers on by what it counts for
+--     one-more-mod    one more, and 0 after the last, is one more modulo 2^32
+--     numbering       what specs/Numbering.antt claims
+--     last-frame      after 4,294,967,295 comes 0
+-- Assumes nothing.
+use Prim.Native.Nat.{ℕ, _+_, _*_, _%_, _<_}
+use native.Mathlib.Nat.{zero-add}
+use native.Mathlib.Omega.{arith}
+use mathlib.Core.Bool.{Bool, true, false, cond, _&&_}
+use mathlib.Core.List.{List, [], _∷_}
+use mathlib.Core.Path.{_≡_, refl, sym, ap, _∙_}
+use borrow.Author.Tests.{eq-eqb, ne-eqb, eqb-true, eqb-false, ltb-true, ltb-false}
+use lib.Dec.{eqb, ltb}
+use lib.ListN.{length}
+use lib.Ieee.{Float}
+use Rattle.rules.specs.Place.{get}
+use Rattle.model.specs.Model.{readOf}
+use Rattle.model.specs.declared.Reading.{Reading}
+use Rattle.model.specs.declared.Reading.the-variants.{Good, Refused as Unread}
+use Rattle.frame.specs.Reply.{passed, oneMore}
+use Rattle.frame.specs.Share.{SHARE}
+use Rattle.frame.specs.Frame.{Effect, refusal}
+use Rattle.frame.specs.declared.Reply.{Reply}
+use Rattle.frame.specs.declared.Reply.the-variants.{Refused}
+use Rattle.frame.proofs.Cases.{call1-by, call2-by, call3-by, call4-by}
+use Rattle.frame.proofs.Truth.{false-true}
+use Rattle.halves.proofs.Sister.{call2-own-by}
+use Rattle.desk.specs.declared.Record.{Record}
+use Rattle.desk.specs.Gate.{gate, shareOf}
+use Rattle.desk.specs.Desk.{Ask, opening, call1, call2, call2Own, call3, call4, callOf, started, answered, opened, onShare, desk}
+use Rattle.isolation.specs.Run.{Call, openingOf, State, given, after, ended}
+use Rattle.isolation.specs.Numbering.{framed, heard, count, Unopened, Numbering}
+
+-- ---- one call
+
+-- a number with what a call counts for
+abbrev plus : Bool → ℕ → ℕ
+plus counts n = cond counts (oneMore n) n
+
+-- of an ask that is answered with a reply, both numbers
+pub record Counted (b : Record) (ask : Ask) (reply : Reply) : Type 0 where
+  pub frame : answered b ask reply .rec .frame ≡ plus (framed ask reply) (b .frame)
+  pub heard : answered b ask reply .rec .heard ≡ plus (heard ask reply) (b .heard)
+
+abbrev CountedOf : Record → Ask → Effect → Type 0
+CountedOf b ask f = Counted b ask (f .reply)
+
+both : {b : Record} {ask : Ask} {reply : Reply} → answered b ask reply .rec .frame ≡ plus (framed ask reply) (b .frame)
+    → answered b ask reply .rec .heard ≡ plus (heard ask reply) (b .heard) → Counted b ask reply
+both f h = record { frame = f; heard = h }
+
+refused : (b : Record) (ask : Ask) (n : ℕ) → Counted b ask (Refused n)
+refused b ask n = both (rw (no (eqb (callOf ask) 4))) refl
+  where
+    no : (t : Bool) → (t && false) ≡ false
+    no true = refl
+    no false = refl
+
+module _ (b : Record) (share : List Float) where
+  frame-step : (ask : Ask) → (callOf ask ≡ 0 → passed (onShare b share ask .reply) ≡ false) → Counted b ask (onShare b share ask .reply)
+  frame-step (opening m) shut = go (readOf m) (shut refl)
+    where
+      go : (r : Reading) → passed (opened share r .reply) ≡ false → Counted b (opening m) (opened share r .reply)
+      go (Good k) e = absurd (false-true (sym e))
+      go (Unread n l) e = both refl refl
+  frame-step (call1 x w) shut = call1-by share (CountedOf b (call1 x w)) (refused b (call1 x w)) x w (λ _ _. both refl refl)
+  frame-step (call2 x l w s) shut = call2-by share (CountedOf b (call2 x l w s)) (refused b (call2 x l w s)) x l w s (λ _. both refl refl)
+  frame-step (call2Own x w s) shut = call2-own-by share (CountedOf b (call2Own x w s)) (refused b (call2Own x w s)) x w s (λ _. both refl refl)
+  frame-step (call3 x l m o) shut =
+      call3-by share (CountedOf b (call3 x l m o)) (refused b (call3 x l m o)) (b .index) (b .vad) (b .noise) (b .denoise) x l m o
+      (λ _ _ _. both refl refl) (both refl refl) (λ _ _ _ _ _. both refl refl)
+  frame-step (call4 x o) shut =
+      call4-by share (CountedOf b (call4 x o)) (refused b (call4 x o)) (b .frame) (b .heard) x o (λ _. both refl refl)
+
+step : (n side : ℕ) (b : Record) (store : List Float) (ask : Ask)
+    → (callOf ask ≡ 0 → passed (desk n side b store ask .answer .reply) ≡ false)
+    → let a = desk n side b store ask .answer in
+    (a .rec .frame ≡ plus (framed ask (a .reply)) (b .frame)) × (a .rec .heard ≡ plus (heard ask (a .reply)) (b .heard))
+unfolding desk
+step n side b store ask = go (eqb number 0)
+  where
+    number : ℕ
+    number = gate n side b (length store) (callOf ask)
+
+    share : List Float
+    share = get (shareOf side) store
+
+    go : (t : Bool)
+        → let reply = cond t (onShare b share ask) (refusal (Refused number) share) .reply in
+        (callOf ask ≡ 0 → passed (answered b ask reply .reply) ≡ false)
+        → (answered b ask reply .rec .frame ≡ plus (framed ask reply) (b .frame)) × (answered b ask reply .rec .heard ≡ plus (heard ask reply) (b .heard))
+    go true shut = let k = frame-step b share ask shut in (k .frame, k .heard)
+    go false shut = let k = refused b ask number in (k .frame, k .heard)
+
+-- ---- modulo 2^32
+
+one-more-mod : (k : ℕ) → oneMore (k % 4294967296) ≡ (k + 1) % 4294967296
+one-more-mod k = go (ltb (k % 4294967296) 4294967295) refl
+  where
+    go : (t : Bool) → ltb (k % 4294967296) 4294967295 ≡ t → cond t (k % 4294967296 + 1) 0 ≡ (k + 1) % 4294967296
+    go true h = let below = ltb-true (k % 4294967296) 4294967295 h in omega arith
+    go false h = let above = ltb-false (k % 4294967296) 4294967295 h in omega arith
+
+-- a number that is k modulo 2^32 is then k and what the call counts for
+moved : (t : Bool) (k a : ℕ) → a ≡ k % 4294967296 → plus t a ≡ (k + cond t 1 0) % 4294967296
+moved true k a e = rw e (one-more-mod k)
+moved false k a e = let same : k + 0 ≡ k = omega arith in rw same e
+
+pub last-frame : oneMore 4294967295 ≡ 0
+last-frame = refl
+
+-- ---- any run
+
+module _ (n s : ℕ) where
+  -- the two numbers of side s in a state
+  abbrev Stand : State → ℕ → ℕ → Type 0
+  Stand st k h = (st .rec s .frame ≡ k % 4294967296) × (st .rec s .heard ≡ h % 4294967296)
+
+  abbrev counts : (Ask → Reply → Bool) → State → Call → ℕ
+  counts kind st c = cond (eqb (c .side) s && kind (c .ask) (given n st c .answer .reply)) 1 0
+
+  one : (st : State) (c : Call) (k h : ℕ) → Stand st k h → (c .side ≡ s → callOf (c .ask) ≡ 0 → passed (given n st c .answer .reply) ≡ false)
+      → Stand (after n st c) (k + counts framed st c) (h + counts heard st c)
+  one st c k h e shut = go (eqb (c .side) s) refl
+    where
+      go : (t : Bool) → eqb (c .side) s ≡ t → Stand (after n st c) (k + counts framed st c) (h + counts heard st c)
+      go false f = let a : k + 0 ≡ k = omega arith in let b : h + 0 ≡ h = omega arith in rw (f, a, b) e
+      go true f =
+          let same = eqb-true (c .side) s f in
+          let now = step n (c .side) (st .rec (c .side)) (st .store) (c .ask) (shut same) in
+          let frames : st .rec (c .side) .frame ≡ k % 4294967296 = rw same (e .0) in
+          let heards : st .rec (c .side) .heard ≡ h % 4294967296 = rw same (e .1) in
+          rw f (
+            now .0 ∙ moved (framed (c .ask) (given n st c .answer .reply)) k _ frames,
+            now .1 ∙ moved (heard (c .ask) (given n st c .answer .reply)) h _ heards,
+          )
+
+  run : (cs : List Call) (st : State) (k h : ℕ) → Stand st k h → Unopened n s st cs
+      → Stand (ended n st cs) (k + count framed n s st cs) (h + count heard n s st cs)
+  unfolding ended count Unopened
+  run [] st k h e u = let a : k + 0 ≡ k = omega arith in let b : h + 0 ≡ h = omega arith in rw (a, b) e
+  run (c ∷ cs) st k h e u =
+      let r = run cs (after n st c) (k + counts framed st c) (h + counts heard st c) (one st c k h e (u .0)) (u .1) in
+      let a : k + counts framed st c + count framed n s (after n st c) cs ≡ k + (counts framed st c + count framed n s (after n st c) cs) = omega arith in
+      let b : h + counts heard st c + count heard n s (after n st c) cs ≡ h + (counts heard st c + count heard n s (after n st c) cs) = omega arith in
+      rw (a, b) at r
+
+-- ---- what is claimed
+
+-- an opening that is done numbers from 0
+from-0 : (n s : ℕ) (b : Record) (store : List Float) (m : List ℕ) → passed (desk n s b store (opening m) .answer .reply) ≡ true
+    → (desk n s b store (opening m) .answer .rec .frame ≡ 0) × (desk n s b store (opening m) .answer .rec .heard ≡ 0)
+unfolding desk
+from-0 n s b store m = go (eqb (gate n s b (length store) 0) 0) (readOf m)
+  where
+    share : List Float
+    share = get (shareOf s) store
+
+    go : (t : Bool) (r : Reading)
+        → let reply = cond t (opened share r) (refusal (Refused (gate n s b (length store) 0)) share) .reply in
+        passed reply ≡ true → (cond (passed reply) (started b r) b .frame ≡ 0) × (cond (passed reply) (started b r) b .heard ≡ 0)
+    go true (Good k) p = (refl, refl)
+    go true (Unread i l) p = absurd (false-true p)
+    go false r p = absurd (false-true p)
+
+pub numbering : (n : ℕ) → Numbering n
+numbering n s h st l model done calls u =
+    let zero = from-0 n s (st .rec s) (st .store) model done in
+    let start : Stand n s (after n st (openingOf s model)) 0 0 = rw (eq-eqb s s refl) zero in
+    simp zero-add at (run n s calls (after n st (openingOf s model)) 0 0 start u)
