@@ -1,5 +1,5 @@
 // Writes each table as a constant of the code and, by its bit patterns, as a definition. tools/make_tables.sh puts the Rust text in front of this.
-// The cosines are not in that text: they are worked out here.
+// The cosines are not in that text: they are worked out here, and the logarithm's constants in tools/logarithm.rs.
 use std::fs::write;
 
 fn main() {
@@ -10,6 +10,7 @@ fn main() {
     one_by_one("crates/numbers/src/table.rt", "tansig", &TANSIG_TABLE);
     let turn: Vec<f32> = (0..960).map(cosine).collect();
     table("transforms", "cosine", "Cosine", "cosine", "The cosines of m/960 of a turn, each the nearest f32, +0 at 240 and 720", &turn);
+    logarithm_tables();
     println!("wnorm {:08X}", c.wnorm.to_bits());
 }
 

@@ -23,6 +23,8 @@ pub mod desk;
 pub mod frame;
 #[cfg(feature = "lag")]
 pub mod lag;
+#[cfg(feature = "logs")]
+pub mod logs;
 #[cfg(feature = "sheet")]
 pub mod mend;
 #[cfg(feature = "model")]
@@ -80,6 +82,8 @@ pub const GROUPS: &[Group] = &[
     ("lag", lag::compare),
     #[cfg(feature = "transforms")]
     ("transforms", transforms::compare),
+    #[cfg(feature = "logs")]
+    ("logs", logs::compare),
     #[cfg(feature = "model")]
     ("model", model::compare),
     #[cfg(feature = "sheet")]

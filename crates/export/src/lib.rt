@@ -2,6 +2,7 @@
 pub mod of_bands;
 pub mod of_desk;
 pub mod of_lag;
+pub mod of_logs;
 pub mod of_model;
 pub mod of_network;
 pub mod of_numbers;

@@ -211,6 +211,19 @@ fn of_transforms(rng: &mut Rng) -> Vec<Row> {
     ]
 }
 
+#[cfg(feature = "logs")]
+fn of_logs(rng: &mut Rng) -> Vec<Row> {
+    // energies of a band, and 0.01, as call 2 gives them
+    let sums: Vec<f32> = (0..22).map(|_| 0.01 + rng.of(Mood::Audio).abs() * rng.unit()).collect();
+    let again = sums.clone();
+    let [mut a22, mut b22] = [[0.0; 22]; 2];
+    vec![row(
+        "22 logarithms",
+        move || tuppence::logs(black_box(&mut a22), black_box(&sums)),
+        move || black_box(&mut b22).iter_mut().zip(black_box(&again)).for_each(|(out, x)| *out = x.log10()),
+    )]
+}
+
 #[cfg(feature = "network")]
 fn of_network(rng: &mut Rng) -> Vec<Row> {
     vec![
@@ -339,6 +352,8 @@ fn main() {
     rows.extend(of_lag(rng));
     #[cfg(feature = "transforms")]
     rows.extend(of_transforms(rng));
+    #[cfg(feature = "logs")]
+    rows.extend(of_logs(rng));
     #[cfg(feature = "network")]
     rows.extend(of_network(rng));
     #[cfg(feature = "sheet")]

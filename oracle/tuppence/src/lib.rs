@@ -72,6 +72,12 @@ surface! {
     tuppence_inverse as inverse(samples: &mut [f32], spectrum: &[f32]) -> u32;
 }
 
+#[cfg(feature = "logs")]
+surface! {
+    tuppence_log10 as log10(x: f32) -> f32;
+    tuppence_logs as logs(logs: &mut [f32], sums: &[f32]) -> u32;
+}
+
 // Six times inputs, neurons, activation, offset and length; shapes are six times the first three. A refusal r of layer l
 // is r + 65,536 l.
 #[cfg(feature = "model")]

@@ -1,0 +1,22 @@
+// logs: each function as it stands there.
+ghost use mathlib.Core.Path.{_≡_};
+ghost use lib.ListN.{length};
+ghost use Rattle.rules.specs.Leaf.{Leaf, _leaving_};
+ghost use Rattle.logs.specs.Log10.{log10Of, logsOf, LogsFits};
+
+#[no_mangle]
+pub extern "C" fn tuppence_log10(x: f32) -> f32
+    ensures { λ r. ⌜ r ≡ log10Of x ⌝ }
+{
+    logs::log10(x)
+}
+
+#[no_mangle]
+pub extern "C" fn tuppence_logs(logs: &mut [f32], sums: &[f32]) -> u32
+    ensures { λ r. ⌜ Leaf (LogsFits (length (now (logs .entry))) (length (now (sums .entry))))
+        (r leaving now (logs .exit))
+        (0 leaving logsOf (now (sums .entry)))
+        (5 leaving now (logs .entry)) ⌝ }
+{
+    logs::logs(logs, sums)
+}

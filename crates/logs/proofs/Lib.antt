@@ -1,0 +1,6 @@
+pub mod Exact
+pub mod Keys
+pub mod Nudged
+pub mod Rule
+pub mod Special
+pub mod Wholes

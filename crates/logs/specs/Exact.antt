@@ -1,0 +1,50 @@
+-- The constants' rule, and the steps that lose nothing. An f64 is exactly z / c, for a whole number z; zero is +0.
+use mathlib.Core.Path.{_≡_}
+use Prim.Native.Nat.{ℕ, suc, _+_, _*_, _/_, _%_, _^_, _≤_}
+use mathlib.Core.Bool.{true, false}
+use lib.Dec.{T}
+use lib.IntN.{ℤ, pos, negsuc, _+ℤ_, _-ℤ_, _*ℤ_}
+use lib.Ieee.{Float, nan, inf, fin, binary32, binary64, up, down, fits, toBits}
+use lib.Ieee.Exact.{HasValue}
+use lib.Ieee.Positive.{positive}
+use Rattle.logs.specs.Tables.{rowAt, twoHigh}
+use Rattle.logs.specs.Log10.{rowOf, restOf, highOf}
+
+abbrev pub Exactly : Float → ℤ → ℕ → Type 0
+Exactly x (pos n) c = HasValue x false n c
+Exactly x (negsuc n) c = HasValue x true (suc n) c
+
+-- how many 2^-p there are in x
+abbrev pub wholes : ℕ → Float → ℕ
+wholes p nan = 0
+wholes p (inf s) = 0
+wholes p (fin s m e) = m * up e * 2 ^ p / down e
+
+-- x is a whole number of 2^-p, from `least` to `most` of them
+pub record Grained (p least most : ℕ) (x : Float) : Type 0 where
+  pub value : Exactly x (pos (wholes p x)) (2 ^ p)
+  pub from : least ≤ wholes p x
+  pub to : wholes p x ≤ most
+
+-- ---- the rule: a centre has 20 binary digits, from 1/2 to 1; high parts are whole numbers of 2^-40, below 1/2
+pub record Rule (i : ℕ) : Type 0 where
+  pub centre : Grained 20 (2 ^ 19) (2 ^ 20) (rowAt i .centre)
+  pub high : Grained 40 0 (2 ^ 39) (rowAt i .high)
+
+-- ---- m, of 24 digits, in whole numbers of 2^-23
+abbrev pub digitsOf : ℕ → ℕ
+digitsOf bits = 2 ^ 23 + bits % 2 ^ 52 / 2 ^ 29
+
+-- m * centre - 1 is exact where m has 24 digits
+abbrev pub RestExact : ℕ → Type 0
+RestExact bits = Exactly (restOf bits) (pos (digitsOf bits * wholes 20 (rowAt (rowOf bits) .centre)) -ℤ pos (2 ^ 43)) (2 ^ 43)
+
+-- e * two_high + high is exact
+abbrev pub HighExact : ℕ → Type 0
+HighExact bits =
+    Exactly (highOf bits) ((pos (bits / 2 ^ 52) -ℤ pos 1023) *ℤ pos (wholes 40 twoHigh) +ℤ pos (wholes 40 (rowAt (rowOf bits) .high))) (2 ^ 40)
+
+-- of every f32 above zero
+pub record Exact (x : Float) : Type 0 where
+  pub rest : RestExact (toBits binary64 x)
+  pub high : HighExact (toBits binary64 x)

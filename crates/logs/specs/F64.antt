@@ -1,0 +1,18 @@
+-- Rust's f64 operators, each rounded by itself.
+use lib.Ieee.{Float, binary64, add, sub, mul, ofBits}
+use Prim.Native.Nat.{ℕ}
+
+infixl 65 _+₆₄_ _-₆₄_
+infixl 70 _*₆₄_
+abbrev pub _+₆₄_ : Float → Float → Float
+x +₆₄ y = add binary64 x y
+
+abbrev pub _-₆₄_ : Float → Float → Float
+x -₆₄ y = sub binary64 x y
+
+abbrev pub _*₆₄_ : Float → Float → Float
+x *₆₄ y = mul binary64 x y
+
+-- the f64 of a bit pattern: how a constant is written
+abbrev pub f64 : ℕ → Float
+f64 bits = ofBits binary64 bits

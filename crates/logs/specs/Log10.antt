@@ -1,0 +1,86 @@
+-- The logarithm to base 10: each constant by its bits, each f64 operation rounded in the order written, and the result narrowed. That it is the nearest f32
+-- to the true logarithm is tried on every f32 (docs/BENCHMARKS.md), and not proved: there is no logarithm of real numbers here.
+-- proofs/Exact.antt shows which of its steps lose nothing.
+use mathlib.Core.Path.{_≡_}
+use mathlib.Core.Bool.{Bool, true, false, cond, _&&_, Bool·beq}
+use mathlib.Core.List.{List}
+use Prim.Native.Nat.{ℕ, zero, suc, _+_, _-_, _*_, _/_, _%_, _^_}
+use lib.Dec.{eqb}
+use lib.IntN.{pos}
+use lib.Ieee.{Float, nan, inf, fin, binary64, ofInt, toBits, lt, ne}
+use Rattle.rules.specs.F32.{at}
+use Rattle.rules.specs.Tab.{tab}
+use Rattle.numbers.specs.Narrowed.{narrowed}
+use Rattle.logs.specs.F64.{f64, _+₆₄_, _-₆₄_, _*₆₄_}
+use Rattle.logs.specs.Tables.{rowAt, twoHigh, twoLow, slopeHigh, slopeLow, series2, series3, series4, series5, series6, series7}
+
+-- ---- x = 2^e * m, by its bits as an f64: every f32 above 0 is a normal f64
+
+-- e as an f64: the exponent's field less 1023
+abbrev pub exponentOf : ℕ → Float
+exponentOf bits = ofInt binary64 (pos (bits / 2 ^ 52)) -₆₄ f64 0x408FF80000000000
+
+-- m, from 1 to below 2: the digits with the exponent's field of 1
+abbrev pub mantissaOf : ℕ → Float
+mantissaOf bits = f64 (0x3FF0000000000000 + bits % 2 ^ 52)
+
+-- the row whose centre is near 1 / m: (m - 1) * 32, rounded to a whole number
+abbrev pub rowOf : ℕ → ℕ
+rowOf bits = (bits % 2 ^ 52 + 2 ^ 46) / 2 ^ 47
+
+-- m * centre - 1, which is exact
+unfoldable pub restOf : ℕ → Float
+restOf bits = mantissaOf bits *₆₄ rowAt (rowOf bits) .centre -₆₄ f64 0x3FF0000000000000
+
+-- e * log10(2) - log10(centre), in two parts, of which the high one is exact
+unfoldable pub highOf : ℕ → Float
+highOf bits = exponentOf bits *₆₄ twoHigh +₆₄ rowAt (rowOf bits) .high
+
+unfoldable pub lowOf : ℕ → Float
+lowOf bits = exponentOf bits *₆₄ twoLow +₆₄ rowAt (rowOf bits) .low
+
+-- ---- log10(1 + r), and the sum
+
+-- log10(1 + r) from r^2 on
+unfoldable pub series : Float → Float
+series r = r *₆₄ r *₆₄ (series2 +₆₄ r *₆₄ (series3 +₆₄ r *₆₄ (series4 +₆₄ r *₆₄ (series5 +₆₄ r *₆₄ (series6 +₆₄ r *₆₄ series7)))))
+
+-- what was lost in s = hi + p
+unfoldable pub lostOf : Float → Float → Float → Float
+lostOf hi p s = let back = s -₆₄ hi in (hi -₆₄ (s -₆₄ back)) +₆₄ (p -₆₄ back)
+
+-- t may lie on a midpoint of two f32 where the true number does not: one bit towards z, which t lost
+unfoldable pub nudged : Float → Float → Float
+nudged t z =
+    let bits = toBits binary64 t in
+    cond (eqb (bits % 2 ^ 29) (2 ^ 28) && ne z (f64 0)) (f64 (cond (Bool·beq (lt (f64 0) z) (lt (f64 0) t)) (bits + 1) (bits - 1))) t
+
+-- hi + lo + log10(1 + r)
+unfoldable pub summed : Float → Float → Float → Float
+summed hi lo r =
+    let p = slopeHigh *₆₄ r in
+    let s = hi +₆₄ p in
+    let w = lostOf hi p s +₆₄ (slopeLow *₆₄ r +₆₄ (series r +₆₄ lo)) in
+    let t = s +₆₄ w in
+    nudged t (w -₆₄ (t -₆₄ s))
+
+unfoldable pub logOfBits : ℕ → Float
+logOfBits bits = summed (highOf bits) (lowOf bits) (restOf bits)
+
+-- ---- of any f32, as IEEE 754 has it: minus infinity for both zeros, and a NaN below zero
+unfoldable pub log10Of : Float → Float
+unfolding narrowed toBits logOfBits
+log10Of nan = nan
+log10Of (inf s) = cond s nan (inf false)
+log10Of (fin s zero e) = inf true
+log10Of (fin true (suc m) e) = nan
+log10Of (fin false (suc m) e) = narrowed (logOfBits (toBits binary64 (fin false (suc m) e)))
+
+-- of the 22 sums
+unfoldable pub logsOf : List Float → List Float
+unfolding log10Of
+logsOf sums = tab 22 (λ i. log10Of (at sums i))
+
+pub record LogsFits (out sums : ℕ) : Type 0 where
+  pub into : out ≡ 22
+  pub from : sums ≡ 22
