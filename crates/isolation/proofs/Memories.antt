@@ -31,7 +31,7 @@ use Rattle.memory.proofs.Heard.{notedIn}
 use Rattle.memory.proofs.Calls.{Remembers, remembers, opens, either}
 use Rattle.memory.proofs.Gains.{stays-number, at-least}
 use Rattle.isolation.specs.Run.{Call, openingOf, State, given, after, ended}
-use Rattle.isolation.specs.Numbering.{heard, count, Unopened}
+use Rattle.isolation.specs.Numbering.{hears, howMany, Unopened}
 use Rattle.isolation.specs.Memory.{recalled, frames, MadeOfHeard, Since, Faded, SilentLeaves, NeverNan, HeardHolds}
 
 -- one run of frames behind another
@@ -85,7 +85,7 @@ module _ (n s : ℕ) (inside : s < n) where
   brings st c = let k = notedIn (share st) in cond (eqb (c .side) s) (brought (share st) k (c .ask) (given n st c .answer .reply)) (k, [])
 
   abbrev counted : State → Call → ℕ
-  counted st c = cond (eqb (c .side) s && heard (c .ask) (given n st c .answer .reply)) 1 0
+  counted st c = cond (eqb (c .side) s && hears (c .ask) (given n st c .answer .reply)) 1 0
 
   -- a call that brings b, and with it k frames
   record Moves (st : State) (c : Call) (b : Noted × List HeardFrame) (k : ℕ) : Type 0 where
@@ -118,10 +118,10 @@ module _ (n s : ℕ) (inside : s < n) where
 
   record Made (st : State) (cs : List Call) : Type 0 where
     recalls : recalled s (ended n st cs) ≡ heardAll (recalled s st) (frames n s (notedIn (share st)) st cs)
-    counts : length (frames n s (notedIn (share st)) st cs) ≡ count heard n s st cs
+    counts : length (frames n s (notedIn (share st)) st cs) ≡ howMany hears n s st cs
 
   run : (cs : List Call) (st : State) → Whole st → Unopened n s st cs → Made st cs
-  unfolding ended frames count Unopened heardAll
+  unfolding ended frames howMany Unopened heardAll
   run [] st l u = record { recalls = refl; counts = refl }
   run (c ∷ cs) st l u =
       let m = one st l c (u .0) in

@@ -31,7 +31,7 @@ use Rattle.desk.specs.declared.Record.{Record}
 use Rattle.desk.specs.Gate.{gate, shareOf}
 use Rattle.desk.specs.Desk.{Ask, opening, call1, call2, call2Own, call3, call4, firstHalf, secondHalf, callOf, lastOf, started, answered, opened, onShare, desk}
 use Rattle.isolation.specs.Run.{Call, openingOf, State, given, after, ended}
-use Rattle.isolation.specs.Numbering.{framed, heard, count, Unopened, Numbering}
+use Rattle.isolation.specs.Numbering.{endsFrame, hears, howMany, Unopened, Numbering}
 
 -- ---- one call
 
@@ -41,14 +41,14 @@ plus counts n = cond counts (oneMore n) n
 
 -- of an ask that is answered with a reply, both numbers
 pub record Counted (b : Record) (ask : Ask) (reply : Reply) : Type 0 where
-  pub frame : answered b ask reply .rec .frame ≡ plus (framed ask reply) (b .frame)
-  pub heard : answered b ask reply .rec .heard ≡ plus (heard ask reply) (b .heard)
+  pub frame : answered b ask reply .rec .frame ≡ plus (endsFrame ask reply) (b .frame)
+  pub heard : answered b ask reply .rec .heard ≡ plus (hears ask reply) (b .heard)
 
 abbrev CountedOf : Record → Ask → Effect → Type 0
 CountedOf b ask f = Counted b ask (f .reply)
 
-both : {b : Record} {ask : Ask} {reply : Reply} → answered b ask reply .rec .frame ≡ plus (framed ask reply) (b .frame)
-    → answered b ask reply .rec .heard ≡ plus (heard ask reply) (b .heard) → Counted b ask reply
+both : {b : Record} {ask : Ask} {reply : Reply} → answered b ask reply .rec .frame ≡ plus (endsFrame ask reply) (b .frame)
+    → answered b ask reply .rec .heard ≡ plus (hears ask reply) (b .heard) → Counted b ask reply
 both f h = record { frame = f; heard = h }
 
 refused : (b : Record) (ask : Ask) (n : ℕ) → Counted b ask (Refused n)
@@ -81,7 +81,7 @@ module _ (b : Record) (share : List Float) where
 step : (n side : ℕ) (b : Record) (store : List Float) (ask : Ask)
     → (callOf ask ≡ 0 → passed (desk n side b store ask .answer .reply) ≡ false)
     → let a = desk n side b store ask .answer in
-    (a .rec .frame ≡ plus (framed ask (a .reply)) (b .frame)) × (a .rec .heard ≡ plus (heard ask (a .reply)) (b .heard))
+    (a .rec .frame ≡ plus (endsFrame ask (a .reply)) (b .frame)) × (a .rec .heard ≡ plus (hears ask (a .reply)) (b .heard))
 unfolding desk
 step n side b store ask = go (eqb number 0)
   where
@@ -94,7 +94,7 @@ step n side b store ask = go (eqb number 0)
     go : (t : Bool)
         → let reply = cond t (onShare b share ask) (refusal (Refused number) share) .reply in
         (callOf ask ≡ 0 → passed (answered b ask reply .reply) ≡ false)
-        → (answered b ask reply .rec .frame ≡ plus (framed ask reply) (b .frame)) × (answered b ask reply .rec .heard ≡ plus (heard ask reply) (b .heard))
+        → (answered b ask reply .rec .frame ≡ plus (endsFrame ask reply) (b .frame)) × (answered b ask reply .rec .heard ≡ plus (hears ask reply) (b .heard))
     go true shut = let k = frame-step b share ask shut in (k .frame, k .heard)
     go false shut = let k = refused b ask number in (k .frame, k .heard)
 
@@ -126,10 +126,10 @@ module _ (n s : ℕ) where
   counts kind st c = cond (eqb (c .side) s && kind (c .ask) (given n st c .answer .reply)) 1 0
 
   one : (st : State) (c : Call) (k h : ℕ) → Stand st k h → (c .side ≡ s → callOf (c .ask) ≡ 0 → passed (given n st c .answer .reply) ≡ false)
-      → Stand (after n st c) (k + counts framed st c) (h + counts heard st c)
+      → Stand (after n st c) (k + counts endsFrame st c) (h + counts hears st c)
   one st c k h e shut = go (eqb (c .side) s) refl
     where
-      go : (t : Bool) → eqb (c .side) s ≡ t → Stand (after n st c) (k + counts framed st c) (h + counts heard st c)
+      go : (t : Bool) → eqb (c .side) s ≡ t → Stand (after n st c) (k + counts endsFrame st c) (h + counts hears st c)
       go false f = let a : k + 0 ≡ k = omega arith in let b : h + 0 ≡ h = omega arith in rw (f, a, b) e
       go true f =
           let same = eqb-true (c .side) s f in
@@ -137,18 +137,18 @@ module _ (n s : ℕ) where
           let frames : st .rec (c .side) .frame ≡ k % 4294967296 = rw same (e .0) in
           let heards : st .rec (c .side) .heard ≡ h % 4294967296 = rw same (e .1) in
           rw f (
-            now .0 ∙ moved (framed (c .ask) (given n st c .answer .reply)) k _ frames,
-            now .1 ∙ moved (heard (c .ask) (given n st c .answer .reply)) h _ heards,
+            now .0 ∙ moved (endsFrame (c .ask) (given n st c .answer .reply)) k _ frames,
+            now .1 ∙ moved (hears (c .ask) (given n st c .answer .reply)) h _ heards,
           )
 
   run : (cs : List Call) (st : State) (k h : ℕ) → Stand st k h → Unopened n s st cs
-      → Stand (ended n st cs) (k + count framed n s st cs) (h + count heard n s st cs)
-  unfolding ended count Unopened
+      → Stand (ended n st cs) (k + howMany endsFrame n s st cs) (h + howMany hears n s st cs)
+  unfolding ended howMany Unopened
   run [] st k h e u = let a : k + 0 ≡ k = omega arith in let b : h + 0 ≡ h = omega arith in rw (a, b) e
   run (c ∷ cs) st k h e u =
-      let r = run cs (after n st c) (k + counts framed st c) (h + counts heard st c) (one st c k h e (u .0)) (u .1) in
-      let a : k + counts framed st c + count framed n s (after n st c) cs ≡ k + (counts framed st c + count framed n s (after n st c) cs) = omega arith in
-      let b : h + counts heard st c + count heard n s (after n st c) cs ≡ h + (counts heard st c + count heard n s (after n st c) cs) = omega arith in
+      let r = run cs (after n st c) (k + counts endsFrame st c) (h + counts hears st c) (one st c k h e (u .0)) (u .1) in
+      let a : k + counts endsFrame st c + howMany endsFrame n s (after n st c) cs ≡ k + (counts endsFrame st c + howMany endsFrame n s (after n st c) cs) = omega arith in
+      let b : h + counts hears st c + howMany hears n s (after n st c) cs ≡ h + (counts hears st c + howMany hears n s (after n st c) cs) = omega arith in
       rw (a, b) at r
 
 -- ---- what is claimed

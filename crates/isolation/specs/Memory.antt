@@ -21,7 +21,7 @@ use Rattle.desk.specs.Desk.{callOf}
 use Rattle.memory.specs.Hear.{Recalled, blank, HeardFrame, heardAll, faded}
 use Rattle.memory.specs.Brought.{recalledIn, Noted, unnoted, brought}
 use Rattle.isolation.specs.Run.{Call, openingOf, State, given, after, ended}
-use Rattle.isolation.specs.Numbering.{heard, count, Unopened}
+use Rattle.isolation.specs.Numbering.{hears, howMany, Unopened}
 
 -- what side s remembers, in its share and in its record
 abbrev pub recalled : ℕ → State → Recalled
@@ -61,7 +61,7 @@ abbrev pub Faded : ℕ → Type 0
 Faded n =
     (s : ℕ) → s < n → (st : State) → Since n s st
     → (calls : List Call) → Unopened n s st calls
-    → let k = count heard n s st calls in
+    → let k = howMany hears n s st calls in
     let last = recalled s (ended n st calls) in
     ((i : ℕ) → i < 22 → le (faded k (at (recalled s st .gains) i)) (at (last .gains) i) ≡ true) × (k ≡ 0 → last ≡ recalled s st)
 

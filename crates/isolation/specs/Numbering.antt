@@ -16,17 +16,17 @@ use Rattle.memory.specs.Brought.{isHeard}
 use Rattle.isolation.specs.Run.{Call, openingOf, State, given, after, ended}
 
 -- a call 4 that is done, by itself or in a second half
-abbrev pub framed : Ask → Reply → Bool
-framed ask reply = eqb (lastOf ask) 4 && passed reply
+abbrev pub endsFrame : Ask → Reply → Bool
+endsFrame ask reply = eqb (lastOf ask) 4 && passed reply
 
 -- a heard call 3; no other call is answered so
-abbrev pub heard : Ask → Reply → Bool
-heard ask reply = isHeard reply
+abbrev pub hears : Ask → Reply → Bool
+hears ask reply = isHeard reply
 
 -- how many of side s's calls in a run are answered so
-unfoldable pub count : (Ask → Reply → Bool) → ℕ → ℕ → State → List Call → ℕ
-count kind n s st [] = 0
-count kind n s st (c ∷ cs) = cond (eqb (c .side) s && kind (c .ask) (given n st c .answer .reply)) 1 0 + count kind n s (after n st c) cs
+unfoldable pub howMany : (Ask → Reply → Bool) → ℕ → ℕ → State → List Call → ℕ
+howMany kind n s st [] = 0
+howMany kind n s st (c ∷ cs) = cond (eqb (c .side) s && kind (c .ask) (given n st c .answer .reply)) 1 0 + howMany kind n s (after n st c) cs
 
 -- in a run, side s is not opened anew: an opening of it is refused
 unfoldable pub Unopened : ℕ → ℕ → State → List Call → Type 0
@@ -43,4 +43,4 @@ Numbering n =
     → let opened = after n st (openingOf s model) in
     let last = ended n opened calls .rec s in
     Unopened n s opened calls
-    → (last .frame ≡ count framed n s opened calls % 4294967296) × (last .heard ≡ count heard n s opened calls % 4294967296)
+    → (last .frame ≡ howMany endsFrame n s opened calls % 4294967296) × (last .heard ≡ howMany hears n s opened calls % 4294967296)
