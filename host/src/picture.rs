@@ -51,6 +51,28 @@ fn is_voice(heard: &Heard) -> bool {
     matches!(heard, Heard::Voice { probability, .. } if *probability > 0.5)
 }
 
+/// How likely a voice is, as a line over a strip's foot: the most of each column.
+fn likelihood(frames: &[Frame], seconds: f64, foot: f64) -> String {
+    let wide = seconds * f64::from(RATE) / FRAME as f64 / COLUMNS as f64;
+    let mut most = vec![0.0f32; COLUMNS];
+    for frame in frames {
+        let column = (f64::from(frame.number) / wide.max(f64::MIN_POSITIVE)) as usize;
+        if let (Heard::Voice { probability, .. }, Some(most)) = (frame.heard, most.get_mut(column)) {
+            *most = most.max(probability);
+        }
+    }
+    let x = |column: usize| LEFT + WIDTH * (column as f64 + 0.5) / COLUMNS as f64;
+    let point = |(column, p): (usize, &f32)| format!("{:.1},{:.1}", x(column), foot - f64::from(*p) * STRIP * 0.4);
+    most.iter().enumerate().map(point).collect::<Vec<_>>().join(" ")
+}
+
+/// Where a frame's number does not follow the one before it, in seconds.
+fn gaps(frames: &[Frame]) -> Vec<f64> {
+    let follows = |pair: &[Frame]| pair[1].number == pair[0].number.wrapping_add(1);
+    let second = |pair: &[Frame]| f64::from(pair[1].number) * FRAME as f64 / f64::from(RATE);
+    frames.windows(2).filter(|pair| !follows(pair)).map(second).collect()
+}
+
 /// The most labels that stand side by side.
 const LABELS: usize = 15;
 
@@ -68,7 +90,7 @@ pub fn svg(benches: &[Cleaned; 2]) -> String {
     let mut text = format!(
         "<svg xmlns=\"http://www.w3.org/2000/svg\" viewBox=\"0 0 {} {height}\" font-family=\"sans-serif\" font-size=\"13\">\n\
          <rect width=\"100%\" height=\"100%\" fill=\"white\"/>\n\
-         <text x=\"{LEFT}\" y=\"22\">Both benches, before and after. The bar marks what was heard; it is dark where a voice is likely.</text>\n",
+         <text x=\"{LEFT}\" y=\"22\">Both benches, before and after. The bar marks what was heard, dark where a voice is likely; the line is how likely, and a red stroke a missing frame.</text>\n",
         LEFT + WIDTH + 20.0
     );
     let mut top = TOP;
@@ -90,6 +112,15 @@ pub fn svg(benches: &[Cleaned; 2]) -> String {
                         x(from)
                     )
                     .unwrap();
+                }
+            }
+            if what == "after" {
+                let line = likelihood(&bench.frames, seconds, top + STRIP);
+                writeln!(text, "<polyline fill=\"none\" stroke=\"#c0562f\" points=\"{line}\"/>").unwrap();
+                for gap in gaps(&bench.frames) {
+                    let x = LEFT + WIDTH * (gap / seconds).min(1.0);
+                    let (from, to) = (top, top + STRIP);
+                    writeln!(text, "<path stroke=\"#d00000\" d=\"M{x:.1} {from:.1} V{to:.1}\"/>").unwrap();
                 }
             }
             top += STRIP + GAP;
@@ -114,6 +145,14 @@ pub fn svg(benches: &[Cleaned; 2]) -> String {
 #[cfg(test)]
 mod tests {
     use super::*;
+
+    #[test]
+    fn a_gap_is_drawn() {
+        let frame = |number| Frame { number, heard: Heard::Silent, heard_so_far: 0 };
+        assert_eq!(gaps(&[frame(0), frame(1), frame(2)]), [0.0; 0]);
+        assert_eq!(gaps(&[frame(7), frame(100), frame(101), frame(200)]), [1.0, 2.0]);
+        assert_eq!(gaps(&[frame(u32::MAX), frame(0)]), [0.0; 0]);
+    }
 
     #[test]
     fn labels_have_room() {
