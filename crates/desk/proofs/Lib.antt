@@ -1,4 +1,5 @@
 pub mod Apart
+mod Fills
 pub mod Halved
 pub mod Ranged
 pub mod Replies

@@ -7,15 +7,15 @@ use Rattle.frame.specs.declared.Reply.{Reply}
 use Rattle.frame.specs.declared.Reply.the-variants.{Numbered}
 use Rattle.desk.specs.declared.Record.{Record}
 use Rattle.desk.specs.declared.Answer.{Answer}
-use Rattle.desk.specs.Parts.{toldOf, firstOf, secondOf}
+use Rattle.desk.specs.Parts.{toldOf, toldFirst, toldSecond}
 
-pub twice : (rec : Record) (reply : Reply) {first last : Answer} → first ≡ toldOf rec reply → last ≡ toldOf (first .rec) reply → last ≡ firstOf rec reply
+pub twice : (rec : Record) (reply : Reply) {first last : Answer} → first ≡ toldOf rec reply → last ≡ toldOf (first .rec) reply → last ≡ toldFirst rec reply
 twice rec reply e d = d ∙ ap (λ (a : Answer). toldOf (a .rec) reply) e ∙ go reply (passed reply) refl
   where
-    go : (r : Reply) (t : Bool) → passed r ≡ t → toldOf (toldOf rec r .rec) r ≡ firstOf rec r
+    go : (r : Reply) (t : Bool) → passed r ≡ t → toldOf (toldOf rec r .rec) r ≡ toldFirst rec r
     go r true p = rw p
     go r false p = rw p
 
 pub lastly : (rec : Record) (reply : Reply) {first last : Answer} {n : ℕ} → passed reply ≡ true → first ≡ toldOf rec reply → n ≡ oneMore (first .rec .frame)
-    → last ≡ toldOf (first .rec) (Numbered n (first .rec .heard)) → record { reply = reply; rec = last .rec } ≡ secondOf rec reply
+    → last ≡ toldOf (first .rec) (Numbered n (first .rec .heard)) → record { reply = reply; rec = last .rec } ≡ toldSecond rec reply
 lastly rec reply {first} p e c d = rw (d, c, e, p)

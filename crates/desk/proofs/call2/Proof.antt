@@ -1,7 +1,7 @@
--- `desk::call2` meets its contract: the gate turns it away, or the side's share is lent to `frame::call2`. Assumes nothing.
+-- `desk::call2` meets its contract: the gate turns it away, or a frame's part of the side's share is lent to `frame::call2`. Assumes nothing.
 use borrow.Author.Needs.{needs}
 use Rattle.rules.specs.Place.{get, put}
-use Rattle.desk.proofs.Serve.{turned-away, served}
+use Rattle.desk.proofs.Serve.{turned-away, call2-served}
 use Rattle.desk.proofs.call2.Statement.{statement}
 use Rattle.desk.proofs.call2.Tie as tie
 
@@ -22,4 +22,4 @@ call2-spec =
     (λ c. search needs)  -- same-length
     (λ c. search needs)  -- same-length-2
     (λ c. search needs)  -- same-length-3
-    (λ c. search served depth 1))  -- returns-2
+    (λ c. search call2-served depth 1))  -- returns-2

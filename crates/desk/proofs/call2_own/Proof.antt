@@ -1,7 +1,7 @@
--- `desk::call2_own` meets its contract: the gate turns it away, or the side's share is lent to `halves::call2_own`. Assumes nothing.
+-- `desk::call2_own` meets its contract: the gate turns it away, or a frame's part of the side's share is lent to `halves::call2_own`. Assumes nothing.
 use borrow.Author.Needs.{needs}
 use Rattle.rules.specs.Place.{get, put}
-use Rattle.desk.proofs.Serve.{turned-away, served}
+use Rattle.desk.proofs.Serve.{turned-away, call2-own-served}
 use Rattle.desk.proofs.call2_own.Statement.{statement}
 use Rattle.desk.proofs.call2_own.Tie as tie
 
@@ -22,4 +22,4 @@ call2-own-spec =
     (λ c. search needs)  -- same-length
     (λ c. search needs)  -- same-length-2
     (λ c. search needs)  -- same-length-3
-    (λ c. search served depth 1))  -- returns-2
+    (λ c. search call2-own-served depth 1))  -- returns-2

@@ -1,7 +1,7 @@
--- `desk::call4` meets its contract: the gate turns it away, or the side's share is lent to `frame::call4`. Assumes nothing.
+-- `desk::call4` meets its contract: the gate turns it away, or a frame's part of the side's share is lent to `frame::call4`. Assumes nothing.
 use borrow.Author.Needs.{needs}
 use Rattle.rules.specs.Place.{get, put}
-use Rattle.desk.proofs.Serve.{turned-away, served}
+use Rattle.desk.proofs.Serve.{turned-away, call4-served}
 use Rattle.desk.proofs.call4.Statement.{statement}
 use Rattle.desk.proofs.call4.Tie as tie
 
@@ -21,4 +21,4 @@ call4-spec =
     (λ c κs. search needs)  -- told-requires
     (λ c. search needs)  -- same-length
     (λ c. search needs)  -- same-length-2
-    (λ c. search served depth 1))  -- returns-2
+    (λ c. search call4-served depth 1))  -- returns-2
