@@ -83,7 +83,7 @@ recordOf due index vad noise denoise frame heard =
 
 -- and one with another call due, and these
 abbrev pub holding : ℕ → Record → ℕ → ℕ → ℕ → Record
-holding due rec waiting piece progress =
+holding due rec waiting size progress =
     record {
       due = due;
       index = rec .index;
@@ -93,7 +93,7 @@ holding due rec waiting piece progress =
       frame = rec .frame;
       heard = rec .heard;
       waiting = waiting;
-      piece = piece;
+      piece = size;
       progress = progress;
     }
 

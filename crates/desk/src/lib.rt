@@ -82,8 +82,8 @@ pub fn record_of(
 }
 
 // And one with another call due, and these.
-pub fn holding(due: usize, rec: Record, waiting: usize, piece: usize, progress: usize) -> Record
-    ensures { λ r. ⌜ r ≡ holding due rec waiting piece progress ⌝ }
+pub fn holding(due: usize, rec: Record, waiting: usize, size: usize, progress: usize) -> Record
+    ensures { λ r. ⌜ r ≡ holding due rec waiting size progress ⌝ }
 {
     Record {
         due,
@@ -94,7 +94,7 @@ pub fn holding(due: usize, rec: Record, waiting: usize, piece: usize, progress: 
         frame: rec.frame,
         heard: rec.heard,
         waiting,
-        piece,
+        piece: size,
         progress,
     }
 }
