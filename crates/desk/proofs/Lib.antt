@@ -1,6 +1,7 @@
 pub mod Apart
 mod Fills
 pub mod Halved
+mod Pieced
 pub mod Ranged
 pub mod Replies
 mod Serve

@@ -20,10 +20,10 @@ use Rattle.frame.specs.Reply.{passed, oneMore}
 use Rattle.frame.specs.declared.Reply.{Reply}
 use Rattle.frame.specs.declared.Reply.the-variants.{Done, Silent, Heard, Numbered, Refused, Misread}
 use Rattle.pieces.specs.Pieces.{refused}
-use Rattle.pieces.proofs.Cases.{piece-fitted, resume-fitted}
 use Rattle.desk.specs.declared.Record.{Record}
 use Rattle.desk.specs.Gate.{idle, allZero, inCounts, resting, underWay, inPieces, inRange, isFrame, gate, shareOf}
 use Rattle.desk.specs.Desk.{Ask, opening, call1, call2, call2Own, call3, call4, firstHalf, secondHalf, piece, resume, callOf, holding, nextDue, nextIndex, advanced, numbered, carried, started, answered, onShare, opened, desk}
+use Rattle.desk.proofs.Pieced.{piece-fitted, resume-fitted}
 use Rattle.desk.proofs.Turned.{none}
 
 pub both : (a b : Bool) → (a && b) ≡ true → (a ≡ true) × (b ≡ true)
@@ -60,16 +60,17 @@ pieced b e = go (eqb (b .piece) 0) refl
 
     go : (t : Bool) → eqb (b .piece) 0 ≡ t → (b .waiting ≤ 479) × (b .piece ≤ 4096) × (b .progress ≤ 4096)
     go true h =
-        let r = both _ _ (rw h at e) in
+        let r = both (eqb (b .progress) 0) (cond (eqb (b .waiting) 0) true (leb (b .waiting) 479 && eqb (b .due) 1)) (rw h at e) in
         let none = eqb-true (b .piece) 0 h in
         let begun = eqb-true (b .progress) 0 (r .0) in
         (waits (eqb (b .waiting) 0) refl (r .1), omega arith, omega arith)
     go false h =
-        let p = both _ _ (rw h at e) in
-        let w = both _ _ (both _ _ (p .1) .1) in
+        let last : Bool = leb 1 (b .progress) && leb (b .progress) (b .piece) in
+        let p = both (leb (b .piece) 4096) (eqb (b .due) 3 && (eqb (b .waiting) 0 && last)) (rw h at e) in
+        let w = both (eqb (b .waiting) 0) last (both (eqb (b .due) 3) (eqb (b .waiting) 0 && last) (p .1) .1) in
         let few = leb-true (b .piece) 4096 (p .0) in
         let none = eqb-true (b .waiting) 0 (w .0) in
-        let within = leb-true (b .progress) (b .piece) (both _ _ (w .1) .1) in
+        let within = leb-true (b .progress) (b .piece) (both (leb 1 (b .progress)) (leb (b .progress) (b .piece)) (w .1) .1) in
         (omega arith, few, omega arith)
 
 pub bounded : (b : Record) → inRange b ≡ true → Bounded b
@@ -79,14 +80,15 @@ bounded b e = go (eqb (b .due) 0) refl
     go : (t : Bool) → eqb (b .due) 0 ≡ t → Bounded b
     go true h =
         let zero = eqb-true (b .due) 0 h in
-        let i = both _ _ (rw h at e) in
-        let v = both _ _ (i .1) in
-        let n = both _ _ (v .1) in
-        let d = both _ _ (n .1) in
-        let f = both _ _ (d .1) in
-        let s = both _ _ (f .1) in
-        let k = both _ _ (s .1) in
-        let w = both _ _ (k .0) in
+        let pieces : Bool = idle b && eqb (b .progress) 0 in
+        let numbers : Bool = eqb (b .frame) 0 && (eqb (b .heard) 0 && pieces) in
+        let i = both (eqb (b .index) 0) (eqb (b .vad) 0 && (eqb (b .noise) 0 && (eqb (b .denoise) 0 && numbers))) (rw h at e) in
+        let v = both (eqb (b .vad) 0) (eqb (b .noise) 0 && (eqb (b .denoise) 0 && numbers)) (i .1) in
+        let n = both (eqb (b .noise) 0) (eqb (b .denoise) 0 && numbers) (v .1) in
+        let d = both (eqb (b .denoise) 0) numbers (n .1) in
+        let s = both (eqb (b .heard) 0) pieces (both (eqb (b .frame) 0) (eqb (b .heard) 0 && pieces) (d .1) .1) in
+        let k = both (idle b) (eqb (b .progress) 0) (s .1) in
+        let w = both (eqb (b .waiting) 0) (eqb (b .piece) 0) (k .0) in
         record {
           due = omega arith;
           index = omega (arith, eqb-true (b .index) 0 (i .0));
@@ -206,14 +208,14 @@ done-range b share (secondHalf l m k) r o p = rw p (twice-range b (onShare b sha
 done-range b share (piece x k s) r o p =
     let ajar = open-range b (onShare b share (piece x k s) .reply) (eqb-false (b .due) 0 o) r in
     let f = piece-fitted share (b .waiting) x k s p in
-    rw p (carried-range b (b .waiting + length x) (length x) (480 - b .waiting) (ajar .0) (ajar .1) (f .few) (omega (arith, f .waiting)) (λ h. omega (arith, f .waiting)))
+    rw p (carried-range b (b .waiting + length x) (length x) (480 - b .waiting) (ajar .0) (ajar .1) (f .few) (omega (arith, f .waits)) (λ h. omega (arith, f .waits)))
 done-range b share (resume x l m k s) r o p =
     let reply = onShare b share (resume x l m k s) .reply in
     let next = numbered (advanced b reply) in
     let ne = eqb-false (b .due) 0 o in
     let ajar = open-range next reply (λ z. let due = next-due b reply (advanced b reply .due) in omega arith) (twice-range b reply (lastly (advanced b reply)) ne r) in
     let f = resume-fitted share (b .index) (b .vad) (b .noise) (b .denoise) (b .piece) (b .progress) x l m k s p in
-    rw p (carried-range next (length x - b .progress) (length x) (b .progress + 480) (ajar .0) (ajar .1) (f .few) (omega arith) (λ h. omega (arith, f .within)))
+    rw p (carried-range next (length x - b .progress) (length x) (b .progress + 480) (ajar .0) (ajar .1) (omega (arith, f .same, f .few)) (omega arith) (λ h. omega (arith, f .same, f .within)))
 
 module _ (benches side : ℕ) (b : Record) (store : List Float) where
   pub range-kept : (ask : Ask) → passed (desk benches side b store ask .answer .reply) ≡ true

@@ -3,14 +3,15 @@
 --     no-out, no-half-out, no-resume-out    call 3 with no place for its spectrum, and a second half and a resume with none for their samples,
 --                                           are refused
 -- Assumes nothing.
-use Prim.Native.Nat.{ℕ, _≤_}
+use Prim.Native.Nat.{ℕ, _*_, _-_, _≤_}
 use mathlib.Core.Bool.{Bool, true, false, cond}
-use mathlib.Core.List.{List}
+use mathlib.Core.List.{List, [], _++_}
 use mathlib.Core.Path.{_≡_, refl, ap}
 use lib.Dec.{eqb}
-use lib.ListN.{length}
+use lib.ListN.{length, drop}
 use lib.Ieee.{Float}
-use Rattle.rules.specs.Place.{get}
+use Rattle.rules.specs.Place.{get, put}
+use Rattle.rules.specs.Written.{from, nothing}
 use Rattle.model.specs.Model.{readOf}
 use Rattle.model.specs.declared.Reading.{Reading}
 use Rattle.model.specs.declared.Reading.the-variants.{Good, Refused as Unread}
@@ -21,14 +22,17 @@ use Rattle.frame.specs.Frame.{Effect}
 use Rattle.frame.specs.Reply.{passed}
 use Rattle.frame.proofs.Done.{call3-no-out}
 use Rattle.frame.proofs.Cases.{call1-by, call2-by, call3-by, call4-by}
+use Rattle.halves.specs.Halves as halves
 use Rattle.halves.proofs.Cases.{first-half-by, second-half-by}
 use Rattle.halves.proofs.Onward.{second-half-no-out}
 use Rattle.halves.proofs.Sister.{call2-own-by}
-use Rattle.pieces.specs.Pieces.{Outcome, framePart, refused, further}
-use Rattle.pieces.proofs.Cases.{further-reply, piece-by, resume-by, resume-no-out}
+use Rattle.pieces.specs.Pieces.{Outcome, framePart, waitingIn, waits, frameOf, refused}
+use Rattle.pieces.proofs.Cases.{piece-by, resume-by}
+use Rattle.pieces.proofs.Kept.{further-reply}
 use Rattle.desk.specs.declared.Record.{Record}
 use Rattle.desk.specs.Gate.{gate, shareOf}
 use Rattle.desk.specs.Desk.{Ask, opening, call1, call2, call2Own, call3, call4, firstHalf, secondHalf, piece, resume, callOf, opened, onShare, desk}
+use Rattle.desk.proofs.Pieced.{resume-no-out}
 
 abbrev pub Small : Reply → Type 0
 Small (Misread n l) = (n ≤ 22) × (l ≤ 6)
@@ -49,6 +53,9 @@ module _ (b : Record) (share : List Float) where
   abbrev SmallOf : Effect → Type 0
   SmallOf f = Small (f .reply)
 
+  abbrev Small-after : Outcome → Type 0
+  Small-after o = Small (o .reply)
+
   abbrev part : List Float
   part = get framePart share
 
@@ -61,6 +68,14 @@ module _ (b : Record) (share : List Float) where
   frames (call4 x o) = call4-by part SmallOf (λ _. tt) (b .frame) (b .heard) x o (λ _. tt)
   frames (firstHalf x s) = first-half-by part SmallOf (λ _. tt) x s (λ _ _. tt)
   frames (secondHalf l m o) = second-half-by part SmallOf (λ _. tt) (b .index) (b .vad) (b .noise) (b .denoise) l m o (misread m) (λ _. tt) (λ _ _ _ _ _. tt)
+  frames (piece x o s) =
+      piece-by share Small-after (λ _. tt) (b .waiting) x o s (λ _. rw (further-reply Done (waits share []) (waitingIn (b .waiting) share ++ x) nothing) tt)
+  frames (resume x l m o s) =
+      resume-by share Small-after (λ _. tt) (b .index) (b .vad) (b .noise) (b .denoise) (b .piece) (b .progress) x l m o s (misread m)
+      (λ _.
+      let h = halves.secondHalf part (b .index) (b .vad) (b .noise) (b .denoise) l m 480 in
+      rw (further-reply (h .reply) (put framePart share (h .share)) (drop (b .progress) x) (from (480 * (frameOf (b .progress) - 1)) (halves.buffer h)))
+      (second-half-by part SmallOf (λ _. tt) (b .index) (b .vad) (b .noise) (b .denoise) l m 480 (misread m) (λ _. tt) (λ _ _ _ _ _. tt)))
 
 pub small : (benches side : ℕ) (b : Record) (store : List Float) (ask : Ask) → Small (desk benches side b store ask .answer .reply)
 unfolding desk

@@ -5,7 +5,7 @@
 --     misread, wiped  an opening that gets through, whose model is refused or reads
 -- Assumes nothing.
 use Prim.Native.Nat.{ℕ, _+_, _-_}
-use native.Mathlib.Nat.{add-sub-cancel-left}
+use native.Mathlib.Nat.{add-sub-cancel-left, add-zero}
 use mathlib.Core.Bool.{Bool, true, false, cond, not}
 use mathlib.Core.List.{List, [], _∷_}
 use mathlib.Core.Path.{_≡_, refl, sym, ap, _∙_}
@@ -89,7 +89,7 @@ module _ (benches side : ℕ) (b : Record) (store : List Float) (held : List (Li
   framed f is fills n start part end reply r new out e z p w a =
       let lies = p z in
       let t = through benches side b (length store) (callOf ask) (sym e ∙ z) in
-      let inside = get-get (shareOf side) framePart store (omega arith) (omega arith) in
+      let inside : get framePart (get (shareOf side) store) ≡ get (partOf side) store = rw add-zero at (get-get (shareOf side) framePart store (omega arith) (omega arith)) in
       let same = lent-part side start part end lies in
       let w′ = rw same at w in
       rw (← e, eq-eqb n 0 z, same, is (get (shareOf side) store), inside)
@@ -102,33 +102,33 @@ module _ (benches side : ℕ) (b : Record) (store : List Float) (held : List (Li
 -- the calls of a frame, each lent the frame's part
 module _ (benches side : ℕ) (b : Record) (store : List Float) where
   pub call1-served : (x window : List Float) → let w = length window in Serves benches side b store (window ∷ []) (call1 x w) (λ xs. frame.call1 xs x w)
-  call1-served x window = framed benches side b store (window ∷ []) (call1 x (length window)) _ (λ _. refl) (call1-fills window x (length window))
+  call1-served x window = framed benches side b store (window ∷ []) (call1 x (length window)) (λ xs. frame.call1 xs x (length window)) (λ _. refl) (call1-fills window x (length window))
 
   pub call2-served : (x : List Float) (lag : ℕ) (window sums : List Float) → let w = length window in let s = length sums in
       Serves benches side b store (window ∷ sums ∷ []) (call2 x lag w s) (λ xs. frame.call2 xs x lag w s)
   call2-served x lag window sums =
-      framed benches side b store (window ∷ sums ∷ []) (call2 x lag (length window) (length sums)) _ (λ _. refl) (call2-fills window sums x lag (length window) (length sums))
+      framed benches side b store (window ∷ sums ∷ []) (call2 x lag (length window) (length sums)) (λ xs. frame.call2 xs x lag (length window) (length sums)) (λ _. refl) (call2-fills window sums x lag (length window) (length sums))
 
   pub call2-own-served : (x window sums : List Float) → let w = length window in let s = length sums in
       Serves benches side b store (window ∷ sums ∷ []) (call2Own x w s) (λ xs. halves.call2Own xs x w s)
   call2-own-served x window sums =
-      framed benches side b store (window ∷ sums ∷ []) (call2Own x (length window) (length sums)) _ (λ _. refl) (call2-own-fills window sums x (length window) (length sums))
+      framed benches side b store (window ∷ sums ∷ []) (call2Own x (length window) (length sums)) (λ xs. halves.call2Own xs x (length window) (length sums)) (λ _. refl) (call2-own-fills window sums x (length window) (length sums))
 
   pub call3-served : (x logs : List Float) (model : List ℕ) (out : List Float) → let o = length out in
       Serves benches side b store (out ∷ []) (call3 x logs model o) (λ xs. frame.call3 xs (b .index) (b .vad) (b .noise) (b .denoise) x logs model o)
   call3-served x logs model out =
-      framed benches side b store (out ∷ []) (call3 x logs model (length out)) _ (λ _. refl) (call3-fills out (b .index) (b .vad) (b .noise) (b .denoise) x logs model (length out))
+      framed benches side b store (out ∷ []) (call3 x logs model (length out)) (λ xs. frame.call3 xs (b .index) (b .vad) (b .noise) (b .denoise) x logs model (length out)) (λ _. refl) (call3-fills out (b .index) (b .vad) (b .noise) (b .denoise) x logs model (length out))
 
   pub call4-served : (x out : List Float) → let o = length out in Serves benches side b store (out ∷ []) (call4 x o) (λ xs. frame.call4 xs (b .frame) (b .heard) x o)
-  call4-served x out = framed benches side b store (out ∷ []) (call4 x (length out)) _ (λ _. refl) (call4-fills out (b .frame) (b .heard) x (length out))
+  call4-served x out = framed benches side b store (out ∷ []) (call4 x (length out)) (λ xs. frame.call4 xs (b .frame) (b .heard) x (length out)) (λ _. refl) (call4-fills out (b .frame) (b .heard) x (length out))
 
   pub first-half-served : (x sums : List Float) → let s = length sums in Serves benches side b store (sums ∷ []) (firstHalf x s) (λ xs. halves.firstHalf xs x s)
-  first-half-served x sums = framed benches side b store (sums ∷ []) (firstHalf x (length sums)) _ (λ _. refl) (first-half-fills sums x (length sums))
+  first-half-served x sums = framed benches side b store (sums ∷ []) (firstHalf x (length sums)) (λ xs. halves.firstHalf xs x (length sums)) (λ _. refl) (first-half-fills sums x (length sums))
 
   pub second-half-served : (logs : List Float) (model : List ℕ) (out : List Float) → let o = length out in
       Serves benches side b store (out ∷ []) (secondHalf logs model o) (λ xs. halves.secondHalf xs (b .index) (b .vad) (b .noise) (b .denoise) logs model o)
   second-half-served logs model out =
-      framed benches side b store (out ∷ []) (secondHalf logs model (length out)) _ (λ _. refl)
+      framed benches side b store (out ∷ []) (secondHalf logs model (length out)) (λ xs. halves.secondHalf xs (b .index) (b .vad) (b .noise) (b .denoise) logs model (length out)) (λ _. refl)
       (second-half-fills out (b .index) (b .vad) (b .noise) (b .denoise) logs model (length out))
 
 -- what an opening makes of a model that is refused, and of one that reads

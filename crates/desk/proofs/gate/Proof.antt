@@ -19,7 +19,7 @@ gate-spec =
     (λ c κs. search needs)  -- is-due-requires
     (λ c.
     let o = c .before .before .before .before .before in
-    search (tests, answered-yes (o .before .before .in-range .ensures) (o .before .if3 .left), answered-no (c .before .is-due .ensures) (c .if6 .taken)))  -- returns-6
+    search (tests, answered-yes (o .before .in-range .ensures) (o .if3 .left), answered-no (c .before .is-due .ensures) (c .if6 .taken)))  -- returns-6
     (λ c.
     let o = c .before .before .before .before .before in
-    search (tests, answered-yes (o .before .before .in-range .ensures) (o .before .if3 .left), answered-yes (c .before .is-due .ensures) (c .if6 .left))))  -- returns-7
+    search (tests, answered-yes (o .before .in-range .ensures) (o .if3 .left), answered-yes (c .before .is-due .ensures) (c .if6 .left))))  -- returns-7

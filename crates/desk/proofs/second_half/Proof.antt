@@ -5,6 +5,13 @@ use Rattle.desk.proofs.Serve.{turned-away, second-half-served}
 use Rattle.desk.proofs.second_half.Statement.{statement}
 use Rattle.desk.proofs.second_half.Tie as tie
 
+returns-2 : tie.Need-returns-2
+unfolding get put
+returns-2 c =
+    let k = c .before .before .before .before .before in
+    let o = k .before .before .before in
+    second-half-served _ _ _ _ _ _ _ _ _ _ _ _ _ _ _ (o .before .admit .ensures .number) (o .if1 .left) (o .before .admit .ensures .share) (k .second-half .ensures) (c .told-second .ensures)
+
 pub second-half-spec : {M : Type 1} → statement M
 unfolding get put
 second-half-spec =
@@ -21,4 +28,4 @@ second-half-spec =
     (λ c κs. search needs)  -- told-second-requires
     (λ c. search needs)  -- same-length
     (λ c. search needs)  -- same-length-2
-    (λ c. search second-half-served depth 1))  -- returns-2
+    returns-2)
