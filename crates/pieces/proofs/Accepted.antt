@@ -1,23 +1,27 @@
 -- What is known of a call that no test turned away, as one record; and that such a call is what its definition says past the tests.
---     Piece, piece-cleared, piece-taken         a piece
---     Resume, resume-cleared, resume-taken      a resume
+--     Piece, piece-cleared, piece-accepted, piece-taken         a piece
+--     Resume, resume-cleared, resume-accepted, resume-taken     a resume
 -- Assumes nothing.
 use Prim.Native.Nat.{ℕ, _*_, _≤_}
-use mathlib.Core.Bool.{true}
+use mathlib.Core.Bool.{Bool, true, false, cond}
 use mathlib.Core.List.{List}
-use mathlib.Core.Path.{_≡_}
+use mathlib.Core.Path.{_≡_, refl, sym, _∙_}
 use borrow.Author.Tests.{eqb-true, leb-true, eq-eqb, le-leb, not-false}
 use lib.Dec.{eqb, leb}
 use lib.ListN.{length}
 use lib.Ieee.{Float}
-use Rattle.rules.proofs.Refused.{Clear}
+use Rattle.rules.proofs.Refused.{Clear, by-rows}
 use Rattle.samples.specs.Samples.{good}
 use Rattle.model.specs.Model.{readOf}
+use Rattle.frame.specs.declared.Reply.{Reply}
+use Rattle.frame.specs.declared.Reply.the-variants.{Done, Refused}
 use Rattle.frame.specs.Share.{SHARE}
 use Rattle.frame.specs.Reply.{passed}
 use Rattle.frame.specs.Frame.{counted}
 use Rattle.frame.specs.Parts.{checked}
-use Rattle.pieces.specs.Pieces.{waitingIn, completes, waitedOf, pieceFits, pieceRows, begun, piece, resumeFits, resumeRows, resumeReply, resumed, resume}
+use Rattle.frame.proofs.Truth.{false-true}
+use Rattle.pieces.specs.Pieces.{waitingIn, completes, waitedOf, pieceFits, pieceRows, begun, piece, resumeFits, resumeRows, after, lastTest, resumeReply, resumed, resume}
+use Rattle.pieces.specs.Parts.{pieceReply}
 use Rattle.pieces.proofs.Goods.{both}
 
 -- ---- a piece
@@ -31,6 +35,10 @@ pub record Piece (share : List Float) (waiting : ℕ) (samples : List Float) (ou
   pub places : sums ≡ 22
   pub waited : good (waitingIn waiting share) ≡ true
   pub fine : good samples ≡ true
+
+pub fits-waiting : (waiting size out sums : ℕ) → pieceFits waiting size out sums ≡ true → waiting ≤ 479
+unfolding pieceFits
+fits-waiting waiting size out sums e = leb-true waiting 479 (both (leb waiting 479) _ e .0)
 
 module _ (share : List Float) (waiting : ℕ) (samples : List Float) (out sums : ℕ) where
   pub piece-cleared : Clear (pieceRows share waiting samples out sums) → Piece share waiting samples out sums
@@ -50,6 +58,12 @@ module _ (share : List Float) (waiting : ℕ) (samples : List Float) (out sums :
         waited = not-false _ (c .1 .1 .0);
         fine = not-false _ (c .1 .1 .1 .0);
       }
+
+  pub piece-accepted : passed (pieceReply share waiting samples out sums) ≡ true → Piece share waiting samples out sums
+  unfolding pieceReply
+  piece-accepted =
+      by-rows Refused Done (λ r. passed r ≡ true → Piece share waiting samples out sums) (pieceRows share waiting samples out sums) (λ n e. absurd (false-true e))
+      (λ c _. piece-cleared c)
 
   fits : Piece share waiting samples out sums → pieceFits waiting (length samples) out sums ≡ true
   unfolding pieceFits
@@ -74,6 +88,14 @@ pub record Resume (share : List Float) (index vad noise denoise noted progress :
   pub places : sums ≡ 22
   pub right : passed (checked (counted vad noise denoise) (readOf model)) ≡ true
   pub fine : good samples ≡ true
+
+last-passed : (model : Reply) (t : Bool) → passed (after model (lastTest t)) ≡ true → (passed model ≡ true) × (t ≡ true)
+last-passed model t = go (passed model) t refl
+  where
+    go : (p t : Bool) → passed model ≡ p → passed (cond p (lastTest t) model) ≡ true → (passed model ≡ true) × (t ≡ true)
+    go true true f e = (f, refl)
+    go true false f e = absurd (false-true e)
+    go false t f e = absurd (false-true (sym f ∙ e))
 
 module _ (share : List Float) (index vad noise denoise noted progress : ℕ) (samples logs : List Float) (model : List ℕ) (out sums : ℕ) where
   abbrev Taken : Type 0
@@ -104,6 +126,14 @@ module _ (share : List Float) (index vad noise denoise noted progress : ℕ) (sa
         right = right;
         fine = fine;
       }
+
+  pub resume-accepted : passed (resumeReply share index vad noise denoise noted progress samples logs model out sums) ≡ true
+      → Resume share index vad noise denoise noted progress samples logs model out sums
+  unfolding resumeReply
+  resume-accepted =
+      by-rows Refused (after (checked (counted vad noise denoise) (readOf model)) (lastTest (good samples))) (λ r. passed r ≡ true → Taken)
+      (resumeRows share index noted progress samples (length logs) out sums) (λ n e. absurd (false-true e))
+      (λ c e. let p = last-passed (checked (counted vad noise denoise) (readOf model)) (good samples) e in resume-cleared c (p .0) (p .1))
 
   suits : Taken → resumeFits index noted progress (length samples) (length logs) out sums ≡ true
   unfolding resumeFits

@@ -4,4 +4,5 @@ pub mod Goods
 pub mod Halved
 pub mod Kept
 pub mod Padding
+mod Serve
 pub mod Shares
