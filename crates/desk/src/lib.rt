@@ -690,3 +690,73 @@ pub fn second_half(
     );
     told_second(rec, reply)
 }
+
+// A piece of dictation: 1 to 4,096 samples in. They wait, or 480 of those waiting and of them begin a frame, and 22 sums are written.
+pub fn piece(
+    side: Side,
+    rec: Record,
+    store: &mut [f32],
+    samples: &[f32],
+    out: &mut [f32],
+    sums: &mut [f32],
+) -> Answer
+    ensures { λ r. ⌜ Served
+        (desk BENCHES (side .0) rec (now (store .entry))
+        (piece (now (samples .entry)) (length (now (out .entry))) (length (now (sums .entry)))))
+        r (now (store .exit)) (now (out .entry) ∷ now (sums .entry) ∷ []) (now (out .exit) ∷ now (sums .exit) ∷ []) ⌝ }
+{
+    let Admission {
+        number,
+        start,
+        part: _,
+        end,
+    } = admit(side, rec, store.len(), PIECE);
+    if number != 0 {
+        return turned_away(rec, number);
+    }
+    let reply = pieces::piece(&mut store[start..end], rec.waiting, samples, out, sums);
+    told_piece(rec, samples.len(), reply)
+}
+
+// A resume: the same piece, 22 logarithms and the model in. The frame under way is written to its place of the output; the rest of the samples
+// waits, or 480 of them begin the next frame, and 22 sums are written.
+pub fn resume(
+    side: Side,
+    rec: Record,
+    store: &mut [f32],
+    samples: &[f32],
+    logs: &[f32],
+    model: &[u8],
+    out: &mut [f32],
+    sums: &mut [f32],
+) -> Answer
+    ensures { λ r. ⌜ Served
+        (desk BENCHES (side .0) rec (now (store .entry))
+        (resume (now (samples .entry)) (now (logs .entry)) (now (model .entry)) (length (now (out .entry))) (length (now (sums .entry)))))
+        r (now (store .exit)) (now (out .entry) ∷ now (sums .entry) ∷ []) (now (out .exit) ∷ now (sums .exit) ∷ []) ⌝ }
+{
+    let Admission {
+        number,
+        start,
+        part: _,
+        end,
+    } = admit(side, rec, store.len(), RESUME);
+    if number != 0 {
+        return turned_away(rec, number);
+    }
+    let reply = pieces::resume(
+        &mut store[start..end],
+        rec.index,
+        rec.vad,
+        rec.noise,
+        rec.denoise,
+        rec.piece,
+        rec.progress,
+        samples,
+        logs,
+        model,
+        out,
+        sums,
+    );
+    told_resume(rec, samples.len(), reply)
+}
