@@ -3,24 +3,26 @@
 --     handed          it is, and the call is what the desk gives
 --     three, handed-three     a call with three numbers besides, which is lent `out`, or no place of it where `answer` has another length than three
 -- Assumes nothing.
-use Prim.Native.Nat.{ℕ, _-_, _≤_}
+use Prim.Native.Nat.{ℕ, suc, _-_, _≤_}
 use native.Mathlib.Omega.{arith}
 use mathlib.Core.Bool.{Bool, true, false, cond}
 use mathlib.Core.List.{List, [], _∷_, _++_, append-nil}
 use mathlib.Core.Path.{_≡_, refl, sym, ap, ap₂, _∙_}
 use borrow.Author.Tests.{eqb-true}
 use lib.Dec.{eqb}
-use lib.ListN.{length, drop-of-length-le}
+use lib.ListN.{length, drop, drop-of-length-le}
 use lib.Seq.{take-all}
 use lib.Ieee.{Float}
 use Rattle.rules.specs.Place.{Place, get, put}
+use Rattle.rules.specs.Written.{Written, all, over, onto}
 use Rattle.frame.specs.Reply.{passed}
 use Rattle.frame.specs.declared.Reply.{Reply}
 use Rattle.desk.specs.declared.Record.{Record}
 use Rattle.desk.specs.declared.Answer.{Answer}
 use Rattle.desk.specs.Gate.{BENCHES, inRange}
 use Rattle.desk.specs.Desk.{Ask, desk, Served}
-use Rattle.desk.specs.Surface.{RECORD, recordIn, numbersOf, replyNumber, heardOf, besides, outOf, hosted, Hosted}
+use Rattle.desk.specs.Surface.{RECORD, recordIn, numbersOf, replyNumber, heardOf, toldBesides, besides, outOf, hosted, Hosted}
+use Rattle.desk.proofs.Buffers.{buffersOf, buffers}
 use Rattle.desk.proofs.Ranged.{bounded, range-kept}
 use Rattle.desk.proofs.Replies.{small}
 use Rattle.export.specs.Parts.{HandsBack}
@@ -97,15 +99,29 @@ module _ (out : List Float) where
   kept [] h = refl
   kept (x ∷ xs) h = absurd (omega arith)
 
-joined : (p : Bool) (o o′ t t′ n : List Float) (w : List (List Float)) → (o′ ∷ []) ≡ cond p w (o ∷ []) → t′ ≡ cond p n t
-    → (o′ ∷ t′ ∷ []) ≡ cond p (w ++ (n ∷ [])) (o ∷ t ∷ [])
-joined true o o′ t t′ n w e f = ap₂ (λ (x : List (List Float)) (y : List Float). x ++ (y ∷ [])) e f
-joined false o o′ t t′ n w e f = ap₂ (λ (x : List (List Float)) (y : List Float). x ++ (y ∷ [])) e f
+-- a buffer more, behind those that are written to
+onto-more : (ws us : List Written) (hs gs : List (List Float)) → length ws ≡ length hs → onto (ws ++ us) (hs ++ gs) ≡ onto ws hs ++ onto us gs
+onto-more [] us [] gs l = refl
+onto-more [] us (h ∷ hs) gs l = absurd (omega arith)
+onto-more (w ∷ ws) us [] gs l = absurd (omega arith)
+onto-more (w ∷ ws) us (h ∷ hs) gs l = ap (λ (t : List (List Float)). over w h ∷ t) (onto-more ws us hs gs (omega arith))
 
-module _ (side : ℕ) (ns : List ℕ) (b : Record) (store store′ : List Float) (ask : ℕ → Ask) (out answer new : List Float) (given : Answer) (end : ℕ)
-    (no-place : passed (desk BENCHES side b store (ask 0) .answer .reply) ≡ false) (with-three : (n : ℕ) (r : Reply) → besides (ask n) r ≡ (heardOf r ∷ []))
+joined : (p : Bool) (ws : List Written) (held left : List (List Float)) (told t t′ : List Float) → length ws ≡ cond p (length held) 0
+    → left ≡ onto ws held → t′ ≡ cond p told t → left ++ (t′ ∷ []) ≡ onto (ws ++ cond p (all told ∷ []) []) (held ++ (t ∷ []))
+joined true ws held left told t t′ l e f = ap₂ (λ (x : List (List Float)) (y : List Float). x ++ (y ∷ [])) e f ∙ sym (onto-more ws (all told ∷ []) held (t ∷ []) l)
+joined false [] held left told t t′ l e f = ap₂ (λ (x : List (List Float)) (y : List Float). x ++ (y ∷ [])) e f
+joined false (w ∷ ws) held left told t t′ l e f = absurd (omega arith)
+
+none : (ws : List Written) → length ws ≡ 0 → ws ≡ []
+none [] l = refl
+none (w ∷ ws) l = absurd (omega arith)
+
+-- `others` are the buffers between `out` and `answer`
+module _ (side : ℕ) (ns : List ℕ) (b : Record) (store store′ : List Float) (ask : ℕ → Ask) (out answer new : List Float) (others others′ : List (List Float)) (given : Answer) (end : ℕ)
+    (no-place : passed (desk BENCHES side b store (ask 0) .answer .reply) ≡ false)
+    (lent : (n : ℕ) → buffersOf (ask n) ≡ suc (length others)) (with-three : (n : ℕ) (r : Reply) → besides (ask n) r ≡ toldBesides r)
     (read : b ≡ recordIn ns) (ends : end ≡ outOf (length answer) (length out))
-    (served : Served (desk BENCHES side b store (ask (length (get (upTo end) out)))) given store′ (get (upTo end) out ∷ []) (new ∷ [])) where
+    (served : Served (desk BENCHES side b store (ask (length (get (upTo end) out)))) given store′ (get (upTo end) out ∷ others) (new ∷ others′)) where
   -- of another length, the call is refused
   shut : eqb (length answer) 3 ≡ false → passed (given .reply) ≡ false
   shut e =
@@ -124,13 +140,13 @@ module _ (side : ℕ) (ns : List ℕ) (b : Record) (store store′ : List Float)
       → answer′ ≡ cond (passed (given .reply)) (heardOf (given .reply)) answer
       → (number ≡ replyNumber (given .reply)) × (ns′ ≡ cond (passed (given .reply)) (numbersOf (given .rec)) ns)
       → Hosted (hosted BENCHES side ns store (ask (outOf (length answer) (length out)))) number ns ns′ store′
-      (out ∷ answer ∷ []) (put (upTo end) out new ∷ answer′ ∷ [])
+      (out ∷ others ++ (answer ∷ [])) (put (upTo end) out new ∷ others′ ++ (answer′ ∷ []))
   unfolding hosted
   handed-three {number} {ns′} {answer′} same told h = go (eqb (length answer) 3) refl
     where
       go : (t : Bool) → eqb (length answer) 3 ≡ t
           → Hosted (hosted BENCHES side ns store (ask (outOf (length answer) (length out)))) number ns ns′ store′
-          (out ∷ answer ∷ []) (put (upTo end) out new ∷ answer′ ∷ [])
+          (out ∷ others ++ (answer ∷ [])) (put (upTo end) out new ∷ others′ ++ (answer′ ∷ []))
       go true e =
           let z : end ≡ length out = rw e at ends in
           let s = rw (whole out end (omega arith)) at served in
@@ -140,17 +156,20 @@ module _ (side : ℕ) (ns : List ℕ) (b : Record) (store store′ : List Float)
             numbers = rw (← s .answers) (h .0);
             records = rw (← s .answers) (h .1);
             stores = s .stores;
-            writes = joined (passed (o .answer .reply)) out new answer answer′ (heardOf (o .answer .reply)) (o .written) (s .writes) (rw (s .answers) at told);
+            writes = joined (passed (o .answer .reply)) (o .written) (out ∷ others) (new ∷ others′) (heardOf (o .answer .reply)) answer answer′
+                (rw (lent (length out)) at (buffers BENCHES side b store (ask (length out)))) (s .writes) (rw (s .answers) at told);
           })
       go false e =
           let z : end ≡ 0 = rw e at ends in
           let s = rw (z, empty out) at served in
           let no = shut e in
           let o = desk BENCHES side b store (ask 0) in
+          let unwritten = none (o .written) (rw no-place at (buffers BENCHES side b store (ask 0))) in
+          let untouched : others′ ≡ others = ap (drop 1) (rw unwritten at (s .writes)) in
           rw (e, ← read, z, with-three 0 (o .answer .reply), kept out new (rw (z, empty out) at same))
           (record {
             numbers = rw (← s .answers) (h .0);
             records = rw (← s .answers) (h .1);
             stores = s .stores;
-            writes = rw (← s .answers, no) (ap (λ (t : List Float). out ∷ t ∷ []) (rw no at told));
+            writes = rw (unwritten, no-place) (ap₂ (λ (x : List (List Float)) (y : List Float). out ∷ x ++ (y ∷ [])) untouched (rw no at told));
           })

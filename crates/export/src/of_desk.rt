@@ -1,12 +1,13 @@
-// desk: an opening and the frame calls, for a host that has numbers alone. `record` is a side's record as seven numbers: due call,
-// cepstral index, the three GRU counts, frames and heard frames. `answer` is call 3's as three: heard or not, voice, energy. Returned is 0 or the refusal.
+// desk: an opening, the frame calls and pieces of dictation, for a host that has numbers alone. `record` is a side's record as ten numbers: due call,
+// cepstral index, the three GRU counts, frames, heard frames, the samples that wait, the size of an unfinished piece and its progress. `answer` is
+// call 3's as three: heard or not, voice, energy. Returned is 0 or the refusal.
 ghost use mathlib.Core.Path.{_≡_};
 ghost use mathlib.Core.Bool.{true, cond};
 ghost use mathlib.Core.List.{[], _∷_};
 ghost use lib.ListN.{length};
 ghost use Rattle.frame.specs.Reply.{passed};
 ghost use Rattle.desk.specs.Gate.{BENCHES, sideOf};
-ghost use Rattle.desk.specs.Desk.{opening, call1, call2, call2Own, call3, call4, firstHalf, secondHalf};
+ghost use Rattle.desk.specs.Desk.{opening, call1, call2, call2Own, call3, call4, firstHalf, secondHalf, piece, resume};
 ghost use Rattle.desk.specs.Surface.{RECORD, numbersOf, recordIn, replyNumber, heardOf, outOf, hosted, Hosted};
 ghost use Rattle.desk.proofs.Ranged.{Bounded};
 ghost use Rattle.desk.proofs.Replies.{Small};
@@ -18,7 +19,7 @@ use frame::Lag;
 use frame::Reply;
 
 // How many numbers a record is.
-const RECORD: usize = 7;
+const RECORD: usize = 10;
 
 fn wide(x: u32) -> usize
     ensures { λ r. ⌜ r ≡ x ⌝ }
@@ -33,14 +34,21 @@ fn record_in(record: &[u32]) -> Record
     if record.len() != RECORD {
         return desk::record_of(5, 0, 0, 0, 0, 0, 0);
     }
-    desk::record_of(
-        wide(record[0]),
+    let idle = desk::record_of(
+        0,
         wide(record[1]),
         wide(record[2]),
         wide(record[3]),
         wide(record[4]),
         record[5],
         record[6],
+    );
+    desk::holding(
+        wide(record[0]),
+        idle,
+        wide(record[7]),
+        wide(record[8]),
+        wide(record[9]),
     )
 }
 
@@ -56,6 +64,9 @@ fn put_record(record: &mut [u32], rec: Record)
     record[4] = rec.denoise as u32;
     record[5] = rec.frame;
     record[6] = rec.heard;
+    record[7] = rec.waiting as u32;
+    record[8] = rec.piece as u32;
+    record[9] = rec.progress as u32;
 }
 
 // A reply as a number.
@@ -186,7 +197,7 @@ pub extern "C" fn tuppence_call2_own(
     hand_back(record, given)
 }
 
-// What call 3 and the second half answer, as three numbers.
+// What call 3, the second half and a resume answer, as three numbers.
 struct Three {
     heard: f32,
     voice: f32,
@@ -335,6 +346,67 @@ pub extern "C" fn tuppence_second_half(
         logs,
         model,
         &mut out[0..end],
+    );
+    let reply = given.reply;
+    tell(answer, reply);
+    hand_back(record, given)
+}
+
+#[no_mangle]
+pub extern "C" fn tuppence_piece(
+    record: &mut [u32],
+    store: &mut [f32],
+    side: u32,
+    samples: &[f32],
+    out: &mut [f32],
+    sums: &mut [f32],
+) -> u32
+    ensures { λ r. ⌜ Hosted
+        (hosted BENCHES side (now («record» .entry)) (now (store .entry))
+        (piece (now (samples .entry)) (length (now (out .entry))) (length (now (sums .entry)))))
+        r (now («record» .entry)) (now («record» .exit)) (now (store .exit))
+        (now (out .entry) ∷ now (sums .entry) ∷ []) (now (out .exit) ∷ now (sums .exit) ∷ []) ⌝ }
+{
+    let given = desk::piece(
+        Side(side as usize),
+        record_in(record),
+        store,
+        samples,
+        out,
+        sums,
+    );
+    hand_back(record, given)
+}
+
+#[no_mangle]
+pub extern "C" fn tuppence_resume(
+    record: &mut [u32],
+    store: &mut [f32],
+    side: u32,
+    samples: &[f32],
+    logs: &[f32],
+    model: &[u8],
+    out: &mut [f32],
+    sums: &mut [f32],
+    answer: &mut [f32],
+) -> u32
+    ensures { λ r. ⌜ Hosted
+        (hosted BENCHES side (now («record» .entry)) (now (store .entry))
+        (resume (now (samples .entry)) (now (logs .entry)) (now (model .entry))
+        (outOf (length (now (answer .entry))) (length (now (out .entry)))) (length (now (sums .entry)))))
+        r (now («record» .entry)) (now («record» .exit)) (now (store .exit))
+        (now (out .entry) ∷ now (sums .entry) ∷ now (answer .entry) ∷ []) (now (out .exit) ∷ now (sums .exit) ∷ now (answer .exit) ∷ []) ⌝ }
+{
+    let end = places(answer.len(), out.len());
+    let given = desk::resume(
+        Side(side as usize),
+        record_in(record),
+        store,
+        samples,
+        logs,
+        model,
+        &mut out[0..end],
+        sums,
     );
     let reply = given.reply;
     tell(answer, reply);

@@ -11,7 +11,7 @@ use Rattle.export.proofs.of_desk.put_record.Tie as tie
 
 returns : tie.Need-returns
 returns c =
-    let start = c .before .before .before .before .before in
+    let start = c .before .before .before .before .before .before .before .before in
     sets-whole (now (start .args .«record»)) RECORD (start .pre .0) (numbersOf (start .args .rec)) refl
 
 pub put-record-spec : {M : Type 1} → statement M
@@ -30,5 +30,11 @@ put-record-spec =
     (λ c. simp length-set (omega arith))  -- slice-write-record-5
     (λ c. simp length-set (omega arith))  -- slice-write-record-6
     (λ c. simp length-set (omega arith))  -- slice-write-record-7
+    (λ c. search needs)  -- cast-record-6
+    (λ c. simp length-set (omega arith))  -- slice-write-record-8
+    (λ c. search needs)  -- cast-record-7
+    (λ c. simp length-set (omega arith))  -- slice-write-record-9
+    (λ c. search needs)  -- cast-record-8
+    (λ c. simp length-set (omega arith))  -- slice-write-record-10
     (λ c. search needs)  -- same-length
     returns)
