@@ -1,8 +1,8 @@
 -- From what the parts of the code leave to the definitions.
---     entered, finished, finished-length     a frame's halves, over its part of a share
---     rest-waits, rest-begins        what becomes of the rest of a piece
---     piece-refused, piece-ends, piece-pauses         the ways that a piece ends
---     resume-refused, resume-goes                     the ways that a resume ends
+--     entered, finished, finished-length          a frame's halves, over its part of a share
+--     rest-waits, rest-begins                     what becomes of the rest of a piece
+--     piece-refused, piece-ends, piece-pauses     the ways that a piece ends
+--     resume-refused, resume-goes                 the ways that a resume ends
 -- Assumes nothing.
 use Prim.Native.Nat.{ℕ, _+_, _-_, _*_, _≤_, _<_}
 use native.Mathlib.Nat.{add-sub-cancel-left}
@@ -73,31 +73,31 @@ module _ (share : List Float) (l : length share ≡ SHARE) where
 
 -- ---- what becomes of the rest of a piece
 
-module _ (reply : Reply) (share rest : List Float) (w : Written) (out sums : List Float) {share′ out′ : List Float} (o : out′ ≡ over w out) where
-  further-ends : length rest < 480 → share′ ≡ waits share rest → Worked (further reply share rest w) reply share′ (out ∷ sums ∷ []) (out′ ∷ sums ∷ [])
+module _ (share rest out sums : List Float) {share′ : List Float} where
+  further-ends : length rest < 480 → share′ ≡ waits share rest → Worked (further Done share rest nothing) Done share′ (out ∷ sums ∷ []) (out ∷ sums ∷ [])
   unfolding further
   further-ends h s =
       rw (lt-ltb (length rest) 480 h)
-      (record { replies = refl; shares = s; writes = ap₂ (λ (a b : List Float). a ∷ b ∷ []) o (sym (over-none 0 sums)) })
+      (record { replies = refl; shares = s; writes = ap₂ (λ (a b : List Float). a ∷ b ∷ []) (sym (over-none 0 out)) (sym (over-none 0 sums)) })
 
   further-pauses : {sums′ : List Float} → let f = firstHalf (get framePart share) (take 480 rest) 22 in
       480 ≤ length rest → share′ ≡ put framePart share (f .share) → sums′ ≡ buffer f
-      → Worked (further reply share rest w) reply share′ (out ∷ sums ∷ []) (out′ ∷ sums′ ∷ [])
+      → Worked (further Done share rest nothing) Done share′ (out ∷ sums ∷ []) (out ∷ sums′ ∷ [])
   unfolding further
   further-pauses h s t =
-      rw (le-ltb (length rest) 480 h) (record { replies = refl; shares = s; writes = ap₂ (λ (a b : List Float). a ∷ b ∷ []) o t })
+      rw (le-ltb (length rest) 480 h) (record { replies = refl; shares = s; writes = ap₂ (λ (a b : List Float). a ∷ b ∷ []) (sym (over-none 0 out)) t })
 
 -- the samples from a place on, as the code finds them
 module _ (share samples : List Float) (at : ℕ) (sums : List Float) {share′ : List Float} where
   pub rest-waits : length samples - at < 480 → share′ ≡ waits share (drop at samples)
       → Worked (further Done share (drop at samples) nothing) Done share′ ([] ∷ sums ∷ []) ([] ∷ sums ∷ [])
-  rest-waits h s = further-ends Done share (drop at samples) nothing [] sums (sym (over-none 0 [])) (rw (length-drop at samples) h) s
+  rest-waits h s = further-ends share (drop at samples) [] sums (rw (length-drop at samples) h) s
 
   pub rest-begins : {sums′ : List Float} → let f = firstHalf (get framePart share) (take (at + 480 - at) (drop at samples)) 22 in
       480 ≤ length samples - at → share′ ≡ put framePart share (f .share) → sums′ ≡ buffer f
       → Worked (further Done share (drop at samples) nothing) Done share′ ([] ∷ sums ∷ []) ([] ∷ sums′ ∷ [])
   rest-begins h s t =
-      further-pauses Done share (drop at samples) nothing [] sums (sym (over-none 0 [])) (rw (length-drop at samples) h)
+      further-pauses share (drop at samples) [] sums (rw (length-drop at samples) h)
       (rw (add-sub-cancel-left at 480) at s) (rw (add-sub-cancel-left at 480) at t)
 
 -- whatever the reply and the output are: they are not looked at
@@ -142,14 +142,14 @@ module _ (share : List Float) (waiting : ℕ) (samples out sums : List Float) (r
     pub piece-ends : {share′ : List Float} → waiting + length samples < 480 → share′ ≡ put (waitingPlace 479) share (take 479 first)
         → Worked (piece share waiting samples (length out) (length sums)) Done share′ (out ∷ sums ∷ []) (out ∷ sums ∷ [])
     piece-ends h s =
-        rw begins (further-ends Done (waits share []) all nothing out sums (sym (over-none 0 out)) (omega (arith, size)) (s ∙ rw (f, padded-less 479 480 all (omega arith), waits-waits share (took .size) [] all)))
+        rw begins (further-ends (waits share []) all out sums (omega (arith, size)) (s ∙ rw (f, padded-less 479 480 all (omega arith), waits-waits share (took .size) [] all)))
 
     pub piece-pauses : {mid share′ sums′ : List Float} → 480 ≤ waiting + length samples → mid ≡ waits share []
         → share′ ≡ put framePart mid (firstHalf (get framePart mid) first 22 .share) → sums′ ≡ buffer (firstHalf (get framePart mid) first 22)
         → Worked (piece share waiting samples (length out) (length sums)) Done share′ (out ∷ sums ∷ []) (out ∷ sums′ ∷ [])
     piece-pauses h m s t =
         let whole : first ≡ take 480 all = f ∙ padded-full 480 all (omega (arith, size)) in
-        rw begins (further-pauses Done (waits share []) all nothing out sums (sym (over-none 0 out)) (omega (arith, size)) (s ∙ rw (m, whole)) (t ∙ rw (m, whole)))
+        rw begins (further-pauses (waits share []) all out sums (omega (arith, size)) (s ∙ rw (m, whole)) (t ∙ rw (m, whole)))
 
 -- ---- a resume
 
