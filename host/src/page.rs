@@ -1,21 +1,11 @@
 //! One page of both benches for a browser, which needs no network: the picture, what each recording is, and players for before and after.
 
-use crate::cleaned::Cleaned;
-use crate::recorder::{Frame, Heard};
+use crate::cleaned::Summary;
 use crate::{FRAME, RATE};
 use std::fmt::Write;
 
-fn heard(frames: &[Frame]) -> usize {
-    frames.iter().filter(|frame| matches!(frame.heard, Heard::Voice { .. })).count()
-}
-
-/// Frames whose number does not follow the one before it.
-fn gaps(frames: &[Frame]) -> usize {
-    frames.windows(2).filter(|pair| pair[1].number != pair[0].number.wrapping_add(1)).count()
-}
-
 /// `before` are the names of the recordings as they were, where these stand in the folder too.
-pub fn html(benches: &[Cleaned; 2], before: [Option<&str>; 2]) -> String {
+pub fn html(benches: &[Summary; 2], before: [Option<&str>; 2]) -> String {
     let mut text = String::from(
         "<!DOCTYPE html>\n<html lang=\"en\">\n<meta charset=\"utf-8\">\n<title>Both benches</title>\n\
          <style>body { font-family: sans-serif; max-width: 70em; margin: 2em auto } img { width: 100% } \
@@ -29,10 +19,10 @@ pub fn html(benches: &[Cleaned; 2], before: [Option<&str>; 2]) -> String {
         writeln!(
             text,
             "<tr><th>{name}</th><td>{:.2}</td><td>{}</td><td>{}</td><td>{}</td><td>{}</td><td>{}</td></tr>",
-            bench.before.len() as f64 / f64::from(RATE),
-            bench.frames.len(),
-            heard(&bench.frames),
-            gaps(&bench.frames),
+            bench.seconds(),
+            bench.frames,
+            bench.heard,
+            bench.gaps,
             before.map_or(String::new(), player),
             player(&format!("{name}.wav"))
         )
