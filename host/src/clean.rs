@@ -211,7 +211,7 @@ pub fn clean(job: &Job) -> Result<[Summary; 2], String> {
     });
     match (outcome, &job.inputs) {
         (Ok(()), Inputs::Stream { .. }) => files.keep_or_leave(),
-        (Ok(()), _) => files.keep([None, None]),
+        (Ok(()), _) => files.keep(None),
         (Err(why), Inputs::Stream { .. }) if !files.is_empty() => Err(cut_short(files, why)),
         (Err(why), _) => Err(why),
     }

@@ -157,7 +157,7 @@ fn store([left, right]: &[Cleaned; 2], out: &Path) -> Result<(), String> {
         files.after(bench.side, &bench.after)?;
     }
     files.frames(&[left.frames.clone(), right.frames.clone()])?;
-    files.keep([Some(&names[0]), Some(&names[1])]).map(|_| ())
+    files.keep(Some([&names[0], &names[1]])).map(|_| ())
 }
 
 /// Makes the dictations, cleans them, and writes both into the folder.

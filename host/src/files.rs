@@ -66,7 +66,7 @@ impl Files {
     }
 
     /// Closes all files and puts them into their places. `before` are the names of the recordings as they were, where these were added.
-    pub fn keep(self, before: [Option<&str>; 2]) -> Result<[Summary; 2], String> {
+    pub fn keep(self, before: Option<[&str; 2]>) -> Result<[Summary; 2], String> {
         let Files { benches, table, mut folder } = self;
         let summaries = close(benches, table, &mut folder, before)?;
         folder.keep()?;
@@ -76,7 +76,7 @@ impl Files {
     /// The same; but where the files can't be closed they stay as they are, beside their places.
     pub fn keep_or_leave(self) -> Result<[Summary; 2], String> {
         let Files { benches, table, mut folder } = self;
-        match close(benches, table, &mut folder, [None, None]) {
+        match close(benches, table, &mut folder, None) {
             Ok(summaries) => folder.keep().map(|()| summaries),
             Err(why) => {
                 folder.leave();
@@ -90,7 +90,7 @@ fn close(
     benches: [Bench; 2],
     mut table: BufWriter<File>,
     folder: &mut Folder,
-    before: [Option<&str>; 2],
+    before: Option<[&str; 2]>,
 ) -> Result<[Summary; 2], String> {
     table.flush().map_err(|why| told(TABLE.as_ref(), why))?;
     let [left, right] = benches;

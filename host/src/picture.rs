@@ -6,7 +6,7 @@ use crate::{FRAME, RATE};
 use std::fmt::Write;
 
 const WIDTH: f64 = 1000.0;
-const LEFT: f64 = 90.0;
+const LEFT: f64 = 100.0;
 const STRIP: f64 = 90.0;
 const GAP: f64 = 16.0;
 const TOP: f64 = 46.0;
