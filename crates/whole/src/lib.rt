@@ -1,0 +1,1 @@
+// A frame, and a piece, in one call.
