@@ -1,4 +1,5 @@
 pub mod Apart
+pub mod Buffers
 mod Fills
 pub mod Halved
 mod Pieced
