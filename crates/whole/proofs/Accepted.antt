@@ -1,8 +1,8 @@
 -- What is known of a call that none of the tests refused.
 --     Past, passed-by                  the gate let it through, its rows are clear, the model is right and the samples are good
---     Framed, frame-accepted           a frame
---     Taking, take-accepted            a take
---     good-bad, good-rest              samples behind others: whether all are good
+--     Frame, frame-accepted            a frame
+--     Take, take-accepted, fits-sizes  a take
+--     good-bad, good-rest, good-both   samples behind others: whether all are good
 -- Assumes nothing.
 use Prim.Native.Nat.{ℕ, _*_, _≤_}
 use mathlib.Core.Bool.{Bool, true, false, cond, _&&_}
@@ -45,6 +45,13 @@ unfolding good
 good-rest [] ys e = refl
 good-rest (x ∷ xs) ys e = let b = both (goodSample x) (good xs) e in rw (b .0) (good-rest xs ys (b .1))
 
+pub good-both : (xs ys : List Float) → good (xs ++ ys) ≡ true → (good xs ≡ true) × (good ys ≡ true)
+good-both xs ys e = go (good xs) refl
+  where
+    go : (t : Bool) → good xs ≡ t → (good xs ≡ true) × (good ys ≡ true)
+    go true h = (h, sym (good-rest xs ys h) ∙ e)
+    go false h = absurd (false-true (sym (good-bad xs ys h) ∙ e))
+
 -- ---- past the tests
 
 last-passed : (model : Reply) (t : Bool) → passed (after model (lastTest t)) ≡ true → (passed model ≡ true) × (t ≡ true)
@@ -81,7 +88,7 @@ module _ (number : ℕ) (rec : Record) (rows : List Row) (model : List ℕ) (sam
 
 -- ---- a frame
 
-pub record Framed (n side : ℕ) (rec : Record) (store samples : List Float) (model : List ℕ) (out : ℕ) : Type 0 where
+pub record Frame (n side : ℕ) (rec : Record) (store samples : List Float) (model : List ℕ) (out : ℕ) : Type 0 where
   pub gated : gate n side rec (length store) 1 ≡ 0
   pub size : length samples ≡ 480
   pub room : out ≡ 480
@@ -89,7 +96,7 @@ pub record Framed (n side : ℕ) (rec : Record) (store samples : List Float) (mo
   pub fine : good samples ≡ true
 
 module _ (n side : ℕ) (rec : Record) (store samples : List Float) (model : List ℕ) (out : ℕ) where
-  pub frame-accepted : passed (frameReply n side rec (length store) samples model out) ≡ true → Framed n side rec store samples model out
+  pub frame-accepted : passed (frameReply n side rec (length store) samples model out) ≡ true → Frame n side rec store samples model out
   unfolding frameReply
   frame-accepted p =
       let lengths : List (ℕ × ℕ) = (length samples, 480) ∷ (out, 480) ∷ [] in
@@ -99,7 +106,7 @@ module _ (n side : ℕ) (rec : Record) (store samples : List Float) (model : Lis
 
 -- ---- a take
 
-pub record Taking (n side : ℕ) (rec : Record) (store samples : List Float) (model : List ℕ) (out answers : ℕ) : Type 0 where
+pub record Take (n side : ℕ) (rec : Record) (store samples : List Float) (model : List ℕ) (out answers : ℕ) : Type 0 where
   pub gated : gate n side rec (length store) PIECE ≡ 0
   pub fits : pieceFits (rec .waiting) (length samples) out 22 ≡ true
   pub told : 3 * completes (rec .waiting) (length samples) ≤ answers
@@ -107,7 +114,7 @@ pub record Taking (n side : ℕ) (rec : Record) (store samples : List Float) (mo
   pub fine : good (waitingIn (rec .waiting) (get (shareOf side) store) ++ samples) ≡ true
 
 module _ (n side : ℕ) (rec : Record) (store samples : List Float) (model : List ℕ) (out answers : ℕ) where
-  pub take-accepted : passed (takeReply n side rec store samples model out answers) ≡ true → Taking n side rec store samples model out answers
+  pub take-accepted : passed (takeReply n side rec store samples model out answers) ≡ true → Take n side rec store samples model out answers
   unfolding takeReply
   take-accepted p =
       let all = waitingIn (rec .waiting) (get (shareOf side) store) ++ samples in
@@ -121,10 +128,12 @@ module _ (n side : ℕ) (rec : Record) (store samples : List Float) (model : Lis
       }
 
 -- the numbers of a piece that fits
-pub fits-sizes : (waiting size out sums : ℕ) → pieceFits waiting size out sums ≡ true → (waiting ≤ 479) × (1 ≤ size) × (size ≤ 4096)
+pub fits-sizes : (waiting size out sums : ℕ) → pieceFits waiting size out sums ≡ true
+    → (waiting ≤ 479) × (1 ≤ size) × (size ≤ 4096) × (480 * completes waiting size ≤ out)
 unfolding pieceFits
 fits-sizes waiting size out sums e =
     let p = both (leb waiting 479) _ e in
     let q = both (leb 1 size) _ (p .1) in
     let r = both (leb size 4096) _ (q .1) in
-    (leb-true waiting 479 (p .0), leb-true 1 size (q .0), leb-true size 4096 (r .0))
+    let s = both (leb (480 * completes waiting size) out) _ (r .1) in
+    (leb-true waiting 479 (p .0), leb-true 1 size (q .0), leb-true size 4096 (r .0), leb-true _ out (s .0))

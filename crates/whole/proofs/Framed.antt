@@ -29,7 +29,7 @@ use Rattle.desk.specs.Gate.{gate, shareOf}
 use Rattle.desk.specs.Desk.{Ask, firstHalf, secondHalf, callOf, answered, onShare, Given, desk, Served}
 use Rattle.desk.proofs.Turned.{through}
 use Rattle.whole.specs.Whole.{buffer, frameReply, frame}
-use Rattle.whole.proofs.Accepted.{Framed, frame-accepted}
+use Rattle.whole.proofs.Accepted.{Frame, frame-accepted}
 
 pub let-in : (n side : ℕ) (rec : Record) (store : List Float) (ask : Ask) → gate n side rec (length store) (callOf ask) ≡ 0
     → let f = onShare rec (get (shareOf side) store) ask in
@@ -46,7 +46,7 @@ part-length n side store h l =
     let all = length-get (shareOf side) store (omega arith) in
     length-get framePart (get (shareOf side) store) (omega arith)
 
-module _ (n side : ℕ) (rec : Record) (store samples : List Float) (model : List ℕ) (out : ℕ) (k : Framed n side rec store samples model out) where
+module _ (n side : ℕ) (rec : Record) (store samples : List Float) (model : List ℕ) (out : ℕ) (k : Frame n side rec store samples model out) where
   pub first-halved : Halved 22 (halves.firstHalf (partOf side store) samples 22)
   first-halved =
       let t = through n side rec (length store) 1 (k .gated) in

@@ -1,4 +1,4 @@
--- A frame that is accepted is its two halves; what is refused changes nothing. Assumes nothing.
+-- A frame that is accepted is its two halves (`two-halves`); what is refused changes nothing (`refused-is`, `frame-leaves`, `take-leaves`). Assumes nothing.
 use Prim.Native.Nat.{ℕ, _*_, _≤_, _<_}
 use native.Mathlib.Omega.{arith}
 use mathlib.Core.Bool.{Bool, true, false, cond, _&&_}
@@ -29,7 +29,7 @@ use Rattle.desk.proofs.Ranged.{bounded, range-kept}
 use Rattle.desk.proofs.Turned.{none, through}
 use Rattle.whole.specs.Whole.{buffer, turnedAway, frameReply, frame, take}
 use Rattle.whole.specs.Laws.{firstOf, secondOf, TwoHalves, FrameLeaves, TakeLeaves}
-use Rattle.whole.proofs.Accepted.{Framed, frame-accepted}
+use Rattle.whole.proofs.Accepted.{Frame, frame-accepted}
 use Rattle.whole.proofs.Framed.{let-in, partOf, part-length, first-halved}
 
 -- behind a call 1 that was let through, the second half is
@@ -38,7 +38,7 @@ third-due : (n side : ℕ) (rec : Record) (reply : Reply) (len : ℕ) → side <
 unfolding gate isDue idle
 third-due n side rec reply len h l d range = rw (lt-ltb side n h, eq-eqb len (n * SHARE) l, range, d)
 
-module _ (n side : ℕ) (rec : Record) (store samples : List Float) (model : List ℕ) (out : ℕ) (k : Framed n side rec store samples model out) where
+module _ (n side : ℕ) (rec : Record) (store samples : List Float) (model : List ℕ) (out : ℕ) (k : Frame n side rec store samples model out) where
   abbrev half : Effect
   half = halves.firstHalf (partOf side store) samples 22
 
@@ -101,7 +101,7 @@ module _ (n side : ℕ) (rec : Record) (store samples : List Float) (model : Lis
   unfolding frame
   accepted-is p = rw p
 
-  refused-is : passed (frameReply n side rec (length store) samples model out) ≡ false
+  pub refused-is : passed (frameReply n side rec (length store) samples model out) ≡ false
       → frame n side rec store samples model out ≡ turnedAway rec store (frameReply n side rec (length store) samples model out)
   unfolding frame
   refused-is p = rw p

@@ -43,7 +43,7 @@ fn three_of(reply: Reply) -> Three
 }
 
 // The three answers of frame j.
-pub fn tell(answers: &mut [f32], j: usize, reply: Reply)
+pub(crate) fn tell(answers: &mut [f32], j: usize, reply: Reply)
     requires { ⌜ 3 * j + 3 ≤ length (now answers) ⌝ }
     ensures { λ _. ⌜ now (answers .exit) ≡ put (three j) (now (answers .entry)) (heardOf reply) ⌝ }
 {

@@ -32,7 +32,7 @@ fn last_tests(rec: Record, model: &[u8], fine: bool) -> Reply
 }
 
 // The refusal of a frame, or Done.
-pub fn frame_reply(
+pub(crate) fn frame_reply(
     side: Side,
     rec: Record,
     len: usize,
@@ -69,7 +69,7 @@ fn both_good(side: usize, waiting: usize, store: &[f32], samples: &[f32]) -> boo
 }
 
 // The refusal of a take, or Done.
-pub fn take_reply(
+pub(crate) fn take_reply(
     side: Side,
     rec: Record,
     store: &[f32],

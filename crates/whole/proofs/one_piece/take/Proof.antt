@@ -8,14 +8,14 @@ use lib.ListN.{length}
 use Rattle.frame.specs.Reply.{passed}
 use Rattle.rules.proofs.Tests.{answered-no, answered-yes}
 use Rattle.desk.specs.Gate.{BENCHES}
-use Rattle.whole.proofs.Accepted.{Taking, take-accepted, fits-sizes}
+use Rattle.whole.proofs.Accepted.{Take, take-accepted, fits-sizes}
 use Rattle.whole.proofs.Taken.{refused, took}
 use Rattle.whole.proofs.one_piece.take.Statement.{statement}
 use Rattle.whole.proofs.one_piece.take.Tie as tie
 
 -- past the tests
 known : (c : tie.Else1) → let a = c .before .before .before .before .before .before .before .before .before .args in
-    Taking BENCHES (a .side .0) (a .rec) (now (a .store)) (now (a .piece)) (now (a .model)) (length (now (a .out))) (length (now (a .answers)))
+    Take BENCHES (a .side .0) (a .rec) (now (a .store)) (now (a .piece)) (now (a .model)) (length (now (a .out))) (length (now (a .answers)))
 known c =
     let a = c .before .before .before .before .before .before .before .before .before .args in
     take-accepted BENCHES (a .side .0) (a .rec) (now (a .store)) (now (a .piece)) (now (a .model)) (length (now (a .out))) (length (now (a .answers)))

@@ -16,8 +16,8 @@ use Rattle.whole.proofs.tests.take_reply.Tie as tie
 
 -- the piece's numbers, past the test of its lengths
 sizes : (c : tie.Else2) → let a = c .before .before .before .before .before .before .before .args in
-    (a .rec .waiting ≤ 479) × (_≤_ 1 (length (now (a .piece)))) × (length (now (a .piece)) ≤ 4096)
-sizes c = fits-sizes _ _ _ 22 (answered-yes (c .before .piece-fits .ensures) (c .if2 .left))
+    (a .rec .waiting ≤ 479) × (length (now (a .piece)) ≤ 4096)
+sizes c = let f = fits-sizes _ _ _ 22 (answered-yes (c .before .piece-fits .ensures) (c .if2 .left)) in (f .0, f .2)
 
 both-good-requires : tie.Need-both-good-requires
 both-good-requires c κs =
