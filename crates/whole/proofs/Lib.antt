@@ -1,0 +1,4 @@
+pub mod Accepted
+mod Framed
+pub mod Halves
+mod Taken
