@@ -1,0 +1,3 @@
+pub mod Accepted
+mod Framed
+mod Taken

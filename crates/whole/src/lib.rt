@@ -1,0 +1,8 @@
+// A frame, and a piece, in one call: where they pause for logarithms, our own are lent. What may refuse them is tested before anything changes.
+mod heard;
+mod one_frame;
+mod one_piece;
+mod tests;
+
+pub use one_frame::frame;
+pub use one_piece::take;
