@@ -1,3 +1,4 @@
 pub mod Accepted
 mod Framed
+pub mod Ranged
 mod Taken
