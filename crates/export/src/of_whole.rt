@@ -1,0 +1,39 @@
+// whole: a frame in one call, with our own logarithms. `record` is a side's record as ten numbers, as in `of_desk`. Returned
+// is 0 or the refusal.
+ghost use mathlib.Core.List.{[], _∷_};
+ghost use lib.ListN.{length};
+ghost use Rattle.desk.specs.Gate.{BENCHES};
+ghost use Rattle.desk.specs.Surface.{outOf, Hosted};
+ghost use Rattle.whole.specs.Surface.{hostedFrame};
+use desk::Side;
+
+// `samples` and `out` are 480 numbers, `answer` three: heard or not, voice, energy.
+#[no_mangle]
+pub extern "C" fn tuppence_frame(
+    record: &mut [u32],
+    store: &mut [f32],
+    side: u32,
+    samples: &[f32],
+    model: &[u8],
+    out: &mut [f32],
+    answer: &mut [f32],
+) -> u32
+    ensures { λ r. ⌜ Hosted
+        (hostedFrame BENCHES side (now («record» .entry)) (now (store .entry)) (now (samples .entry)) (now (model .entry))
+        (outOf (length (now (answer .entry))) (length (now (out .entry)))))
+        r (now («record» .entry)) (now («record» .exit)) (now (store .exit))
+        (now (out .entry) ∷ now (answer .entry) ∷ []) (now (out .exit) ∷ now (answer .exit) ∷ []) ⌝ }
+{
+    let end = crate::of_desk::places(answer.len(), out.len());
+    let given = whole::frame(
+        Side(side as usize),
+        crate::of_desk::record_in(record),
+        store,
+        samples,
+        model,
+        &mut out[0..end],
+    );
+    let reply = given.reply;
+    crate::of_desk::tell(answer, reply);
+    crate::of_desk::hand_back(record, given)
+}
