@@ -28,7 +28,7 @@ fn wide(x: u32) -> usize
 }
 
 // A record from its numbers; a list of another length is out of range.
-fn record_in(record: &[u32]) -> Record
+pub(crate) fn record_in(record: &[u32]) -> Record
     ensures { λ r. ⌜ r ≡ recordIn (now («record» .entry)) ⌝ }
 {
     if record.len() != RECORD {
@@ -85,7 +85,7 @@ fn number_of(reply: Reply) -> u32
 }
 
 // The record of a call that is done is handed back, and the number returned.
-fn hand_back(record: &mut [u32], given: Answer) -> u32
+pub(crate) fn hand_back(record: &mut [u32], given: Answer) -> u32
     requires { ⌜ HandsBack (now «record») given ⌝ }
     ensures { λ r. ⌜ (r ≡ replyNumber (given .reply))
         × (now («record» .exit) ≡ cond (passed (given .reply)) (numbersOf (given .rec)) (now («record» .entry))) ⌝ }
@@ -232,7 +232,7 @@ fn none() -> Three
 }
 
 // A call that is done writes them.
-fn tell(answer: &mut [f32], reply: Reply)
+pub(crate) fn tell(answer: &mut [f32], reply: Reply)
     requires { ⌜ (passed reply ≡ true → length (now answer) ≡ 3) ⌝ }
     ensures { λ _. ⌜ now (answer .exit) ≡ cond (passed reply) (heardOf reply) (now (answer .entry)) ⌝ }
 {
@@ -246,7 +246,7 @@ fn tell(answer: &mut [f32], reply: Reply)
 }
 
 // An `answer` of another length than three is a wrong length among the others: then the call is lent no place of `out`, and refuses.
-fn places(answer: usize, out: usize) -> usize
+pub(crate) fn places(answer: usize, out: usize) -> usize
     ensures { λ r. ⌜ r ≡ outOf answer out ⌝ }
 {
     if answer != 3 {
