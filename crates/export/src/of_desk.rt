@@ -197,41 +197,7 @@ pub extern "C" fn tuppence_call2_own(
     hand_back(record, given)
 }
 
-// What call 3, the second half and a resume answer, as three numbers.
-struct Three {
-    heard: f32,
-    voice: f32,
-    energy: f32,
-}
-
-fn three_of(reply: Reply) -> Three
-    ensures { λ r. ⌜ (r .heard ∷ r .voice ∷ r .energy ∷ []) ≡ heardOf reply ⌝ }
-{
-    match reply {
-        Reply::Heard(voice, energy) => Three {
-            heard: 1.0,
-            voice,
-            energy,
-        },
-        Reply::Done => none(),
-        Reply::Silent => none(),
-        Reply::Numbered(_, _) => none(),
-        Reply::Refused(_) => none(),
-        Reply::Misread(_, _) => none(),
-    }
-}
-
-fn none() -> Three
-    ensures { λ r. ⌜ (r .heard ∷ r .voice ∷ r .energy ∷ []) ≡ heardOf Reply.Silent ⌝ }
-{
-    Three {
-        heard: 0.0,
-        voice: 0.0,
-        energy: 0.0,
-    }
-}
-
-// A call that is done writes them.
+// What call 3, the second half and a resume answer is written as three numbers, where the call is done.
 pub(crate) fn tell(answer: &mut [f32], reply: Reply)
     requires { ⌜ (passed reply ≡ true → length (now answer) ≡ 3) ⌝ }
     ensures { λ _. ⌜ now (answer .exit) ≡ cond (passed reply) (heardOf reply) (now (answer .entry)) ⌝ }
@@ -239,7 +205,7 @@ pub(crate) fn tell(answer: &mut [f32], reply: Reply)
     if !frame::passed(reply) {
         return;
     }
-    let three = three_of(reply);
+    let three = whole::three_of(reply);
     answer[0] = three.heard;
     answer[1] = three.voice;
     answer[2] = three.energy;

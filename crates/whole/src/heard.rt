@@ -9,10 +9,10 @@ ghost use Rattle.desk.specs.Surface.{heardOf};
 ghost use Rattle.whole.specs.Parts.{three};
 use frame::Reply;
 
-struct Three {
-    heard: f32,
-    voice: f32,
-    energy: f32,
+pub struct Three {
+    pub heard: f32,
+    pub voice: f32,
+    pub energy: f32,
 }
 
 fn none() -> Three
@@ -25,7 +25,7 @@ fn none() -> Three
     }
 }
 
-fn three_of(reply: Reply) -> Three
+pub fn three_of(reply: Reply) -> Three
     ensures { λ r. ⌜ r .heard ∷ r .voice ∷ r .energy ∷ [] ≡ heardOf reply ⌝ }
 {
     match reply {

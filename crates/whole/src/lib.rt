@@ -4,5 +4,7 @@ mod one_frame;
 mod one_piece;
 mod tests;
 
+pub use heard::Three;
+pub use heard::three_of;
 pub use one_frame::frame;
 pub use one_piece::take;
