@@ -3,10 +3,14 @@
 //! is compared bit for bit. Every bench is the one in its turn.
 
 use crate::ask::{Ask, Caller, OURS};
-use crate::desk::{BENCHES, DUE, RECORD, STORE};
+use crate::desk::{BENCHES, RECORD, STORE};
 use crate::rng::{Mood, Rng};
 use crate::tally::{Given, Tally, Value};
 use crate::Options;
+use std::ops::Range;
+
+/// So many of 80 calls begin a piece where call 1 is due: each comes to some fifteen calls, with all their transforms.
+const PIECES: usize = 2;
 
 /// What a run has of its own.
 struct Run {
@@ -20,7 +24,7 @@ impl Run {
     fn new(seed: u64) -> Run {
         let mut rng = Rng::new(seed);
         let store = rng.list_of(STORE, Mood::Any);
-        let callers = std::array::from_fn(|bench| Caller::new(bench as u32));
+        let callers = std::array::from_fn(|bench| Caller::in_pieces(bench as u32, PIECES));
         Run { rng, store, records: vec![vec![0; RECORD]; BENCHES], callers }
     }
 
@@ -29,42 +33,50 @@ impl Run {
         for _ in 0..self.rng.pick(&[0, 0, 0, 1, 1, 3]) {
             let bench = (one + 1 + self.rng.below(BENCHES - 1)) % BENCHES;
             let (caller, record) = (&mut self.callers[bench], &mut self.records[bench]);
-            let ask = caller.ask(&mut self.rng, record[DUE]);
+            let ask = caller.ask(&mut self.rng, record);
             let (number, lent) = ask.put(&OURS, record, &mut self.store);
             caller.answered(&ask, number, &lent);
         }
     }
 
-    /// A call of the one, whose answer buffers hold this run's own numbers beforehand.
-    fn one(&mut self, one: usize, mut ask: Ask) -> (u32, Vec<Vec<f32>>) {
+    /// A call of the one, whose answer buffers hold this run's own numbers beforehand: what it is answered, and of that the bits that are
+    /// the one's to receive.
+    fn one(&mut self, one: usize, mut ask: Ask) -> (u32, Vec<Vec<f32>>, Vec<u32>) {
         for held in &mut ask.held {
             *held = self.rng.list_of(held.len(), Mood::Any);
         }
-        let (number, mut lent) = ask.put(&OURS, &mut self.records[one], &mut self.store);
-        // a refusal leaves what was held, and that is not the one's to receive
-        if number != 0 {
-            for (lent, held) in lent.iter_mut().zip(&ask.held) {
-                let kept = lent.iter().zip(held).all(|(a, b)| a.to_bits() == b.to_bits());
-                *lent = vec![kept as u8 as f32];
-            }
-        }
-        (number, lent)
+        let before = self.records[one].clone();
+        let (number, lent) = ask.put(&OURS, &mut self.records[one], &mut self.store);
+        let written = match number {
+            0 => ask.written(&before, &self.records[one]),
+            _ => vec![0..0; lent.len()],
+        };
+        let each = lent.iter().zip(&ask.held).zip(written);
+        let bits = each.flat_map(|((lent, held), written)| received(lent, held, written)).collect();
+        (number, lent, bits)
     }
+}
+
+/// What was written; and whether the rest, which is not the one's to receive, is as it was held.
+fn received(lent: &[f32], held: &[f32], written: Range<usize>) -> Vec<u32> {
+    let mut bits: Vec<u32> = lent[written.clone()].iter().map(|x| x.to_bits()).collect();
+    let same =
+        |places: Range<usize>| lent[places.clone()].iter().zip(&held[places]).all(|(a, b)| a.to_bits() == b.to_bits());
+    bits.push(u32::from(same(0..written.start) && same(written.end..lent.len())));
+    bits
 }
 
 /// So many calls of one bench.
 fn compare_one(tally: &mut Tally, one: usize, seed: u64, calls: u64) {
-    let mut caller = Caller::new(one as u32);
+    let mut caller = Caller::in_pieces(one as u32, PIECES);
     let rng = &mut Rng::new(seed);
     let mut runs = [Run::new(seed + 1), Run::new(seed + 2)];
     for _ in 0..calls {
-        let ask = caller.ask(rng, runs[0].records[one][DUE]);
+        let ask = caller.ask(rng, &runs[0].records[one]);
         let [a, b] = &mut runs;
         a.others(one);
         b.others(one);
-        let ((number, lent), (other, others)) = (a.one(one, ask.clone()), b.one(one, ask.clone()));
-        let bits = |lists: &[Vec<f32>]| -> Vec<u32> { lists.iter().flatten().map(|x| x.to_bits()).collect() };
-        let (got, gots) = (bits(&lent), bits(&others));
+        let ((number, lent, got), (other, _, gots)) = (a.one(one, ask.clone()), b.one(one, ask.clone()));
         let words = ask.words();
         let mut given = vec![("call, side, lag", Value::from(&words[..])), ("model", (&ask.model).into())];
         given.extend(ask.given.iter().map(|list| ("given", list.into())));

@@ -1,7 +1,10 @@
 //! Openings and calls as a caller makes them: mostly the one that is due with arguments that fit, now and then another.
 
+use crate::desk::{DUE, PIECE as NOTED, PROGRESS, WAITING};
+use crate::dictation::{completed, under_way, LONGEST};
 use crate::models::{self, Shape};
 use crate::rng::{Mood, Rng};
+use std::ops::Range;
 
 /// The functions of a desk.
 pub struct Surface {
@@ -13,6 +16,8 @@ pub struct Surface {
     pub call4: fn(&mut [u32], &mut [f32], u32, &[f32], &mut [f32]) -> u32,
     pub first_half: fn(&mut [u32], &mut [f32], u32, &[f32], &mut [f32]) -> u32,
     pub second_half: fn(&mut [u32], &mut [f32], u32, &[f32], &[u8], &mut [f32], &mut [f32]) -> u32,
+    pub piece: fn(&mut [u32], &mut [f32], u32, &[f32], &mut [f32], &mut [f32]) -> u32,
+    pub resume: fn(&mut [u32], &mut [f32], u32, &[f32], &[f32], &[u8], &mut [f32], &mut [f32], &mut [f32]) -> u32,
 }
 
 /// The proved desk.
@@ -25,18 +30,24 @@ pub const OURS: Surface = Surface {
     call4: tuppence::call4,
     first_half: tuppence::first_half,
     second_half: tuppence::second_half,
+    piece: tuppence::piece,
+    resume: tuppence::resume,
 };
 
 /// Calls 1 and 2, and calls 3 and 4, in one.
 pub const FIRST_HALF: u32 = 5;
 pub const SECOND_HALF: u32 = 6;
+/// A piece of dictation, and what takes it on from a pause.
+pub const PIECE: u32 = 7;
+pub const RESUME: u32 = 8;
 
 /// One call: its arguments, and what its answer buffers hold before it. Call 0 is an opening.
 #[derive(Clone, Default)]
 pub struct Ask {
     pub call: u32,
     pub side: u32,
-    /// Samples; the first spectrum; the second spectrum and the logarithms; the inverse. Of the halves, samples; logarithms.
+    /// Samples; the first spectrum; the second spectrum and the logarithms; the inverse. Of the halves, samples; logarithms. A
+    /// piece; the same and logarithms.
     pub given: Vec<Vec<f32>>,
     /// Call 2's; none for its sister, which finds its own.
     pub lag: Option<u32>,
@@ -68,10 +79,33 @@ impl Ask {
             (SECOND_HALF, [logs], [out, answer]) => {
                 (desk.second_half)(record, store, self.side, logs, &self.model, out, answer)
             }
+            (PIECE, [piece], [out, sums]) => (desk.piece)(record, store, self.side, piece, out, sums),
+            (RESUME, [piece, logs], [out, sums, answer]) => {
+                (desk.resume)(record, store, self.side, piece, logs, &self.model, out, sums, answer)
+            }
             _ => unreachable!("a call of another shape"),
         };
         (number, lent)
     }
+
+    /// The places of each answer buffer that an accepted call writes, by the record before it and after it: those of a frame that
+    /// is completed, and sums where a piece pauses. What is neither a piece nor a resume writes whole buffers.
+    pub fn written(&self, before: &[u32], after: &[u32]) -> Vec<Range<usize>> {
+        let sums = if noted(after, NOTED) > 0 { 0..22 } else { 0..0 };
+        match self.call {
+            PIECE => vec![0..0, sums],
+            RESUME => {
+                let (frame, _) = under_way(noted(before, PROGRESS));
+                vec![480 * (frame - 1)..480 * frame, sums, 0..3]
+            }
+            _ => self.held.iter().map(|held| 0..held.len()).collect(),
+        }
+    }
+}
+
+/// A number of a record, which may be too short to have it.
+fn noted(record: &[u32], at: usize) -> usize {
+    record.get(at).map_or(0, |number| *number as usize)
 }
 
 /// What an opening began.
@@ -92,6 +126,11 @@ pub struct Caller {
     next: Session,
     spectrum: Vec<f32>,
     sums: Vec<f32>,
+    /// Where call 1 is due, so many of 80 calls begin a piece.
+    pieces: usize,
+    /// The piece last lent, and its output as it was left.
+    piece: Vec<f32>,
+    out: Vec<f32>,
 }
 
 impl Caller {
@@ -99,14 +138,25 @@ impl Caller {
         Caller { side, ..Caller::default() }
     }
 
-    /// The next call, where `due` is due. The plain sums that a half is held against take their time: one call in twelve is one.
-    pub fn ask(&mut self, rng: &mut Rng, due: u32) -> Ask {
-        let call = match (rng.below(80), due.min(4)) {
+    /// One that begins so many pieces in 80 calls where call 1 is due.
+    pub fn in_pieces(side: u32, pieces: usize) -> Caller {
+        Caller { pieces, ..Caller::new(side) }
+    }
+
+    /// The next call, by the side's record. The plain sums that a half is held against take their time: one call in twelve is one.
+    pub fn ask(&mut self, rng: &mut Rng, record: &[u32]) -> Ask {
+        // a damaged record may note any number
+        let (due, unfinished, waiting) =
+            (noted(record, DUE).min(4), noted(record, NOTED), noted(record, WAITING).min(479));
+        let call = match (rng.below(80), due) {
             (0, _) => 0,
-            (1..=3, _) => 1 + rng.below(6) as u32,
+            (1..=3, _) => 1 + rng.below(8) as u32,
+            _ if unfinished > 0 => RESUME,
+            _ if waiting > 0 => PIECE,
             (4..=16, 1) => FIRST_HALF,
             (4..=16, 3) => SECOND_HALF,
-            (_, due) => due,
+            (n, 1) if n < 17 + self.pieces => PIECE,
+            (_, due) => due as u32,
         };
         let mut ask = match call {
             0 => self.opening(rng),
@@ -115,11 +165,13 @@ impl Caller {
             3 => self.second(rng),
             4 => self.inverse(rng),
             FIRST_HALF => Ask { held: vec![held(rng, 22)], ..self.samples(rng) },
-            _ => {
+            SECOND_HALF => {
                 let mut ask = self.second(rng);
                 ask.given.remove(0);
                 Ask { held: vec![held(rng, 480), held(rng, 3)], ..ask }
             }
+            PIECE => self.piece(rng, waiting),
+            _ => self.resume(rng, unfinished, noted(record, PROGRESS)),
         };
         ask.call = call;
         ask.side = if rng.once_in(80) { rng.pick(&[16, 17, 256, 65_536, u32::MAX]) } else { self.side };
@@ -135,6 +187,11 @@ impl Caller {
                 self.sums.clone_from(&lent[1]);
             }
             (FIRST_HALF, 0) => self.sums.clone_from(&lent[0]),
+            (PIECE | RESUME, 0) => {
+                self.piece.clone_from(&ask.given[0]);
+                self.out.clone_from(&lent[0]);
+                self.sums.clone_from(&lent[1]);
+            }
             _ => {}
         }
     }
@@ -147,13 +204,41 @@ impl Caller {
     }
 
     /// Mostly what a recorder gives. Now and then a sample is at an end or beyond it: the first, the last or any.
-    fn samples(&mut self, rng: &mut Rng) -> Ask {
-        let mut samples = self.list(rng, 480, Mood::Audio);
+    fn recorded(&self, rng: &mut Rng, len: usize) -> Vec<f32> {
+        let mut samples = self.list(rng, len, Mood::Audio);
         if rng.once_in(8) && !samples.is_empty() {
             let (last, any) = (samples.len() - 1, rng.below(samples.len()));
             samples[rng.pick(&[0, last, any])] = rng.pick(&ENDS);
         }
-        Ask { given: vec![samples], held: vec![held(rng, 960)], ..Ask::default() }
+        samples
+    }
+
+    fn samples(&mut self, rng: &mut Rng) -> Ask {
+        Ask { given: vec![self.recorded(rng, 480)], held: vec![held(rng, 960)], ..Ask::default() }
+    }
+
+    fn piece(&mut self, rng: &mut Rng, waiting: usize) -> Ask {
+        let len = if rng.once_in(40) { rng.pick(&[0, LONGEST + 1, 65_536]) } else { piece_length(rng, waiting) };
+        let piece = self.recorded(rng, len);
+        let held = vec![output(rng, completed(waiting, piece.len())), held(rng, 22)];
+        Ask { given: vec![piece], held, ..Ask::default() }
+    }
+
+    /// Mostly with the piece and the output that were lent before. Other samples of the noted length are taken as well.
+    fn resume(&mut self, rng: &mut Rng, unfinished: usize, progress: usize) -> Ask {
+        let second = self.second(rng);
+        let piece = match self.piece.len() == unfinished && !rng.once_in(20) {
+            true => self.piece.clone(),
+            false => self.recorded(rng, unfinished.clamp(1, LONGEST)),
+        };
+        let (_, waited) = under_way(progress);
+        let frames = completed(waited, piece.len());
+        let out = match self.out.len() >= 480 * frames && !rng.once_in(20) {
+            true => self.out.clone(),
+            false => output(rng, frames),
+        };
+        let given = vec![piece, second.given[1].clone()];
+        Ask { given, held: vec![out, held(rng, 22), held(rng, 3)], ..second }
     }
 
     fn first(&mut self, rng: &mut Rng) -> Ask {
@@ -241,10 +326,33 @@ const ENDS: [f32; 11] = [
     f32::MIN,
 ];
 
+/// Short, around a frame and two, at the longest and any; or what completes a frame, so that nothing waits behind it.
+pub fn piece_length(rng: &mut Rng, waiting: usize) -> usize {
+    match rng.below(12) {
+        0 | 1 => 1 + rng.below(9),
+        2 => rng.pick(&[240, 479, 481, 959, 960, 961]),
+        3 | 4 => 480,
+        5 => rng.pick(&[LONGEST - 1, LONGEST]),
+        6..=8 => 480 * (1 + rng.below(4)) - waiting,
+        _ => 1 + rng.below(LONGEST),
+    }
+}
+
+/// What the output of so many frames holds before the call: mostly of their length, or longer, now and then too short.
+fn output(rng: &mut Rng, frames: usize) -> Vec<f32> {
+    let len = match rng.below(40) {
+        0 => (480 * frames).saturating_sub(1),
+        1 => rng.below(480 * frames + 1),
+        2..=9 => 480 * frames + rng.below(1_000),
+        _ => 480 * frames,
+    };
+    rng.list_of(len, Mood::Any)
+}
+
 /// Mostly n.
 fn wrong(rng: &mut Rng, n: usize) -> usize {
     match rng.below(250) {
-        0 => n - 1,
+        0 => n.saturating_sub(1),
         1 => n + 1,
         2 => 0,
         3 => rng.below(2 * n),

@@ -1,4 +1,5 @@
-//! The desk by the text: an opening and four calls over a lent store, answered by the text's own functions.
+//! The desk by the text: an opening and four calls over a lent store, answered by the text's own functions; a frame in two halves.
+//! (`dictation` has the pieces.)
 //!
 //! Nothing is kept between calls but the store and the records: each call sets the text's memories from its share, runs the
 //! text's functions for that part of the frame, and writes the memories back. The module
@@ -26,54 +27,99 @@ pub const MEM_HP_X: Range<usize> = 3192..3194;
 pub const LASTG: Range<usize> = 3194..3216;
 pub const CEPSTRAL_MEM: Range<usize> = 3216..3392;
 pub const STATES: [usize; 3] = [3392, 3520, 3648];
+pub const WAIT: Range<usize> = 3776..4255;
 
-// A record: due call, cepstral index, the three GRU counts, frames and heard frames.
+// A record: due call, cepstral index, the three GRU counts, frames and heard frames; how many samples wait, the length of an
+// unfinished piece, and how many of its samples are in frames.
 pub const DUE: usize = 0;
 pub const INDEX: usize = 1;
 pub const COUNTS: Range<usize> = 2..5;
 pub const FRAME: usize = 5;
 pub const HEARD: usize = 6;
-pub const RECORD: usize = 7;
+pub const WAITING: usize = 7;
+pub const PIECE: usize = 8;
+pub const PROGRESS: usize = 9;
+pub const RECORD: usize = 10;
 
 fn in_range(record: &[u32]) -> bool {
-    match *record {
-        [0, ref rest @ ..] if rest.len() == RECORD - 1 => rest.iter().all(|n| *n == 0),
-        [due, index, vad, noise, denoise, _, _] => {
-            due <= 4 && index <= 7 && [vad, noise, denoise].iter().all(|n| (1..=127).contains(n))
-        }
-        _ => false,
+    let [due, index, vad, noise, denoise, _, _, waiting, piece, progress] = *record else { return false };
+    if due == 0 {
+        return record.iter().all(|n| *n == 0);
     }
+    let counted = [vad, noise, denoise].iter().all(|n| (1..=127).contains(n));
+    let frames = due <= 4 && index <= 7 && counted;
+    let waits = waiting <= 479 && (waiting == 0 || due == 1);
+    let unfinished = piece <= 4_096
+        && match piece {
+            0 => progress == 0,
+            _ => due == 3 && waiting == 0 && (1..=piece).contains(&progress),
+        };
+    frames && waits && unfinished
 }
 
-/// Refusals 1 to 4, or 0. `call` is 0 for an opening.
-fn gate(call: u32, record: &[u32], store: &[f32], side: u32) -> u32 {
+/// Refusals 1 and 2, or 0.
+fn entrance(record: &[u32], store: &[f32], side: u32) -> u32 {
     if side as usize >= BENCHES {
         1
     } else if store.len() != STORE || !in_range(record) {
         2
-    } else if call == 0 {
-        0
-    } else if record[DUE] == 0 {
-        3
-    } else if record[DUE] != call {
-        4
     } else {
         0
     }
 }
 
-/// Refusals 1 to 5, and else a side's share.
-macro_rules! share {
-    ($call:expr, $record:ident, $store:ident, $side:ident, $($slice:ident $length:literal),*) => {{
-        let number = gate($call, $record, $store, $side);
+/// What must be due.
+#[derive(Clone, Copy)]
+pub enum Due {
+    /// One of calls 1 to 4, where no samples wait and no piece is unfinished.
+    Call(u32),
+    Piece,
+    Resume,
+}
+
+impl Due {
+    fn is_met_by(self, record: &[u32]) -> bool {
+        match self {
+            Due::Call(call) => record[DUE] == call && record[WAITING] == 0 && record[PIECE] == 0,
+            Due::Piece => record[DUE] == 1,
+            Due::Resume => record[PIECE] != 0,
+        }
+    }
+}
+
+/// Refusals 1 to 4, or 0.
+pub fn gate(due: Due, record: &[u32], store: &[f32], side: u32) -> u32 {
+    match entrance(record, store, side) {
+        0 if record[DUE] == 0 => 3,
+        0 if !due.is_met_by(record) => 4,
+        number => number,
+    }
+}
+
+/// Refusals 1 to 5.
+macro_rules! asked {
+    ($due:expr, $record:ident, $store:ident, $side:ident, $($slice:ident $length:literal),*) => {
+        let number = $crate::desk::gate($due, $record, $store, $side);
         if number != 0 {
             return number;
         }
         if $($slice.len() != $length)||* {
             return 5;
         }
-        &mut $store[$side as usize * SHARE..][..SHARE]
+    };
+}
+pub(crate) use asked;
+
+/// Refusals 1 to 5, and else a side's share.
+macro_rules! share {
+    ($due:expr, $record:ident, $store:ident, $side:ident, $($slice:ident $length:literal),*) => {{
+        asked!($due, $record, $store, $side, $($slice $length),*);
+        share_of($store, $side)
     }};
+}
+
+pub fn share_of(store: &mut [f32], side: u32) -> &mut [f32] {
+    &mut store[side as usize * SHARE..][..SHARE]
 }
 
 /// Refusal 7.
@@ -84,6 +130,20 @@ fn misread(Refusal { number, layer }: Refusal) -> u32 {
 /// The counts of the three GRUs.
 fn counts(layers: &[reader::Layer; 6]) -> [u32; 3] {
     [1, 2, 3].map(|k| layers[k].neurons as u32)
+}
+
+/// Refusals 7 and 8, or 0.
+pub fn unfit(model: &[u8], record: &[u32]) -> u32 {
+    match reader::read(model, true) {
+        Err(refusal) => misread(refusal),
+        Ok(layers) if counts(&layers) != record[COUNTS] => 8,
+        Ok(_) => 0,
+    }
+}
+
+/// Refusal 9.
+pub fn broken(samples: &[f32]) -> bool {
+    samples.iter().any(|x| !(-32_768.0..=32_767.0).contains(x))
 }
 
 /// Sets the text's memories from a share.
@@ -113,7 +173,7 @@ fn save(text: &mut DenoiseFeatures, share: &mut [f32], record: &mut [u32]) {
 }
 
 pub fn open(record: &mut [u32], store: &mut [f32], side: u32, model: &[u8]) -> u32 {
-    let number = gate(0, record, store, side);
+    let number = entrance(record, store, side);
     if number != 0 {
         return number;
     }
@@ -121,7 +181,7 @@ pub fn open(record: &mut [u32], store: &mut [f32], side: u32, model: &[u8]) -> u
         Ok(layers) => layers,
         Err(refusal) => return misread(refusal),
     };
-    store[side as usize * SHARE..][..SHARE].fill(0.0);
+    share_of(store, side).fill(0.0);
     record.fill(0);
     record[DUE] = 1;
     record[COUNTS].copy_from_slice(&counts(&layers));
@@ -129,8 +189,8 @@ pub fn open(record: &mut [u32], store: &mut [f32], side: u32, model: &[u8]) -> u
 }
 
 pub fn call1(record: &mut [u32], store: &mut [f32], side: u32, samples: &[f32], window: &mut [f32]) -> u32 {
-    let share = share!(1, record, store, side, samples 480, window 960);
-    if samples.iter().any(|x| !(-32_768.0..=32_767.0).contains(x)) {
+    let share = share!(Due::Call(1), record, store, side, samples 480, window 960);
+    if broken(samples) {
         return 9;
     }
     let mut text = loaded(share, record);
@@ -155,7 +215,7 @@ pub fn call2(
     window: &mut [f32],
     sums: &mut [f32],
 ) -> u32 {
-    let share = share!(2, record, store, side, spectrum 961, window 960, sums 22);
+    let share = share!(Due::Call(2), record, store, side, spectrum 961, window 960, sums 22);
     if lag > 768 {
         return 6;
     }
@@ -200,11 +260,10 @@ pub fn call3(
     out: &mut [f32],
     answer: &mut [f32],
 ) -> u32 {
-    let share = share!(3, record, store, side, spectrum 961, logs 22, out 961, answer 3);
-    match reader::read(model, true) {
-        Err(refusal) => return misread(refusal),
-        Ok(layers) if counts(&layers) != record[COUNTS] => return 8,
-        Ok(_) => {}
+    let share = share!(Due::Call(3), record, store, side, spectrum 961, logs 22, out 961, answer 3);
+    let refused = unfit(model, record);
+    if refused != 0 {
+        return refused;
     }
     let mut text = loaded(share, record);
     feed::start();
@@ -249,7 +308,7 @@ fn heard(text: &mut DenoiseFeatures, share: &mut [f32], model: &RnnModel) -> f32
 
 /// Request 08: call 1, the forward transform of its window as plain sums, and the sister of call 2.
 pub fn first_half(record: &mut [u32], store: &mut [f32], side: u32, samples: &[f32], sums: &mut [f32]) -> u32 {
-    let _ = share!(1, record, store, side, samples 480, sums 22);
+    asked!(Due::Call(1), record, store, side, samples 480, sums 22);
     let (mut window, mut spectrum) = ([0.0; 960], [0.0; 961]);
     let refused = call1(record, store, side, samples, &mut window);
     if refused != 0 {
@@ -269,7 +328,7 @@ pub fn second_half(
     out: &mut [f32],
     answer: &mut [f32],
 ) -> u32 {
-    let share = share!(3, record, store, side, logs 22, out 480, answer 3);
+    let share = share!(Due::Call(3), record, store, side, logs 22, out 480, answer 3);
     let mut text = loaded(share, record);
     // the largest whole number of 0 to 768 that is not above what stands there
     let lag = (0..=768).rev().find(|lag| *lag as f32 <= share[LAG]).unwrap_or(0);
@@ -288,7 +347,7 @@ pub fn second_half(
 }
 
 pub fn call4(record: &mut [u32], store: &mut [f32], side: u32, inverse: &[f32], out: &mut [f32]) -> u32 {
-    let share = share!(4, record, store, side, inverse 960, out 480);
+    let share = share!(Due::Call(4), record, store, side, inverse 960, out 480);
     let mut text = loaded(share, record);
     feed::start();
     feed::inverse(inverse);

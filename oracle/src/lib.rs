@@ -18,7 +18,13 @@ pub mod ask;
 #[cfg(feature = "bands")]
 pub mod bands;
 #[cfg(feature = "frame")]
+pub mod beside;
+#[cfg(feature = "frame")]
+pub mod cutting;
+#[cfg(feature = "frame")]
 pub mod desk;
+#[cfg(feature = "frame")]
+pub mod dictation;
 #[cfg(feature = "frame")]
 pub mod frame;
 #[cfg(feature = "lag")]
@@ -33,6 +39,8 @@ pub mod model;
 pub mod network;
 #[cfg(feature = "numbers")]
 pub mod numbers;
+#[cfg(feature = "frame")]
+pub mod pieces;
 #[cfg(feature = "pitch")]
 pub mod pitch;
 #[cfg(feature = "frame")]
@@ -98,4 +106,6 @@ pub const GROUPS: &[Group] = &[
     ("frame", frame::compare),
     #[cfg(feature = "frame")]
     ("apart", apart::compare),
+    #[cfg(feature = "frame")]
+    ("pieces", pieces::compare),
 ];

@@ -3,9 +3,9 @@
 
 use nnnoiseless_text::probe::{bands, rnn};
 use nnnoiseless_text::RnnModel;
-use oracle::ask::{Ask, Caller, FIRST_HALF, OURS, SECOND_HALF};
+use oracle::ask::{Ask, Caller, FIRST_HALF, OURS, PIECE, RESUME, SECOND_HALF};
 use oracle::bins;
-use oracle::desk::{BENCHES, CEPSTRAL_MEM, DUE, INDEX, INPUT_MEM, LASTG, RECORD, SHARE, STATES, STORE};
+use oracle::desk::{self, BENCHES, CEPSTRAL_MEM, DUE, INDEX, INPUT_MEM, LASTG, RECORD, SHARE, STATES, STORE};
 use oracle::rng::{Mood, Rng};
 use oracle::tally::exactly;
 
@@ -146,33 +146,52 @@ struct Count {
     heard: usize,
     silent: usize,
     broken: usize,
+    in_pieces: usize,
     refused: usize,
 }
 
 impl Bench {
-    /// A call and its answer. Of the share, as the call left it, the joined calls and call 2's sister read the last samples.
-    fn follow(&mut self, ask: &Ask, number: u32, answer: &[Vec<f32>], share: &[f32], count: &mut Count) {
-        let samples = &share[INPUT_MEM];
+    /// A call and its answer. Of `input_mem`, before the call and after it, the joined calls and call 2's sister read the last samples.
+    fn follow(
+        &mut self,
+        ask: &Ask,
+        number: u32,
+        answer: &[Vec<f32>],
+        input_mem: [&[f32]; 2],
+        paused: bool,
+        count: &mut Count,
+    ) {
+        let [before, after] = input_mem;
         match (ask.call, number) {
             (0, 0) => (self.memory, self.faded) = (BLANK, BLANK.gains),
-            (2, 0) => self.noted = (ask.given[0].clone(), ask.lag.map_or_else(|| own_lag(samples), |lag| lag as usize)),
-            (FIRST_HALF, 0) => self.noted = (transformed(samples, 0), own_lag(samples)),
-            (3 | SECOND_HALF, 0) if answer[1][0] == 1.0 => {
-                let (first, lag) = &self.noted;
-                let (second, logs) = match &ask.given[..] {
-                    [spectrum, logs] => (spectrum.clone(), logs),
-                    rest => (transformed(samples, *lag), &rest[0]),
-                };
-                let correlations = correlations(first, &second);
-                self.memory.hear(&Heard { logs, correlations, lag: *lag as f32, model: &ask.model });
-                self.faded.iter_mut().for_each(|gain| *gain *= 0.6);
-                count.heard += 1;
-                count.broken += correlations.iter().chain(logs).any(|x| x.is_nan()) as usize;
+            (2, 0) => self.noted = (ask.given[0].clone(), ask.lag.map_or_else(|| own_lag(after), |lag| lag as usize)),
+            (3, 0) => self.frame(ask, &ask.given[0], &answer[1], count),
+            (SECOND_HALF | RESUME, 0) => {
+                let second = transformed(before, self.noted.1);
+                self.frame(ask, &second, answer.last().unwrap(), count);
             }
-            (3 | SECOND_HALF, 0) => count.silent += 1,
             (_, 0) => {}
             _ => count.refused += 1,
         }
+        // a frame is begun, with our own transform and lag
+        if number == 0 && (ask.call == FIRST_HALF || (paused && matches!(ask.call, PIECE | RESUME))) {
+            self.noted = (transformed(after, 0), own_lag(after));
+        }
+        count.in_pieces += usize::from((ask.call, number) == (RESUME, 0));
+    }
+
+    /// A frame with its second spectrum, whose logarithms are given last, and what it was.
+    fn frame(&mut self, ask: &Ask, second: &[f32], answer: &[f32], count: &mut Count) {
+        if answer[0] == 0.0 {
+            count.silent += 1;
+            return;
+        }
+        let ((first, lag), logs) = (&self.noted, ask.given.last().unwrap());
+        let correlations = correlations(first, second);
+        self.memory.hear(&Heard { logs, correlations, lag: *lag as f32, model: &ask.model });
+        self.faded.iter_mut().for_each(|gain| *gain *= 0.6);
+        count.heard += 1;
+        count.broken += correlations.iter().chain(logs).any(|x| x.is_nan()) as usize;
     }
 
     fn check(&self, share: &[f32], record: &[u32]) {
@@ -197,16 +216,18 @@ fn memory_is_made_of_heard_frames() {
     let rng = &mut Rng::new(13);
     let (mut store, mut records) = (rng.list_of(STORE, Mood::Any), vec![vec![0; RECORD]; BENCHES]);
     let mut benches: Vec<Bench> = (0..BENCHES as u32)
-        .map(|side| Bench { caller: Caller::new(side), memory: BLANK, noted: (vec![], 0), faded: BLANK.gains })
+        .map(|side| Bench { caller: Caller::in_pieces(side, 2), memory: BLANK, noted: (vec![], 0), faded: BLANK.gains })
         .collect();
     let mut count = Count::default();
     while count.heard + count.silent < FRAMES {
         let side = rng.below(BENCHES);
         let bench = &mut benches[side];
-        let ask = bench.caller.ask(rng, records[side][DUE]);
+        let ask = bench.caller.ask(rng, &records[side]);
+        let before = store[side * SHARE..][INPUT_MEM].to_vec();
         let (number, answer) = ask.put(&OURS, &mut records[side], &mut store);
         bench.caller.answered(&ask, number, &answer);
-        bench.follow(&ask, number, &answer, &store[side * SHARE..][..SHARE], &mut count);
+        let input_mem = [&before, &store[side * SHARE..][INPUT_MEM]];
+        bench.follow(&ask, number, &answer, input_mem, records[side][desk::PIECE] > 0, &mut count);
         // another moment to count from
         if rng.once_in(100) {
             bench.faded = bench.memory.gains;
@@ -220,6 +241,7 @@ fn memory_is_made_of_heard_frames() {
         count.heard > FRAMES / 2
             && count.silent > FRAMES / 20
             && count.broken > FRAMES / 100
+            && count.in_pieces > FRAMES / 20
             && count.refused > FRAMES / 20,
         "{count:?}"
     );

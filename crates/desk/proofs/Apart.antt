@@ -22,12 +22,12 @@ use Rattle.model.specs.Model.{readOf}
 use Rattle.model.specs.declared.Reading.{Reading}
 use Rattle.model.specs.declared.Reading.the-variants.{Good, Refused as Unread}
 use Rattle.frame.specs.Share.{SHARE}
-use Rattle.frame.specs.Frame.{Effect, refusal}
 use Rattle.frame.specs.Reply.{passed}
 use Rattle.frame.specs.declared.Reply.the-variants.{Refused}
+use Rattle.pieces.specs.Pieces.{Outcome, refused}
 use Rattle.desk.specs.declared.Record.{Record}
-use Rattle.desk.specs.Gate.{shareOf, gate, inRange, allZero}
-use Rattle.desk.specs.Desk.{Ask, opening, call1, call2, call2Own, call3, call4, firstHalf, secondHalf, callOf, closed, answered, opened, onShare, admitted, Given, desk}
+use Rattle.desk.specs.Gate.{shareOf, gate, inRange, allZero, idle}
+use Rattle.desk.specs.Desk.{Ask, opening, call1, call2, call2Own, call3, call4, firstHalf, secondHalf, piece, resume, callOf, closed, answered, opened, onShare, admitted, Given, desk}
 use Rattle.desk.proofs.Settled.{admitted-kept}
 use Rattle.desk.proofs.Turned.{through, gate-own, closed-opens}
 
@@ -52,7 +52,7 @@ placed side store o = record { answer = o .answer; store = put (shareOf side) st
 -- ---- a desk of one bench, whose store is the share
 
 -- what comes of a share, as an outcome
-abbrev pub givenOf : Record → Ask → Effect → Given
+abbrev pub givenOf : Record → Ask → Outcome → Given
 givenOf b ask f = record { answer = answered b ask (f .reply); store = f .share; written = f .written }
 
 module _ (b : Record) (xs : List Float) (ask : Ask) (l : length xs ≡ SHARE) where
@@ -143,6 +143,8 @@ module _ (b : Record) (xs ys : List Float) (l : length xs ≡ SHARE) (k : length
       admit (call4 x o) e = absurd (omega arith)
       admit (firstHalf x s) e = absurd (omega arith)
       admit (secondHalf g m o) e = absurd (omega arith)
+      admit (piece x o s) e = absurd (omega arith)
+      admit (resume x g m o s) e = absurd (omega arith)
 
       go : (t : Bool) → eqb number 0 ≡ t → Alike (givenOf b ask (admitted b xs ask number)) (givenOf b ask (admitted b ys ask number))
       go true e = rw e (admit ask (closed-opens 1 0 b SHARE (callOf ask) z (eqb-true number 0 e)))
@@ -150,7 +152,7 @@ module _ (b : Record) (xs ys : List Float) (l : length xs ≡ SHARE) (k : length
 
   -- the closed record, too, gets through
   pub anew : (m : List ℕ) → passed (desk 1 0 b xs (opening m) .answer .reply) ≡ true → desk 1 0 b xs (opening m) ≡ desk 1 0 closed ys (opening m)
-  unfolding gate inRange allZero
+  unfolding gate inRange allZero idle
   anew m = rw (one-bench b xs (opening m) l, one-bench closed ys (opening m) k) (go (eqb number 0))
     where
       number : ℕ
@@ -161,7 +163,7 @@ module _ (b : Record) (xs ys : List Float) (l : length xs ≡ SHARE) (k : length
       opens (Good m) e h = rw e
       opens (Unread n l) e h = let one : _≡_ {A = ℕ} 0 1 = cc in absurd (omega arith)
 
-      go : (t : Bool) → passed (cond t (opened xs (readOf m)) (refusal (Refused number) xs) .reply) ≡ true
-          → givenOf b (opening m) (cond t (opened xs (readOf m)) (refusal (Refused number) xs)) ≡ givenOf closed (opening m) (admitted closed ys (opening m) (gate 1 0 closed SHARE 0))
+      go : (t : Bool) → passed (cond t (opened xs (readOf m)) (refused (Refused number) xs) .reply) ≡ true
+          → givenOf b (opening m) (cond t (opened xs (readOf m)) (refused (Refused number) xs)) ≡ givenOf closed (opening m) (admitted closed ys (opening m) (gate 1 0 closed SHARE 0))
       go true h = opens (readOf m) refl h
       go false h = let one : _≡_ {A = ℕ} 0 1 = cc in absurd (omega arith)

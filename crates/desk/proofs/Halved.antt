@@ -3,20 +3,20 @@
 use Prim.Native.Nat.{ℕ, _+_, _*_, _≤_, _<_}
 use native.Mathlib.Omega.{arith}
 use mathlib.Core.Bool.{Bool, true, false, cond, not}
-use mathlib.Core.List.{List, [], _∷_, _++_}
+use mathlib.Core.List.{List, [], _∷_, map}
 use mathlib.Core.Path.{_≡_, refl, sym, ap, _∙_}
 use borrow.Author.Tests.{lt-ltb, eq-eqb, ne-eqb, eqb-true, eqb-false, not-false}
 use lib.Dec.{eqb}
-use lib.ListN.{length, take, drop, length-take, getD}
-use lib.Seq.{take-at, drop-at}
+use lib.ListN.{length, drop, getD}
 use lib.Ieee.{Float}
-use Rattle.rules.specs.Place.{Place, get, put}
-use Rattle.rules.proofs.Places.{Within, length-get, length-put, get-put}
+use Rattle.rules.specs.Place.{get, put}
+use Rattle.rules.specs.Written.{Written, all, from, nothing}
+use Rattle.rules.proofs.Places.{Within, length-get, length-put, get-put, put-put}
 use Rattle.rules.proofs.Refused.{clear}
 use Rattle.transforms.specs.Transform.{forwardOf, inverseOf}
 use Rattle.frame.specs.Reply.{passed, oneMore}
-use Rattle.frame.specs.Share.{SHARE}
-use Rattle.frame.specs.Frame.{Effect, refusal}
+use Rattle.frame.specs.Share.{SHARE, PART}
+use Rattle.frame.specs.Frame.{Effect}
 use Rattle.frame.specs.Frame as frame
 use Rattle.frame.specs.declared.Reply.{Reply}
 use Rattle.frame.specs.declared.Reply.the-variants.{Done, Numbered, Refused}
@@ -27,15 +27,16 @@ use Rattle.halves.specs.Halves.{lookedBack}
 use Rattle.halves.specs.Halves as halves
 use Rattle.halves.proofs.Joined.{Both, first-half-is, second-half-is}
 use Rattle.halves.proofs.Sister.{call2-own-by}
+use Rattle.pieces.specs.Pieces.{Outcome, framePart, refused, inPart}
 use Rattle.desk.specs.declared.Record.{Record}
 use Rattle.desk.specs.declared.Answer.{Answer}
-use Rattle.desk.specs.Gate.{inRange, isFrame, refusals, gate, shareOf}
+use Rattle.desk.specs.Gate.{idle, inRange, isFrame, isDue, refusals, gate, shareOf}
 use Rattle.desk.specs.Desk.{Ask, call1, call2Own, call3, call4, firstHalf, secondHalf, callOf, nextDue, advanced, numbered, answered, onShare, Given, desk}
 use Rattle.desk.proofs.Turned.{none, through}
-use Rattle.desk.proofs.Ranged.{next-due, advanced-range}
+use Rattle.desk.proofs.Ranged.{both, advanced-range}
 
 -- a half that is two calls of the desk: both are done, it leaves the second's record and store, and this is its reply and what it writes
-pub record InTurn (one two half : Given) (reply : Reply) (written : List (List Float)) : Type 0 where
+pub record InTurn (one two half : Given) (reply : Reply) (written : List Written) : Type 0 where
   pub first : passed (one .answer .reply) ≡ true
   pub last : passed (two .answer .reply) ≡ true
   pub replies : half .answer .reply ≡ reply
@@ -43,15 +44,16 @@ pub record InTurn (one two half : Given) (reply : Reply) (written : List (List F
   pub stores : half .store ≡ two .store
   pub writes : half .written ≡ written
 
--- two writes to one place: the second stays
-put-put : (p : Place) (xs ys zs : List Float) → Within p xs → length ys ≡ p .size → put p (put p xs ys) zs ≡ put p xs zs
-unfolding put
-put-put p xs ys zs w e =
-    let front : length (take (p .at) xs) ≡ p .at = simp length-take (omega arith) in
-    let rest = drop (p .size) (drop (p .at) xs) in
-    rw (take-at (take (p .at) xs) (ys ++ rest) (p .at) front, drop-at (take (p .at) xs) (ys ++ rest) (p .at) front, drop-at ys rest (p .size) e)
-
 -- ---- the gate
+
+-- where a call of a frame is due, its number stands
+stands : (b : Record) (call : ℕ) → call ≤ 4 → isDue b call ≡ true → b .due ≡ call
+unfolding isDue
+stands b call few e = eqb-true (b .due) call (both _ _ (rw (ne-eqb call 5 (λ z. omega arith), ne-eqb call 6 (λ z. omega arith)) at e) .0)
+
+is-due : (b : Record) (call : ℕ) (reply : Reply) → call ≤ 4 → nextDue (b .due) ≡ call → isDue (advanced b reply) call ≡ true
+unfolding isDue idle
+is-due b call reply few e = rw (ne-eqb call 5 (λ z. omega arith), ne-eqb call 6 (λ z. omega arith), eq-eqb (nextDue (b .due)) call e)
 
 -- behind a call that was let through, the next one is
 gate-next : (n side : ℕ) (b : Record) (len call : ℕ) (reply : Reply) → 1 ≤ call → call ≤ 3 → gate n side b len call ≡ 0 → gate n side (advanced b reply) len (call + 1) ≡ 0
@@ -60,7 +62,7 @@ gate-next n side b len call reply some few e =
     let c = none n side b len call e in
     let is : eqb call 0 ≡ false = ne-eqb call 0 (λ z. omega arith) in
     let ajar : b .due ≡ 0 → ⊥ = eqb-false (b .due) 0 (rw is at (c .1 .1 .1 .0)) in
-    let due : b .due ≡ call = eqb-true (b .due) call (not-false (eqb (b .due) call) (rw is at (c .1 .1 .1 .1 .0))) in
+    let due : b .due ≡ call = stands b call (omega arith) (not-false (isDue b call) (rw is at (c .1 .1 .1 .1 .0))) in
     let next : nextDue (b .due) ≡ call + 1 = rw (due, lt-ltb call 4 (omega arith)) in
     let later : eqb (call + 1) 0 ≡ false = ne-eqb (call + 1) 0 (λ z. omega arith) in
     clear (λ k. k) 0 (refusals n side (advanced b reply) len (call + 1)) (
@@ -71,7 +73,7 @@ gate-next n side b len call reply some few e =
           rw (advanced-range b reply ajar (not-false (inRange b) (c .1 .1 .0))),
           (
             rw (next, later),
-            (rw (next, later, eq-eqb (call + 1) (call + 1) refl), tt),
+            (rw (is-due b (call + 1) reply (omega arith) next, later), tt),
           ),
         ),
       ),
@@ -85,7 +87,7 @@ module _ (n side : ℕ) (b : Record) (store : List Float) where
   number ask = gate n side b (length store) (callOf ask)
 
   -- what comes of a share
-  abbrev of : Ask → Effect → Given
+  abbrev of : Ask → Outcome → Given
   of ask f = record { answer = answered b ask (f .reply); store = put (shareOf side) store (f .share); written = f .written }
 
   let-in : (ask : Ask) → number ask ≡ 0 → desk n side b store ask ≡ of ask (onShare b share ask)
@@ -97,7 +99,7 @@ module _ (n side : ℕ) (b : Record) (store : List Float) where
   unfolding desk
   was-let-in ask = go (eqb (number ask) 0) refl
     where
-      go : (t : Bool) → eqb (number ask) 0 ≡ t → passed (cond t (onShare b share ask) (refusal (Refused (number ask)) share) .reply) ≡ true → number ask ≡ 0
+      go : (t : Bool) → eqb (number ask) 0 ≡ t → passed (cond t (onShare b share ask) (refused (Refused (number ask)) share) .reply) ≡ true → number ask ≡ 0
       go true e p = eqb-true (number ask) 0 e
       go false e p = absurd (false-true p)
 
@@ -146,10 +148,52 @@ done-record : (b : Record) (r : Reply) → passed r ≡ true → cond (passed r)
 done-record b r p = rw p
 
 -- what a call wrote into its first answer buffer
+abbrev filled : Written → List Float
+filled (all numbers) = numbers
+filled (from at numbers) = numbers
+
 abbrev buffer : Given → List Float
-buffer o = getD (o .written) 0 []
+buffer o = filled (getD (o .written) 0 nothing)
+
+-- the buffers of a call of a frame
+the-first : (ws : List (List Float)) → filled (getD (map all ws) 0 nothing) ≡ getD ws 0 []
+the-first [] = refl
+the-first (w ∷ ws) = refl
+
+but-the-first : (ws : List (List Float)) → map all (drop 1 ws) ≡ drop 1 (map all ws)
+but-the-first [] = refl
+but-the-first (w ∷ ws) = refl
+
+-- a second call on the part that a first one left
+again : (share left : List Float) (f : List Float → Effect) → length share ≡ SHARE → length left ≡ PART
+    → inPart (put framePart share left) (f (get framePart (put framePart share left))) ≡ inPart share (f left)
+again share left f whole l =
+    rw (get-put framePart share left (omega arith) l)
+    (ap (λ (s : List Float). record { reply = f left .reply; share = s; written = map all (f left .written) }) (put-put framePart share left (f left .share) (omega arith) l))
 
 module _ (n side : ℕ) (b : Record) (store : List Float) where
+  abbrev mine : List Float
+  mine = get (shareOf side) store
+
+  abbrev part : List Float
+  part = get framePart mine
+
+  -- a call on the part that another call left
+  module _ (right : (side < n) × (length store ≡ n * SHARE)) (b₁ : Record) (left : List Float) (kept : length left ≡ length part) where
+    fits : length mine ≡ SHARE
+    fits = length-get (shareOf side) store (omega (arith, right .0, right .1))
+
+    narrow : length left ≡ PART
+    narrow = kept ∙ length-get framePart mine (omega (arith, fits))
+
+    part-in : (f : List Float → Effect) (ask : Ask) → ((s : List Float) → onShare b₁ s ask ≡ inPart s (f (get framePart s))) → gate n side b₁ (length store) (callOf ask) ≡ 0
+        → desk n side b₁ (put (shareOf side) store (put framePart mine left)) ask
+        ≡ record { answer = answered b₁ ask (f left .reply); store = put (shareOf side) store (put framePart mine (f left .share)); written = map all (f left .written) }
+    part-in f ask is e =
+        second-in n side b store right b₁ (put framePart mine left) (length-put framePart mine left (omega (arith, fits)) narrow ∙ fits) ask e
+        ∙ ap (λ (o : Outcome). record { answer = answered b₁ ask (o .reply); store = put (shareOf side) store (o .share); written = o .written })
+        (is (put framePart mine left) ∙ again mine left f fits narrow)
+
   module _ (samples : List Float) (sums : ℕ) where
     abbrev one : Given
     one = desk n side b store (call1 samples 960)
@@ -163,29 +207,34 @@ module _ (n side : ℕ) (b : Record) (store : List Float) where
         let right = through n side b (length store) 1 e in
         let h = let-in n side b store (firstHalf samples sums) e in
         let o = let-in n side b store (call1 samples 960) e in
-        let a = frame.call1 (get (shareOf side) store) samples 960 in
-        let both = first-half-is (get (shareOf side) store) samples sums (ap (λ (g : Given). passed (g .answer .reply)) (sym h) ∙ p) in
+        let a = frame.call1 part samples 960 in
+        let both = first-half-is part samples sums (ap (λ (g : Given). passed (g .answer .reply)) (sym h) ∙ p) in
         let spectrum = forwardOf (halves.buffer a) in
-        let whole = call1-keeps (get (shareOf side) store) samples 960 .size ∙ length-get (shareOf side) store (omega (arith, right .0, right .1)) in
         let w =
         ap (λ (g : Given). desk n side (g .answer .rec) (g .store) (call2Own (forwardOf (buffer g)) 960 sums)) o
-        ∙ ap (λ (r : Record). desk n side r (put (shareOf side) store (a .share)) (call2Own spectrum 960 sums)) (done-record b (a .reply) (both .first))
-        ∙ second-in n side b store right (advanced b (a .reply)) (a .share) whole (call2Own spectrum 960 sums) (gate-next n side b (length store) 1 (a .reply) (omega arith) (omega arith) e) in
+        ∙ ap (λ (xs : List Float). desk n side (cond (passed (a .reply)) (advanced b (a .reply)) b) (put (shareOf side) store (put framePart mine (a .share))) (call2Own (forwardOf xs) 960 sums)) (the-first (a .written))
+        ∙ ap (λ (r : Record). desk n side r (put (shareOf side) store (put framePart mine (a .share))) (call2Own spectrum 960 sums)) (done-record b (a .reply) (both .first))
+        ∙ part-in right (advanced b (a .reply)) (a .share) (call1-keeps part samples 960 .size) (λ xs. halves.call2Own xs spectrum 960 sums) (call2Own spectrum 960 sums) (λ s. refl)
+        (gate-next n side b (length store) 1 (a .reply) (omega arith) (omega arith) e) in
         record {
           first = ap (λ (g : Given). passed (g .answer .reply)) o ∙ both .first;
           last = ap (λ (g : Given). passed (g .answer .reply)) w ∙ both .last;
           replies = ap (λ (g : Given). g .answer .reply) h ∙ both .replies ∙ sym (ap (λ (g : Given). g .answer .reply) w);
           records =
               ap (λ (g : Given). g .answer .rec) h
-              ∙ moved-first b _ (a .reply) _ (both .replies) (done-1 (get (shareOf side) store) samples 960 (both .first)) (done-2 (a .share) spectrum 960 sums (both .last))
+              ∙ moved-first b _ (a .reply) _ (both .replies) (done-1 part samples 960 (both .first)) (done-2 (a .share) spectrum 960 sums (both .last))
               ∙ sym (ap (λ (g : Given). g .answer .rec) w);
-          stores = ap (λ (g : Given). g .store) h ∙ ap (put (shareOf side) store) (both .shares) ∙ sym (ap (λ (g : Given). g .store) w);
-          writes = ap (λ (g : Given). g .written) h ∙ both .writes ∙ sym (ap (λ (g : Given). drop 1 (g .written)) w);
+          stores = ap (λ (g : Given). g .store) h ∙ ap (λ (s : List Float). put (shareOf side) store (put framePart mine s)) (both .shares) ∙ sym (ap (λ (g : Given). g .store) w);
+          writes =
+              ap (λ (g : Given). g .written) h
+              ∙ ap (map all) (both .writes)
+              ∙ but-the-first (halves.call2Own (a .share) spectrum 960 sums .written)
+              ∙ sym (ap (λ (g : Given). drop 1 (g .written)) w);
         }
 
   module _ (logs : List Float) (model : List ℕ) (out : ℕ) where
     abbrev three : Given
-    three = desk n side b store (call3 (forwardOf (lookedBack (get (shareOf side) store))) logs model 961)
+    three = desk n side b store (call3 (forwardOf (lookedBack part)) logs model 961)
 
     abbrev four : Given
     four = desk n side (three .answer .rec) (three .store) (call4 (inverseOf (buffer three)) out)
@@ -195,20 +244,21 @@ module _ (n side : ℕ) (b : Record) (store : List Float) where
         let e = was-let-in n side b store (secondHalf logs model out) p in
         let right = through n side b (length store) 3 e in
         let h = let-in n side b store (secondHalf logs model out) e in
-        let spectrum = forwardOf (lookedBack (get (shareOf side) store)) in
+        let spectrum = forwardOf (lookedBack part) in
         let o = let-in n side b store (call3 spectrum logs model 961) e in
-        let a = frame.call3 (get (shareOf side) store) (b .index) (b .vad) (b .noise) (b .denoise) spectrum logs model 961 in
+        let a = frame.call3 part (b .index) (b .vad) (b .noise) (b .denoise) spectrum logs model 961 in
         let next = advanced b (a .reply) in
         let both =
-        second-half-is (get (shareOf side) store) (b .index) (b .vad) (b .noise) (b .denoise) logs model out (next .frame) (next .heard)
+        second-half-is part (b .index) (b .vad) (b .noise) (b .denoise) logs model out (next .frame) (next .heard)
         (ap (λ (g : Given). passed (g .answer .reply)) (sym h) ∙ p) in
         let inverse = inverseOf (halves.buffer a) in
-        let whole =
-        call3-keeps (get (shareOf side) store) (b .index) (b .vad) (b .noise) (b .denoise) spectrum logs model 961 .size ∙ length-get (shareOf side) store (omega (arith, right .0, right .1)) in
         let w =
         ap (λ (g : Given). desk n side (g .answer .rec) (g .store) (call4 (inverseOf (buffer g)) out)) o
-        ∙ ap (λ (r : Record). desk n side r (put (shareOf side) store (a .share)) (call4 inverse out)) (done-record b (a .reply) (both .first))
-        ∙ second-in n side b store right next (a .share) whole (call4 inverse out) (gate-next n side b (length store) 3 (a .reply) (omega arith) (omega arith) e) in
+        ∙ ap (λ (xs : List Float). desk n side (cond (passed (a .reply)) next b) (put (shareOf side) store (put framePart mine (a .share))) (call4 (inverseOf xs) out)) (the-first (a .written))
+        ∙ ap (λ (r : Record). desk n side r (put (shareOf side) store (put framePart mine (a .share))) (call4 inverse out)) (done-record b (a .reply) (both .first))
+        ∙ part-in right next (a .share) (call3-keeps part (b .index) (b .vad) (b .noise) (b .denoise) spectrum logs model 961 .size)
+        (λ xs. frame.call4 xs (next .frame) (next .heard) inverse out) (call4 inverse out) (λ s. refl)
+        (gate-next n side b (length store) 3 (a .reply) (omega arith) (omega arith) e) in
         let last = done-4 (a .share) (next .frame) (next .heard) inverse out (both .last) in
         let records =
         ap (λ (g : Given). g .answer .rec) h
@@ -219,8 +269,8 @@ module _ (n side : ℕ) (b : Record) (store : List Float) where
             last = ap (λ (g : Given). passed (g .answer .reply)) w ∙ both .last;
             replies = ap (λ (g : Given). g .answer .reply) h ∙ both .replies ∙ sym (ap (λ (g : Given). g .answer .reply) o);
             records = records;
-            stores = ap (λ (g : Given). g .store) h ∙ ap (put (shareOf side) store) (both .shares) ∙ sym (ap (λ (g : Given). g .store) w);
-            writes = ap (λ (g : Given). g .written) h ∙ both .writes ∙ sym (ap (λ (g : Given). g .written) w);
+            stores = ap (λ (g : Given). g .store) h ∙ ap (λ (s : List Float). put (shareOf side) store (put framePart mine s)) (both .shares) ∙ sym (ap (λ (g : Given). g .store) w);
+            writes = ap (λ (g : Given). g .written) h ∙ ap (map all) (both .writes) ∙ sym (ap (λ (g : Given). g .written) w);
           },
           ap (λ (g : Given). g .answer .reply) w
               ∙ answered-in next _ last

@@ -1,5 +1,8 @@
 pub mod Apart
+pub mod Buffers
+mod Fills
 pub mod Halved
+mod Pieced
 pub mod Ranged
 pub mod Replies
 mod Serve

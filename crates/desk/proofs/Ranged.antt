@@ -2,12 +2,12 @@
 --     range-kept    where a call is done, the record that it was given and the one that it gives back are in range
 --     bounded       what in range says, in numbers
 -- Assumes nothing.
-use Prim.Native.Nat.{ℕ, _+_, _≤_}
+use Prim.Native.Nat.{ℕ, _+_, _-_, _≤_}
 use native.Mathlib.Omega.{arith}
 use mathlib.Core.Bool.{Bool, true, false, cond, _&&_}
 use mathlib.Core.List.{List}
 use mathlib.Core.Path.{_≡_, refl, sym}
-use borrow.Author.Tests.{ne-eqb, eqb-true, eqb-false, le-leb, leb-true, ltb-true, not-false}
+use borrow.Author.Tests.{ne-eqb, eqb-true, eqb-false, le-leb, leb-true, ltb-true, ltb-false, not-false}
 use lib.Dec.{eqb, leb, ltb}
 use lib.ListN.{length}
 use lib.Ieee.{Float}
@@ -17,15 +17,16 @@ use Rattle.model.specs.declared.Reading.{Reading}
 use Rattle.model.specs.declared.Reading.the-variants.{Good, Refused as Unread}
 use Rattle.model.proofs.Shapes.{shaped}
 use Rattle.frame.specs.Reply.{passed, oneMore}
-use Rattle.frame.specs.Frame.{refusal}
 use Rattle.frame.specs.declared.Reply.{Reply}
 use Rattle.frame.specs.declared.Reply.the-variants.{Done, Silent, Heard, Numbered, Refused, Misread}
+use Rattle.pieces.specs.Pieces.{refused}
 use Rattle.desk.specs.declared.Record.{Record}
-use Rattle.desk.specs.Gate.{allZero, inCounts, inRange, isFrame, gate, shareOf}
-use Rattle.desk.specs.Desk.{Ask, opening, call1, call2, call2Own, call3, call4, firstHalf, secondHalf, callOf, nextDue, nextIndex, advanced, started, answered, onShare, opened, desk}
+use Rattle.desk.specs.Gate.{idle, allZero, inCounts, resting, underWay, inPieces, inRange, isFrame, gate, shareOf}
+use Rattle.desk.specs.Desk.{Ask, opening, call1, call2, call2Own, call3, call4, firstHalf, secondHalf, piece, resume, callOf, holding, nextDue, nextIndex, advanced, numbered, carried, started, answered, onShare, opened, desk}
+use Rattle.desk.proofs.Pieced.{piece-fitted, resume-fitted}
 use Rattle.desk.proofs.Turned.{none}
 
-both : (a b : Bool) → (a && b) ≡ true → (a ≡ true) × (b ≡ true)
+pub both : (a b : Bool) → (a && b) ≡ true → (a ≡ true) × (b ≡ true)
 both true b e = (refl, e)
 both false b e = absurd (let z : _≡_ {A = ℕ} 0 1 = cc in omega arith)
 
@@ -41,39 +42,79 @@ pub record Bounded (b : Record) : Type 0 where
   pub vad : b .vad ≤ 127
   pub noise : b .noise ≤ 127
   pub denoise : b .denoise ≤ 127
+  pub waiting : b .waiting ≤ 479
+  pub piece : b .piece ≤ 4096
+  pub progress : b .progress ≤ 4096
 
 count : (n : ℕ) → (leb 1 n && leb n 127) ≡ true → n ≤ 127
 count n e = leb-true n 127 (both (leb 1 n) (leb n 127) e .1)
 
+-- what a piece leaves in the record
+pieced : (b : Record) → inPieces b ≡ true → (b .waiting ≤ 479) × (b .piece ≤ 4096) × (b .progress ≤ 4096)
+unfolding inPieces resting underWay
+pieced b e = go (eqb (b .piece) 0) refl
+  where
+    waits : (t : Bool) → eqb (b .waiting) 0 ≡ t → cond t true (leb (b .waiting) 479 && eqb (b .due) 1) ≡ true → b .waiting ≤ 479
+    waits true h k = omega (arith, eqb-true (b .waiting) 0 h)
+    waits false h k = leb-true (b .waiting) 479 (both _ _ k .0)
+
+    go : (t : Bool) → eqb (b .piece) 0 ≡ t → (b .waiting ≤ 479) × (b .piece ≤ 4096) × (b .progress ≤ 4096)
+    go true h =
+        let r = both (eqb (b .progress) 0) (cond (eqb (b .waiting) 0) true (leb (b .waiting) 479 && eqb (b .due) 1)) (rw h at e) in
+        let none = eqb-true (b .piece) 0 h in
+        let begun = eqb-true (b .progress) 0 (r .0) in
+        (waits (eqb (b .waiting) 0) refl (r .1), omega arith, omega arith)
+    go false h =
+        let last : Bool = leb 1 (b .progress) && leb (b .progress) (b .piece) in
+        let p = both (leb (b .piece) 4096) (eqb (b .due) 3 && (eqb (b .waiting) 0 && last)) (rw h at e) in
+        let w = both (eqb (b .waiting) 0) last (both (eqb (b .due) 3) (eqb (b .waiting) 0 && last) (p .1) .1) in
+        let few = leb-true (b .piece) 4096 (p .0) in
+        let none = eqb-true (b .waiting) 0 (w .0) in
+        let within = leb-true (b .progress) (b .piece) (both (leb 1 (b .progress)) (leb (b .progress) (b .piece)) (w .1) .1) in
+        (omega arith, few, omega arith)
+
 pub bounded : (b : Record) → inRange b ≡ true → Bounded b
-unfolding inRange allZero inCounts
+unfolding inRange allZero inCounts idle
 bounded b e = go (eqb (b .due) 0) refl
   where
     go : (t : Bool) → eqb (b .due) 0 ≡ t → Bounded b
     go true h =
         let zero = eqb-true (b .due) 0 h in
-        let i = both _ _ (rw h at e) in
-        let v = both _ _ (i .1) in
-        let n = both _ _ (v .1) in
-        let d = both _ _ (n .1) in
+        let pieces : Bool = idle b && eqb (b .progress) 0 in
+        let numbers : Bool = eqb (b .frame) 0 && (eqb (b .heard) 0 && pieces) in
+        let i = both (eqb (b .index) 0) (eqb (b .vad) 0 && (eqb (b .noise) 0 && (eqb (b .denoise) 0 && numbers))) (rw h at e) in
+        let v = both (eqb (b .vad) 0) (eqb (b .noise) 0 && (eqb (b .denoise) 0 && numbers)) (i .1) in
+        let n = both (eqb (b .noise) 0) (eqb (b .denoise) 0 && numbers) (v .1) in
+        let d = both (eqb (b .denoise) 0) numbers (n .1) in
+        let s = both (eqb (b .heard) 0) pieces (both (eqb (b .frame) 0) (eqb (b .heard) 0 && pieces) (d .1) .1) in
+        let k = both (idle b) (eqb (b .progress) 0) (s .1) in
+        let w = both (eqb (b .waiting) 0) (eqb (b .piece) 0) (k .0) in
         record {
           due = omega arith;
           index = omega (arith, eqb-true (b .index) 0 (i .0));
           vad = omega (arith, eqb-true (b .vad) 0 (v .0));
           noise = omega (arith, eqb-true (b .noise) 0 (n .0));
           denoise = omega (arith, eqb-true (b .denoise) 0 (d .0));
+          waiting = omega (arith, eqb-true (b .waiting) 0 (w .0));
+          piece = omega (arith, eqb-true (b .piece) 0 (w .1));
+          progress = omega (arith, eqb-true (b .progress) 0 (k .1));
         }
     go false h =
         let d = both _ _ (rw h at e) in
         let i = both _ _ (d .1) in
-        let v = both _ _ (i .1) in
+        let c = both _ _ (i .1) in
+        let v = both _ _ (c .0) in
         let n = both _ _ (v .1) in
+        let p = pieced b (c .1) in
         record {
           due = leb-true (b .due) 4 (d .0);
           index = leb-true (b .index) 7 (i .0);
           vad = count (b .vad) (v .0);
           noise = count (b .noise) (n .0);
           denoise = count (b .denoise) (n .1);
+          waiting = p .0;
+          piece = p .1;
+          progress = p .2;
         }
 
 -- ---- the record that comes back
@@ -81,34 +122,41 @@ bounded b e = go (eqb (b .due) 0) refl
 counted : (n : ℕ) → 1 ≤ n → n ≤ 127 → (leb 1 n && leb n 127) ≡ true
 counted n h k = rw (le-leb 1 n h, le-leb n 127 k)
 
+pub next-due : (d : ℕ) → (1 ≤ nextDue d) × (nextDue d ≤ 4)
+next-due d = go (ltb d 4) refl
+  where
+    go : (t : Bool) → ltb d 4 ≡ t → (1 ≤ cond t (d + 1) 1) × (cond t (d + 1) 1 ≤ 4)
+    go true h = (omega arith, omega (arith, ltb-true d 4 h))
+    go false h = (omega arith, omega arith)
+
+pub next-index : (i : ℕ) (r : Reply) → i ≤ 7 → nextIndex i r ≤ 7
+next-index i (Heard v e) h = go (ltb i 7) refl
+  where
+    go : (t : Bool) → ltb i 7 ≡ t → cond t (i + 1) 0 ≤ 7
+    go true k = omega (arith, ltb-true i 7 k)
+    go false k = omega arith
+next-index i Done h = h
+next-index i Silent h = h
+next-index i (Numbered f n) h = h
+next-index i (Refused n) h = h
+next-index i (Misread n l) h = h
+
+-- of an open record its index, its counts and what a piece leaves
+pub open-range : (b : Record) → (b .due ≡ 0 → ⊥) → inRange b ≡ true → (b .index ≤ 7) × (inCounts b ≡ true) × (inPieces b ≡ true)
+unfolding inRange
+open-range b ne e =
+    let rest = both (leb (b .index) 7) (inCounts b && inPieces b) (both (leb (b .due) 4) _ (rw (ne-eqb (b .due) 0 ne) at e) .1) in
+    let last = both (inCounts b) (inPieces b) (rest .1) in
+    (leb-true (b .index) 7 (rest .0), last .0, last .1)
+
 module _ (b : Record) (reply : Reply) where
-  pub next-due : (d : ℕ) → (1 ≤ nextDue d) × (nextDue d ≤ 4)
-  next-due d = go (ltb d 4) refl
-    where
-      go : (t : Bool) → ltb d 4 ≡ t → (1 ≤ cond t (d + 1) 1) × (cond t (d + 1) 1 ≤ 4)
-      go true h = (omega arith, omega (arith, ltb-true d 4 h))
-      go false h = (omega arith, omega arith)
-
-  next-index : (i : ℕ) (r : Reply) → i ≤ 7 → nextIndex i r ≤ 7
-  next-index i (Heard v e) h = go (ltb i 7) refl
-    where
-      go : (t : Bool) → ltb i 7 ≡ t → cond t (i + 1) 0 ≤ 7
-      go true k = omega (arith, ltb-true i 7 k)
-      go false k = omega arith
-  next-index i Done h = h
-  next-index i Silent h = h
-  next-index i (Numbered f n) h = h
-  next-index i (Refused n) h = h
-  next-index i (Misread n l) h = h
-
   pub advanced-range : (b .due ≡ 0 → ⊥) → inRange b ≡ true → inRange (advanced b reply) ≡ true
-  unfolding inRange inCounts
+  unfolding inRange inCounts inPieces resting
   advanced-range ne e =
-      let rest = both (leb (b .index) 7) (inCounts b) (both (leb (b .due) 4) (leb (b .index) 7 && inCounts b) (rw (ne-eqb (b .due) 0 ne) at e) .1) in
+      let rest = open-range b ne e in
       let due = next-due (b .due) in
-      let i = next-index (b .index) reply (leb-true (b .index) 7 (rest .0)) in
-      rw (ne-eqb (nextDue (b .due)) 0 (λ z. omega arith), le-leb (nextDue (b .due)) 4 (due .1), le-leb (nextIndex (b .index) reply) 7 i)
-      (rest .1)
+      let i = next-index (b .index) reply (rest .0) in
+      rw (ne-eqb (nextDue (b .due)) 0 (λ z. omega arith), le-leb (nextDue (b .due)) 4 (due .1), le-leb (nextIndex (b .index) reply) 7 i, rest .1)
 
 -- what call 4 answers with this record
 abbrev lastly : Record → Reply
@@ -117,10 +165,28 @@ lastly b = Numbered (oneMore (b .frame)) (b .heard)
 -- a half moves it on twice
 twice-range : (b : Record) (reply last : Reply) → (b .due ≡ 0 → ⊥) → inRange b ≡ true → inRange (advanced (advanced b reply) last) ≡ true
 twice-range b reply last ne e =
-    advanced-range (advanced b reply) last (λ z. let due = next-due b reply (b .due) in omega arith) (advanced-range b reply ne e)
+    advanced-range (advanced b reply) last (λ z. let due = next-due (b .due) in omega arith) (advanced-range b reply ne e)
+
+-- samples of a piece that are in no frame yet wait, or a frame is under way
+carried-range : (b : Record) (rest size progress : ℕ) → b .index ≤ 7 → inCounts b ≡ true → size ≤ 4096 → 1 ≤ progress → (480 ≤ rest → progress ≤ size)
+    → inRange (carried b rest size progress) ≡ true
+unfolding carried inRange inCounts inPieces resting underWay
+carried-range b rest size progress i c few some within = go (ltb rest 480) refl
+  where
+    idle-or : (t : Bool) → leb rest 479 ≡ true → cond t true (leb rest 479 && true) ≡ true
+    idle-or true h = refl
+    idle-or false h = rw h
+
+    go : (t : Bool) → ltb rest 480 ≡ t → inRange (cond t (holding 1 b rest 0 0) (holding 3 b 0 size progress)) ≡ true
+    go true h =
+        let less = ltb-true rest 480 h in
+        rw (le-leb (b .index) 7 i, c) (idle-or (eqb rest 0) (le-leb rest 479 (omega arith)))
+    go false h =
+        let more = within (ltb-false rest 480 h) in
+        rw (le-leb (b .index) 7 i, c, ne-eqb size 0 (λ z. omega arith), le-leb size 4096 few, le-leb 1 progress some, le-leb progress size more)
 
 started-range : (s : List ℕ) (read : Reading) (b : Record) (share : List Float) → readOf s ≡ read → passed (opened share read .reply) ≡ true → inRange (started b read) ≡ true
-unfolding inRange inCounts
+unfolding inRange inCounts inPieces resting
 started-range s (Unread n l) b share e p = absurd (let z : _≡_ {A = ℕ} 0 1 = cc in omega arith)
 started-range s (Good m) b share e p =
     let w = shaped s (sym e) in
@@ -140,6 +206,17 @@ done-range b share (call3 x l m k) r o p = rw p (advanced-range b (onShare b sha
 done-range b share (call4 x k) r o p = rw p (advanced-range b (onShare b share (call4 x k) .reply) (eqb-false (b .due) 0 o) r)
 done-range b share (firstHalf x s) r o p = rw p (twice-range b (onShare b share (firstHalf x s) .reply) (onShare b share (firstHalf x s) .reply) (eqb-false (b .due) 0 o) r)
 done-range b share (secondHalf l m k) r o p = rw p (twice-range b (onShare b share (secondHalf l m k) .reply) (lastly (advanced b (onShare b share (secondHalf l m k) .reply))) (eqb-false (b .due) 0 o) r)
+done-range b share (piece x k s) r o p =
+    let ajar = open-range b (eqb-false (b .due) 0 o) r in
+    let f = piece-fitted share (b .waiting) x k s p in
+    rw p (carried-range b (b .waiting + length x) (length x) (480 - b .waiting) (ajar .0) (ajar .1) (f .few) (omega (arith, f .waits)) (λ h. omega (arith, f .waits)))
+done-range b share (resume x l m k s) r o p =
+    let reply = onShare b share (resume x l m k s) .reply in
+    let next = numbered (advanced b reply) in
+    let ne = eqb-false (b .due) 0 o in
+    let ajar = open-range next (λ z. let due = next-due (advanced b reply .due) in omega arith) (twice-range b reply (lastly (advanced b reply)) ne r) in
+    let f = resume-fitted share (b .index) (b .vad) (b .noise) (b .denoise) (b .piece) (b .progress) x l m k s p in
+    rw p (carried-range next (length x - b .progress) (length x) (b .progress + 480) (ajar .0) (ajar .1) (omega (arith, f .same, f .few)) (omega arith) (λ h. omega (arith, f .same, f .within)))
 
 module _ (benches side : ℕ) (b : Record) (store : List Float) where
   pub range-kept : (ask : Ask) → passed (desk benches side b store ask .answer .reply) ≡ true
@@ -153,8 +230,8 @@ module _ (benches side : ℕ) (b : Record) (store : List Float) where
       share : List Float
       share = get (shareOf side) store
 
-      go : (t : Bool) → eqb number 0 ≡ t → passed (cond t (onShare b share ask) (refusal (Refused number) share) .reply) ≡ true
-          → (inRange b ≡ true) × (inRange (answered b ask (cond t (onShare b share ask) (refusal (Refused number) share) .reply) .rec) ≡ true)
+      go : (t : Bool) → eqb number 0 ≡ t → passed (cond t (onShare b share ask) (refused (Refused number) share) .reply) ≡ true
+          → (inRange b ≡ true) × (inRange (answered b ask (cond t (onShare b share ask) (refused (Refused number) share) .reply) .rec) ≡ true)
       go false h p = absurd (let z : _≡_ {A = ℕ} 0 1 = cc in omega arith)
       go true h p =
           let clear = none benches side b (length store) (callOf ask) (eqb-true number 0 h) in

@@ -1,31 +1,38 @@
 -- What a call may reply.
 --     small     a refused model's number is 11 to 22 and its layer 0 to 6, whatever call brings them
---     no-out, no-half-out    call 3 with no place for its spectrum, and a second half with none for its samples, are refused
+--     no-out, no-half-out, no-resume-out    call 3 with no place for its spectrum, and a second half and a resume with none for their samples,
+--                                           are refused
 -- Assumes nothing.
-use Prim.Native.Nat.{ℕ, _≤_}
+use Prim.Native.Nat.{ℕ, _*_, _-_, _≤_}
 use mathlib.Core.Bool.{Bool, true, false, cond}
-use mathlib.Core.List.{List}
-use mathlib.Core.Path.{_≡_, refl}
+use mathlib.Core.List.{List, [], _++_}
+use mathlib.Core.Path.{_≡_, refl, ap}
 use lib.Dec.{eqb}
-use lib.ListN.{length}
+use lib.ListN.{length, drop}
 use lib.Ieee.{Float}
-use Rattle.rules.specs.Place.{get}
+use Rattle.rules.specs.Place.{get, put}
+use Rattle.rules.specs.Written.{from, nothing}
 use Rattle.model.specs.Model.{readOf}
 use Rattle.model.specs.declared.Reading.{Reading}
 use Rattle.model.specs.declared.Reading.the-variants.{Good, Refused as Unread}
 use Rattle.model.proofs.Bounds.{refused-in}
 use Rattle.frame.specs.declared.Reply.{Reply}
 use Rattle.frame.specs.declared.Reply.the-variants.{Done, Silent, Heard, Numbered, Refused, Misread}
-use Rattle.frame.specs.Frame.{Effect, refusal}
+use Rattle.frame.specs.Frame.{Effect}
 use Rattle.frame.specs.Reply.{passed}
 use Rattle.frame.proofs.Done.{call3-no-out}
 use Rattle.frame.proofs.Cases.{call1-by, call2-by, call3-by, call4-by}
+use Rattle.halves.specs.Halves as halves
 use Rattle.halves.proofs.Cases.{first-half-by, second-half-by}
 use Rattle.halves.proofs.Onward.{second-half-no-out}
 use Rattle.halves.proofs.Sister.{call2-own-by}
+use Rattle.pieces.specs.Pieces.{Outcome, framePart, waitingIn, waits, frameOf, refused}
+use Rattle.pieces.proofs.Cases.{piece-by, resume-by}
+use Rattle.pieces.proofs.Kept.{further-reply}
 use Rattle.desk.specs.declared.Record.{Record}
 use Rattle.desk.specs.Gate.{gate, shareOf}
-use Rattle.desk.specs.Desk.{Ask, opening, call1, call2, call2Own, call3, call4, firstHalf, secondHalf, callOf, opened, onShare, desk}
+use Rattle.desk.specs.Desk.{Ask, opening, call1, call2, call2Own, call3, call4, firstHalf, secondHalf, piece, resume, callOf, opened, onShare, desk}
+use Rattle.desk.proofs.Pieced.{resume-no-out}
 
 abbrev pub Small : Reply → Type 0
 Small (Misread n l) = (n ≤ 22) × (l ≤ 6)
@@ -46,15 +53,29 @@ module _ (b : Record) (share : List Float) where
   abbrev SmallOf : Effect → Type 0
   SmallOf f = Small (f .reply)
 
+  abbrev Small-after : Outcome → Type 0
+  Small-after o = Small (o .reply)
+
+  abbrev part : List Float
+  part = get framePart share
+
   frames : (ask : Ask) → Small (onShare b share ask .reply)
   frames (opening m) = opens m (readOf m) share refl
-  frames (call1 x w) = call1-by share SmallOf (λ _. tt) x w (λ _ _. tt)
-  frames (call2 x l w s) = call2-by share SmallOf (λ _. tt) x l w s (λ _. tt)
-  frames (call2Own x w s) = call2-own-by share SmallOf (λ _. tt) x w s (λ _. tt)
-  frames (call3 x l m o) = call3-by share SmallOf (λ _. tt) (b .index) (b .vad) (b .noise) (b .denoise) x l m o (misread m) tt (λ _ _ _ _ _. tt)
-  frames (call4 x o) = call4-by share SmallOf (λ _. tt) (b .frame) (b .heard) x o (λ _. tt)
-  frames (firstHalf x s) = first-half-by share SmallOf (λ _. tt) x s (λ _ _. tt)
-  frames (secondHalf l m o) = second-half-by share SmallOf (λ _. tt) (b .index) (b .vad) (b .noise) (b .denoise) l m o (misread m) (λ _. tt) (λ _ _ _ _ _. tt)
+  frames (call1 x w) = call1-by part SmallOf (λ _. tt) x w (λ _ _. tt)
+  frames (call2 x l w s) = call2-by part SmallOf (λ _. tt) x l w s (λ _. tt)
+  frames (call2Own x w s) = call2-own-by part SmallOf (λ _. tt) x w s (λ _. tt)
+  frames (call3 x l m o) = call3-by part SmallOf (λ _. tt) (b .index) (b .vad) (b .noise) (b .denoise) x l m o (misread m) tt (λ _ _ _ _ _. tt)
+  frames (call4 x o) = call4-by part SmallOf (λ _. tt) (b .frame) (b .heard) x o (λ _. tt)
+  frames (firstHalf x s) = first-half-by part SmallOf (λ _. tt) x s (λ _ _. tt)
+  frames (secondHalf l m o) = second-half-by part SmallOf (λ _. tt) (b .index) (b .vad) (b .noise) (b .denoise) l m o (misread m) (λ _. tt) (λ _ _ _ _ _. tt)
+  frames (piece x o s) =
+      piece-by share Small-after (λ _. tt) (b .waiting) x o s (λ _. rw (further-reply Done (waits share []) (waitingIn (b .waiting) share ++ x) nothing) tt)
+  frames (resume x l m o s) =
+      resume-by share Small-after (λ _. tt) (b .index) (b .vad) (b .noise) (b .denoise) (b .piece) (b .progress) x l m o s (misread m)
+      (λ _.
+      let h = halves.secondHalf part (b .index) (b .vad) (b .noise) (b .denoise) l m 480 in
+      rw (further-reply (h .reply) (put framePart share (h .share)) (drop (b .progress) x) (from (480 * (frameOf (b .progress) - 1)) (halves.buffer h)))
+      (second-half-by part SmallOf (λ _. tt) (b .index) (b .vad) (b .noise) (b .denoise) l m 480 (misread m) (λ _. tt) (λ _ _ _ _ _. tt)))
 
 pub small : (benches side : ℕ) (b : Record) (store : List Float) (ask : Ask) → Small (desk benches side b store ask .answer .reply)
 unfolding desk
@@ -66,7 +87,7 @@ small benches side b store ask = go (eqb number 0)
     share : List Float
     share = get (shareOf side) store
 
-    go : (t : Bool) → Small (cond t (onShare b share ask) (refusal (Refused number) share) .reply)
+    go : (t : Bool) → Small (cond t (onShare b share ask) (refused (Refused number) share) .reply)
     go true = frames b share ask
     go false = tt
 
@@ -74,19 +95,31 @@ module _ (benches side : ℕ) (b : Record) (store : List Float) where
   abbrev mine : List Float
   mine = get (shareOf side) store
 
-  shut-out : (ask : Ask) → onShare b mine ask ≡ refusal (Refused 5) mine → passed (desk benches side b store ask .answer .reply) ≡ false
+  shut-out : (ask : Ask) → passed (onShare b mine ask .reply) ≡ false → passed (desk benches side b store ask .answer .reply) ≡ false
   unfolding desk
-  shut-out ask e = rw e (go (eqb number 0))
+  shut-out ask e = go (eqb number 0)
     where
       number : ℕ
       number = gate benches side b (length store) (callOf ask)
 
-      go : (t : Bool) → passed (cond t (refusal (Refused 5) mine) (refusal (Refused number) mine) .reply) ≡ false
-      go true = refl
+      go : (t : Bool) → passed (cond t (onShare b mine ask) (refused (Refused number) mine) .reply) ≡ false
+      go true = e
       go false = refl
 
+  abbrev lent : List Float
+  lent = get framePart mine
+
   pub no-out : (spectrum logs : List Float) (model : List ℕ) → passed (desk benches side b store (call3 spectrum logs model 0) .answer .reply) ≡ false
-  no-out spectrum logs model = shut-out (call3 spectrum logs model 0) (call3-no-out mine (b .index) (b .vad) (b .noise) (b .denoise) spectrum logs model)
+  no-out spectrum logs model =
+      shut-out (call3 spectrum logs model 0)
+      (ap (λ (f : Effect). passed (f .reply)) (call3-no-out lent (b .index) (b .vad) (b .noise) (b .denoise) spectrum logs model))
 
   pub no-half-out : (logs : List Float) (model : List ℕ) → passed (desk benches side b store (secondHalf logs model 0) .answer .reply) ≡ false
-  no-half-out logs model = shut-out (secondHalf logs model 0) (second-half-no-out mine (b .index) (b .vad) (b .noise) (b .denoise) logs model)
+  no-half-out logs model =
+      shut-out (secondHalf logs model 0)
+      (ap (λ (f : Effect). passed (f .reply)) (second-half-no-out lent (b .index) (b .vad) (b .noise) (b .denoise) logs model))
+
+  pub no-resume-out : (samples logs : List Float) (model : List ℕ) (sums : ℕ) → passed (desk benches side b store (resume samples logs model 0 sums) .answer .reply) ≡ false
+  no-resume-out samples logs model sums =
+      shut-out (resume samples logs model 0 sums)
+      (resume-no-out mine (b .index) (b .vad) (b .noise) (b .denoise) (b .piece) (b .progress) samples logs model sums)

@@ -11,21 +11,23 @@ use lib.Dec.{eqb}
 use lib.ListN.{length}
 use lib.Ieee.{Float}
 use Rattle.rules.specs.Place.{get, put}
-use Rattle.rules.proofs.Places.{put-get}
+use Rattle.rules.proofs.Places.{put-get, length-get, length-put}
 use Rattle.model.specs.Model.{readOf}
 use Rattle.model.specs.declared.Reading.{Reading}
 use Rattle.model.specs.declared.Reading.the-variants.{Good, Refused as Unread}
 use Rattle.frame.specs.Share.{SHARE}
-use Rattle.frame.specs.Frame.{Effect, refusal}
+use Rattle.frame.specs.Frame.{Effect}
 use Rattle.frame.specs.Reply.{passed}
 use Rattle.frame.specs.declared.Reply.the-variants.{Refused}
 use Rattle.frame.proofs.Keeps.{Keeps, call1-keeps, call2-keeps, call3-keeps, call4-keeps}
 use Rattle.halves.proofs.Kept.{first-half-keeps, second-half-keeps}
 use Rattle.halves.proofs.Sister.{call2-own-keeps}
+use Rattle.pieces.specs.Pieces.{Outcome, framePart, refused, inPart}
+use Rattle.pieces.proofs.Kept.{piece-kept, resume-kept}
 use Rattle.desk.specs.declared.Answer.{Answer}
 use Rattle.desk.specs.declared.Record.{Record}
 use Rattle.desk.specs.Gate.{shareOf, gate}
-use Rattle.desk.specs.Desk.{Ask, opening, call1, call2, call2Own, call3, call4, firstHalf, secondHalf, callOf, opened, onShare, admitted, Given, desk, Served}
+use Rattle.desk.specs.Desk.{Ask, opening, call1, call2, call2Own, call3, call4, firstHalf, secondHalf, piece, resume, callOf, opened, onShare, admitted, Given, desk, Served}
 use Rattle.desk.specs.Surface.{Hosted}
 
 pub settled : {o : Given} {a a′ : Answer} {store store′ : List Float} {held out out′ : List (List Float)}
@@ -38,7 +40,7 @@ host-settled s t =
     (s .numbers ∙ sym (t .numbers), s .records ∙ sym (t .records), s .stores ∙ sym (t .stores), s .writes ∙ sym (t .writes))
 
 -- what a call keeps of a share of the right length: its length; and, refused, all of it
-pub record Kept (share : List Float) (f : Effect) : Type 0 where
+pub record Kept (share : List Float) (f : Outcome) : Type 0 where
   pub size : length share ≡ SHARE → length (f .share) ≡ SHARE
   pub still : passed (f .reply) ≡ false → f .share ≡ share
 
@@ -47,23 +49,34 @@ module _ (b : Record) (share : List Float) where
   opened-kept (Good m) = record { size = λ _. refl; still = λ e. let one : _≡_ {A = ℕ} 0 1 = cc in absurd (omega arith) }
   opened-kept (Unread n l) = record { size = λ h. h; still = λ _. refl }
 
-  frame-kept : {f : Effect} → Keeps share f → Kept share f
-  frame-kept k = record { size = λ l. k .size ∙ l; still = k .still }
+  abbrev part : List Float
+  part = get framePart share
+
+  frame-kept : {f : Effect} → Keeps part f → Kept share (inPart share f)
+  frame-kept {f} k =
+      record {
+        size = λ l. length-put framePart share (f .share) (omega arith) (k .size ∙ length-get framePart share (omega arith)) ∙ l;
+        still = λ e. ap (put framePart share) (k .still e) ∙ put-get framePart share;
+      }
 
   pub admitted-kept : (ask : Ask) (number : ℕ) → Kept share (admitted b share ask number)
   admitted-kept ask number = go (eqb number 0)
     where
       kept : (a : Ask) → Kept share (onShare b share a)
       kept (opening m) = opened-kept (readOf m)
-      kept (call1 x w) = frame-kept (call1-keeps share x w)
-      kept (call2 x l w s) = frame-kept (call2-keeps share x l w s)
-      kept (call2Own x w s) = frame-kept (call2-own-keeps share x w s)
-      kept (call3 x l m o) = frame-kept (call3-keeps share (b .index) (b .vad) (b .noise) (b .denoise) x l m o)
-      kept (call4 x o) = frame-kept (call4-keeps share (b .frame) (b .heard) x o)
-      kept (firstHalf x s) = frame-kept (first-half-keeps share x s)
-      kept (secondHalf l m o) = frame-kept (second-half-keeps share (b .index) (b .vad) (b .noise) (b .denoise) l m o)
+      kept (call1 x w) = frame-kept (call1-keeps part x w)
+      kept (call2 x l w s) = frame-kept (call2-keeps part x l w s)
+      kept (call2Own x w s) = frame-kept (call2-own-keeps part x w s)
+      kept (call3 x l m o) = frame-kept (call3-keeps part (b .index) (b .vad) (b .noise) (b .denoise) x l m o)
+      kept (call4 x o) = frame-kept (call4-keeps part (b .frame) (b .heard) x o)
+      kept (firstHalf x s) = frame-kept (first-half-keeps part x s)
+      kept (secondHalf l m o) = frame-kept (second-half-keeps part (b .index) (b .vad) (b .noise) (b .denoise) l m o)
+      kept (piece x o s) = let k = piece-kept share (b .waiting) x o s in record { size = k .size; still = k .still }
+      kept (resume x l m o s) =
+          let k = resume-kept share (b .index) (b .vad) (b .noise) (b .denoise) (b .piece) (b .progress) x l m o s in
+          record { size = k .size; still = k .still }
 
-      go : (t : Bool) → Kept share (cond t (onShare b share ask) (refusal (Refused number) share))
+      go : (t : Bool) → Kept share (cond t (onShare b share ask) (refused (Refused number) share))
       go true = kept ask
       go false = record { size = λ h. h; still = λ _. refl }
 

@@ -1,5 +1,5 @@
 -- What a call gives: the definition that the desk's contracts cite, and that the law of isolation is about.
-use Prim.Native.Nat.{ℕ, _+_}
+use Prim.Native.Nat.{ℕ, _+_, _-_}
 use mathlib.Core.Bool.{cond}
 use mathlib.Core.List.{List, []}
 use mathlib.Core.Path.{_≡_}
@@ -8,17 +8,19 @@ use lib.ListN.{length}
 use lib.Ieee.{Float}
 use Rattle.rules.specs.F32.{zeros}
 use Rattle.rules.specs.Place.{get, put}
+use Rattle.rules.specs.Written.{Written, onto}
 use Rattle.model.specs.Model.{readOf}
 use Rattle.model.specs.declared.Reading.{Reading}
 use Rattle.model.specs.declared.Reading.the-variants.{Good, Refused as Unread}
 use Rattle.frame.specs.Share.{SHARE}
-use Rattle.frame.specs.Frame.{Effect, refusal}
 use Rattle.frame.specs.Frame as frame
 use Rattle.halves.specs.Halves as halves
-use Rattle.frame.specs.Reply.{passed, left, oneMore}
+use Rattle.pieces.specs.Pieces.{Outcome, framePart, refused, inPart}
+use Rattle.pieces.specs.Pieces as pieces
+use Rattle.frame.specs.Reply.{passed, oneMore}
 use Rattle.frame.specs.declared.Reply.{Reply}
 use Rattle.frame.specs.declared.Reply.the-variants.{Done, Silent, Heard, Numbered, Refused, Misread}
-use Rattle.desk.specs.Gate.{gate, shareOf}
+use Rattle.desk.specs.Gate.{PIECE, RESUME, gate, shareOf}
 use Rattle.desk.specs.declared.Record.{Record}
 use Rattle.desk.specs.declared.Answer.{Answer}
 
@@ -32,6 +34,8 @@ pub data Ask : Type 0 where
   call4 : (inverse : List Float) (out : ℕ) → Ask
   firstHalf : (samples : List Float) (sums : ℕ) → Ask
   secondHalf : (logs : List Float) (model : List ℕ) (out : ℕ) → Ask
+  piece : (samples : List Float) (out sums : ℕ) → Ask
+  resume : (samples logs : List Float) (model : List ℕ) (out sums : ℕ) → Ask
 
 -- the call's number, 0 for an opening; a half's is that of the first of its two
 abbrev pub callOf : Ask → ℕ
@@ -43,8 +47,10 @@ callOf (call3 x l m o) = 3
 callOf (call4 x o) = 4
 callOf (firstHalf x s) = 1
 callOf (secondHalf l m o) = 3
+callOf (piece x o s) = PIECE
+callOf (resume x l m o s) = RESUME
 
--- the number of the last call that is done
+-- the number of the last call that is done; a piece may begin a frame, and a resume ends one
 abbrev pub lastOf : Ask → ℕ
 lastOf (opening m) = 0
 lastOf (call1 x w) = 1
@@ -54,13 +60,42 @@ lastOf (call3 x l m o) = 3
 lastOf (call4 x o) = 4
 lastOf (firstHalf x s) = 2
 lastOf (secondHalf l m o) = 4
+lastOf (piece x o s) = 2
+lastOf (resume x l m o s) = 4
 
 -- ---- one side's record
 
--- every record is made here
+-- every record is made here: one at which nothing waits and no piece is unfinished
 abbrev pub recordOf : ℕ → ℕ → ℕ → ℕ → ℕ → ℕ → ℕ → Record
 recordOf due index vad noise denoise frame heard =
-    record { due = due; index = index; vad = vad; noise = noise; denoise = denoise; frame = frame; heard = heard }
+    record {
+      due = due;
+      index = index;
+      vad = vad;
+      noise = noise;
+      denoise = denoise;
+      frame = frame;
+      heard = heard;
+      waiting = 0;
+      piece = 0;
+      progress = 0;
+    }
+
+-- and one with another call due, and these
+abbrev pub holding : ℕ → Record → ℕ → ℕ → ℕ → Record
+holding due rec waiting size progress =
+    record {
+      due = due;
+      index = rec .index;
+      vad = rec .vad;
+      noise = rec .noise;
+      denoise = rec .denoise;
+      frame = rec .frame;
+      heard = rec .heard;
+      waiting = waiting;
+      piece = size;
+      progress = progress;
+    }
 
 abbrev pub closed : Record
 closed = recordOf 0 0 0 0 0 0 0
@@ -104,12 +139,16 @@ advanced rec reply =
 abbrev pub numbered : Record → Record
 numbered rec = advanced rec (Numbered (oneMore (rec .frame)) (rec .heard))
 
+-- with so many samples of a piece of this size in no frame yet: they wait, or a frame is under way, and the progress is this
+unfoldable pub carried : Record → ℕ → ℕ → ℕ → Record
+carried rec rest size progress = cond (ltb rest 480) (holding 1 rec rest 0 0) (holding 3 rec 0 size progress)
+
 -- an opening notes the GRU counts, makes call 1 due and numbers the frames from 0
 abbrev pub started : Record → Reading → Record
 started rec (Good m) = recordOf 1 0 (m .«vad_gru» .neurons) (m .«noise_gru» .neurons) (m .«denoise_gru» .neurons) 0 0
 started rec (Unread n l) = rec
 
--- a half moves it on twice, the second by call 3's reply and then by call 4's
+-- a half moves it on twice, the second by call 3's reply and then by call 4's; so does a resume
 abbrev pub recorded : Record → Ask → Reply → Record
 recorded rec (opening m) reply = started rec (readOf m)
 recorded rec (call1 x w) reply = advanced rec reply
@@ -119,6 +158,8 @@ recorded rec (call3 x l m o) reply = advanced rec reply
 recorded rec (call4 x o) reply = advanced rec reply
 recorded rec (firstHalf x s) reply = advanced (advanced rec reply) reply
 recorded rec (secondHalf l m o) reply = numbered (advanced rec reply)
+recorded rec (piece x o s) reply = carried rec (rec .waiting + length x) (length x) (480 - rec .waiting)
+recorded rec (resume x l m o s) reply = carried (numbered (advanced rec reply)) (length x - rec .progress) (length x) (rec .progress + 480)
 
 -- the answer with a reply; a refusal leaves the record
 abbrev pub answered : Record → Ask → Reply → Answer
@@ -127,31 +168,37 @@ answered rec ask reply = record { reply = reply; rec = cond (passed reply) (reco
 -- ---- one side's share
 
 -- an opening wipes the share, whatever it held
-abbrev pub opened : List Float → Reading → Effect
+abbrev pub opened : List Float → Reading → Outcome
 opened share (Good m) = record { reply = Done; share = zeros SHARE; written = [] }
-opened share (Unread n l) = refusal (Misread n l) share
+opened share (Unread n l) = refused (Misread n l) share
 
-abbrev pub onShare : Record → List Float → Ask → Effect
+-- a call of a frame is lent its part alone, a piece all of it
+abbrev pub onShare : Record → List Float → Ask → Outcome
 onShare rec share (opening m) = opened share (readOf m)
-onShare rec share (call1 x w) = frame.call1 share x w
-onShare rec share (call2 x l w s) = frame.call2 share x l w s
-onShare rec share (call2Own x w s) = halves.call2Own share x w s
-onShare rec share (call3 x l m o) = frame.call3 share (rec .index) (rec .vad) (rec .noise) (rec .denoise) x l m o
-onShare rec share (call4 x o) = frame.call4 share (rec .frame) (rec .heard) x o
-onShare rec share (firstHalf x s) = halves.firstHalf share x s
-onShare rec share (secondHalf l m o) = halves.secondHalf share (rec .index) (rec .vad) (rec .noise) (rec .denoise) l m o
+onShare rec share (call1 x w) = inPart share (frame.call1 (get framePart share) x w)
+onShare rec share (call2 x l w s) = inPart share (frame.call2 (get framePart share) x l w s)
+onShare rec share (call2Own x w s) = inPart share (halves.call2Own (get framePart share) x w s)
+onShare rec share (call3 x l m o) =
+    inPart share (frame.call3 (get framePart share) (rec .index) (rec .vad) (rec .noise) (rec .denoise) x l m o)
+onShare rec share (call4 x o) = inPart share (frame.call4 (get framePart share) (rec .frame) (rec .heard) x o)
+onShare rec share (firstHalf x s) = inPart share (halves.firstHalf (get framePart share) x s)
+onShare rec share (secondHalf l m o) =
+    inPart share (halves.secondHalf (get framePart share) (rec .index) (rec .vad) (rec .noise) (rec .denoise) l m o)
+onShare rec share (piece x o s) = pieces.piece share (rec .waiting) x o s
+onShare rec share (resume x l m o s) =
+    pieces.resume share (rec .index) (rec .vad) (rec .noise) (rec .denoise) (rec .piece) (rec .progress) x l m o s
 
 -- a call that the gate lets through, with 0, or its refusal
-abbrev pub admitted : Record → List Float → Ask → ℕ → Effect
-admitted rec share ask number = cond (eqb number 0) (onShare rec share ask) (refusal (Refused number) share)
+abbrev pub admitted : Record → List Float → Ask → ℕ → Outcome
+admitted rec share ask number = cond (eqb number 0) (onShare rec share ask) (refused (Refused number) share)
 
 -- ---- the desk: the side's record and share are worked on, and nothing else
 
--- an answer, the store afterwards, and what is written: a list for each answer buffer
+-- an answer, the store afterwards, and what is written to each answer buffer
 pub record Given : Type 0 where
   pub answer : Answer
   pub store : List Float
-  pub written : List (List Float)
+  pub written : List Written
 
 -- a call on one of `benches` sides of a store, with the side's record
 unfoldable pub desk : ℕ → ℕ → Record → List Float → Ask → Given
@@ -159,8 +206,8 @@ desk benches side rec store ask =
     let f = admitted rec (get (shareOf side) store) ask (gate benches side rec (length store) (callOf ask)) in
     record { answer = answered rec ask (f .reply); store = put (shareOf side) store (f .share); written = f .written }
 
--- what a contract says of a call: its answer, the store, and the answer buffers, which a refusal leaves as they were held
+-- what a contract says of a call: its answer, the store, and the answer buffers, which held something
 pub record Served (o : Given) (answer : Answer) (store : List Float) (held out : List (List Float)) : Type 0 where
   pub answers : answer ≡ o .answer
   pub stores : store ≡ o .store
-  pub writes : out ≡ left (o .answer .reply) held (o .written)
+  pub writes : out ≡ onto (o .written) held

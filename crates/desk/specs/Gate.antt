@@ -1,6 +1,6 @@
 -- Refusals 1 to 4: who is turned away before a share is looked at. Stated over the number of benches.
 use Prim.Native.Nat.{ℕ, _*_, _%_}
-use mathlib.Core.Bool.{Bool, cond, not, _&&_}
+use mathlib.Core.Bool.{Bool, true, cond, not, _&&_}
 use mathlib.Core.List.{List, [], _∷_}
 use lib.Dec.{eqb, leb, ltb}
 use Rattle.rules.specs.Refusals.{Row, _when_, refusing}
@@ -19,11 +19,16 @@ sideOf bench = bench % 2
 abbrev pub shareOf : ℕ → Place
 shareOf side = record { at = side * SHARE; size = SHARE }
 
--- cepstral index, GRU counts and both numbers of frames are all 0
+-- nothing waits, and no piece is unfinished
+unfoldable pub idle : Record → Bool
+idle rec = eqb (rec .waiting) 0 && eqb (rec .piece) 0
+
+-- cepstral index, GRU counts, both numbers of frames, and what a piece leaves in the record are all 0
 unfoldable pub allZero : Record → Bool
 allZero rec =
     eqb (rec .index) 0
-    && (eqb (rec .vad) 0 && (eqb (rec .noise) 0 && (eqb (rec .denoise) 0 && (eqb (rec .frame) 0 && eqb (rec .heard) 0))))
+    && (eqb (rec .vad) 0 && (eqb (rec .noise) 0 && (eqb (rec .denoise) 0 && (eqb (rec .frame) 0 && (eqb (rec .heard) 0
+    && (idle rec && eqb (rec .progress) 0))))))
 
 -- a GRU count is 1 to 127
 abbrev pub inCount : ℕ → Bool
@@ -32,13 +37,37 @@ inCount n = leb 1 n && leb n 127
 unfoldable pub inCounts : Record → Bool
 inCounts rec = inCount (rec .vad) && (inCount (rec .noise) && inCount (rec .denoise))
 
+-- request 12: no piece is unfinished, and where samples wait, call 1 is due
+unfoldable pub resting : Record → Bool
+resting rec = eqb (rec .progress) 0 && cond (eqb (rec .waiting) 0) true (leb (rec .waiting) 479 && eqb (rec .due) 1)
+
+-- a piece is unfinished: call 3 is due, and of its samples some are in frames, at most all
+unfoldable pub underWay : Record → Bool
+underWay rec =
+    leb (rec .piece) 4096
+    && (eqb (rec .due) 3 && (eqb (rec .waiting) 0 && (leb 1 (rec .progress) && leb (rec .progress) (rec .piece))))
+
+unfoldable pub inPieces : Record → Bool
+inPieces rec = cond (eqb (rec .piece) 0) (resting rec) (underWay rec)
+
 -- a record is closed and all zeros, or open and within its limits
 unfoldable pub inRange : Record → Bool
-inRange rec = cond (eqb (rec .due) 0) (allZero rec) (leb (rec .due) 4 && (leb (rec .index) 7 && inCounts rec))
+inRange rec = cond (eqb (rec .due) 0) (allZero rec) (leb (rec .due) 4 && (leb (rec .index) 7 && (inCounts rec && inPieces rec)))
 
--- a frame call is 1 to 4, and an opening 0
+-- a call of a frame is 1 to 4, and an opening 0; a piece and a resume are
+abbrev pub PIECE : ℕ
+PIECE = 5
+
+abbrev pub RESUME : ℕ
+RESUME = 6
+
 abbrev pub isFrame : ℕ → Bool
 isFrame call = not (eqb call 0)
+
+-- a piece is due where call 1 is, and a resume where a piece is unfinished; a call of a frame where its number stands, and only while idle
+unfoldable pub isDue : Record → ℕ → Bool
+isDue rec call =
+    cond (eqb call PIECE) (eqb (rec .due) 1) (cond (eqb call RESUME) (not (eqb (rec .piece) 0)) (eqb (rec .due) call && idle rec))
 
 -- the table of a call on this side, with this record and a store of this length: an opening is asked by 1 and 2 alone
 abbrev pub refusals : ℕ → ℕ → Record → ℕ → ℕ → List Row
@@ -47,7 +76,7 @@ refusals benches side rec len call =
     ∷ 2 when not (eqb len (benches * SHARE))
     ∷ 2 when not (inRange rec)
     ∷ 3 when (isFrame call && eqb (rec .due) 0)
-    ∷ 4 when (isFrame call && not (eqb (rec .due) call))
+    ∷ 4 when (isFrame call && not (isDue rec call))
     ∷ []
 
 -- the first number that applies, or 0

@@ -1,39 +1,50 @@
 -- For the parts of the code.
-use Prim.Native.Nat.{ℕ, _+_, _≤_}
+use Prim.Native.Nat.{ℕ, _+_, _-_, _≤_}
 use mathlib.Core.Bool.{cond}
 use mathlib.Core.Path.{_≡_}
 use Rattle.model.specs.declared.Reading.{Reading}
 use Rattle.model.specs.declared.Reading.the-variants.{Good, Refused as Unread}
-use Rattle.frame.specs.Share.{SHARE}
+use Rattle.frame.specs.Share.{SHARE, PART}
 use Rattle.frame.specs.Reply.{passed}
 use Rattle.frame.specs.declared.Reply.{Reply}
 use Rattle.frame.specs.declared.Reply.the-variants.{Done, Refused, Misread}
 use Rattle.desk.specs.Gate.{gate, shareOf}
-use Rattle.desk.specs.Desk.{advanced, numbered, started}
+use Rattle.desk.specs.Desk.{advanced, numbered, carried, started}
 use Rattle.desk.specs.declared.Record.{Record}
 use Rattle.desk.specs.declared.Answer.{Answer}
 use Rattle.desk.specs.declared.Admission.{Admission}
 
--- the gate's number, and of a call that it lets through where the side's share lies: as numbers that are in order in any case
+-- the gate's number, and of a call that it lets through where the side's share lies, a frame's part in front: as numbers that are in order in any
+-- case
 pub record Admits (benches side : ℕ) (rec : Record) (len call : ℕ) (a : Admission) : Type 0 where
   pub number : a .number ≡ gate benches side rec len call
-  pub inOrder : a .start ≤ a .end
+  pub inOrder : a .start ≤ a .part
+  pub within : a .part ≤ a .end
   pub inside : a .end ≤ len
-  pub share : a .number ≡ 0 → (a .start ≡ shareOf side .at) × (a .end ≡ shareOf side .at + SHARE)
+  pub share : a .number ≡ 0 → (a .start ≡ shareOf side .at) × (a .part ≡ shareOf side .at + PART) × (a .end ≡ shareOf side .at + SHARE)
 
--- the answers of a call that is turned away, of a frame call, of the two halves, and of an opening
+-- the answers of a call that is turned away, of a frame call, and of the two halves
 abbrev pub turnedAway : Record → ℕ → Answer
 turnedAway rec number = record { reply = Refused number; rec = rec }
 
 abbrev pub toldOf : Record → Reply → Answer
 toldOf rec reply = record { reply = reply; rec = cond (passed reply) (advanced rec reply) rec }
 
-abbrev pub firstOf : Record → Reply → Answer
-firstOf rec reply = record { reply = reply; rec = cond (passed reply) (advanced (advanced rec reply) reply) rec }
+abbrev pub toldFirst : Record → Reply → Answer
+toldFirst rec reply = record { reply = reply; rec = cond (passed reply) (advanced (advanced rec reply) reply) rec }
 
-abbrev pub secondOf : Record → Reply → Answer
-secondOf rec reply = record { reply = reply; rec = cond (passed reply) (numbered (advanced rec reply)) rec }
+abbrev pub toldSecond : Record → Reply → Answer
+toldSecond rec reply = record { reply = reply; rec = cond (passed reply) (numbered (advanced rec reply)) rec }
 
+-- of a piece and of a resume, with so many samples
+abbrev pub toldPiece : Record → ℕ → Reply → Answer
+toldPiece rec size reply = record { reply = reply; rec = cond (passed reply) (carried rec (rec .waiting + size) size (480 - rec .waiting)) rec }
+
+abbrev pub toldResume : Record → ℕ → Reply → Answer
+toldResume rec size reply =
+    record { reply = reply; rec = cond (passed reply) (carried (numbered (advanced rec reply)) (size - rec .progress) size (rec .progress + 480)) rec }
+
+-- of an opening
 abbrev pub openedOf : Record → Reading → Answer
 openedOf rec (Good m) = record { reply = Done; rec = started rec (Good m) }
 openedOf rec (Unread n l) = record { reply = Misread n l; rec = rec }

@@ -7,23 +7,26 @@ use lib.Dec.{eqb}
 use lib.ListN.{length, getD, replicate}
 use lib.Ieee.{Float}
 use Rattle.rules.specs.F32.{f32}
-use Rattle.frame.specs.Reply.{passed, left}
+use Rattle.rules.specs.Written.{Written, all, onto}
+use Rattle.frame.specs.Reply.{passed}
 use Rattle.frame.specs.declared.Reply.{Reply}
 use Rattle.frame.specs.declared.Reply.the-variants.{Done, Silent, Heard, Numbered, Refused, Misread}
-use Rattle.desk.specs.Desk.{Ask, opening, call1, call2, call2Own, call3, call4, firstHalf, secondHalf, recordOf, Given, desk}
+use Rattle.desk.specs.Desk.{Ask, opening, call1, call2, call2Own, call3, call4, firstHalf, secondHalf, piece, resume, recordOf, holding, Given, desk}
 use Rattle.desk.specs.declared.Record.{Record}
 
 -- a record is so many numbers; a list of another length is out of range
 abbrev pub RECORD : ℕ
-RECORD = 7
+RECORD = 10
 
 abbrev pub numbersOf : Record → List ℕ
-numbersOf rec = rec .due ∷ rec .index ∷ rec .vad ∷ rec .noise ∷ rec .denoise ∷ rec .frame ∷ rec .heard ∷ []
+numbersOf rec =
+    rec .due ∷ rec .index ∷ rec .vad ∷ rec .noise ∷ rec .denoise ∷ rec .frame ∷ rec .heard ∷ rec .waiting ∷ rec .piece ∷ rec .progress ∷ []
 
 unfoldable pub recordIn : List ℕ → Record
 recordIn ns =
     cond (eqb (length ns) RECORD)
-    (recordOf (getD ns 0 0) (getD ns 1 0) (getD ns 2 0) (getD ns 3 0) (getD ns 4 0) (getD ns 5 0) (getD ns 6 0))
+    (holding (getD ns 0 0)
+    (recordOf 0 (getD ns 1 0) (getD ns 2 0) (getD ns 3 0) (getD ns 4 0) (getD ns 5 0) (getD ns 6 0)) (getD ns 7 0) (getD ns 8 0) (getD ns 9 0))
     (recordOf 5 0 0 0 0 0 0)
 
 -- a reply is a number: 0, or the refusal; 7 with the model's number and layer
@@ -38,7 +41,7 @@ replyNumber (Numbered f h) = 0
 replyNumber (Refused n) = n
 replyNumber (Misread n l) = sevenOf n l
 
--- call 3 and the second half have a buffer more, for its answer as three numbers: heard or not, voice, energy
+-- call 3, the second half and a resume have a buffer more, for the answer as three numbers: heard or not, voice, energy
 abbrev pub heardOf : Reply → List Float
 heardOf (Heard v e) = f32 0x3F80_0000 ∷ v ∷ e ∷ []
 heardOf Done = replicate 3 (f32 0)
@@ -47,15 +50,20 @@ heardOf (Numbered f h) = replicate 3 (f32 0)
 heardOf (Refused n) = replicate 3 (f32 0)
 heardOf (Misread n l) = replicate 3 (f32 0)
 
-abbrev pub besides : Ask → Reply → List (List Float)
-besides (call3 x l m o) reply = heardOf reply ∷ []
+abbrev pub toldBesides : Reply → List Written
+toldBesides reply = cond (passed reply) (all (heardOf reply) ∷ []) []
+
+abbrev pub besides : Ask → Reply → List Written
+besides (call3 x l m o) reply = toldBesides reply
 besides (opening m) reply = []
 besides (call1 x w) reply = []
 besides (call2 x l w s) reply = []
 besides (call2Own x w s) reply = []
 besides (call4 x o) reply = []
 besides (firstHalf x s) reply = []
-besides (secondHalf l m o) reply = heardOf reply ∷ []
+besides (secondHalf l m o) reply = toldBesides reply
+besides (piece x o s) reply = []
+besides (resume x l m o s) reply = toldBesides reply
 
 -- of another length, that buffer is a wrong length among the others, as an `out` of no places is
 abbrev pub outOf : ℕ → ℕ → ℕ
@@ -76,4 +84,4 @@ pub record Hosted (o : Given) (number : ℕ) (ns ns′ : List ℕ) (store : List
   pub numbers : number ≡ replyNumber (o .answer .reply)
   pub records : ns′ ≡ handedBack o ns
   pub stores : store ≡ o .store
-  pub writes : out ≡ left (o .answer .reply) held (o .written)
+  pub writes : out ≡ onto (o .written) held

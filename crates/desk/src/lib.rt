@@ -1,10 +1,13 @@
-// The desk: an opening and frame calls on one of sixteen sides of one lent store. What is refused changes nothing.
+// The desk: an opening, frame calls and pieces of dictation on one of sixteen sides of one lent store. What is refused changes nothing.
 ghost use mathlib.Core.Path.{_≡_};
+ghost use Prim.Native.Nat.{_≤_};
+ghost use mathlib.Core.Bool.{true};
 ghost use mathlib.Core.List.{[], _∷_};
 ghost use lib.ListN.{length};
-ghost use Rattle.desk.specs.Gate.{BENCHES, sideOf, allZero, inCounts, inRange, gate};
-ghost use Rattle.desk.specs.Desk.{opening, call1, call2, call2Own, call3, call4, firstHalf, secondHalf, recordOf, nextIndex, nextFrame, nextHeard, nextDue, desk, Served};
-ghost use Rattle.desk.specs.Parts.{Admits, turnedAway, toldOf, firstOf, secondOf, openedOf};
+ghost use Rattle.desk.specs.Gate.{BENCHES, sideOf, idle, allZero, inCounts, resting, underWay, inPieces, inRange, isDue, gate};
+ghost use Rattle.desk.specs.Desk.{opening, call1, call2, call2Own, call3, call4, firstHalf, secondHalf, piece, resume, recordOf, holding, nextIndex, nextFrame, nextHeard, nextDue, carried, desk, Served};
+ghost use Rattle.desk.specs.Parts.{Admits, turnedAway, toldOf, toldFirst, toldSecond, toldPiece, toldResume, openedOf};
+ghost use Rattle.frame.specs.Reply.{passed};
 use frame::Lag;
 use frame::Reply;
 use model::Reading;
@@ -21,6 +24,9 @@ pub struct Record {
     pub denoise: usize,
     pub frame: u32,
     pub heard: u32,
+    pub waiting: usize,
+    pub piece: usize,
+    pub progress: usize,
 }
 
 // What a call gives back: its reply, and the record as it now stands.
@@ -37,6 +43,11 @@ pub const STORE: usize = BENCHES * frame::SHARE;
 // From here an opening counts frames and heard frames.
 const FIRST: u32 = 0;
 
+// Behind the numbers of a frame's four calls.
+const PIECE: usize = 5;
+
+const RESUME: usize = 6;
+
 // Left or right, 0 or 1: a bench's parity.
 pub fn side_of(bench: u32) -> u32
     ensures { λ r. ⌜ r ≡ sideOf bench ⌝ }
@@ -44,7 +55,7 @@ pub fn side_of(bench: u32) -> u32
     bench % 2
 }
 
-// Every record is made here.
+// Every record is made here: one at which nothing waits and no piece is unfinished.
 pub fn record_of(
     due: usize,
     index: usize,
@@ -64,7 +75,38 @@ pub fn record_of(
         denoise,
         frame,
         heard,
+        waiting: 0,
+        piece: 0,
+        progress: 0,
     }
+}
+
+// And one with another call due, and these.
+pub fn holding(due: usize, rec: Record, waiting: usize, size: usize, progress: usize) -> Record
+    ensures { λ r. ⌜ r ≡ holding due rec waiting size progress ⌝ }
+{
+    Record {
+        due,
+        index: rec.index,
+        vad: rec.vad,
+        noise: rec.noise,
+        denoise: rec.denoise,
+        frame: rec.frame,
+        heard: rec.heard,
+        waiting,
+        piece: size,
+        progress,
+    }
+}
+
+// Whether nothing waits and no piece is unfinished.
+fn idle(rec: Record) -> bool
+    ensures { λ r. ⌜ r ≡ idle rec ⌝ }
+{
+    if rec.waiting != 0 {
+        return false;
+    }
+    rec.piece == 0
 }
 
 // Whether everything in a closed record is 0.
@@ -86,7 +128,13 @@ fn all_zero(rec: Record) -> bool
     if rec.frame != 0 {
         return false;
     }
-    rec.heard == 0
+    if rec.heard != 0 {
+        return false;
+    }
+    if !idle(rec) {
+        return false;
+    }
+    rec.progress == 0
 }
 
 // Whether the GRU counts of an open record are in range.
@@ -111,6 +159,50 @@ fn in_counts(rec: Record) -> bool
     rec.denoise <= 127
 }
 
+// Whether a record with no unfinished piece is right so: where samples wait, call 1 is due.
+fn resting(rec: Record) -> bool
+    ensures { λ r. ⌜ r ≡ resting rec ⌝ }
+{
+    if rec.progress != 0 {
+        return false;
+    }
+    if rec.waiting == 0 {
+        return true;
+    }
+    if rec.waiting > 479 {
+        return false;
+    }
+    rec.due == 1
+}
+
+// Whether a record with an unfinished piece is right so.
+fn under_way(rec: Record) -> bool
+    ensures { λ r. ⌜ r ≡ underWay rec ⌝ }
+{
+    if rec.piece > 4096 {
+        return false;
+    }
+    if rec.due != 3 {
+        return false;
+    }
+    if rec.waiting != 0 {
+        return false;
+    }
+    if rec.progress < 1 {
+        return false;
+    }
+    rec.progress <= rec.piece
+}
+
+fn in_pieces(rec: Record) -> bool
+    ensures { λ r. ⌜ r ≡ inPieces rec ⌝ }
+{
+    if rec.piece == 0 {
+        return resting(rec);
+    }
+    under_way(rec)
+}
+
 // Whether a record is in range.
 fn in_range(rec: Record) -> bool
     ensures { λ r. ⌜ r ≡ inRange rec ⌝ }
@@ -124,7 +216,26 @@ fn in_range(rec: Record) -> bool
     if rec.index > 7 {
         return false;
     }
-    in_counts(rec)
+    if !in_counts(rec) {
+        return false;
+    }
+    in_pieces(rec)
+}
+
+// Whether a call is due.
+fn is_due(rec: Record, call: usize) -> bool
+    ensures { λ r. ⌜ r ≡ isDue rec call ⌝ }
+{
+    if call == PIECE {
+        return rec.due == 1;
+    }
+    if call == RESUME {
+        return rec.piece != 0;
+    }
+    if rec.due != call {
+        return false;
+    }
+    idle(rec)
 }
 
 // Refusals 1 to 4, or 0: `call` is the call asked for, and 0 an opening.
@@ -146,16 +257,17 @@ fn gate(side: Side, rec: Record, len: usize, call: usize) -> u32
     if rec.due == 0 {
         return 3;
     }
-    if rec.due != call {
+    if !is_due(rec, call) {
         return 4;
     }
     0
 }
 
-// The gate's number, and where the side's share lies in the store.
+// The gate's number, and where the side's share lies in the store, a frame's part in front.
 struct Admission {
     number: u32,
     start: usize,
+    part: usize,
     end: usize,
 }
 
@@ -167,6 +279,7 @@ fn admit(side: Side, rec: Record, len: usize, call: usize) -> Admission
         return Admission {
             number,
             start: 0,
+            part: 0,
             end: 0,
         };
     }
@@ -174,6 +287,7 @@ fn admit(side: Side, rec: Record, len: usize, call: usize) -> Admission
     Admission {
         number,
         start,
+        part: start + frame::PART,
         end: start + frame::SHARE,
     }
 }
@@ -264,7 +378,7 @@ fn told(rec: Record, reply: Reply) -> Answer
 
 // The answer to a first half, which is two calls.
 fn told_first(rec: Record, reply: Reply) -> Answer
-    ensures { λ r. ⌜ r ≡ firstOf rec reply ⌝ }
+    ensures { λ r. ⌜ r ≡ toldFirst rec reply ⌝ }
 {
     let first = told(rec, reply);
     let next = first.rec;
@@ -273,7 +387,7 @@ fn told_first(rec: Record, reply: Reply) -> Answer
 
 // The answer to a second half: its reply is call 3's, and call 4's numbers stand in the record.
 fn told_second(rec: Record, reply: Reply) -> Answer
-    ensures { λ r. ⌜ r ≡ secondOf rec reply ⌝ }
+    ensures { λ r. ⌜ r ≡ toldSecond rec reply ⌝ }
 {
     if !frame::passed(reply) {
         return Answer { reply, rec };
@@ -286,6 +400,46 @@ fn told_second(rec: Record, reply: Reply) -> Answer
     );
     let rec = last.rec;
     Answer { reply, rec }
+}
+
+// The record with so many samples of a piece of this size in no frame yet: they wait, or a frame is under way.
+fn carried(rec: Record, rest: usize, size: usize, progress: usize) -> Record
+    ensures { λ r. ⌜ r ≡ carried rec rest size progress ⌝ }
+{
+    if rest < 480 {
+        return holding(1, rec, rest, 0, 0);
+    }
+    holding(3, rec, 0, size, progress)
+}
+
+// The answer to a piece of so many samples.
+fn told_piece(rec: Record, size: usize, reply: Reply) -> Answer
+    requires { ⌜ (passed reply ≡ true → (rec .waiting ≤ 479) × (size ≤ 4096)) ⌝ }
+    ensures { λ r. ⌜ r ≡ toldPiece rec size reply ⌝ }
+{
+    if !frame::passed(reply) {
+        return Answer { reply, rec };
+    }
+    Answer {
+        reply,
+        rec: carried(rec, rec.waiting + size, size, 480 - rec.waiting),
+    }
+}
+
+// The answer to a resume of a piece of so many samples.
+fn told_resume(rec: Record, size: usize, reply: Reply) -> Answer
+    requires { ⌜ (passed reply ≡ true → (rec .progress ≤ size) × (size ≤ 4096)) ⌝ }
+    ensures { λ r. ⌜ r ≡ toldResume rec size reply ⌝ }
+{
+    if !frame::passed(reply) {
+        return Answer { reply, rec };
+    }
+    let done = told_second(rec, reply);
+    let next = done.rec;
+    Answer {
+        reply,
+        rec: carried(next, size - rec.progress, size, rec.progress + 480),
+    }
 }
 
 // The answer to an opening, once the model is read.
@@ -318,7 +472,12 @@ pub fn open(side: Side, rec: Record, store: &mut [f32], model: &[u8]) -> Answer
         (desk BENCHES (side .0) rec (now (store .entry)) (opening (now (model .entry))))
         r (now (store .exit)) [] [] ⌝ }
 {
-    let Admission { number, start, end } = admit(side, rec, store.len(), 0);
+    let Admission {
+        number,
+        start,
+        part: _,
+        end,
+    } = admit(side, rec, store.len(), 0);
     if number != 0 {
         return turned_away(rec, number);
     }
@@ -344,11 +503,16 @@ pub fn call1(
         (call1 (now (samples .entry)) (length (now (window .entry)))))
         r (now (store .exit)) (now (window .entry) ∷ []) (now (window .exit) ∷ []) ⌝ }
 {
-    let Admission { number, start, end } = admit(side, rec, store.len(), 1);
+    let Admission {
+        number,
+        start,
+        part,
+        end: _,
+    } = admit(side, rec, store.len(), 1);
     if number != 0 {
         return turned_away(rec, number);
     }
-    let reply = frame::call1(&mut store[start..end], samples, window);
+    let reply = frame::call1(&mut store[start..part], samples, window);
     told(rec, reply)
 }
 
@@ -367,11 +531,16 @@ pub fn call2(
         (call2 (now (spectrum .entry)) (lag .0) (length (now (window .entry))) (length (now (sums .entry)))))
         r (now (store .exit)) (now (window .entry) ∷ now (sums .entry) ∷ []) (now (window .exit) ∷ now (sums .exit) ∷ []) ⌝ }
 {
-    let Admission { number, start, end } = admit(side, rec, store.len(), 2);
+    let Admission {
+        number,
+        start,
+        part,
+        end: _,
+    } = admit(side, rec, store.len(), 2);
     if number != 0 {
         return turned_away(rec, number);
     }
-    let reply = frame::call2(&mut store[start..end], spectrum, lag, window, sums);
+    let reply = frame::call2(&mut store[start..part], spectrum, lag, window, sums);
     told(rec, reply)
 }
 
@@ -389,11 +558,16 @@ pub fn call2_own(
         (call2Own (now (spectrum .entry)) (length (now (window .entry))) (length (now (sums .entry)))))
         r (now (store .exit)) (now (window .entry) ∷ now (sums .entry) ∷ []) (now (window .exit) ∷ now (sums .exit) ∷ []) ⌝ }
 {
-    let Admission { number, start, end } = admit(side, rec, store.len(), 2);
+    let Admission {
+        number,
+        start,
+        part,
+        end: _,
+    } = admit(side, rec, store.len(), 2);
     if number != 0 {
         return turned_away(rec, number);
     }
-    let reply = halves::call2_own(&mut store[start..end], spectrum, window, sums);
+    let reply = halves::call2_own(&mut store[start..part], spectrum, window, sums);
     told(rec, reply)
 }
 
@@ -412,12 +586,17 @@ pub fn call3(
         (call3 (now (spectrum .entry)) (now (logs .entry)) (now (model .entry)) (length (now (out .entry)))))
         r (now (store .exit)) (now (out .entry) ∷ []) (now (out .exit) ∷ []) ⌝ }
 {
-    let Admission { number, start, end } = admit(side, rec, store.len(), 3);
+    let Admission {
+        number,
+        start,
+        part,
+        end: _,
+    } = admit(side, rec, store.len(), 3);
     if number != 0 {
         return turned_away(rec, number);
     }
     let reply = frame::call3(
-        &mut store[start..end],
+        &mut store[start..part],
         rec.index,
         rec.vad,
         rec.noise,
@@ -437,11 +616,16 @@ pub fn call4(side: Side, rec: Record, store: &mut [f32], inverse: &[f32], out: &
         (call4 (now (inverse .entry)) (length (now (out .entry)))))
         r (now (store .exit)) (now (out .entry) ∷ []) (now (out .exit) ∷ []) ⌝ }
 {
-    let Admission { number, start, end } = admit(side, rec, store.len(), 4);
+    let Admission {
+        number,
+        start,
+        part,
+        end: _,
+    } = admit(side, rec, store.len(), 4);
     if number != 0 {
         return turned_away(rec, number);
     }
-    let reply = frame::call4(&mut store[start..end], rec.frame, rec.heard, inverse, out);
+    let reply = frame::call4(&mut store[start..part], rec.frame, rec.heard, inverse, out);
     told(rec, reply)
 }
 
@@ -458,11 +642,16 @@ pub fn first_half(
         (firstHalf (now (samples .entry)) (length (now (sums .entry)))))
         r (now (store .exit)) (now (sums .entry) ∷ []) (now (sums .exit) ∷ []) ⌝ }
 {
-    let Admission { number, start, end } = admit(side, rec, store.len(), 1);
+    let Admission {
+        number,
+        start,
+        part,
+        end: _,
+    } = admit(side, rec, store.len(), 1);
     if number != 0 {
         return turned_away(rec, number);
     }
-    let reply = halves::first_half(&mut store[start..end], samples, sums);
+    let reply = halves::first_half(&mut store[start..part], samples, sums);
     told_first(rec, reply)
 }
 
@@ -480,12 +669,17 @@ pub fn second_half(
         (secondHalf (now (logs .entry)) (now (model .entry)) (length (now (out .entry)))))
         r (now (store .exit)) (now (out .entry) ∷ []) (now (out .exit) ∷ []) ⌝ }
 {
-    let Admission { number, start, end } = admit(side, rec, store.len(), 3);
+    let Admission {
+        number,
+        start,
+        part,
+        end: _,
+    } = admit(side, rec, store.len(), 3);
     if number != 0 {
         return turned_away(rec, number);
     }
     let reply = halves::second_half(
-        &mut store[start..end],
+        &mut store[start..part],
         rec.index,
         rec.vad,
         rec.noise,
@@ -495,4 +689,74 @@ pub fn second_half(
         out,
     );
     told_second(rec, reply)
+}
+
+// A piece of dictation: 1 to 4,096 samples in. They wait, or 480 of those waiting and of them begin a frame, and 22 sums are written.
+pub fn piece(
+    side: Side,
+    rec: Record,
+    store: &mut [f32],
+    samples: &[f32],
+    out: &mut [f32],
+    sums: &mut [f32],
+) -> Answer
+    ensures { λ r. ⌜ Served
+        (desk BENCHES (side .0) rec (now (store .entry))
+        (piece (now (samples .entry)) (length (now (out .entry))) (length (now (sums .entry)))))
+        r (now (store .exit)) (now (out .entry) ∷ now (sums .entry) ∷ []) (now (out .exit) ∷ now (sums .exit) ∷ []) ⌝ }
+{
+    let Admission {
+        number,
+        start,
+        part: _,
+        end,
+    } = admit(side, rec, store.len(), PIECE);
+    if number != 0 {
+        return turned_away(rec, number);
+    }
+    let reply = pieces::piece(&mut store[start..end], rec.waiting, samples, out, sums);
+    told_piece(rec, samples.len(), reply)
+}
+
+// A resume: the same piece, 22 logarithms and the model in. The frame under way is written to its place of the output; the rest of the samples
+// waits, or 480 of them begin the next frame, and 22 sums are written.
+pub fn resume(
+    side: Side,
+    rec: Record,
+    store: &mut [f32],
+    samples: &[f32],
+    logs: &[f32],
+    model: &[u8],
+    out: &mut [f32],
+    sums: &mut [f32],
+) -> Answer
+    ensures { λ r. ⌜ Served
+        (desk BENCHES (side .0) rec (now (store .entry))
+        (resume (now (samples .entry)) (now (logs .entry)) (now (model .entry)) (length (now (out .entry))) (length (now (sums .entry)))))
+        r (now (store .exit)) (now (out .entry) ∷ now (sums .entry) ∷ []) (now (out .exit) ∷ now (sums .exit) ∷ []) ⌝ }
+{
+    let Admission {
+        number,
+        start,
+        part: _,
+        end,
+    } = admit(side, rec, store.len(), RESUME);
+    if number != 0 {
+        return turned_away(rec, number);
+    }
+    let reply = pieces::resume(
+        &mut store[start..end],
+        rec.index,
+        rec.vad,
+        rec.noise,
+        rec.denoise,
+        rec.piece,
+        rec.progress,
+        samples,
+        logs,
+        model,
+        out,
+        sums,
+    );
+    told_resume(rec, samples.len(), reply)
 }

@@ -1,2 +1,3 @@
 pub mod Answers
+mod Handed
 pub mod Networks

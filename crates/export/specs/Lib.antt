@@ -2,3 +2,4 @@ pub mod OfLag
 pub mod OfNetwork
 pub mod OfNumbers
 pub mod OfPitch
+pub mod Parts

@@ -1,11 +1,102 @@
-// desk: an opening and the calls, for a host that has numbers alone (crate `hosting`). `record` is a side's record as seven numbers, `answer`
-// call 3's as three. Returned is 0 or the refusal.
+// desk: an opening, the frame calls and pieces of dictation, for a host that has numbers alone. `record` is a side's record as ten numbers: due call,
+// cepstral index, the three GRU counts, frames, heard frames, the samples that wait, the size of an unfinished piece and its progress. `answer` is
+// call 3's as three: heard or not, voice, energy. Returned is 0 or the refusal.
 ghost use mathlib.Core.Path.{_≡_};
+ghost use mathlib.Core.Bool.{true, cond};
 ghost use mathlib.Core.List.{[], _∷_};
 ghost use lib.ListN.{length};
+ghost use Rattle.frame.specs.Reply.{passed};
 ghost use Rattle.desk.specs.Gate.{BENCHES, sideOf};
-ghost use Rattle.desk.specs.Desk.{opening, call1, call2, call2Own, call3, call4, firstHalf, secondHalf};
-ghost use Rattle.desk.specs.Surface.{outOf, hosted, Hosted};
+ghost use Rattle.desk.specs.Desk.{opening, call1, call2, call2Own, call3, call4, firstHalf, secondHalf, piece, resume};
+ghost use Rattle.desk.specs.Surface.{RECORD, numbersOf, recordIn, replyNumber, heardOf, outOf, hosted, Hosted};
+ghost use Rattle.desk.proofs.Ranged.{Bounded};
+ghost use Rattle.desk.proofs.Replies.{Small};
+ghost use Rattle.export.specs.Parts.{HandsBack};
+use desk::Answer;
+use desk::Record;
+use desk::Side;
+use frame::Lag;
+use frame::Reply;
+
+// How many numbers a record is.
+const RECORD: usize = 10;
+
+fn wide(x: u32) -> usize
+    ensures { λ r. ⌜ r ≡ x ⌝ }
+{
+    x as usize
+}
+
+// A record from its numbers; a list of another length is out of range.
+fn record_in(record: &[u32]) -> Record
+    ensures { λ r. ⌜ r ≡ recordIn (now («record» .entry)) ⌝ }
+{
+    if record.len() != RECORD {
+        return desk::record_of(5, 0, 0, 0, 0, 0, 0);
+    }
+    let idle = desk::record_of(
+        0,
+        wide(record[1]),
+        wide(record[2]),
+        wide(record[3]),
+        wide(record[4]),
+        record[5],
+        record[6],
+    );
+    desk::holding(
+        wide(record[0]),
+        idle,
+        wide(record[7]),
+        wide(record[8]),
+        wide(record[9]),
+    )
+}
+
+// A record as its numbers.
+fn put_record(record: &mut [u32], rec: Record)
+    requires { ⌜ (length (now «record») ≡ RECORD) × Bounded rec ⌝ }
+    ensures { λ _. ⌜ now («record» .exit) ≡ numbersOf rec ⌝ }
+{
+    record[0] = rec.due as u32;
+    record[1] = rec.index as u32;
+    record[2] = rec.vad as u32;
+    record[3] = rec.noise as u32;
+    record[4] = rec.denoise as u32;
+    record[5] = rec.frame;
+    record[6] = rec.heard;
+    record[7] = rec.waiting as u32;
+    record[8] = rec.piece as u32;
+    record[9] = rec.progress as u32;
+}
+
+// A reply as a number.
+fn number_of(reply: Reply) -> u32
+    requires { ⌜ Small reply ⌝ }
+    ensures { λ r. ⌜ r ≡ replyNumber reply ⌝ }
+{
+    match reply {
+        Reply::Done => 0,
+        Reply::Silent => 0,
+        Reply::Heard(_, _) => 0,
+        Reply::Numbered(_, _) => 0,
+        Reply::Refused(number) => number,
+        Reply::Misread(number, layer) => crate::of_model::seven(number, layer),
+    }
+}
+
+// The record of a call that is done is handed back, and the number returned.
+fn hand_back(record: &mut [u32], given: Answer) -> u32
+    requires { ⌜ HandsBack (now «record») given ⌝ }
+    ensures { λ r. ⌜ (r ≡ replyNumber (given .reply))
+        × (now («record» .exit) ≡ cond (passed (given .reply)) (numbersOf (given .rec)) (now («record» .entry))) ⌝ }
+{
+    let reply = given.reply;
+    if !frame::passed(reply) {
+        return number_of(reply);
+    }
+    put_record(record, given.rec);
+    number_of(reply)
+}
 
 #[no_mangle]
 pub extern "C" fn tuppence_side_of(bench: u32) -> u32
@@ -25,7 +116,8 @@ pub extern "C" fn tuppence_open(
         (hosted BENCHES side (now («record» .entry)) (now (store .entry)) (opening (now (model .entry))))
         r (now («record» .entry)) (now («record» .exit)) (now (store .exit)) [] [] ⌝ }
 {
-    hosting::open(record, store, side, model)
+    let given = desk::open(Side(side as usize), record_in(record), store, model);
+    hand_back(record, given)
 }
 
 #[no_mangle]
@@ -41,7 +133,14 @@ pub extern "C" fn tuppence_call1(
         (call1 (now (samples .entry)) (length (now (window .entry)))))
         r (now («record» .entry)) (now («record» .exit)) (now (store .exit)) (now (window .entry) ∷ []) (now (window .exit) ∷ []) ⌝ }
 {
-    hosting::call1(record, store, side, samples, window)
+    let given = desk::call1(
+        Side(side as usize),
+        record_in(record),
+        store,
+        samples,
+        window,
+    );
+    hand_back(record, given)
 }
 
 #[no_mangle]
@@ -60,7 +159,16 @@ pub extern "C" fn tuppence_call2(
         r (now («record» .entry)) (now («record» .exit)) (now (store .exit))
         (now (window .entry) ∷ now (sums .entry) ∷ []) (now (window .exit) ∷ now (sums .exit) ∷ []) ⌝ }
 {
-    hosting::call2(record, store, side, spectrum, lag, window, sums)
+    let given = desk::call2(
+        Side(side as usize),
+        record_in(record),
+        store,
+        spectrum,
+        Lag(lag as usize),
+        window,
+        sums,
+    );
+    hand_back(record, given)
 }
 
 #[no_mangle]
@@ -78,7 +186,73 @@ pub extern "C" fn tuppence_call2_own(
         r (now («record» .entry)) (now («record» .exit)) (now (store .exit))
         (now (window .entry) ∷ now (sums .entry) ∷ []) (now (window .exit) ∷ now (sums .exit) ∷ []) ⌝ }
 {
-    hosting::call2_own(record, store, side, spectrum, window, sums)
+    let given = desk::call2_own(
+        Side(side as usize),
+        record_in(record),
+        store,
+        spectrum,
+        window,
+        sums,
+    );
+    hand_back(record, given)
+}
+
+// What call 3, the second half and a resume answer, as three numbers.
+struct Three {
+    heard: f32,
+    voice: f32,
+    energy: f32,
+}
+
+fn three_of(reply: Reply) -> Three
+    ensures { λ r. ⌜ (r .heard ∷ r .voice ∷ r .energy ∷ []) ≡ heardOf reply ⌝ }
+{
+    match reply {
+        Reply::Heard(voice, energy) => Three {
+            heard: 1.0,
+            voice,
+            energy,
+        },
+        Reply::Done => none(),
+        Reply::Silent => none(),
+        Reply::Numbered(_, _) => none(),
+        Reply::Refused(_) => none(),
+        Reply::Misread(_, _) => none(),
+    }
+}
+
+fn none() -> Three
+    ensures { λ r. ⌜ (r .heard ∷ r .voice ∷ r .energy ∷ []) ≡ heardOf Reply.Silent ⌝ }
+{
+    Three {
+        heard: 0.0,
+        voice: 0.0,
+        energy: 0.0,
+    }
+}
+
+// A call that is done writes them.
+fn tell(answer: &mut [f32], reply: Reply)
+    requires { ⌜ (passed reply ≡ true → length (now answer) ≡ 3) ⌝ }
+    ensures { λ _. ⌜ now (answer .exit) ≡ cond (passed reply) (heardOf reply) (now (answer .entry)) ⌝ }
+{
+    if !frame::passed(reply) {
+        return;
+    }
+    let three = three_of(reply);
+    answer[0] = three.heard;
+    answer[1] = three.voice;
+    answer[2] = three.energy;
+}
+
+// An `answer` of another length than three is a wrong length among the others: then the call is lent no place of `out`, and refuses.
+fn places(answer: usize, out: usize) -> usize
+    ensures { λ r. ⌜ r ≡ outOf answer out ⌝ }
+{
+    if answer != 3 {
+        return 0;
+    }
+    out
 }
 
 #[no_mangle]
@@ -99,7 +273,19 @@ pub extern "C" fn tuppence_call3(
         r (now («record» .entry)) (now («record» .exit)) (now (store .exit))
         (now (out .entry) ∷ now (answer .entry) ∷ []) (now (out .exit) ∷ now (answer .exit) ∷ []) ⌝ }
 {
-    hosting::call3(record, store, side, spectrum, logs, model, out, answer)
+    let end = places(answer.len(), out.len());
+    let given = desk::call3(
+        Side(side as usize),
+        record_in(record),
+        store,
+        spectrum,
+        logs,
+        model,
+        &mut out[0..end],
+    );
+    let reply = given.reply;
+    tell(answer, reply);
+    hand_back(record, given)
 }
 
 #[no_mangle]
@@ -115,7 +301,8 @@ pub extern "C" fn tuppence_call4(
         (call4 (now (inverse .entry)) (length (now (out .entry)))))
         r (now («record» .entry)) (now («record» .exit)) (now (store .exit)) (now (out .entry) ∷ []) (now (out .exit) ∷ []) ⌝ }
 {
-    hosting::call4(record, store, side, inverse, out)
+    let given = desk::call4(Side(side as usize), record_in(record), store, inverse, out);
+    hand_back(record, given)
 }
 
 #[no_mangle]
@@ -131,7 +318,8 @@ pub extern "C" fn tuppence_first_half(
         (firstHalf (now (samples .entry)) (length (now (sums .entry)))))
         r (now («record» .entry)) (now («record» .exit)) (now (store .exit)) (now (sums .entry) ∷ []) (now (sums .exit) ∷ []) ⌝ }
 {
-    hosting::first_half(record, store, side, samples, sums)
+    let given = desk::first_half(Side(side as usize), record_in(record), store, samples, sums);
+    hand_back(record, given)
 }
 
 #[no_mangle]
@@ -150,5 +338,77 @@ pub extern "C" fn tuppence_second_half(
         r (now («record» .entry)) (now («record» .exit)) (now (store .exit))
         (now (out .entry) ∷ now (answer .entry) ∷ []) (now (out .exit) ∷ now (answer .exit) ∷ []) ⌝ }
 {
-    hosting::second_half(record, store, side, logs, model, out, answer)
+    let end = places(answer.len(), out.len());
+    let given = desk::second_half(
+        Side(side as usize),
+        record_in(record),
+        store,
+        logs,
+        model,
+        &mut out[0..end],
+    );
+    let reply = given.reply;
+    tell(answer, reply);
+    hand_back(record, given)
+}
+
+#[no_mangle]
+pub extern "C" fn tuppence_piece(
+    record: &mut [u32],
+    store: &mut [f32],
+    side: u32,
+    samples: &[f32],
+    out: &mut [f32],
+    sums: &mut [f32],
+) -> u32
+    ensures { λ r. ⌜ Hosted
+        (hosted BENCHES side (now («record» .entry)) (now (store .entry))
+        (piece (now (samples .entry)) (length (now (out .entry))) (length (now (sums .entry)))))
+        r (now («record» .entry)) (now («record» .exit)) (now (store .exit))
+        (now (out .entry) ∷ now (sums .entry) ∷ []) (now (out .exit) ∷ now (sums .exit) ∷ []) ⌝ }
+{
+    let given = desk::piece(
+        Side(side as usize),
+        record_in(record),
+        store,
+        samples,
+        out,
+        sums,
+    );
+    hand_back(record, given)
+}
+
+#[no_mangle]
+pub extern "C" fn tuppence_resume(
+    record: &mut [u32],
+    store: &mut [f32],
+    side: u32,
+    samples: &[f32],
+    logs: &[f32],
+    model: &[u8],
+    out: &mut [f32],
+    sums: &mut [f32],
+    answer: &mut [f32],
+) -> u32
+    ensures { λ r. ⌜ Hosted
+        (hosted BENCHES side (now («record» .entry)) (now (store .entry))
+        (resume (now (samples .entry)) (now (logs .entry)) (now (model .entry))
+        (outOf (length (now (answer .entry))) (length (now (out .entry)))) (length (now (sums .entry)))))
+        r (now («record» .entry)) (now («record» .exit)) (now (store .exit))
+        (now (out .entry) ∷ now (sums .entry) ∷ now (answer .entry) ∷ []) (now (out .exit) ∷ now (sums .exit) ∷ now (answer .exit) ∷ []) ⌝ }
+{
+    let end = places(answer.len(), out.len());
+    let given = desk::resume(
+        Side(side as usize),
+        record_in(record),
+        store,
+        samples,
+        logs,
+        model,
+        &mut out[0..end],
+        sums,
+    );
+    let reply = given.reply;
+    tell(answer, reply);
+    hand_back(record, given)
 }

@@ -81,7 +81,7 @@ fn number_of(answer: Computed) -> u32
     match answer {
         Computed::Done => 0,
         Computed::Refused(number) => number,
-        Computed::Misread(number, layer) => hosting::seven(number, layer) as u32,
+        Computed::Misread(number, layer) => crate::of_model::seven(number, layer),
     }
 }
 

@@ -20,7 +20,7 @@ use Rattle.network.specs.Parts.{Lengths}
 use Rattle.network.proofs.Callers.{computed-done, kept}
 use Rattle.features.specs.Features.{withCepstrum}
 use Rattle.features.proofs.Lengths.{length-gained, length-with-cepstrum, length-features}
-use Rattle.frame.specs.Share.{SHARE, inputMem, synthesisMem, keptX, keptEx, keptLag, memHpX, lastg, cepstralMem, vadState, noiseState, denoiseState}
+use Rattle.frame.specs.Share.{PART, inputMem, synthesisMem, keptX, keptEx, keptLag, memHpX, lastg, cepstralMem, vadState, noiseState, denoiseState}
 use Rattle.numbers.specs.Filter.{memoryOf}
 use Rattle.frame.specs.Heard.{scaled, energies, featured, rnnOf, spokenFrom, spoken}
 use Rattle.frame.specs.Frame.{shifted, done1, putKept, windowBuf, laterHalf, done4}
@@ -31,18 +31,18 @@ AllApart [] q = Unit {0}
 AllApart (p ∷ ps) q = Apart p q × AllApart ps q
 
 pub record Beside (q : Place) (share after : List Float) : Type 0 where
-  pub size : length after ≡ SHARE
+  pub size : length after ≡ PART
   pub same : get q after ≡ get q share
 
 module _ (q : Place) where
-  put-beside : (p : Place) (share ys : List Float) → p .at + p .size ≤ SHARE → Apart p q → length share ≡ SHARE → length ys ≡ p .size → Beside q share (put p share ys)
+  put-beside : (p : Place) (share ys : List Float) → p .at + p .size ≤ PART → Apart p q → length share ≡ PART → length ys ≡ p .size → Beside q share (put p share ys)
   put-beside p share ys inside apart whole l =
       record { size = length-put p share ys (omega arith) l ∙ whole; same = get-put-apart p q share ys (omega arith) l apart }
 
   pub then : {a b c : List Float} → Beside q a b → Beside q b c → Beside q a c
   then h k = record { size = k .size; same = k .same ∙ h .same }
 
-  pub done1-beside : (share samples : List Float) → AllApart (inputMem ∷ memHpX ∷ []) q → length share ≡ SHARE → length samples ≡ 480
+  pub done1-beside : (share samples : List Float) → AllApart (inputMem ∷ memHpX ∷ []) q → length share ≡ PART → length samples ≡ 480
       → Beside q share (done1 share samples .share)
   unfolding shifted
   done1-beside share samples apart whole l =
@@ -51,7 +51,7 @@ module _ (q : Place) where
       let one = put-beside inputMem share (shifted (get inputMem share) out) (omega arith) (apart .0) whole new in
       then one (put-beside memHpX (put inputMem share (shifted (get inputMem share) out)) _ (omega arith) (apart .1 .0) (one .size) refl)
 
-  pub done2-beside : (share spectrum : List Float) (lag : ℕ) → AllApart (keptX ∷ keptEx ∷ keptLag ∷ []) q → length share ≡ SHARE
+  pub done2-beside : (share spectrum : List Float) (lag : ℕ) → AllApart (keptX ∷ keptEx ∷ keptLag ∷ []) q → length share ≡ PART
       → Beside q share (putKept share spectrum lag)
   unfolding putKept energies scaled
   done2-beside share spectrum lag apart whole =
@@ -60,7 +60,7 @@ module _ (q : Place) where
       let two = then one (put-beside keptEx (put keptX share x) (energies spectrum) (omega arith) (apart .1 .0) (one .size) (length-corr x x)) in
       then two (put-beside keptLag (put keptEx (put keptX share x) (energies spectrum)) _ (omega arith) (apart .1 .1 .0) (two .size) refl)
 
-  pub done4-beside : (share : List Float) (frame heard : ℕ) (inverse : List Float) → AllApart (synthesisMem ∷ []) q → length share ≡ SHARE
+  pub done4-beside : (share : List Float) (frame heard : ℕ) (inverse : List Float) → AllApart (synthesisMem ∷ []) q → length share ≡ PART
       → Beside q share (done4 share frame heard inverse .share)
   unfolding laterHalf
   done4-beside share frame heard inverse apart whole = put-beside synthesisMem share (laterHalf (windowBuf inverse)) (omega arith) (apart .0) whole (length-tab 480 _)
@@ -68,7 +68,7 @@ module _ (q : Place) where
   -- ---- a heard frame
 
   -- the three states of 128 places
-  states-beside : (share v n d : List Float) → AllApart (vadState ∷ noiseState ∷ denoiseState ∷ []) q → length share ≡ SHARE
+  states-beside : (share v n d : List Float) → AllApart (vadState ∷ noiseState ∷ denoiseState ∷ []) q → length share ≡ PART
       → length v ≡ 128 → length n ≡ 128 → length d ≡ 128 → Beside q share (put denoiseState (put noiseState (put vadState share v) n) d)
   states-beside share v n d apart whole a b c =
       let one = put-beside vadState share v (omega arith) (apart .0) whole a in
@@ -76,7 +76,7 @@ module _ (q : Place) where
       then two (put-beside denoiseState (put noiseState (put vadState share v) n) d (omega arith) (apart .1 .1 .0) (two .size) c)
 
   rnn-beside : (share features : List Float) (bytes : List ℕ) (m : Model) → AllApart (vadState ∷ noiseState ∷ denoiseState ∷ []) q
-      → readOf bytes ≡ Good m → length share ≡ SHARE → length features ≡ 42 → Beside q share (rnnOf share features bytes m .share)
+      → readOf bytes ≡ Good m → length share ≡ PART → length features ≡ 42 → Beside q share (rnnOf share features bytes m .share)
   unfolding rnnOf
   rnn-beside share features bytes m apart good whole few =
       let v = get vadState share in
@@ -98,7 +98,7 @@ module _ (q : Place) where
 
   -- before the gains are remembered
   pub sensed-beside : (share : List Float) (index : ℕ) (p ep logs : List Float) (bytes : List ℕ) (m : Model)
-      → AllApart (cepstralMem ∷ vadState ∷ noiseState ∷ denoiseState ∷ []) q → readOf bytes ≡ Good m → length share ≡ SHARE → index ≤ 7
+      → AllApart (cepstralMem ∷ vadState ∷ noiseState ∷ denoiseState ∷ []) q → readOf bytes ≡ Good m → length share ≡ PART → index ≤ 7
       → let f = featured share index p ep logs in Beside q share (rnnOf (f .share) (f .features) bytes m .share)
   unfolding featured
   sensed-beside share index p ep logs bytes m apart good whole inside =
@@ -108,7 +108,7 @@ module _ (q : Place) where
       then one (rnn-beside (put cepstralMem share (withCepstrum logs mem index)) _ bytes m (apart .1) good (one .size) (length-features _ _ _ _ _))
 
   pub done3-beside : (share : List Float) (index : ℕ) (spectrum logs : List Float) (bytes : List ℕ) (m : Model)
-      → AllApart (lastg ∷ cepstralMem ∷ vadState ∷ noiseState ∷ denoiseState ∷ []) q → readOf bytes ≡ Good m → length share ≡ SHARE → index ≤ 7
+      → AllApart (lastg ∷ cepstralMem ∷ vadState ∷ noiseState ∷ denoiseState ∷ []) q → readOf bytes ≡ Good m → length share ≡ PART → index ≤ 7
       → Beside q share (spoken share index spectrum logs bytes m .share)
   unfolding spokenFrom
   done3-beside share index spectrum logs bytes m apart good whole inside =

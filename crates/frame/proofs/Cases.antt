@@ -19,7 +19,7 @@ use Rattle.features.specs.Silence.{energy, soundOf}
 use Rattle.features.specs.declared.Sound.{Sound}
 use Rattle.features.specs.declared.Sound.the-variants as sound
 use Rattle.frame.specs.declared.Reply.the-variants.{Refused, Misread}
-use Rattle.frame.specs.Share.{SHARE, keptEx}
+use Rattle.frame.specs.Share.{PART, keptEx}
 use Rattle.frame.specs.Heard.{spoken}
 use Rattle.frame.specs.Frame.{Effect, refusal, wrong, unless, done1, call1, done2, call2, silent, heard, sounded, done3, counted, modelled, call3, done4, call4}
 
@@ -30,32 +30,32 @@ module _ (share : List Float) (P : Effect → Type 0) (bad : (n : ℕ) → P (re
   by-table ps rows f h =
       by-rows (λ n. refusal (Refused n) share) f P (5 when wrong ps ∷ rows) bad (λ c. h (right ps (c .0)) (c .1))
 
-  pub call1-by : (samples : List Float) (window : ℕ) → (length share ≡ SHARE → length samples ≡ 480 → P (done1 share samples))
+  pub call1-by : (samples : List Float) (window : ℕ) → (length share ≡ PART → length samples ≡ 480 → P (done1 share samples))
       → P (call1 share samples window)
   unfolding call1
   call1-by samples window h =
-      by-table ((length share, SHARE) ∷ (length samples, 480) ∷ (window, 960) ∷ []) (9 when not (good samples) ∷ []) (done1 share samples) (λ r _. h (r .0) (r .1 .0))
+      by-table ((length share, PART) ∷ (length samples, 480) ∷ (window, 960) ∷ []) (9 when not (good samples) ∷ []) (done1 share samples) (λ r _. h (r .0) (r .1 .0))
 
-  pub call2-by : (spectrum : List Float) (lag window sums : ℕ) → (length share ≡ SHARE → P (done2 share spectrum lag))
+  pub call2-by : (spectrum : List Float) (lag window sums : ℕ) → (length share ≡ PART → P (done2 share spectrum lag))
       → P (call2 share spectrum lag window sums)
   unfolding call2
   call2-by spectrum lag window sums h =
-      by-table ((length share, SHARE) ∷ (length spectrum, 961) ∷ (window, 960) ∷ (sums, 22) ∷ []) (6 when ltb 768 lag ∷ []) (done2 share spectrum lag)
+      by-table ((length share, PART) ∷ (length spectrum, 961) ∷ (window, 960) ∷ (sums, 22) ∷ []) (6 when ltb 768 lag ∷ []) (done2 share spectrum lag)
       (λ r _. h (r .0))
 
   -- a model that is refused comes with what the reader says of it
   pub call3-by : (index vad noise denoise : ℕ) (spectrum logs : List Float) (model : List ℕ) (out : ℕ)
       → ((n l : ℕ) → Unread n l ≡ readOf model → P (refusal (Misread n l) share))
       → P (silent share)
-      → ((e : Float) (m : Model) → readOf model ≡ Good m → length share ≡ SHARE → index ≤ 7 → P (heard e (spoken share index spectrum logs model m)))
+      → ((e : Float) (m : Model) → readOf model ≡ Good m → length share ≡ PART → index ≤ 7 → P (heard e (spoken share index spectrum logs model m)))
       → P (call3 share index vad noise denoise spectrum logs model out)
   unfolding call3 done3
   call3-by index vad noise denoise spectrum logs model out misread still h =
-      by-table ((length share, SHARE) ∷ (length spectrum, 961) ∷ (length logs, 22) ∷ (out, 961) ∷ []) (5 when ltb 7 index ∷ [])
+      by-table ((length share, PART) ∷ (length spectrum, 961) ∷ (length logs, 22) ∷ (out, 961) ∷ []) (5 when ltb 7 index ∷ [])
       (modelled (counted vad noise denoise) (readOf model) share (done3 share index spectrum logs model))
       (λ r c. by-model (r .0) (ltb-false 7 index (c .0)) (readOf model) refl)
     where
-      by-sound : (m : Model) → readOf model ≡ Good m → length share ≡ SHARE → index ≤ 7 → (s : Sound) → P (sounded s share (spoken share index spectrum logs model m))
+      by-sound : (m : Model) → readOf model ≡ Good m → length share ≡ PART → index ≤ 7 → (s : Sound) → P (sounded s share (spoken share index spectrum logs model m))
       by-sound m e l i sound.Silent = still
       by-sound m e l i (sound.Heard a) = h a m e l i
       by-sound m e l i (sound.Refused n) = bad n
@@ -64,13 +64,13 @@ module _ (share : List Float) (P : Effect → Type 0) (bad : (n : ℕ) → P (re
       by-count true f k = k
       by-count false f k = bad 8
 
-      by-model : length share ≡ SHARE → index ≤ 7 → (r : Reading) → readOf model ≡ r
+      by-model : length share ≡ PART → index ≤ 7 → (r : Reading) → readOf model ≡ r
           → P (modelled (counted vad noise denoise) r share (done3 share index spectrum logs model))
       by-model l i (Unread n k) e = misread n k (sym e)
       by-model l i (Good m) e = by-count (counted vad noise denoise m) (done3 share index spectrum logs model m) (by-sound m e l i (soundOf (energy (get keptEx share))))
 
-  pub call4-by : (frame heard : ℕ) (inverse : List Float) (out : ℕ) → (length share ≡ SHARE → P (done4 share frame heard inverse))
+  pub call4-by : (frame heard : ℕ) (inverse : List Float) (out : ℕ) → (length share ≡ PART → P (done4 share frame heard inverse))
       → P (call4 share frame heard inverse out)
   unfolding call4
   call4-by frame heard inverse out h =
-      by-table ((length share, SHARE) ∷ (length inverse, 960) ∷ (out, 480) ∷ []) [] (done4 share frame heard inverse) (λ r _. h (r .0))
+      by-table ((length share, PART) ∷ (length inverse, 960) ∷ (out, 480) ∷ []) [] (done4 share frame heard inverse) (λ r _. h (r .0))

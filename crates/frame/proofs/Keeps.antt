@@ -11,7 +11,7 @@ use Rattle.rules.specs.Place.{Place}
 use Rattle.frame.specs.declared.Reply.{Reply}
 use Rattle.frame.specs.declared.Reply.the-variants.{Silent, Refused, Misread}
 use Rattle.frame.specs.Reply.{passed}
-use Rattle.frame.specs.Share.{SHARE}
+use Rattle.frame.specs.Share.{PART}
 use Rattle.frame.specs.Heard.{spoken}
 use Rattle.frame.specs.Frame.{Effect, done1, call1, done2, call2, heard, call3, done4, call4}
 use Rattle.frame.proofs.Beside.{Beside, done1-beside, done2-beside, done3-beside, done4-beside}
@@ -30,7 +30,7 @@ module _ (share : List Float) where
   pub unmoved : (reply : Reply) (out : List (List Float)) → Keeps share (record { reply = reply; share = share; written = out })
   unmoved reply out = record { size = refl; still = λ _. refl }
 
-  pub moved : (f : Effect) → passed (f .reply) ≡ true → length share ≡ SHARE → Beside end share (f .share) → Keeps share f
+  pub moved : (f : Effect) → passed (f .reply) ≡ true → length share ≡ PART → Beside end share (f .share) → Keeps share f
   moved f e whole b = record { size = b .size ∙ sym whole; still = λ h. absurd (true-false (sym e ∙ h)) }
 
   bad : (n : ℕ) → Keeps share (record { reply = Refused n; share = share; written = [] })

@@ -10,7 +10,7 @@ use lib.Ieee.{Float}
 use Rattle.rules.specs.F32.{at}
 use Rattle.rules.specs.Place.{Place, get}
 use Rattle.rules.proofs.Places.{length-get, get-get}
-use Rattle.frame.specs.Share.{SHARE, inputMem, keptX, keptEx, keptLag, cepstralMem, vadState, noiseState, denoiseState}
+use Rattle.frame.specs.Share.{PART, inputMem, keptX, keptEx, keptLag, cepstralMem, vadState, noiseState, denoiseState}
 use Rattle.frame.specs.Frame.{recent}
 
 -- a place, number by number
@@ -18,8 +18,8 @@ pub at-get : (p : Place) (xs : List Float) (i : ℕ) → i < p .size → at (get
 unfolding get
 at-get p xs i h = rw (getD-take, getD-drop)
 
-module _ (share : List Float) (whole : length share ≡ SHARE) where
-  sized : (p : Place) → p .at + p .size ≤ SHARE → length (get p share) ≡ p .size
+module _ (share : List Float) (whole : length share ≡ PART) where
+  sized : (p : Place) → p .at + p .size ≤ PART → length (get p share) ≡ p .size
   sized p h = length-get p share (omega arith)
 
   pub x-size : length (get keptX share) ≡ 961
@@ -44,7 +44,7 @@ pub lag-at : (share : List Float) → at (get keptLag share) 0 ≡ at share 3191
 lag-at share = at-get keptLag share 0 (omega arith)
 
 -- the part of the share that the code lends is the part of the input memory
-pub looked-at : (share : List Float) (lag : ℕ) → length share ≡ SHARE → lag ≤ 768
+pub looked-at : (share : List Float) (lag : ℕ) → length share ≡ PART → lag ≤ 768
     → take (768 - lag + 960 - (768 - lag)) (drop (768 - lag) share) ≡ get (recent lag) (get inputMem share)
 unfolding get
 looked-at share lag l h =

@@ -23,7 +23,7 @@ use Rattle.features.specs.Silence.{energy, soundOf}
 use Rattle.features.specs.declared.Sound.{Sound}
 use Rattle.features.specs.declared.Sound.the-variants.{Silent as Quiet, Heard as Loud, Refused as Unfit}
 use Rattle.frame.specs.Reply.{left, oneMore}
-pub use Rattle.frame.specs.Share.{SHARE}
+pub use Rattle.frame.specs.Share.{PART}
 use Rattle.frame.specs.Share.{inputMem, synthesisMem, keptX, keptEx, keptLag, memHpX}
 use Rattle.frame.specs.Heard.{scaled, energies, Spoken, spoken}
 use Rattle.frame.specs.declared.Reply.{Reply}
@@ -76,7 +76,7 @@ done1 share samples =
 unfoldable pub call1 : List Float → List Float → ℕ → Effect
 call1 share samples window =
     unless
-    (5 when wrong ((length share, SHARE) ∷ (length samples, 480) ∷ (window, 960) ∷ []) ∷ 9 when not (good samples) ∷ []) share
+    (5 when wrong ((length share, PART) ∷ (length samples, 480) ∷ (window, 960) ∷ []) ∷ 9 when not (good samples) ∷ []) share
     (done1 share samples)
 
 -- ---- call 2, from `transform_input` and `compute_frame_features`
@@ -101,7 +101,7 @@ done2 share spectrum lag =
 unfoldable pub call2 : List Float → List Float → ℕ → ℕ → ℕ → Effect
 call2 share spectrum lag window sums =
     unless
-    (5 when wrong ((length share, SHARE) ∷ (length spectrum, 961) ∷ (window, 960) ∷ (sums, 22) ∷ []) ∷ 6 when ltb 768 lag ∷ []) share
+    (5 when wrong ((length share, PART) ∷ (length spectrum, 961) ∷ (window, 960) ∷ (sums, 22) ∷ []) ∷ 6 when ltb 768 lag ∷ []) share
     (done2 share spectrum lag)
 
 -- ---- call 3, from `compute_frame_features` and `process_frame` of denoise.rs
@@ -135,7 +135,7 @@ modelled same (Good m) share f = cond (same m) (f m) (refusal (Refused 8) share)
 unfoldable pub call3 : List Float → ℕ → ℕ → ℕ → ℕ → List Float → List Float → List ℕ → ℕ → Effect
 call3 share index vad noise denoise spectrum logs model out =
     unless
-    (5 when wrong ((length share, SHARE) ∷ (length spectrum, 961) ∷ (length logs, 22) ∷ (out, 961) ∷ []) ∷ 5 when ltb 7 index ∷ []) share
+    (5 when wrong ((length share, PART) ∷ (length spectrum, 961) ∷ (length logs, 22) ∷ (out, 961) ∷ []) ∷ 5 when ltb 7 index ∷ []) share
     (modelled (counted vad noise denoise) (readOf model) share (done3 share index spectrum logs model))
 
 -- ---- call 4, from `frame_synthesis` of features.rs
@@ -164,5 +164,5 @@ done4 share frame heard inverse =
 
 unfoldable pub call4 : List Float → ℕ → ℕ → List Float → ℕ → Effect
 call4 share frame heard inverse out =
-    unless (5 when wrong ((length share, SHARE) ∷ (length inverse, 960) ∷ (out, 480) ∷ []) ∷ []) share
+    unless (5 when wrong ((length share, PART) ∷ (length inverse, 960) ∷ (out, 480) ∷ []) ∷ []) share
     (done4 share frame heard inverse)

@@ -1,9 +1,13 @@
--- A share: 6,144 numbers, what the calls of one bench remember. Its fields, place by place; no call touches the rest, from 3,776 on.
+-- A share: 6,144 numbers, what the calls of one bench remember. The first 3,776 are a frame's, and no more is lent to its calls: their
+-- fields, place by place.
 use Prim.Native.Nat.{ℕ}
 use Rattle.rules.specs.Place.{Place}
 
 abbrev pub SHARE : ℕ
 SHARE = 6144
+
+abbrev pub PART : ℕ
+PART = 3776
 
 -- `DenoiseFeatures::input_mem`, the last 1,728 filtered samples
 abbrev pub inputMem : Place

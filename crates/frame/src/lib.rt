@@ -1,4 +1,4 @@
-// The four calls of a frame over one share of the store. A share is 6,144 numbers, and knows of no side. What is refused changes nothing.
+// The four calls of a frame over its part of one share of the store: 3,776 numbers, that know of no side. What is refused changes nothing.
 ghost use mathlib.Core.Path.{_≡_};
 ghost use mathlib.Core.List.{[], _∷_};
 ghost use lib.ListN.{length};
@@ -10,6 +10,7 @@ mod input;
 mod lagged;
 mod output;
 
+pub use heard::check;
 use numbers::Memory;
 
 // What a call is told: done, for call 3 silent or heard with voice and energy, for call 4 the frames and the heard frames so far;
@@ -42,6 +43,9 @@ pub struct Lag(pub usize);
 
 pub const SHARE: usize = 6144;
 
+// What of a share is lent to a frame.
+pub const PART: usize = 3776;
+
 // One more, and 0 after the last number.
 pub fn one_more(number: u32) -> u32
     ensures { λ r. ⌜ r ≡ oneMore number ⌝ }
@@ -57,7 +61,7 @@ pub fn call1(share: &mut [f32], samples: &[f32], window: &mut [f32]) -> Reply
     ensures { λ r. ⌜ Worked (call1 (now (share .entry)) (now (samples .entry)) (length (now (window .entry))))
         r (now (share .exit)) (now (window .entry) ∷ []) (now (window .exit) ∷ []) ⌝ }
 {
-    if share.len() != SHARE {
+    if share.len() != PART {
         return Reply::Refused(5);
     }
     if samples.len() != 480 {
@@ -91,7 +95,7 @@ pub fn call2(
         (call2 (now (share .entry)) (now (spectrum .entry)) (lag .0) (length (now (window .entry))) (length (now (sums .entry))))
         r (now (share .exit)) (now (window .entry) ∷ now (sums .entry) ∷ []) (now (window .exit) ∷ now (sums .exit) ∷ []) ⌝ }
 {
-    if share.len() != SHARE {
+    if share.len() != PART {
         return Reply::Refused(5);
     }
     if spectrum.len() != 961 {
@@ -131,7 +135,7 @@ pub fn call3(
         (now (spectrum .entry)) (now (logs .entry)) (now (model .entry)) (length (now (out .entry))))
         r (now (share .exit)) (now (out .entry) ∷ []) (now (out .exit) ∷ []) ⌝ }
 {
-    if share.len() != SHARE {
+    if share.len() != PART {
         return Reply::Refused(5);
     }
     if spectrum.len() != 961 {
@@ -159,7 +163,7 @@ pub fn call4(share: &mut [f32], frame: u32, heard: u32, inverse: &[f32], out: &m
     ensures { λ r. ⌜ Worked (call4 (now (share .entry)) frame heard (now (inverse .entry)) (length (now (out .entry))))
         r (now (share .exit)) (now (out .entry) ∷ []) (now (out .exit) ∷ []) ⌝ }
 {
-    if share.len() != SHARE {
+    if share.len() != PART {
         return Reply::Refused(5);
     }
     if inverse.len() != 960 {

@@ -17,7 +17,7 @@ use Rattle.lag.specs.Lag.{ownLag}
 use Rattle.lag.proofs.Ranges.{in-range}
 use Rattle.frame.specs.declared.Reply.{Reply}
 use Rattle.frame.specs.declared.Reply.the-variants.{Silent, Heard, Refused, Misread}
-use Rattle.frame.specs.Share.{SHARE, inputMem, keptX}
+use Rattle.frame.specs.Share.{PART, inputMem, keptX}
 use Rattle.frame.specs.Heard.{spoken}
 use Rattle.frame.specs.Frame.{Effect, refusal, done1, call1, done2, call3, done4}
 use Rattle.frame.proofs.Beside.{done1-beside, done3-beside}
@@ -42,9 +42,9 @@ doneSecond reply share spectrum =
     let b = done4 share 0 0 (inverseOf spectrum) in
     record { reply = reply; share = b .share; written = b .written }
 
-module _ (share samples : List Float) (whole : length share ≡ SHARE) (l : length samples ≡ 480) where
+module _ (share samples : List Float) (whole : length share ≡ PART) (l : length samples ≡ 480) where
   -- call 1 keeps the share's length
-  pub whole-after-1 : length (done1 share samples .share) ≡ SHARE
+  pub whole-after-1 : length (done1 share samples .share) ≡ PART
   whole-after-1 = done1-beside end share samples (inl (omega arith), (inl (omega arith), tt)) whole l .size
 
   analysed-done : (sums : ℕ) → sums ≡ 22 → let a = done1 share samples in analysed (a .share) (buffer a) sums ≡ doneFirst share samples
@@ -53,17 +53,17 @@ module _ (share samples : List Float) (whole : length share ≡ SHARE) (l : leng
       let a = done1 share samples in
       rw (call2-done (a .share) whole-after-1 (forwardOf (buffer a)) (ownLag (get inputMem (a .share))) 960 sums (length-forward (buffer a)) refl e (in-range (get inputMem (a .share)) .1))
 
-synthesised-done : (reply : Reply) (share spectrum : List Float) (out : ℕ) → length share ≡ SHARE → out ≡ 480
+synthesised-done : (reply : Reply) (share spectrum : List Float) (out : ℕ) → length share ≡ PART → out ≡ 480
     → synthesised reply share spectrum out ≡ doneSecond reply share spectrum
 synthesised-done reply share spectrum out whole e = rw (call4-done share whole 0 0 (inverseOf spectrum) out (length-inverse spectrum) e)
 
 -- ---- the halves, for a claim P that every refusal meets
 
 module _ (share : List Float) (P : Effect → Type 0) (bad : (n : ℕ) → P (refusal (Refused n) share)) where
-  pub first-half-by : (samples : List Float) (sums : ℕ) → (length share ≡ SHARE → length samples ≡ 480 → P (doneFirst share samples)) → P (firstHalf share samples sums)
+  pub first-half-by : (samples : List Float) (sums : ℕ) → (length share ≡ PART → length samples ≡ 480 → P (doneFirst share samples)) → P (firstHalf share samples sums)
   unfolding firstHalf
   first-half-by samples sums h =
-      by-table share P bad ((length share, SHARE) ∷ (length samples, 480) ∷ (sums, 22) ∷ []) [] (onward (call1 share samples 960) second)
+      by-table share P bad ((length share, PART) ∷ (length samples, 480) ∷ (sums, 22) ∷ []) [] (onward (call1 share samples 960) second)
       (λ r _. call1-by share (λ f. P (onward f second)) bad samples 960 (λ whole l. subst P (sym (analysed-done share samples whole l sums (r .1 .1 .0))) (h whole l)))
     where
       second : Effect → Effect
@@ -72,13 +72,13 @@ module _ (share : List Float) (P : Effect → Type 0) (bad : (n : ℕ) → P (re
   -- a model that is refused comes with what the reader says of it
   pub second-half-by : (index vad noise denoise : ℕ) (logs : List Float) (model : List ℕ) (out : ℕ)
       → ((n l : ℕ) → Unread n l ≡ readOf model → P (refusal (Misread n l) share))
-      → (length share ≡ SHARE → P (doneSecond Silent share (get keptX share)))
-      → ((e : Float) (m : Model) → readOf model ≡ Good m → length share ≡ SHARE → index ≤ 7
+      → (length share ≡ PART → P (doneSecond Silent share (get keptX share)))
+      → ((e : Float) (m : Model) → readOf model ≡ Good m → length share ≡ PART → index ≤ 7
       → let s = spoken share index (forwardOf (lookedBack share)) logs model m in P (doneSecond (Heard (s .voice) e) (s .share) (s .spectrum)))
       → P (secondHalf share index vad noise denoise logs model out)
   unfolding secondHalf
   second-half-by index vad noise denoise logs model out misread still h =
-      by-table share P bad ((length share, SHARE) ∷ (length logs, 22) ∷ (out, 480) ∷ []) (5 when ltb 7 index ∷ []) (onward (call3 share index vad noise denoise spectrum logs model 961) second)
+      by-table share P bad ((length share, PART) ∷ (length logs, 22) ∷ (out, 480) ∷ []) (5 when ltb 7 index ∷ []) (onward (call3 share index vad noise denoise spectrum logs model 961) second)
       (λ r c.
       call3-by share (λ f. P (onward f second)) bad index vad noise denoise spectrum logs model 961 misread
       (subst P (sym (synthesised-done Silent share (get keptX share) out (r .0) (r .1 .1 .0))) (still (r .0)))
@@ -92,7 +92,7 @@ module _ (share : List Float) (P : Effect → Type 0) (bad : (n : ℕ) → P (re
       second : Effect → Effect
       second a = synthesised (a .reply) (a .share) (buffer a) out
 
-      whole-after-3 : (m : Model) → readOf model ≡ Good m → length share ≡ SHARE → index ≤ 7 → length (spoken share index spectrum logs model m .share) ≡ SHARE
+      whole-after-3 : (m : Model) → readOf model ≡ Good m → length share ≡ PART → index ≤ 7 → length (spoken share index spectrum logs model m .share) ≡ PART
       whole-after-3 m good whole inside =
           done3-beside end share index spectrum logs model m
           (inl (omega arith), (inl (omega arith), (inl (omega arith), (inl (omega arith), (inl (omega arith), tt))))) good whole inside .size

@@ -12,7 +12,7 @@ use Rattle.transforms.specs.Transform.{forwardOf, inverseOf}
 use Rattle.frame.specs.declared.Reply.{Reply}
 use Rattle.frame.specs.declared.Reply.the-variants.{Refused}
 use Rattle.frame.specs.Reply.{passed}
-use Rattle.frame.specs.Share.{SHARE}
+use Rattle.frame.specs.Share.{PART}
 use Rattle.frame.specs.Frame.{Effect, refusal, call1, call3, done4, call4}
 use Rattle.frame.proofs.Done.{call4-done}
 use Rattle.frame.proofs.Keeps.{call3-keeps}
@@ -43,7 +43,7 @@ module _ (share : List Float) where
         by-rows (λ n. refusal (Refused n) share) (onward one second) Claim (5 when wrong lengths ∷ []) (λ n e. absurd (false-true e)) (λ _. go (passed (one .reply)) refl)
       where
         lengths : List (ℕ × ℕ)
-        lengths = (length share, SHARE) ∷ (length samples, 480) ∷ (sums, 22) ∷ []
+        lengths = (length share, PART) ∷ (length samples, 480) ∷ (sums, 22) ∷ []
 
         second : Effect → Effect
         second a = analysed (a .share) (buffer a) sums
@@ -72,7 +72,7 @@ module _ (share : List Float) where
           (λ c. go (passed (three .reply)) refl (right lengths (c .0)))
         where
           lengths : List (ℕ × ℕ)
-          lengths = (length share, SHARE) ∷ (length logs, 22) ∷ (out, 480) ∷ []
+          lengths = (length share, PART) ∷ (length logs, 22) ∷ (out, 480) ∷ []
 
           second : Effect → Effect
           second a = synthesised (a .reply) (a .share) (buffer a) out

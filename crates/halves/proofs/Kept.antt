@@ -12,7 +12,7 @@ use Rattle.transforms.specs.Transform.{forwardOf, inverseOf}
 use Rattle.lag.specs.Lag.{ownLag}
 use Rattle.frame.specs.declared.Reply.{Reply}
 use Rattle.frame.specs.declared.Reply.the-variants.{Silent, Heard, Refused, Misread}
-use Rattle.frame.specs.Share.{SHARE, inputMem, synthesisMem, keptX, keptEx, keptLag, memHpX}
+use Rattle.frame.specs.Share.{PART, inputMem, synthesisMem, keptX, keptEx, keptLag, memHpX}
 use Rattle.frame.specs.Heard.{spoken}
 use Rattle.frame.specs.Frame.{refusal, done1}
 use Rattle.frame.proofs.Beside.{Beside, AllApart, then, done1-beside, done2-beside, done3-beside, done4-beside}
@@ -23,7 +23,7 @@ use Rattle.halves.proofs.Cases.{doneFirst, doneSecond, first-half-by, s
 -- ---- places apart
 
 module _ (q : Place) where
-  pub done-first-beside : (share samples : List Float) → AllApart (inputMem ∷ memHpX ∷ keptX ∷ keptEx ∷ keptLag ∷ []) q → length share ≡ SHARE → length samples ≡ 480
+  pub done-first-beside : (share samples : List Float) → AllApart (inputMem ∷ memHpX ∷ keptX ∷ keptEx ∷ keptLag ∷ []) q → length share ≡ PART → length samples ≡ 480
       → Beside q share (doneFirst share samples .share)
   done-first-beside share samples apart whole l =
       let a = done1 share samples in
@@ -42,7 +42,7 @@ module _ (share : List Float) where
   refused : (reply : Reply) → Keeps share (refusal reply share)
   refused reply = unmoved share reply []
 
-  as-it-was : (q : Place) → length share ≡ SHARE → Beside q share share
+  as-it-was : (q : Place) → length share ≡ PART → Beside q share share
   as-it-was q whole = record { size = whole; same = refl }
 
   pub first-half-keeps : (samples : List Float) (sums : ℕ) → Keeps share (firstHalf share samples sums)

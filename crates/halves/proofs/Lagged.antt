@@ -30,7 +30,7 @@ use Rattle.bands.proofs.Results.{length-corr}
 use Rattle.lag.specs.Lag.{ownLag}
 use Rattle.frame.specs.declared.Reply.the-variants.{Refused}
 use Rattle.frame.specs.Reply.{passed}
-use Rattle.frame.specs.Share.{SHARE, inputMem, keptX, keptEx, keptLag}
+use Rattle.frame.specs.Share.{PART, inputMem, keptX, keptEx, keptLag}
 use Rattle.frame.specs.Heard.{scaled, energies}
 use Rattle.frame.specs.Frame.{Effect, refusal, recent, putKept, done2, call2}
 use Rattle.frame.proofs.Beside.{done2-beside}
@@ -103,7 +103,7 @@ module _ (lag : ℕ) (small : lag ≤ 768) where
   lag-back = counted 768 (omega arith) ∙ omega arith
 
 -- call 2's window
-pub looked-back : (share : List Float) {lag : ℕ} → length share ≡ SHARE → lag ≡ wholeLag (at share 3191)
+pub looked-back : (share : List Float) {lag : ℕ} → length share ≡ PART → lag ≡ wholeLag (at share 3191)
     → windowed (take (768 - lag + 960 - (768 - lag)) (drop (768 - lag) share)) ≡ lookedBack share
 unfolding lookedBack
 looked-back share {lag} whole e =
@@ -112,12 +112,12 @@ looked-back share {lag} whole e =
 
 -- ---- behind a call 2
 
-looks-at : (share spectrum : List Float) (lag : ℕ) → length share ≡ SHARE → lag ≤ 768 → lookedBack (putKept share spectrum lag) ≡ windowed (get (recent lag) (get inputMem share))
+looks-at : (share spectrum : List Float) (lag : ℕ) → length share ≡ PART → lag ≤ 768 → lookedBack (putKept share spectrum lag) ≡ windowed (get (recent lag) (get inputMem share))
 unfolding lookedBack putKept scaled energies
 looks-at share spectrum lag whole small =
     let x = put keptX share (scaled spectrum) in
     let before = put keptEx x (energies spectrum) in
-    let size : length before ≡ SHARE =
+    let size : length before ≡ PART =
     length-put keptEx x (energies spectrum) (rw (length-put keptX share (scaled spectrum) (omega arith) (length-tab 961 _)) (omega arith)) (length-corr (scaled spectrum) (scaled spectrum))
     ∙ length-put keptX share (scaled spectrum) (omega arith) (length-tab 961 _)
     ∙ whole in
@@ -134,7 +134,7 @@ same-window share spectrum lag window sums =
     (λ c _. looks-at share spectrum lag (right lengths (c .0) .0) (ltb-false 768 lag (c .1 .0)))
   where
     lengths : List (ℕ × ℕ)
-    lengths = (length share, SHARE) ∷ (length spectrum, 961) ∷ (window, 960) ∷ (sums, 22) ∷ []
+    lengths = (length share, PART) ∷ (length spectrum, 961) ∷ (window, 960) ∷ (sums, 22) ∷ []
 
 pub own-window : (share spectrum : List Float) (window sums : ℕ) → let b = call2Own share spectrum window sums in passed (b .reply) ≡ true → lookedBack (b .share) ≡ buffer b
 unfolding call2Own

@@ -11,7 +11,7 @@ use Rattle.transforms.specs.Transform.{forwardOf, inverseOf}
 use Rattle.frame.specs.declared.Reply.{Reply}
 use Rattle.frame.specs.declared.Reply.the-variants.{Refused}
 use Rattle.frame.specs.Reply.{passed, left}
-use Rattle.frame.specs.Share.{SHARE}
+use Rattle.frame.specs.Share.{PART}
 use Rattle.frame.specs.Frame.{Effect, Worked, refusal, call1, call3, call4}
 use Rattle.frame.proofs.Done.{call4-done, or-true}
 use Rattle.halves.specs.Own.{call2Own}
@@ -27,7 +27,7 @@ length-inverse spectrum = length-tab 960 _
 
 -- ---- where no length is wrong
 
-module _ (share : List Float) (whole : length share ≡ SHARE) where
+module _ (share : List Float) (whole : length share ≡ PART) where
   pub first-half-done : (samples : List Float) (sums : ℕ) → length samples ≡ 480 → sums ≡ 22
       → firstHalf share samples sums ≡ onward (call1 share samples 960) (λ a. analysed (a .share) (buffer a) sums)
   unfolding firstHalf
@@ -87,7 +87,7 @@ analysed-by share window sums {spectrum = spectrum} {n = n} e l w =
     record { replies = v .replies; shares = v .shares; writes = ap (drop 1) (v .writes) ∙ behind (passed (call2Own share (forwardOf window) 960 sums .reply)) _ _ }
 
 pub synthesised-by : {reply last : Reply} (share spectrum : List Float) (out : ℕ) {after : List Float} {held new : List (List Float)} → passed reply ≡ true
-    → length share ≡ SHARE → out ≡ 480 → Worked (call4 share 0 0 (inverseOf spectrum) out) last after held new
+    → length share ≡ PART → out ≡ 480 → Worked (call4 share 0 0 (inverseOf spectrum) out) last after held new
     → Worked (synthesised reply share spectrum out) reply after held new
 synthesised-by {reply} {last} share spectrum out e whole l w =
     let done = call4-done share whole 0 0 (inverseOf spectrum) out (length-inverse spectrum) l in

@@ -14,7 +14,7 @@ use Rattle.rules.proofs.Places.{length-get}
 use Rattle.lag.specs.Lag.{ownLag, lagIn}
 use Rattle.lag.specs.declared.OwnLag.{OwnLag}
 use Rattle.lag.proofs.Ranges.{in-range}
-use Rattle.frame.specs.Share.{SHARE, inputMem}
+use Rattle.frame.specs.Share.{PART, inputMem}
 use Rattle.frame.specs.Frame.{Effect, Worked, refusal, wrong, unless, done2, call2}
 use Rattle.frame.specs.declared.Reply.{Reply}
 use Rattle.frame.specs.declared.Reply.the-variants.{Refused}
@@ -27,11 +27,11 @@ module _ (share : List Float) where
   mem = get inputMem share
 
   -- the lag that the code finds, and what it does with it
-  pub found : {answer : OwnLag} {lag : ℕ} → length share ≡ SHARE → Leaf (length mem ≡ 1728) answer (OwnLag.Lag (ownLag mem)) (OwnLag.Refused 5) → lag ≡ lagIn answer → lag ≡ ownLag mem
+  pub found : {answer : OwnLag} {lag : ℕ} → length share ≡ PART → Leaf (length mem ≡ 1728) answer (OwnLag.Lag (ownLag mem)) (OwnLag.Refused 5) → lag ≡ lagIn answer → lag ≡ ownLag mem
   found whole leaf e = e ∙ ap lagIn (fitting leaf (length-get inputMem share (omega arith)))
 
   pub call2-own-by : (P : Effect → Type 0) → ((n : ℕ) → P (refusal (Refused n) share)) → (spectrum : List Float) (window sums : ℕ)
-      → (length share ≡ SHARE → P (done2 share spectrum (ownLag mem))) → P (call2Own share spectrum window sums)
+      → (length share ≡ PART → P (done2 share spectrum (ownLag mem))) → P (call2Own share spectrum window sums)
   unfolding call2Own
   call2-own-by P bad spectrum window sums h = call2-by share P bad spectrum (ownLag mem) window sums h
 
@@ -43,7 +43,7 @@ module _ (share : List Float) where
 
     -- 6 is never due
     pub by-five : call2Own share spectrum window sums
-        ≡ unless (5 when wrong ((length share, SHARE) ∷ (length spectrum, 961) ∷ (window, 960) ∷ (sums, 22) ∷ []) ∷ []) share (done2 share spectrum (ownLag mem))
+        ≡ unless (5 when wrong ((length share, PART) ∷ (length spectrum, 961) ∷ (window, 960) ∷ (sums, 22) ∷ []) ∷ []) share (done2 share spectrum (ownLag mem))
     unfolding call2Own call2
     by-five = simp (le-ltb 768 (ownLag mem) (in-range mem .1))
 

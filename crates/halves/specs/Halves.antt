@@ -13,7 +13,7 @@ use Rattle.rules.specs.Place.{get}
 use Rattle.rules.specs.Refusals.{Row, _when_, wrong}
 use Rattle.bands.specs.Windowed.{windowed}
 use Rattle.transforms.specs.Transform.{forwardOf, inverseOf}
-use Rattle.frame.specs.Share.{SHARE, inputMem, keptLag}
+use Rattle.frame.specs.Share.{PART, inputMem, keptLag}
 use Rattle.frame.specs.Reply.{passed}
 use Rattle.frame.specs.declared.Reply.{Reply}
 use Rattle.frame.specs.Frame.{Effect, unless, recent, call1, call3, call4}
@@ -37,7 +37,7 @@ analysed share window sums =
 
 unfoldable pub firstHalf : List Float → List Float → ℕ → Effect
 firstHalf share samples sums =
-    unless (5 when wrong ((length share, SHARE) ∷ (length samples, 480) ∷ (sums, 22) ∷ []) ∷ []) share
+    unless (5 when wrong ((length share, PART) ∷ (length samples, 480) ∷ (sums, 22) ∷ []) ∷ []) share
     (onward (call1 share samples 960) (λ a. analysed (a .share) (buffer a) sums))
 
 -- ---- the second half: call 3 with the spectrum of the window that call 2 gave, and call 4 with the inverse of what call 3 wrote
@@ -63,6 +63,6 @@ synthesised reply share spectrum out =
 
 unfoldable pub secondHalf : List Float → ℕ → ℕ → ℕ → ℕ → List Float → List ℕ → ℕ → Effect
 secondHalf share index vad noise denoise logs model out =
-    unless (5 when wrong ((length share, SHARE) ∷ (length logs, 22) ∷ (out, 480) ∷ []) ∷ 5 when ltb 7 index ∷ []) share
+    unless (5 when wrong ((length share, PART) ∷ (length logs, 22) ∷ (out, 480) ∷ []) ∷ 5 when ltb 7 index ∷ []) share
     (onward (call3 share index vad noise denoise (forwardOf (lookedBack share)) logs model 961)
     (λ a. synthesised (a .reply) (a .share) (buffer a) out))

@@ -4,12 +4,12 @@ ghost use mathlib.Core.Path.{_≡_};
 ghost use lib.ListN.{length};
 ghost use Rattle.frame.specs.Frame.{Worked};
 ghost use Rattle.halves.specs.Halves.{analysed, firstHalf};
+use frame::PART;
 use frame::Reply;
-use frame::SHARE;
 
 // Call 2's sister with the spectrum of call 1's window, in whose place it writes its own.
 fn analyse(share: &mut [f32], window: &mut [f32], sums: &mut [f32]) -> Reply
-    requires { ⌜ (length (now share) ≡ 6144) × (length (now window) ≡ 960) × (length (now sums) ≡ 22) ⌝ }
+    requires { ⌜ (length (now share) ≡ 3776) × (length (now window) ≡ 960) × (length (now sums) ≡ 22) ⌝ }
     ensures { λ r. ⌜ Worked (analysed (now (share .entry)) (now (window .entry)) (length (now (sums .entry))))
         r (now (share .exit)) (now (sums .entry) ∷ []) (now (sums .exit) ∷ []) ⌝ }
 {
@@ -23,7 +23,7 @@ pub fn first_half(share: &mut [f32], samples: &[f32], sums: &mut [f32]) -> Reply
     ensures { λ r. ⌜ Worked (firstHalf (now (share .entry)) (now (samples .entry)) (length (now (sums .entry))))
         r (now (share .exit)) (now (sums .entry) ∷ []) (now (sums .exit) ∷ []) ⌝ }
 {
-    if share.len() != SHARE {
+    if share.len() != PART {
         return Reply::Refused(5);
     }
     if samples.len() != 480 {

@@ -12,7 +12,7 @@ pub fn call2_own(share: &mut [f32], spectrum: &[f32], window: &mut [f32], sums: 
         (call2Own (now (share .entry)) (now (spectrum .entry)) (length (now (window .entry))) (length (now (sums .entry))))
         r (now (share .exit)) (now (window .entry) ∷ now (sums .entry) ∷ []) (now (window .exit) ∷ now (sums .exit) ∷ []) ⌝ }
 {
-    if share.len() != frame::SHARE {
+    if share.len() != frame::PART {
         return Reply::Refused(5);
     }
     let found = lag::lag_of(&share[0..1728]);

@@ -6,8 +6,8 @@ ghost use lib.ListN.{length};
 ghost use Rattle.transforms.specs.Transform.{forwardOf, inverseOf};
 ghost use Rattle.frame.specs.Frame.{Worked, call4};
 ghost use Rattle.halves.specs.Halves.{lagStep, wholeLag, lookedBack, secondHalf};
+use frame::PART;
 use frame::Reply;
-use frame::SHARE;
 
 // k where it is not above x, and else the lag so far.
 fn nearer(x: f32, k: usize, lag: usize) -> usize
@@ -33,7 +33,7 @@ fn whole_lag(x: f32) -> usize
 
 // The spectrum of the window that call 2 gave, for the lag that stands in the share.
 fn look_back(spectrum: &mut [f32], share: &[f32])
-    requires { ⌜ (length (now spectrum) ≡ 961) × (length (now share) ≡ 6144) ⌝ }
+    requires { ⌜ (length (now spectrum) ≡ 961) × (length (now share) ≡ 3776) ⌝ }
     ensures { λ _. ⌜ now (spectrum .exit) ≡ forwardOf (lookedBack (now (share .entry))) ⌝ }
 {
     let lag = whole_lag(share[3191]);
@@ -69,7 +69,7 @@ pub fn second_half(
         (secondHalf (now (share .entry)) index vad noise denoise (now (logs .entry)) (now (model .entry)) (length (now (out .entry))))
         r (now (share .exit)) (now (out .entry) ∷ []) (now (out .exit) ∷ []) ⌝ }
 {
-    if share.len() != SHARE {
+    if share.len() != PART {
         return Reply::Refused(5);
     }
     if logs.len() != 22 {

@@ -10,7 +10,7 @@ use lib.Dec.{eqb}
 use lib.ListN.{replicate}
 use lib.Ieee.{Float}
 use Rattle.rules.specs.F32.{f32}
-use Rattle.frame.specs.Reply.{passed, left}
+use Rattle.frame.specs.Reply.{passed}
 use Rattle.frame.specs.Share.{SHARE}
 use Rattle.desk.specs.declared.Record.{Record}
 use Rattle.desk.specs.Desk.{Ask, Given}
@@ -27,7 +27,7 @@ told ask r =
     record {
       number = replyNumber reply;
       numbers = numbersOf (r .answer .rec);
-      buffers = cond (passed reply) (r .buffers ++ besides ask reply) [];
+      written = r .written ++ besides ask reply;
     }
 
 allTold : List Ask → List Received → List Returned
@@ -63,17 +63,8 @@ module _ (n : ℕ) {h : HostState} {st : State} (same : Same h st) (c : Call) wh
       go true e = refl
       go false e = ap numbersOf (sym (refused-keeps n (c .side) (st .rec (c .side)) (st .store) (c .ask) e .0))
 
-  buffers : cond (passed (o .answer .reply)) (left (o .answer .reply) (c .held) (o .written ++ besides (c .ask) (o .answer .reply))) []
-      ≡ told (c .ask) (receive o (c .held)) .buffers
-  buffers = go (passed (o .answer .reply))
-    where
-      go : (t : Bool) → _≡_ {A = List (List Float)} (cond t (cond t (o .written ++ besides (c .ask) (o .answer .reply)) (c .held)) [])
-          (cond t (cond t (cond t (o .written) (c .held)) [] ++ besides (c .ask) (o .answer .reply)) [])
-      go true = refl
-      go false = refl
-
-  one : returned n h c ≡ told (c .ask) (receive o (c .held))
-  one = cc (back, asks, buffers)
+  one : returned n h c ≡ told (c .ask) (receive o)
+  one = cc (back, asks)
 
   then : Same (hostAfter n h c) (after n st c)
   then = record { records = λ s. go s (eqb (c .side) s); stores = ap (λ (g : Given). g .store) asks }
@@ -92,7 +83,7 @@ in-numbers n s (c ∷ cs) {h} {st} same = go (eqb (c .side) s) (in-numbers n s c
     go : (t : Bool) → hostReceived n s (hostAfter n h c) cs ≡ allTold (asked s cs) (received n s (after n st c) cs)
         → cond t (returned n h c ∷ hostReceived n s (hostAfter n h c) cs) (hostReceived n s (hostAfter n h c) cs)
         ≡ allTold (cond t (c .ask ∷ asked s cs) (asked s cs))
-        (cond t (receive (given n st c) (c .held) ∷ received n s (after n st c) cs) (received n s (after n st c) cs))
+        (cond t (receive (given n st c) ∷ received n s (after n st c) cs) (received n s (after n st c) cs))
     go true rest = ap₂ {C = List Returned} (λ (x : Returned) (xs : List Returned). x ∷ xs) (one n same c) rest
     go false rest = rest
 

@@ -15,6 +15,7 @@ use lib.ListN.{length, replicate}
 use lib.Ieee.{Float}
 use Rattle.rules.specs.F32.{f32}
 use Rattle.rules.specs.Place.{get}
+use Rattle.rules.specs.Written.{Written}
 use Rattle.rules.proofs.Places.{length-get}
 use Rattle.rules.proofs.Wholes.{get-whole}
 use Rattle.frame.specs.Reply.{passed}
@@ -32,31 +33,23 @@ lone : Record → List Float → List Ask → List Received
 lone b share [] = []
 lone b share (a ∷ more) =
     let o = desk 1 0 b share a in
-    receive o [] ∷ lone (o .answer .rec) (o .store) more
+    receive o ∷ lone (o .answer .rec) (o .store) more
 
 -- a call's outcome, and what comes after it
 abbrev onward : List Ask → Given → List Received
-onward more o = receive o [] ∷ lone (o .answer .rec) (o .store) more
+onward more o = receive o ∷ lone (o .answer .rec) (o .store) more
 
 -- ---- any run
-
--- what the buffers held is not received: a call that is done has written all of them
-held-unseen : (o : Given) (held : List (List Float)) → receive o held ≡ receive o []
-held-unseen o held = go (passed (o .answer .reply))
-  where
-    go : (t : Bool) → _≡_ {A = Received} (record { answer = o .answer; buffers = cond t (cond t (o .written) held) [] }) (record { answer = o .answer; buffers = cond t (cond t (o .written) []) [] })
-    go true = refl
-    go false = refl
 
 module _ (n s : ℕ) (h : s < n) where
   -- a call on side s is the bench's own
   own-call : (st : State) (c : Call) → length (st .store) ≡ n * SHARE → c .side ≡ s
-      → (receive (given n st c) [] ≡ receive (desk 1 0 (st .rec s) (get (shareOf s) (st .store)) (c .ask)) [])
+      → (receive (given n st c) ≡ receive (desk 1 0 (st .rec s) (get (shareOf s) (st .store)) (c .ask)))
       × (given n st c .answer .rec ≡ desk 1 0 (st .rec s) (get (shareOf s) (st .store)) (c .ask) .answer .rec)
       × (get (shareOf s) (given n st c .store) ≡ desk 1 0 (st .rec s) (get (shareOf s) (st .store)) (c .ask) .store)
   own-call st c l e =
       let t = its-own n s (st .rec s) (st .store) (c .ask) l h in
-      rw e (ap (λ (o : Given). receive o []) t, ap (λ (o : Given). o .answer .rec) t, own-share n s (st .rec s) (st .store) (c .ask) l h)
+      rw e (ap receive t, ap (λ (o : Given). o .answer .rec) t, own-share n s (st .rec s) (st .store) (c .ask) l h)
 
   in-any-run : (cs : List Call) (st : State) → length (st .store) ≡ n * SHARE
       → received n s st cs ≡ lone (st .rec s) (get (shareOf s) (st .store)) (asked s cs)
@@ -73,7 +66,7 @@ module _ (n s : ℕ) (h : s < n) where
           let k = own-call st c l (eqb-true (c .side) s e) in
           rw e
           (ap₂ {C = List Received} (λ (x : Received) (xs : List Received). x ∷ xs)
-          (held-unseen (given n st c) (c .held) ∙ k .0)
+          (k .0)
           ((rw e at rest) ∙ ap₂ (λ (b : Record) (x : List Float). lone b x (asked s cs)) (k .1) (k .2)))
       go false e rest =
           rw e
@@ -91,7 +84,7 @@ closed-same (a ∷ more) b xs ys l k z =
     let u = desk 1 0 b ys a in
     let like = closed-alike b xs ys l k a z in
     ap₂ {C = List Received} (λ (x : Received) (rest : List Received). x ∷ rest)
-    (ap₂ (λ (r : Answer) (w : List (List Float)). receive (record { answer = r; store = []; written = w }) []) (like .answer) (like .written))
+    (ap₂ (λ (r : Answer) (w : List Written). receive (record { answer = r; store = []; written = w })) (like .answer) (like .written))
     (⊎-elim
     (λ e. ap₂ (λ (r : Answer) (x : List Float). lone (r .rec) x more) (like .answer) e)
     (λ d. closed-same more (o .answer .rec) (o .store) (u .store) (one-length b xs a l) (one-length b ys a k) d ∙ ap (λ (r : Answer). lone (r .rec) (u .store) more) (like .answer))

@@ -82,7 +82,7 @@ module _ (n s : ℕ) (inside : s < n) where
     recalled-then = ap₂ recalledIn recorded own
 
   abbrev brings : State → Call → Noted × List HeardFrame
-  brings st c = let k = notedIn (share st) in cond (eqb (c .side) s) (brought (share st) k (c .ask) (given n st c .answer .reply)) (k, [])
+  brings st c = let k = notedIn (share st) in cond (eqb (c .side) s) (brought (st .rec s) (share st) k (c .ask) (given n st c .answer .reply)) (k, [])
 
   abbrev counted : State → Call → ℕ
   counted st c = cond (eqb (c .side) s && hears (c .ask) (given n st c .answer .reply)) 1 0

@@ -4,32 +4,38 @@
 --     numbering       what specs/Numbering.antt claims
 --     last-frame      after 4,294,967,295 comes 0
 -- Assumes nothing.
-use Prim.Native.Nat.{ℕ, _+_, _*_, _%_, _<_}
+use Prim.Native.Nat.{ℕ, _+_, _-_, _*_, _%_, _<_}
 use native.Mathlib.Nat.{zero-add}
 use native.Mathlib.Omega.{arith}
 use mathlib.Core.Bool.{Bool, true, false, cond, _&&_}
-use mathlib.Core.List.{List, [], _∷_}
+use mathlib.Core.List.{List, [], _∷_, _++_}
 use mathlib.Core.Path.{_≡_, refl, sym, ap, _∙_}
 use borrow.Author.Tests.{eq-eqb, ne-eqb, eqb-true, eqb-false, ltb-true, ltb-false}
 use lib.Dec.{eqb, ltb}
-use lib.ListN.{length}
+use lib.ListN.{length, drop}
 use lib.Ieee.{Float}
-use Rattle.rules.specs.Place.{get}
+use Rattle.rules.specs.Place.{get, put}
+use Rattle.rules.specs.Written.{from, nothing}
 use Rattle.model.specs.Model.{readOf}
 use Rattle.model.specs.declared.Reading.{Reading}
 use Rattle.model.specs.declared.Reading.the-variants.{Good, Refused as Unread}
 use Rattle.frame.specs.Reply.{passed, oneMore}
 use Rattle.frame.specs.Share.{SHARE}
-use Rattle.frame.specs.Frame.{Effect, refusal}
+use Rattle.frame.specs.Frame.{Effect}
 use Rattle.frame.specs.declared.Reply.{Reply}
-use Rattle.frame.specs.declared.Reply.the-variants.{Refused}
+use Rattle.frame.specs.declared.Reply.the-variants.{Done, Refused}
 use Rattle.frame.proofs.Cases.{call1-by, call2-by, call3-by, call4-by}
 use Rattle.frame.proofs.Truth.{false-true}
+use Rattle.halves.specs.Halves.{buffer}
+use Rattle.halves.specs.Halves as halves
 use Rattle.halves.proofs.Cases.{first-half-by, second-half-by}
 use Rattle.halves.proofs.Sister.{call2-own-by}
+use Rattle.pieces.specs.Pieces.{Outcome, framePart, waitingIn, waits, frameOf, refused}
+use Rattle.pieces.proofs.Cases.{piece-by, resume-by}
+use Rattle.pieces.proofs.Kept.{further-reply}
 use Rattle.desk.specs.declared.Record.{Record}
 use Rattle.desk.specs.Gate.{gate, shareOf}
-use Rattle.desk.specs.Desk.{Ask, opening, call1, call2, call2Own, call3, call4, firstHalf, secondHalf, callOf, lastOf, started, answered, opened, onShare, desk}
+use Rattle.desk.specs.Desk.{Ask, opening, call1, call2, call2Own, call3, call4, firstHalf, secondHalf, piece, resume, callOf, lastOf, holding, advanced, numbered, carried, started, answered, opened, onShare, desk}
 use Rattle.isolation.specs.Run.{Call, openingOf, State, given, after, ended}
 use Rattle.isolation.specs.Numbering.{endsFrame, hears, howMany, Unopened, Numbering}
 
@@ -51,12 +57,21 @@ both : {b : Record} {ask : Ask} {reply : Reply} → answered b ask reply .rec .f
     → answered b ask reply .rec .heard ≡ plus (hears ask reply) (b .heard) → Counted b ask reply
 both f h = record { frame = f; heard = h }
 
-refused : (b : Record) (ask : Ask) (n : ℕ) → Counted b ask (Refused n)
-refused b ask n = both (rw (no (eqb (lastOf ask) 4))) refl
+uncounted : (b : Record) (ask : Ask) (n : ℕ) → Counted b ask (Refused n)
+uncounted b ask n = both (rw (no (eqb (lastOf ask) 4))) refl
   where
     no : (t : Bool) → (t && false) ≡ false
     no true = refl
     no false = refl
+
+-- a piece moves neither number
+carried-numbers : (r : Record) (rest size progress : ℕ) → (carried r rest size progress .frame ≡ r .frame) × (carried r rest size progress .heard ≡ r .heard)
+unfolding carried
+carried-numbers r rest size progress = go (ltb rest 480)
+  where
+    go : (t : Bool) → let c = cond t (holding 1 r rest 0 0) (holding 3 r 0 size progress) in (c .frame ≡ r .frame) × (c .heard ≡ r .heard)
+    go true = (refl, refl)
+    go false = (refl, refl)
 
 module _ (b : Record) (share : List Float) where
   frame-step : (ask : Ask) → (callOf ask ≡ 0 → passed (onShare b share ask .reply) ≡ false) → Counted b ask (onShare b share ask .reply)
@@ -65,18 +80,29 @@ module _ (b : Record) (share : List Float) where
       go : (r : Reading) → passed (opened share r .reply) ≡ false → Counted b (opening m) (opened share r .reply)
       go (Good k) e = absurd (false-true (sym e))
       go (Unread n l) e = both refl refl
-  frame-step (call1 x w) shut = call1-by share (CountedOf b (call1 x w)) (refused b (call1 x w)) x w (λ _ _. both refl refl)
-  frame-step (call2 x l w s) shut = call2-by share (CountedOf b (call2 x l w s)) (refused b (call2 x l w s)) x l w s (λ _. both refl refl)
-  frame-step (call2Own x w s) shut = call2-own-by share (CountedOf b (call2Own x w s)) (refused b (call2Own x w s)) x w s (λ _. both refl refl)
+  frame-step (call1 x w) shut = call1-by (get framePart share) (CountedOf b (call1 x w)) (uncounted b (call1 x w)) x w (λ _ _. both refl refl)
+  frame-step (call2 x l w s) shut = call2-by (get framePart share) (CountedOf b (call2 x l w s)) (uncounted b (call2 x l w s)) x l w s (λ _. both refl refl)
+  frame-step (call2Own x w s) shut = call2-own-by (get framePart share) (CountedOf b (call2Own x w s)) (uncounted b (call2Own x w s)) x w s (λ _. both refl refl)
   frame-step (call3 x l m o) shut =
-      call3-by share (CountedOf b (call3 x l m o)) (refused b (call3 x l m o)) (b .index) (b .vad) (b .noise) (b .denoise) x l m o
+      call3-by (get framePart share) (CountedOf b (call3 x l m o)) (uncounted b (call3 x l m o)) (b .index) (b .vad) (b .noise) (b .denoise) x l m o
       (λ _ _ _. both refl refl) (both refl refl) (λ _ _ _ _ _. both refl refl)
   frame-step (call4 x o) shut =
-      call4-by share (CountedOf b (call4 x o)) (refused b (call4 x o)) (b .frame) (b .heard) x o (λ _. both refl refl)
-  frame-step (firstHalf x s) shut = first-half-by share (CountedOf b (firstHalf x s)) (refused b (firstHalf x s)) x s (λ _ _. both refl refl)
+      call4-by (get framePart share) (CountedOf b (call4 x o)) (uncounted b (call4 x o)) (b .frame) (b .heard) x o (λ _. both refl refl)
+  frame-step (firstHalf x s) shut = first-half-by (get framePart share) (CountedOf b (firstHalf x s)) (uncounted b (firstHalf x s)) x s (λ _ _. both refl refl)
   frame-step (secondHalf l m o) shut =
-      second-half-by share (CountedOf b (secondHalf l m o)) (refused b (secondHalf l m o)) (b .index) (b .vad) (b .noise) (b .denoise) l m o
+      second-half-by (get framePart share) (CountedOf b (secondHalf l m o)) (uncounted b (secondHalf l m o)) (b .index) (b .vad) (b .noise) (b .denoise) l m o
       (λ _ _ _. both refl refl) (λ _. both refl refl) (λ _ _ _ _ _. both refl refl)
+  frame-step (piece x o s) shut =
+      piece-by share (λ f. Counted b (piece x o s) (f .reply)) (uncounted b (piece x o s)) (b .waiting) x o s
+      (λ _. rw (further-reply Done (waits share []) (waitingIn (b .waiting) share ++ x) nothing) (both (carried-numbers b _ _ _ .0) (carried-numbers b _ _ _ .1)))
+  frame-step (resume x l m o s) shut =
+      resume-by share (λ f. Counted b (resume x l m o s) (f .reply)) (uncounted b (resume x l m o s)) (b .index) (b .vad) (b .noise) (b .denoise) (b .piece) (b .progress) x l m o s
+      (λ _ _ _. both refl refl)
+      (λ _.
+      let h = halves.secondHalf (get framePart share) (b .index) (b .vad) (b .noise) (b .denoise) l m 480 in
+      rw (further-reply (h .reply) (put framePart share (h .share)) (drop (b .progress) x) (from (480 * (frameOf (b .progress) - 1)) (buffer h)))
+      (second-half-by (get framePart share) (CountedOf b (resume x l m o s)) (uncounted b (resume x l m o s)) (b .index) (b .vad) (b .noise) (b .denoise) l m 480
+      (λ _ _ _. both refl refl) (λ _. both (carried-numbers _ _ _ _ .0) (carried-numbers _ _ _ _ .1)) (λ _ _ _ _ _. both (carried-numbers _ _ _ _ .0) (carried-numbers _ _ _ _ .1))))
 
 step : (n side : ℕ) (b : Record) (store : List Float) (ask : Ask)
     → (callOf ask ≡ 0 → passed (desk n side b store ask .answer .reply) ≡ false)
@@ -92,11 +118,11 @@ step n side b store ask = go (eqb number 0)
     share = get (shareOf side) store
 
     go : (t : Bool)
-        → let reply = cond t (onShare b share ask) (refusal (Refused number) share) .reply in
+        → let reply = cond t (onShare b share ask) (refused (Refused number) share) .reply in
         (callOf ask ≡ 0 → passed (answered b ask reply .reply) ≡ false)
         → (answered b ask reply .rec .frame ≡ plus (endsFrame ask reply) (b .frame)) × (answered b ask reply .rec .heard ≡ plus (hears ask reply) (b .heard))
     go true shut = let k = frame-step b share ask shut in (k .frame, k .heard)
-    go false shut = let k = refused b ask number in (k .frame, k .heard)
+    go false shut = let k = uncounted b ask number in (k .frame, k .heard)
 
 -- ---- modulo 2^32
 
@@ -163,7 +189,7 @@ from-0 n s b store m = go (eqb (gate n s b (length store) 0) 0) (readOf m)
     share = get (shareOf s) store
 
     go : (t : Bool) (r : Reading)
-        → let reply = cond t (opened share r) (refusal (Refused (gate n s b (length store) 0)) share) .reply in
+        → let reply = cond t (opened share r) (refused (Refused (gate n s b (length store) 0)) share) .reply in
         passed reply ≡ true → (cond (passed reply) (started b r) b .frame ≡ 0) × (cond (passed reply) (started b r) b .heard ≡ 0)
     go true (Good k) p = (refl, refl)
     go true (Unread i l) p = absurd (false-true p)

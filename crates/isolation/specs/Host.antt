@@ -1,4 +1,4 @@
--- The law of isolation as it is called: over what the contracts of `tuppence_open` and `tuppence_call1` to `_call4` cite, `hosted`, where
+-- The law of isolation as it is called: over what the contracts of `tuppence_open`, the calls and the pieces cite, `hosted`, where
 -- a side's record is a list of numbers. The proof, in proofs/Hosts.antt, reads it off the law over the desk.
 use Prim.Native.Nat.{ℕ, _*_, _<_}
 use mathlib.Core.Bool.{cond}
@@ -8,7 +8,7 @@ use lib.Dec.{eqb}
 use lib.ListN.{length}
 use lib.Ieee.{Float}
 use Rattle.rules.specs.F32.{zeros}
-use Rattle.frame.specs.Reply.{passed, left}
+use Rattle.rules.specs.Written.{Written}
 use Rattle.frame.specs.Share.{SHARE}
 use Rattle.desk.specs.Desk.{Ask, Given, closed}
 use Rattle.desk.specs.Surface.{numbersOf, replyNumber, hosted, handedBack}
@@ -25,21 +25,16 @@ allZeros store = record { numbers = λ _. numbersOf closed; store = store }
 abbrev pub hostGiven : ℕ → HostState → Call → Given
 hostGiven n h c = hosted n (c .side) (h .numbers (c .side)) (h .store) (c .ask)
 
--- what a side receives: the number returned, its record, and every number of every buffer that was lent to a call that is done
+-- what a side receives: the number returned, its record, and what was written to each buffer that was lent to the call
 pub record Returned : Type 0 where
   pub number : ℕ
   pub numbers : List ℕ
-  pub buffers : List (List Float)
+  pub written : List Written
 
 abbrev pub returned : ℕ → HostState → Call → Returned
 returned n h c =
     let o = hostGiven n h c in
-    let reply = o .answer .reply in
-    record {
-      number = replyNumber reply;
-      numbers = handedBack o (h .numbers (c .side));
-      buffers = cond (passed reply) (left reply (c .held) (o .written)) [];
-    }
+    record { number = replyNumber (o .answer .reply); numbers = handedBack o (h .numbers (c .side)); written = o .written }
 
 abbrev pub hostAfter : ℕ → HostState → Call → HostState
 hostAfter n h c =

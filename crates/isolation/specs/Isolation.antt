@@ -1,7 +1,7 @@
 -- The law of isolation: what is claimed. The proofs are in proofs/Isolated.antt.
 --
 -- A desk has n benches over one store. Every record is closed at the start, and the store has the published length and holds anything.
--- Then calls come, openings and frame calls, on any sides in any order, refused ones among them; no one else touches the records and the
+-- Then calls come, openings, frame calls and pieces, on any sides in any order, refused ones among them; no one else touches the records and the
 -- store. What a side receives, call by call, is what the desk's definition gives for its own calls alone. So no other side's calls,
 -- arguments, models, refusals and moments, and nothing that the store or an answer buffer held, are ever seen by it.
 use Prim.Native.Nat.{ℕ, _*_, _<_}

@@ -33,7 +33,7 @@ recalled s st = recalledIn (st .rec s .index) (get (shareOf s) (st .store))
 unfoldable pub frames : ℕ → ℕ → Noted → State → List Call → List HeardFrame
 frames n s k st [] = []
 frames n s k st (c ∷ cs) =
-    let b = cond (eqb (c .side) s) (brought (get (shareOf s) (st .store)) k (c .ask) (given n st c .answer .reply)) (k, []) in
+    let b = cond (eqb (c .side) s) (brought (st .rec s) (get (shareOf s) (st .store)) k (c .ask) (given n st c .answer .reply)) (k, []) in
     b .1 ++ frames n s (b .0) (after n st c) cs
 
 -- since an opening, until the next

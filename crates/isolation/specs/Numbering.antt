@@ -15,11 +15,11 @@ use Rattle.desk.specs.Desk.{Ask, callOf, lastOf}
 use Rattle.memory.specs.Brought.{isHeard}
 use Rattle.isolation.specs.Run.{Call, openingOf, State, given, after, ended}
 
--- a call 4 that is done, by itself or in a second half
+-- a call 4 that is done, by itself, in a second half or in a resume
 abbrev pub endsFrame : Ask → Reply → Bool
 endsFrame ask reply = eqb (lastOf ask) 4 && passed reply
 
--- a heard call 3; no other call is answered so
+-- a heard call 3, by itself, in a second half or in a resume; nothing else is answered so
 abbrev pub hears : Ask → Reply → Bool
 hears ask reply = isHeard reply
 

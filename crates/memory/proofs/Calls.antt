@@ -1,49 +1,64 @@
 -- What one call makes of a bench's memory, over a desk of one bench.
+--     part-recalled, part-noted    all that is remembered and noted stands in a frame's part of a share
 --     by-gate      a call is refused by the gate, or it is let through
 --     remembers    a call that opens nothing: what is remembered then is what `hear` makes of what it brought, and what is noted follows
 --     opens        an opening that is done leaves nothing remembered
 --     either       every call does one or the other
 -- Assumes nothing.
-use Prim.Native.Nat.{ℕ, _+_, _-_, _≤_}
+use Prim.Native.Nat.{ℕ, _+_, _-_, _*_, _≤_}
+use native.Mathlib.Nat.{zero-add}
 use native.Mathlib.Omega.{arith}
 use mathlib.Core.Bool.{Bool, true, false, cond}
 use mathlib.Core.List.{List, [], _∷_, _++_}
 use mathlib.Core.Logic.{_⊎_, inl, inr}
-use mathlib.Core.Path.{_≡_, refl, sym, ap, _∙_}
-use lib.Dec.{eqb}
-use lib.ListN.{length, replicate, length-replicate, replicate-append-replicate}
+use mathlib.Core.Path.{_≡_, refl, sym, ap, ap₂, subst, _∙_}
+use borrow.Author.Tests.{ltb-false}
+use lib.Dec.{eqb, ltb}
+use lib.ListN.{length, take, drop, length-take, replicate, length-replicate, replicate-append-replicate}
 use lib.Seq.{take-at, drop-at}
 use lib.IntN.{pos}
 use lib.Ieee.{Float, binary32, ofInt}
 use Rattle.rules.specs.F32.{at, f32}
 use Rattle.rules.specs.Place.{Place, get, put}
-use Rattle.rules.proofs.Places.{length-put, get-put, get-put-apart}
+use Rattle.rules.specs.Written.{Written, from, nothing}
+use Rattle.rules.proofs.Places.{length-get, length-put, get-get, get-put, get-put-apart}
 use Rattle.rules.proofs.Tabs.{length-tab}
 use Rattle.bands.proofs.Results.{length-corr}
 use Rattle.model.specs.Model.{readOf}
 use Rattle.model.specs.declared.Reading.{Reading}
 use Rattle.model.specs.declared.Reading.the-variants.{Good, Refused as Unread}
+use Rattle.samples.specs.Samples.{good}
 use Rattle.frame.specs.Reply.{passed}
 use Rattle.transforms.specs.Transform.{forwardOf, inverseOf}
 use Rattle.lag.specs.Lag.{ownLag}
-use Rattle.frame.specs.Share.{SHARE, inputMem, keptX, keptEx, keptLag, lastg, cepstralMem, vadState, noiseState, denoiseState}
+use Rattle.frame.specs.Share.{SHARE, PART, inputMem, keptX, keptEx, keptLag, lastg, cepstralMem, vadState, noiseState, denoiseState}
 use Rattle.frame.specs.Heard.{scaled, energies, spoken}
-use Rattle.frame.specs.Frame.{Effect, refusal, done1, putKept, done4}
-use Rattle.frame.specs.declared.Reply.the-variants.{Silent, Heard, Refused}
-use Rattle.frame.proofs.Keeps.{end}
+use Rattle.frame.specs.Frame.{Effect, done1, putKept, done4}
+use Rattle.frame.specs.Frame as frame
+use Rattle.frame.specs.declared.Reply.{Reply}
+use Rattle.frame.specs.declared.Reply.the-variants.{Done, Silent, Heard, Refused, Misread}
+use Rattle.frame.proofs.Keeps.{Keeps, end, call1-keeps, call2-keeps, call3-keeps, call4-keeps}
 use Rattle.frame.proofs.Beside.{Beside, AllApart, done1-beside, done2-beside, done3-beside, done4-beside}
 use Rattle.frame.proofs.Cases.{call1-by, call2-by, call3-by, call4-by}
 use Rattle.frame.proofs.Truth.{false-true}
 use Rattle.halves.specs.Halves.{buffer, lookedBack}
-use Rattle.halves.proofs.Sister.{call2-own-by}
+use Rattle.halves.specs.Halves as halves
+use Rattle.halves.proofs.Sister.{call2-own-by, call2-own-keeps}
 use Rattle.halves.proofs.Cases.{doneFirst, doneSecond, whole-after-1, first-half-by, second-half-by}
-use Rattle.halves.proofs.Kept.{done-first-beside, done-second-beside}
+use Rattle.halves.proofs.Kept.{done-first-beside, done-second-beside, first-half-keeps, second-half-keeps}
+use Rattle.pieces.specs.Pieces.{framePart, waitingIn, waits, frameOf, Outcome, refused, inPart, ended, paused, further}
+use Rattle.pieces.specs.Pieces as pieces
+use Rattle.pieces.proofs.Cases.{piece-by, resume-by}
+use Rattle.pieces.proofs.Goods.{good-append, good-take, good-drop, good-get}
+use Rattle.pieces.proofs.Halved.{first-passes, second-passes}
+use Rattle.pieces.proofs.Kept.{further-length, further-reply, piece-kept, resume-kept}
+use Rattle.pieces.proofs.Shares.{part-length, waits-length, frame-waits, frame-length, frame-back}
 use Rattle.desk.specs.declared.Record.{Record}
 use Rattle.desk.specs.Gate.{gate}
-use Rattle.desk.specs.Desk.{Ask, opening, call1, call2, call2Own, call3, call4, firstHalf, secondHalf, callOf, opened, onShare, Given, desk}
+use Rattle.desk.specs.Desk.{Ask, opening, call1, call2, call2Own, call3, call4, firstHalf, secondHalf, piece, resume, callOf, holding, advanced, numbered, carried, answered, opened, onShare, Given, desk}
 use Rattle.desk.proofs.Apart.{givenOf, one-bench}
-use Rattle.memory.specs.Hear.{blank, heardAll}
-use Rattle.memory.specs.Brought.{recalledIn, isHeard, unnoted, noting, brought}
+use Rattle.memory.specs.Hear.{blank, HeardFrame, heardAll}
+use Rattle.memory.specs.Brought.{recalledIn, isHeard, Noted, unnoted, noting, firstNotes, secondHears, restNotes, brought}
 use Rattle.memory.proofs.Heard.{notedIn, heard-frame}
 
 -- ---- what is left alone
@@ -56,7 +71,7 @@ same-noted : (xs ys : List Float) → ((q : Place) → 2208 ≤ q .at → q .at 
 same-noted xs ys same = cc (same keptX (omega arith) (omega arith), same keptEx (omega arith) (omega arith), same keptLag (omega arith) (omega arith))
 
 -- call 2 notes what it brought
-kept-noted : (share spectrum : List Float) (lag : ℕ) → length share ≡ SHARE
+kept-noted : (share spectrum : List Float) (lag : ℕ) → length share ≡ PART
     → notedIn (putKept share spectrum lag) ≡ noting spectrum (ofInt binary32 (pos lag))
 unfolding putKept energies scaled
 kept-noted share spectrum lag whole =
@@ -66,8 +81,8 @@ kept-noted share spectrum lag whole =
     let with-ex = put keptEx with-x ex in
     let lx : length x ≡ 961 = length-tab 961 _ in
     let lex : length ex ≡ 22 = length-corr x x in
-    let wx : length with-x ≡ SHARE = length-put keptX share x (omega arith) lx ∙ whole in
-    let wex : length with-ex ≡ SHARE = length-put keptEx with-x ex (omega arith) lex ∙ wx in
+    let wx : length with-x ≡ PART = length-put keptX share x (omega arith) lx ∙ whole in
+    let wex : length with-ex ≡ PART = length-put keptEx with-x ex (omega arith) lex ∙ wx in
     let before : (q : Place) → q .at + q .size ≤ 3191 → get q (putKept share spectrum lag) ≡ get q with-ex
     = λ q h. get-put-apart keptLag q with-ex (ofInt binary32 (pos lag) ∷ []) (omega arith) refl (inr h) in
     let first = before keptX (omega arith) ∙ get-put-apart keptEx keptX with-x ex (omega arith) lex (inr (omega arith)) ∙ get-put keptX share x (omega arith) lx in
@@ -75,12 +90,25 @@ kept-noted share spectrum lag whole =
     let third = ap (λ (xs : List Float). at xs 0) (get-put keptLag with-ex (ofInt binary32 (pos lag) ∷ []) (omega arith) refl) in
     cc (first, second, third)
 
+-- ---- all of it stands in a frame's part of a share
+
+module _ (share : List Float) (whole : length share ≡ SHARE) where
+  read : (q : Place) → q .at + q .size ≤ PART → get q (get framePart share) ≡ get q share
+  read q h = get-get framePart q share (omega arith) h ∙ ap (λ (n : ℕ). get (record { at = n; size = q .size }) share) (zero-add (q .at))
+
+  pub part-recalled : (index : ℕ) → recalledIn index (get framePart share) ≡ recalledIn index share
+  part-recalled index =
+      cc (read lastg (omega arith), read cepstralMem (omega arith), read vadState (omega arith), read noiseState (omega arith), read denoiseState (omega arith))
+
+  pub part-noted : notedIn (get framePart share) ≡ notedIn share
+  part-noted = cc (read keptX (omega arith), read keptEx (omega arith), read keptLag (omega arith))
+
 -- ---- one call on a share
 
 pub record Remembers (b : Record) (share : List Float) (ask : Ask) (o : Given) : Type 0 where
-  pub recalls : recalledIn (o .answer .rec .index) (o .store) ≡ heardAll (recalledIn (b .index) share) (brought share (notedIn share) ask (o .answer .reply) .1)
-  pub notes : notedIn (o .store) ≡ brought share (notedIn share) ask (o .answer .reply) .0
-  pub counts : length (brought share (notedIn share) ask (o .answer .reply) .1) ≡ cond (isHeard (o .answer .reply)) 1 0
+  pub recalls : recalledIn (o .answer .rec .index) (o .store) ≡ heardAll (recalledIn (b .index) share) (brought b share (notedIn share) ask (o .answer .reply) .1)
+  pub notes : notedIn (o .store) ≡ brought b share (notedIn share) ask (o .answer .reply) .0
+  pub counts : length (brought b share (notedIn share) ask (o .answer .reply) .1) ≡ cond (isHeard (o .answer .reply)) 1 0
 
 -- an opening that is done
 pub record Opens (o : Given) : Type 0 where
@@ -88,96 +116,242 @@ pub record Opens (o : Given) : Type 0 where
   pub unnotes : notedIn (o .store) ≡ unnoted
   pub unheard : isHeard (o .answer .reply) ≡ false
 
-module _ (b : Record) (share : List Float) where
-  abbrev After : Ask → Effect → Type 0
-  After ask f = Remembers b share ask (givenOf b ask f)
+-- what holds of a whole share where it holds of the part that a call leaves
+module _ (b : Record) (share : List Float) (whole : length share ≡ SHARE) where
+  abbrev part : List Float
+  part = get framePart share
+
+  abbrev brings : Ask → Reply → Noted × List HeardFrame
+  brings ask reply = brought b share (notedIn part) ask reply
+
+  record Leaves (ask : Ask) (reply : Reply) (after : List Float) : Type 0 where
+    recalls : recalledIn (answered b ask reply .rec .index) after ≡ heardAll (recalledIn (b .index) part) (brings ask reply .1)
+    notes : notedIn after ≡ brings ask reply .0
+    counts : length (brings ask reply .1) ≡ cond (isHeard reply) 1 0
+
+  lift : (ask : Ask) (o : Outcome) → length (o .share) ≡ SHARE → Leaves ask (o .reply) (get framePart (o .share)) → Remembers b share ask (givenOf b ask o)
+  lift ask o left r =
+      let noted = part-noted share whole in
+      record {
+        recalls =
+            sym (part-recalled (o .share) left (answered b ask (o .reply) .rec .index))
+            ∙ r .recalls
+            ∙ ap₂ (λ m k. heardAll m (brought b share k ask (o .reply) .1)) (part-recalled share whole (b .index)) noted;
+        notes = sym (part-noted (o .share) left) ∙ r .notes ∙ ap (λ k. brought b share k ask (o .reply) .0) noted;
+        counts = ap (λ k. length (brought b share k ask (o .reply) .1)) (sym noted) ∙ r .counts;
+      }
+
+  -- a call of a frame
+  abbrev LeavesOf : Ask → Effect → Type 0
+  LeavesOf ask f = Leaves ask (f .reply) (f .share)
+
+  in-part : (ask : Ask) (f : Effect) → Keeps part f → LeavesOf ask f → Remembers b share ask (givenOf b ask (inPart share f))
+  in-part ask f k r =
+      let l : length (f .share) ≡ PART = k .size ∙ part-length share whole in
+      lift ask (inPart share f) (frame-length share whole (f .share) l) (subst (Leaves ask (f .reply)) (sym (frame-back share whole (f .share) l)) r)
 
   -- a refusal leaves all alone
-  refused : (ask : Ask) (n : ℕ) → After ask (refusal (Refused n) share)
+  unmoved : (ask : Ask) (n : ℕ) → Leaves ask (Refused n) part
   unfolding heardAll
-  refused (opening m) n = record { recalls = refl; notes = refl; counts = refl }
-  refused (call1 x w) n = record { recalls = refl; notes = refl; counts = refl }
-  refused (call2 x l w s) n = record { recalls = refl; notes = refl; counts = refl }
-  refused (call2Own x w s) n = record { recalls = refl; notes = refl; counts = refl }
-  refused (call3 x l m o) n = record { recalls = refl; notes = refl; counts = refl }
-  refused (call4 x o) n = record { recalls = refl; notes = refl; counts = refl }
-  refused (firstHalf x s) n = record { recalls = refl; notes = refl; counts = refl }
-  refused (secondHalf l m o) n = record { recalls = refl; notes = refl; counts = refl }
+  unmoved (opening m) n = record { recalls = refl; notes = refl; counts = refl }
+  unmoved (call1 x w) n = record { recalls = refl; notes = refl; counts = refl }
+  unmoved (call2 x l w s) n = record { recalls = refl; notes = refl; counts = refl }
+  unmoved (call2Own x w s) n = record { recalls = refl; notes = refl; counts = refl }
+  unmoved (call3 x l m o) n = record { recalls = refl; notes = refl; counts = refl }
+  unmoved (call4 x o) n = record { recalls = refl; notes = refl; counts = refl }
+  unmoved (firstHalf x s) n = record { recalls = refl; notes = refl; counts = refl }
+  unmoved (secondHalf l m o) n = record { recalls = refl; notes = refl; counts = refl }
+  unmoved (piece x o s) n = record { recalls = refl; notes = refl; counts = refl }
+  unmoved (resume x l m o s) n = record { recalls = refl; notes = refl; counts = refl }
 
-  on-share : (ask : Ask) → (callOf ask ≡ 0 → passed (onShare b share ask .reply) ≡ false) → After ask (onShare b share ask)
+  call1-leaves : (x : List Float) (w : ℕ) → LeavesOf (call1 x w) (frame.call1 part x w)
   unfolding heardAll
-  on-share (opening m) shut = go (readOf m) (shut refl)
-    where
-      go : (r : Reading) → passed (opened share r .reply) ≡ false → After (opening m) (opened share r)
-      go (Good k) e = absurd (false-true (sym e))
-      go (Unread n l) e = record { recalls = refl; notes = refl; counts = refl }
-  on-share (call1 x w) shut =
-      call1-by share (After (call1 x w)) (refused (call1 x w)) x w
+  call1-leaves x w =
+      call1-by part (LeavesOf (call1 x w)) (unmoved (call1 x w)) x w
       (λ whole l. record {
-        recalls = same-recalled (b .index) share (done1 share x .share) (λ q h. done1-beside q share x (inl (omega arith), (inl (omega arith), tt)) whole l .same);
-        notes = same-noted share (done1 share x .share) (λ q h k. done1-beside q share x (inl (omega arith), (inr (omega arith), tt)) whole l .same);
+        recalls = same-recalled (b .index) part (done1 part x .share) (λ q h. done1-beside q part x (inl (omega arith), (inl (omega arith), tt)) whole l .same);
+        notes = same-noted part (done1 part x .share) (λ q h k. done1-beside q part x (inl (omega arith), (inr (omega arith), tt)) whole l .same);
         counts = refl;
       })
-  on-share (call2 x l w s) shut =
-      call2-by share (After (call2 x l w s)) (refused (call2 x l w s)) x l w s
+
+  call2-leaves : (x : List Float) (l w s : ℕ) → LeavesOf (call2 x l w s) (frame.call2 part x l w s)
+  unfolding heardAll
+  call2-leaves x l w s =
+      call2-by part (LeavesOf (call2 x l w s)) (unmoved (call2 x l w s)) x l w s
       (λ whole. record {
-        recalls = same-recalled (b .index) share (putKept share x l) (λ q h. done2-beside q share x l (inl (omega arith), (inl (omega arith), (inl (omega arith), tt))) whole .same);
-        notes = kept-noted share x l whole;
+        recalls = same-recalled (b .index) part (putKept part x l) (λ q h. done2-beside q part x l (inl (omega arith), (inl (omega arith), (inl (omega arith), tt))) whole .same);
+        notes = kept-noted part x l whole;
         counts = refl;
       })
-  on-share (call2Own x w s) shut =
-      call2-own-by share (After (call2Own x w s)) (refused (call2Own x w s)) x w s
-      (λ whole. let l = ownLag (get inputMem share) in record {
-        recalls = same-recalled (b .index) share (putKept share x l) (λ q h. done2-beside q share x l (inl (omega arith), (inl (omega arith), (inl (omega arith), tt))) whole .same);
-        notes = kept-noted share x l whole;
+
+  call2-own-leaves : (x : List Float) (w s : ℕ) → LeavesOf (call2Own x w s) (halves.call2Own part x w s)
+  unfolding heardAll
+  call2-own-leaves x w s =
+      call2-own-by part (LeavesOf (call2Own x w s)) (unmoved (call2Own x w s)) x w s
+      (λ whole. let l = ownLag (get inputMem part) in record {
+        recalls = same-recalled (b .index) part (putKept part x l) (λ q h. done2-beside q part x l (inl (omega arith), (inl (omega arith), (inl (omega arith), tt))) whole .same);
+        notes = kept-noted part x l whole;
         counts = refl;
       })
-  on-share (call3 x l m o) shut =
-      call3-by share (After (call3 x l m o)) (refused (call3 x l m o)) (b .index) (b .vad) (b .noise) (b .denoise) x l m o
+
+  call3-leaves : (x l : List Float) (m : List ℕ) (o : ℕ) → LeavesOf (call3 x l m o) (frame.call3 part (b .index) (b .vad) (b .noise) (b .denoise) x l m o)
+  unfolding heardAll
+  call3-leaves x l m o =
+      call3-by part (LeavesOf (call3 x l m o)) (unmoved (call3 x l m o)) (b .index) (b .vad) (b .noise) (b .denoise) x l m o
       (λ _ _ _. record { recalls = refl; notes = refl; counts = refl })
       (record { recalls = refl; notes = refl; counts = refl })
       (λ e k good whole inside. record {
-        recalls = heard-frame share (b .index) x l m k good whole inside;
-        notes = same-noted share (spoken share (b .index) x l m k .share) (λ q h j. done3-beside q share (b .index) x l m k
+        recalls = heard-frame part (b .index) x l m k good whole inside;
+        notes = same-noted part (spoken part (b .index) x l m k .share) (λ q h j. done3-beside q part (b .index) x l m k
             (inr (omega arith), (inr (omega arith), (inr (omega arith), (inr (omega arith), (inr (omega arith), tt))))) good whole inside .same);
         counts = refl;
       })
-  on-share (call4 x o) shut =
-      call4-by share (After (call4 x o)) (refused (call4 x o)) (b .frame) (b .heard) x o
+
+  call4-leaves : (x : List Float) (o : ℕ) → LeavesOf (call4 x o) (frame.call4 part (b .frame) (b .heard) x o)
+  unfolding heardAll
+  call4-leaves x o =
+      call4-by part (LeavesOf (call4 x o)) (unmoved (call4 x o)) (b .frame) (b .heard) x o
       (λ whole. record {
-        recalls = same-recalled (b .index) share (done4 share (b .frame) (b .heard) x .share) (λ q h. done4-beside q share (b .frame) (b .heard) x (inl (omega arith), tt) whole .same);
-        notes = same-noted share (done4 share (b .frame) (b .heard) x .share) (λ q h k. done4-beside q share (b .frame) (b .heard) x (inl (omega arith), tt) whole .same);
+        recalls = same-recalled (b .index) part (done4 part (b .frame) (b .heard) x .share) (λ q h. done4-beside q part (b .frame) (b .heard) x (inl (omega arith), tt) whole .same);
+        notes = same-noted part (done4 part (b .frame) (b .heard) x .share) (λ q h k. done4-beside q part (b .frame) (b .heard) x (inl (omega arith), tt) whole .same);
         counts = refl;
       })
-  on-share (firstHalf x s) shut =
-      first-half-by share (After (firstHalf x s)) (refused (firstHalf x s)) x s
-      (λ whole l. let a = done1 share x in record {
-        recalls = same-recalled (b .index) share (doneFirst share x .share)
-            (λ q h. done-first-beside q share x (inl (omega arith), (inl (omega arith), (inl (omega arith), (inl (omega arith), (inl (omega arith), tt))))) whole l .same);
-        notes = kept-noted (a .share) (forwardOf (buffer a)) (ownLag (get inputMem (a .share))) (whole-after-1 share x whole l);
+
+  first-half-leaves : (x : List Float) (s : ℕ) → LeavesOf (firstHalf x s) (halves.firstHalf part x s)
+  unfolding heardAll
+  first-half-leaves x s =
+      first-half-by part (LeavesOf (firstHalf x s)) (unmoved (firstHalf x s)) x s
+      (λ whole l. let a = done1 part x in record {
+        recalls = same-recalled (b .index) part (doneFirst part x .share)
+            (λ q h. done-first-beside q part x (inl (omega arith), (inl (omega arith), (inl (omega arith), (inl (omega arith), (inl (omega arith), tt))))) whole l .same);
+        notes = kept-noted (a .share) (forwardOf (buffer a)) (ownLag (get inputMem (a .share))) (whole-after-1 part x whole l);
         counts = refl;
       })
-  on-share (secondHalf l m o) shut =
-      second-half-by share (After (secondHalf l m o)) (refused (secondHalf l m o)) (b .index) (b .vad) (b .noise) (b .denoise) l m o
+
+  second-half-leaves : (l : List Float) (m : List ℕ) (o : ℕ) → LeavesOf (secondHalf l m o) (halves.secondHalf part (b .index) (b .vad) (b .noise) (b .denoise) l m o)
+  unfolding heardAll
+  second-half-leaves l m o =
+      second-half-by part (LeavesOf (secondHalf l m o)) (unmoved (secondHalf l m o)) (b .index) (b .vad) (b .noise) (b .denoise) l m o
       (λ _ _ _. record { recalls = refl; notes = refl; counts = refl })
       (λ whole. record {
-        recalls = same-recalled (b .index) share (doneSecond Silent share (get keptX share) .share) (λ q h. done-second-beside q Silent share share (get keptX share) (inl (omega arith), tt) (record { size = whole; same = refl }) .same);
-        notes = same-noted share (doneSecond Silent share (get keptX share) .share) (λ q h k. done-second-beside q Silent share share (get keptX share) (inl (omega arith), tt) (record { size = whole; same = refl }) .same);
+        recalls = same-recalled (b .index) part (doneSecond Silent part (get keptX part) .share) (λ q h. done-second-beside q Silent part part (get keptX part) (inl (omega arith), tt) (record { size = whole; same = refl }) .same);
+        notes = same-noted part (doneSecond Silent part (get keptX part) .share) (λ q h k. done-second-beside q Silent part part (get keptX part) (inl (omega arith), tt) (record { size = whole; same = refl }) .same);
         counts = refl;
       })
       (λ e k good whole inside.
-      let p = forwardOf (lookedBack share) in
-      let t = spoken share (b .index) p l m k in
-      let kept : (q : Place) → AllApart (lastg ∷ cepstralMem ∷ vadState ∷ noiseState ∷ denoiseState ∷ []) q → Beside q share (t .share)
-      = λ q apart. done3-beside q share (b .index) p l m k apart good whole inside in
+      let p = forwardOf (lookedBack part) in
+      let t = spoken part (b .index) p l m k in
+      let kept : (q : Place) → AllApart (lastg ∷ cepstralMem ∷ vadState ∷ noiseState ∷ denoiseState ∷ []) q → Beside q part (t .share)
+      = λ q apart. done3-beside q part (b .index) p l m k apart good whole inside in
       let size = kept end (inl (omega arith), (inl (omega arith), (inl (omega arith), (inl (omega arith), (inl (omega arith), tt))))) .size in
       record {
         recalls = same-recalled _ (t .share) (doneSecond (Heard (t .voice) e) (t .share) (t .spectrum) .share) (λ q h. done4-beside q (t .share) 0 0 (inverseOf (t .spectrum)) (inl (omega arith), tt) size .same)
-            ∙ heard-frame share (b .index) p l m k good whole inside;
-        notes = same-noted share (doneSecond (Heard (t .voice) e) (t .share) (t .spectrum) .share) (λ q h j. done-second-beside q (Heard (t .voice) e) share (t .share) (t .spectrum) (inl (omega arith), tt)
+            ∙ heard-frame part (b .index) p l m k good whole inside;
+        notes = same-noted part (doneSecond (Heard (t .voice) e) (t .share) (t .spectrum) .share) (λ q h j. done-second-beside q (Heard (t .voice) e) part (t .share) (t .spectrum) (inl (omega arith), tt)
             (kept q (inr (omega arith), (inr (omega arith), (inr (omega arith), (inr (omega arith), (inr (omega arith), tt)))))) .same);
         counts = refl;
       })
+
+  -- ---- pieces: the rest of one waits, or begins a frame
+
+  first-notes : (index : ℕ) (q x : List Float) → passed (halves.firstHalf q x 22 .reply) ≡ true
+      → let f = halves.firstHalf q x 22 in (recalledIn index (f .share) ≡ recalledIn index q) × (notedIn (f .share) ≡ firstNotes q x)
+  first-notes index q x =
+      first-half-by q (λ f. passed (f .reply) ≡ true → (recalledIn index (f .share) ≡ recalledIn index q) × (notedIn (f .share) ≡ firstNotes q x)) (λ n e. absurd (false-true e)) x 22
+      (λ sized l _. let a = done1 q x in (
+        same-recalled index q (doneFirst q x .share)
+            (λ p h. done-first-beside p q x (inl (omega arith), (inl (omega arith), (inl (omega arith), (inl (omega arith), (inl (omega arith), tt))))) sized l .same),
+        kept-noted (a .share) (forwardOf (buffer a)) (ownLag (get inputMem (a .share))) (whole-after-1 q x sized l),
+      ))
+
+  rest-notes : (index : ℕ) (reply : Reply) (mid rest : List Float) (w : Written) → length mid ≡ SHARE → good rest ≡ true
+      → let o = further reply mid rest w in let q = get framePart mid in
+      (recalledIn index (get framePart (o .share)) ≡ recalledIn index q) × (notedIn (get framePart (o .share)) ≡ restNotes (notedIn q) q rest)
+  unfolding further
+  rest-notes index reply mid rest w l g = go (ltb (length rest) 480) refl
+    where
+      go : (t : Bool) → ltb (length rest) 480 ≡ t
+          → let o = cond t (ended reply mid rest w) (paused reply mid rest w) in
+          (recalledIn index (get framePart (o .share)) ≡ recalledIn index (get framePart mid))
+          × (notedIn (get framePart (o .share)) ≡ cond t (notedIn (get framePart mid)) (firstNotes (get framePart mid) (take 480 rest)))
+      go true e = (ap (recalledIn index) (frame-waits mid l rest), ap notedIn (frame-waits mid l rest))
+      go false e =
+          let q = get framePart mid in
+          let more = ltb-false (length rest) 480 e in
+          let f = first-passes q (take 480 rest) (part-length mid l) (simp length-take (omega arith)) (good-take 480 rest g) in
+          let n = first-notes index q (take 480 rest) (f .passes) in
+          let back = frame-back mid l (halves.firstHalf q (take 480 rest) 22 .share) (f .part) in
+          (ap (recalledIn index) back ∙ n .0, ap notedIn back ∙ n .1)
+
+  -- a piece moves no index
+  carried-index : (r : Record) (rest size progress : ℕ) → carried r rest size progress .index ≡ r .index
+  unfolding carried
+  carried-index r rest size progress = go (ltb rest 480)
+    where
+      go : (t : Bool) → cond t (holding 1 r rest 0 0) (holding 3 r 0 size progress) .index ≡ r .index
+      go true = refl
+      go false = refl
+
+  piece-leaves : (x : List Float) (o s : ℕ) → let f = pieces.piece share (b .waiting) x o s in Leaves (piece x o s) (f .reply) (get framePart (f .share))
+  unfolding heardAll
+  piece-leaves x o s =
+      piece-by share (λ f. Leaves (piece x o s) (f .reply) (get framePart (f .share))) (unmoved (piece x o s)) (b .waiting) x o s
+      (λ k.
+      let mid = waits share [] in
+      let rest = waitingIn (b .waiting) share ++ x in
+      let n = rest-notes (b .index) Done mid rest nothing (waits-length share whole []) (good-append _ x (k .waited) (k .fine)) in
+      let same = frame-waits share whole [] in
+      subst (λ r. Leaves (piece x o s) r (get framePart (further Done mid rest nothing .share))) (sym (further-reply Done mid rest nothing))
+      (record {
+        recalls = ap (λ (i : ℕ). recalledIn i (get framePart (further Done mid rest nothing .share))) (carried-index b _ _ _) ∙ n .0 ∙ ap (recalledIn (b .index)) same;
+        notes = n .1 ∙ ap (λ (q : List Float). restNotes (notedIn q) q rest) same;
+        counts = refl;
+      }))
+
+  resume-leaves : (x l : List Float) (m : List ℕ) (o s : ℕ)
+      → let f = pieces.resume share (b .index) (b .vad) (b .noise) (b .denoise) (b .piece) (b .progress) x l m o s in Leaves (resume x l m o s) (f .reply) (get framePart (f .share))
+  unfolding heardAll
+  resume-leaves x l m o s =
+      resume-by share (λ f. Leaves (resume x l m o s) (f .reply) (get framePart (f .share))) (unmoved (resume x l m o s))
+      (b .index) (b .vad) (b .noise) (b .denoise) (b .piece) (b .progress) x l m o s
+      (λ _ _ _. record { recalls = refl; notes = refl; counts = refl })
+      (λ k.
+      let h = halves.secondHalf part (b .index) (b .vad) (b .noise) (b .denoise) l m 480 in
+      let p = second-passes part (b .index) (b .vad) (b .noise) (b .denoise) l m (part-length share whole) (k .taken) (k .inside) (k .right) in
+      let c = second-half-leaves l m 480 in
+      let mid = put framePart share (h .share) in
+      let rest = drop (b .progress) x in
+      let w = from (480 * (frameOf (b .progress) - 1)) (buffer h) in
+      let next = numbered (advanced b (h .reply)) in
+      let n = rest-notes (next .index) (h .reply) mid rest w (frame-length share whole (h .share) (p .part)) (good-drop (b .progress) x (k .fine)) in
+      let same = frame-back share whole (h .share) (p .part) in
+      let half = rw (p .passes) at (c .recalls) in
+      subst (λ r. Leaves (resume x l m o s) r (get framePart (further (h .reply) mid rest w .share))) (sym (further-reply (h .reply) mid rest w))
+      (record {
+        recalls =
+            rw (p .passes)
+            (ap (λ (i : ℕ). recalledIn i (get framePart (further (h .reply) mid rest w .share))) (carried-index next _ _ _) ∙ n .0 ∙ ap (recalledIn (next .index)) same ∙ half);
+        notes = rw (p .passes) (n .1 ∙ ap (λ (q : List Float). restNotes (notedIn q) q rest) same ∙ ap (λ k. restNotes k (h .share) rest) (c .notes));
+        counts = c .counts;
+      }))
+
+  on-share : (ask : Ask) → (callOf ask ≡ 0 → passed (onShare b share ask .reply) ≡ false) → Remembers b share ask (givenOf b ask (onShare b share ask))
+  unfolding heardAll
+  on-share (opening m) shut = go (readOf m) (shut refl)
+    where
+      go : (r : Reading) → passed (opened share r .reply) ≡ false → Remembers b share (opening m) (givenOf b (opening m) (opened share r))
+      go (Good k) e = absurd (false-true (sym e))
+      go (Unread n l) e = record { recalls = refl; notes = refl; counts = refl }
+  on-share (call1 x w) shut = in-part (call1 x w) _ (call1-keeps part x w) (call1-leaves x w)
+  on-share (call2 x l w s) shut = in-part (call2 x l w s) _ (call2-keeps part x l w s) (call2-leaves x l w s)
+  on-share (call2Own x w s) shut = in-part (call2Own x w s) _ (call2-own-keeps part x w s) (call2-own-leaves x w s)
+  on-share (call3 x l m o) shut = in-part (call3 x l m o) _ (call3-keeps part (b .index) (b .vad) (b .noise) (b .denoise) x l m o) (call3-leaves x l m o)
+  on-share (call4 x o) shut = in-part (call4 x o) _ (call4-keeps part (b .frame) (b .heard) x o) (call4-leaves x o)
+  on-share (firstHalf x s) shut = in-part (firstHalf x s) _ (first-half-keeps part x s) (first-half-leaves x s)
+  on-share (secondHalf l m o) shut = in-part (secondHalf l m o) _ (second-half-keeps part (b .index) (b .vad) (b .noise) (b .denoise) l m o) (second-half-leaves l m o)
+  on-share (piece x o s) shut = lift (piece x o s) _ (piece-kept share (b .waiting) x o s .size whole) (piece-leaves x o s)
+  on-share (resume x l m o s) shut =
+      lift (resume x l m o s) _ (resume-kept share (b .index) (b .vad) (b .noise) (b .denoise) (b .piece) (b .progress) x l m o s .size whole) (resume-leaves x l m o s)
 
 -- ---- an opening
 
@@ -208,18 +382,18 @@ module _ (b : Record) (share : List Float) (whole : length share ≡ SHARE) (ask
   number = gate 1 0 b SHARE (callOf ask)
 
   -- a call is refused by the gate, or it is let through
-  by-gate : (P : Given → Type 0) → P (givenOf b ask (refusal (Refused number) share)) → P (givenOf b ask (onShare b share ask)) → P (desk 1 0 b share ask)
+  by-gate : (P : Given → Type 0) → P (givenOf b ask (refused (Refused number) share)) → P (givenOf b ask (onShare b share ask)) → P (desk 1 0 b share ask)
   unfolding number
   by-gate P turned let-in = rw (one-bench b share ask whole) (go (eqb number 0))
     where
-      go : (t : Bool) → P (givenOf b ask (cond t (onShare b share ask) (refusal (Refused number) share)))
+      go : (t : Bool) → P (givenOf b ask (cond t (onShare b share ask) (refused (Refused number) share)))
       go true = let-in
       go false = turned
 
   pub remembers : (callOf ask ≡ 0 → passed (desk 1 0 b share ask .answer .reply) ≡ false) → Remembers b share ask (desk 1 0 b share ask)
   remembers =
       by-gate (λ o. (callOf ask ≡ 0 → passed (o .answer .reply) ≡ false) → Remembers b share ask o)
-      (λ _. refused b share ask number) (on-share b share ask)
+      (λ _. lift b share whole ask (refused (Refused number) share) whole (unmoved b share whole ask number)) (on-share b share whole ask)
 
 pub opens : (b : Record) (share : List Float) → length share ≡ SHARE → (m : List ℕ)
     → passed (desk 1 0 b share (opening m) .answer .reply) ≡ true → Opens (desk 1 0 b share (opening m))
@@ -245,3 +419,5 @@ either b share whole (call3 x l m o) = inr (remembers b share whole (call3 x l m
 either b share whole (call4 x o) = inr (remembers b share whole (call4 x o) (λ z. absurd (omega arith)))
 either b share whole (firstHalf x s) = inr (remembers b share whole (firstHalf x s) (λ z. absurd (omega arith)))
 either b share whole (secondHalf l m o) = inr (remembers b share whole (secondHalf l m o) (λ z. absurd (omega arith)))
+either b share whole (piece x o s) = inr (remembers b share whole (piece x o s) (λ z. absurd (omega arith)))
+either b share whole (resume x l m o s) = inr (remembers b share whole (resume x l m o s) (λ z. absurd (omega arith)))

@@ -18,7 +18,7 @@ use Rattle.network.proofs.Callers.{computed-done, kept}
 use Rattle.features.specs.Features.{normalisedCorr, featuresOf, withCepstrum}
 use Rattle.features.specs.Gains.{gained}
 use Rattle.features.proofs.Lengths.{length-gained, length-with-cepstrum, length-features}
-use Rattle.frame.specs.Share.{SHARE, keptX, keptEx, keptLag, lastg, cepstralMem, vadState, noiseState, denoiseState}
+use Rattle.frame.specs.Share.{PART, keptX, keptEx, keptLag, lastg, cepstralMem, vadState, noiseState, denoiseState}
 use Rattle.frame.specs.Heard.{scaled, energies, featured, rnnOf, spokenFrom, spoken}
 use Rattle.memory.specs.Hear.{Recalled, nextPlace, hear}
 use Rattle.memory.specs.Brought.{recalledIn, Noted, heardFrame}
@@ -29,8 +29,8 @@ notedIn share = record { x = get keptX share; ex = get keptEx share; lag = at (g
 
 -- ---- a field put into a whole share, and five one after another
 
-module _ (p : Place) (xs ys : List Float) (inside : p .at + p .size ≤ SHARE) (whole : length xs ≡ SHARE) (l : length ys ≡ p .size) where
-  still-whole : length (put p xs ys) ≡ SHARE
+module _ (p : Place) (xs ys : List Float) (inside : p .at + p .size ≤ PART) (whole : length xs ≡ PART) (l : length ys ≡ p .size) where
+  still-whole : length (put p xs ys) ≡ PART
   still-whole = length-put p xs ys (omega arith) l ∙ whole
 
   here : get p (put p xs ys) ≡ ys
@@ -39,7 +39,7 @@ module _ (p : Place) (xs ys : List Float) (inside : p .at + p .size ≤ SHARE) (
   beside : (q : Place) → Apart p q → get q (put p xs ys) ≡ get q xs
   beside q apart = get-put-apart p q xs ys (omega arith) l apart
 
-module _ (share c v n d : List Float) (whole : length share ≡ SHARE)
+module _ (share c v n d : List Float) (whole : length share ≡ PART)
     (lc : length c ≡ 176) (lv : length v ≡ 128) (ln : length n ≡ 128) (ld : length d ≡ 128) where
   abbrev with-c : List Float
   with-c = put cepstralMem share c
@@ -53,16 +53,16 @@ module _ (share c v n d : List Float) (whole : length share ≡ SHARE)
   abbrev with-d : List Float
   with-d = put denoiseState with-n d
 
-  c-whole : length with-c ≡ SHARE
+  c-whole : length with-c ≡ PART
   c-whole = still-whole cepstralMem share c (omega arith) whole lc
 
-  v-whole : length with-v ≡ SHARE
+  v-whole : length with-v ≡ PART
   v-whole = still-whole vadState with-c v (omega arith) c-whole lv
 
-  n-whole : length with-n ≡ SHARE
+  n-whole : length with-n ≡ PART
   n-whole = still-whole noiseState with-v n (omega arith) v-whole ln
 
-  d-whole : length with-d ≡ SHARE
+  d-whole : length with-d ≡ PART
   d-whole = still-whole denoiseState with-n d (omega arith) n-whole ld
 
   past-c : (q : Place) → Apart cepstralMem q → get q with-c ≡ get q share
@@ -103,7 +103,7 @@ module _ (share c v n d : List Float) (whole : length share ≡ SHARE)
 -- ---- a heard frame
 
 module _ (share : List Float) (index : ℕ) (p logs : List Float) (bytes : List ℕ) (m : Model)
-    (good : readOf bytes ≡ Good m) (whole : length share ≡ SHARE) (inside : index ≤ 7) where
+    (good : readOf bytes ≡ Good m) (whole : length share ≡ PART) (inside : index ≤ 7) where
   abbrev mem : List Float
   mem = get cepstralMem share
 
@@ -120,7 +120,7 @@ module _ (share : List Float) (index : ℕ) (p logs : List Float) (bytes : List 
   abbrev leaves : List Float → Frame
   leaves xs = layersInPlace bytes m (get vadState xs) (get noiseState xs) (get denoiseState xs) features
 
-  sized : (q : Place) → q .at + q .size ≤ SHARE → length (get q share) ≡ q .size
+  sized : (q : Place) → q .at + q .size ≤ PART → length (get q share) ≡ q .size
   sized q h = length-get q share (omega arith)
 
   rows : length ceps ≡ 176

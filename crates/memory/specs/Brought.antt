@@ -1,9 +1,11 @@
 -- What a call brings to the memory of its side, in a frame: call 2 the first spectrum and the lag, a heard call 3 the second spectrum,
--- the logarithms and the model, by themselves or in a half. Nothing else does.
+-- the logarithms and the model, by themselves, in a half or in a piece. Nothing else does.
 use Prim.Native.Nat.{ℕ}
 use mathlib.Core.Bool.{Bool, true, false, cond}
-use mathlib.Core.List.{List, [], _∷_}
+use mathlib.Core.List.{List, [], _∷_, _++_}
+use lib.Dec.{ltb}
 use lib.IntN.{pos}
+use lib.ListN.{length, take, drop}
 use lib.Ieee.{Float, binary32, ofInt}
 use Rattle.rules.specs.F32.{f32, zeros}
 use Rattle.rules.specs.Place.{get}
@@ -17,7 +19,10 @@ use Rattle.frame.specs.declared.Reply.{Reply}
 use Rattle.frame.specs.declared.Reply.the-variants.{Done, Silent, Heard, Numbered, Refused, Misread}
 use Rattle.frame.specs.Frame.{done1}
 use Rattle.halves.specs.Halves.{buffer, lookedBack}
-use Rattle.desk.specs.Desk.{Ask, opening, call1, call2, call2Own, call3, call4, firstHalf, secondHalf}
+use Rattle.halves.specs.Halves as halves
+use Rattle.pieces.specs.Pieces.{framePart, waitingIn}
+use Rattle.desk.specs.declared.Record.{Record}
+use Rattle.desk.specs.Desk.{Ask, opening, call1, call2, call2Own, call3, call4, firstHalf, secondHalf, piece, resume}
 use Rattle.memory.specs.Hear.{Recalled, HeardFrame}
 
 -- what is remembered in a share; the index stands in the record
@@ -57,17 +62,35 @@ abbrev pub heardFrame : Noted → List Float → List Float → List ℕ → Hea
 heardFrame k p logs model =
     record { logs = logs; correlations = normalisedCorr (k .x) (scaled p) (k .ex) (energies p); lag = k .lag; model = model }
 
--- the lag that the sister of call 2 finds in the share
+-- the lag that the sister of call 2 finds in a frame's part of the share
 abbrev pub foundLag : List Float → Float
-foundLag share = ofInt binary32 (pos (ownLag (get inputMem share)))
+foundLag part = ofInt binary32 (pos (ownLag (get inputMem part)))
 
--- of a call that finds the share so, and k noted, and is answered with the reply: what is noted then, and the frame that it hears, if one
-abbrev pub brought : List Float → Noted → Ask → Reply → Noted × List HeardFrame
-brought share k (opening m) reply = (k, [])
-brought share k (call1 x w) reply = (k, [])
-brought share k (call2 x lag w s) reply = (cond (passed reply) (noting x (ofInt binary32 (pos lag))) k, [])
-brought share k (call2Own x w s) reply = (cond (passed reply) (noting x (foundLag share)) k, [])
-brought share k (call3 x logs m o) reply = (k, cond (isHeard reply) (heardFrame k x logs m ∷ []) [])
-brought share k (call4 x o) reply = (k, [])
-brought share k (firstHalf x s) reply = let a = done1 share x in (cond (passed reply) (noting (forwardOf (buffer a)) (foundLag (a .share))) k, [])
-brought share k (secondHalf logs m o) reply = (k, cond (isHeard reply) (heardFrame k (forwardOf (lookedBack share)) logs m ∷ []) [])
+-- what a first half notes, and what a second half hears
+abbrev pub firstNotes : List Float → List Float → Noted
+firstNotes part x = let a = done1 part x in noting (forwardOf (buffer a)) (foundLag (a .share))
+
+abbrev pub secondHears : List Float → Noted → List Float → List ℕ → Reply → List HeardFrame
+secondHears part k logs m reply = cond (isHeard reply) (heardFrame k (forwardOf (lookedBack part)) logs m ∷ []) []
+
+-- the rest of a piece waits, or 480 of its samples begin a frame
+abbrev pub restNotes : Noted → List Float → List Float → Noted
+restNotes k part rest = cond (ltb (length rest) 480) k (firstNotes part (take 480 rest))
+
+-- of a call that finds the record and the share so, and k noted, and is answered with the reply: what is noted then, and the frame that it
+-- hears, if one
+abbrev pub brought : Record → List Float → Noted → Ask → Reply → Noted × List HeardFrame
+brought rec share k (opening m) reply = (k, [])
+brought rec share k (call1 x w) reply = (k, [])
+brought rec share k (call2 x lag w s) reply = (cond (passed reply) (noting x (ofInt binary32 (pos lag))) k, [])
+brought rec share k (call2Own x w s) reply = (cond (passed reply) (noting x (foundLag (get framePart share))) k, [])
+brought rec share k (call3 x logs m o) reply = (k, cond (isHeard reply) (heardFrame k x logs m ∷ []) [])
+brought rec share k (call4 x o) reply = (k, [])
+brought rec share k (firstHalf x s) reply = (cond (passed reply) (firstNotes (get framePart share) x) k, [])
+brought rec share k (secondHalf logs m o) reply = (k, secondHears (get framePart share) k logs m reply)
+brought rec share k (piece x o s) reply =
+    (cond (passed reply) (restNotes k (get framePart share) (waitingIn (rec .waiting) share ++ x)) k, [])
+brought rec share k (resume x logs m o s) reply =
+    let part = get framePart share in
+    let done = halves.secondHalf part (rec .index) (rec .vad) (rec .noise) (rec .denoise) logs m 480 in
+    (cond (passed reply) (restNotes k (done .share) (drop (rec .progress) x)) k, secondHears part k logs m reply)

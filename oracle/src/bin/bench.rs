@@ -302,7 +302,7 @@ fn of_frame(rng: &mut Rng) -> Vec<Row> {
     let frames: &'static [Frame] = Box::leak(frames.into_boxed_slice());
     let model = models::of_shape(rng, models::USUAL);
     let mut text = DenoiseState::from_model(RnnModel::from_bytes(&model).unwrap());
-    let (mut record, mut store) = ([0; 7], vec![0.0; 98_304]);
+    let (mut record, mut store) = ([0; 10], vec![0.0; 98_304]);
     assert_eq!(tuppence::open(&mut record, &mut store, 1, &model), 0);
     let mut window = [0.0; 960];
     let (mut sums, mut spectrum, mut answer, mut out) = ([0.0; 22], [0.0; 961], [0.0; 3], [0.0; 480]);

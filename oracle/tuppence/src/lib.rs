@@ -100,7 +100,9 @@ surface! {
     ) -> u32;
 }
 
-// A record is due call, cepstral index, the three GRU counts, frames and heard frames. Refusal 7 is 7 + 256 × the model's + 65,536 × its layer.
+// A record is due call, cepstral index, the three GRU counts, frames and heard frames, how many samples wait, an unfinished piece's length
+// and how many of its samples are in frames: while that length is not 0 the piece is paused. Refusal 7 is 7 + 256 × the model's + 65,536 × its
+// layer.
 #[cfg(feature = "frame")]
 surface! {
     tuppence_side_of as side_of(bench: u32) -> u32;
@@ -122,6 +124,13 @@ surface! {
     ) -> u32;
     tuppence_second_half as second_half(
         record: &mut [u32], store: &mut [f32], side: u32, logs: &[f32], model: &[u8], out: &mut [f32], answer: &mut [f32]
+    ) -> u32;
+    tuppence_piece as piece(
+        record: &mut [u32], store: &mut [f32], side: u32, piece: &[f32], out: &mut [f32], sums: &mut [f32]
+    ) -> u32;
+    tuppence_resume as resume(
+        record: &mut [u32], store: &mut [f32], side: u32, piece: &[f32], logs: &[f32], model: &[u8],
+        out: &mut [f32], sums: &mut [f32], answer: &mut [f32]
     ) -> u32;
 }
 

@@ -14,7 +14,7 @@ past : (c : tie.After-struct-known) → (c .before .before .before .args .side .
 past c = through _ _ _ _ _ (sym (c .before .before .gate .ensures) ∙ c .before .if1 .left)
 
 returns-2 : tie.Need-returns-2
-returns-2 c = let p = past c in record { number = c .before .before .gate .ensures; inOrder = omega arith; inside = omega arith; share = λ _. (refl, refl) }
+returns-2 c = let p = past c in record { number = c .before .before .gate .ensures; inOrder = omega arith; within = omega arith; inside = omega arith; share = λ _. (refl, refl, refl) }
 
 pub admit-spec : {M : Type 1} → statement M
 admit-spec =
@@ -23,5 +23,6 @@ admit-spec =
     (λ c κs. search needs)  -- gate-requires
     (λ c. search needs)  -- returns
     (λ c. omega (arith, past c))  -- mul-start
-    (λ c. omega (arith, past c))  -- add-t8
+    (λ c. omega (arith, past c))  -- add-part
+    (λ c. omega (arith, past c))  -- add-end
     returns-2)

@@ -1,5 +1,6 @@
 -- `desk::all_zero` meets its contract: each answer by the tests that lead to it. Assumes nothing.
-use Rattle.rules.proofs.Tests.{tests}
+use borrow.Author.Needs.{needs}
+use Rattle.rules.proofs.Tests.{tests, answered-no, answered-yes}
 use Rattle.desk.specs.Gate.{allZero}
 use Rattle.desk.proofs.all_zero.Statement.{statement}
 use Rattle.desk.proofs.all_zero.Tie as tie
@@ -14,4 +15,7 @@ all-zero-spec =
     (λ c. search tests)  -- returns-3
     (λ c. search tests)  -- returns-4
     (λ c. search tests)  -- returns-5
-    (λ c. search tests))  -- returns-6
+    (λ c. search tests)  -- returns-6
+    (λ c κs. search needs)  -- idle-requires
+    (λ c. search (tests, answered-no (c .before .idle .ensures) (c .if7 .taken)))  -- returns-7
+    (λ c. search (tests, answered-yes (c .before .before .idle .ensures) (c .before .if7 .left))))  -- returns-8

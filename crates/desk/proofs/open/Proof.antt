@@ -5,6 +5,16 @@ use Rattle.desk.proofs.Serve.{turned-away, misread, wiped}
 use Rattle.desk.proofs.open.Statement.{statement}
 use Rattle.desk.proofs.open.Tie as tie
 
+returns-3 : tie.Need-returns-3
+unfolding get put
+returns-3 c =
+    let k = c .before .before in
+    let t = k .before .before in
+    let m = t .before .before in
+    let o = m .before .before in
+    wiped _ _ _ _ _ _ _ _ _ (o .before .admit .ensures .number) (o .if1 .left) (m .before .read .ensures) (m .opened .ensures) (t .before .passed .ensures)
+    _ _ _ _ (t .if2 .left) (o .before .admit .ensures .share) (k .clear .ensures)
+
 pub open-spec : {M : Type 1} → statement M
 unfolding get put
 open-spec =
@@ -23,4 +33,4 @@ open-spec =
     (λ c. search needs)  -- part-clear-end
     (λ c κs. search needs)  -- clear-requires
     (λ c. search needs)  -- same-length
-    (λ c. search wiped depth 1))  -- returns-3
+    returns-3)

@@ -1,0 +1,163 @@
+-- What is known of a call that no test turned away, as one record; and that such a call is what its definition says past the tests.
+--     Piece, piece-cleared, piece-accepted, piece-taken         a piece
+--     Resume, resume-cleared, resume-accepted, resume-taken     a resume
+-- Assumes nothing.
+use Prim.Native.Nat.{ℕ, _+_, _-_, _*_, _≤_}
+use native.Mathlib.Omega.{arith}
+use mathlib.Core.Bool.{Bool, true, false, cond}
+use mathlib.Core.List.{List}
+use mathlib.Core.Path.{_≡_, refl, sym, _∙_}
+use borrow.Author.Tests.{eqb-true, leb-true, eq-eqb, le-leb, not-false}
+use lib.Dec.{eqb, leb}
+use lib.ListN.{length}
+use lib.Ieee.{Float}
+use Rattle.rules.proofs.Refused.{Clear, by-rows}
+use Rattle.samples.specs.Samples.{good}
+use Rattle.model.specs.Model.{readOf}
+use Rattle.frame.specs.declared.Reply.{Reply}
+use Rattle.frame.specs.declared.Reply.the-variants.{Done, Refused}
+use Rattle.frame.specs.Share.{SHARE}
+use Rattle.frame.specs.Reply.{passed}
+use Rattle.frame.specs.Frame.{counted}
+use Rattle.frame.specs.Parts.{checked}
+use Rattle.frame.proofs.Truth.{false-true}
+use Rattle.pieces.specs.Pieces.{waitingIn, completes, frameOf, waitedOf, pieceFits, pieceRows, begun, piece, resumeFits, resumeRows, after, lastTest, resumeReply, resumed, resume}
+use Rattle.pieces.specs.Parts.{pieceReply}
+use Rattle.pieces.proofs.Goods.{both}
+
+-- ---- a piece
+
+pub record Piece (share : List Float) (waiting : ℕ) (samples : List Float) (out sums : ℕ) : Type 0 where
+  pub size : length share ≡ SHARE
+  pub waits : waiting ≤ 479
+  pub some : 1 ≤ length samples
+  pub few : length samples ≤ 4096
+  pub room : 480 * completes waiting (length samples) ≤ out
+  pub places : sums ≡ 22
+  pub waited : good (waitingIn waiting share) ≡ true
+  pub fine : good samples ≡ true
+
+pub fits-waiting : (waiting size out sums : ℕ) → pieceFits waiting size out sums ≡ true → waiting ≤ 479
+unfolding pieceFits
+fits-waiting waiting size out sums e = leb-true waiting 479 (both (leb waiting 479) _ e .0)
+
+module _ (share : List Float) (waiting : ℕ) (samples : List Float) (out sums : ℕ) where
+  pub piece-cleared : Clear (pieceRows share waiting samples out sums) → Piece share waiting samples out sums
+  unfolding pieceFits
+  piece-cleared c =
+      let p = both (leb waiting 479) _ (not-false _ (c .1 .0)) in
+      let q = both (leb 1 (length samples)) _ (p .1) in
+      let r = both (leb (length samples) 4096) _ (q .1) in
+      let s = both (leb (480 * completes waiting (length samples)) out) _ (r .1) in
+      record {
+        size = eqb-true (length share) SHARE (not-false _ (c .0));
+        waits = leb-true waiting 479 (p .0);
+        some = leb-true 1 (length samples) (q .0);
+        few = leb-true (length samples) 4096 (r .0);
+        room = leb-true _ out (s .0);
+        places = eqb-true sums 22 (s .1);
+        waited = not-false _ (c .1 .1 .0);
+        fine = not-false _ (c .1 .1 .1 .0);
+      }
+
+  pub piece-accepted : passed (pieceReply share waiting samples out sums) ≡ true → Piece share waiting samples out sums
+  unfolding pieceReply
+  piece-accepted =
+      by-rows Refused Done (λ r. passed r ≡ true → Piece share waiting samples out sums) (pieceRows share waiting samples out sums) (λ n e. absurd (false-true e))
+      (λ c _. piece-cleared c)
+
+  fits : Piece share waiting samples out sums → pieceFits waiting (length samples) out sums ≡ true
+  unfolding pieceFits
+  fits k =
+      rw (le-leb waiting 479 (k .waits), le-leb 1 (length samples) (k .some), le-leb (length samples) 4096 (k .few), le-leb _ out (k .room), eq-eqb sums 22 (k .places))
+
+  pub piece-taken : Piece share waiting samples out sums → piece share waiting samples out sums ≡ begun share waiting samples
+  unfolding piece
+  piece-taken k = rw (eq-eqb (length share) SHARE (k .size), fits k, k .waited, k .fine)
+
+-- ---- a resume
+
+pub record Resume (share : List Float) (index vad noise denoise noted progress : ℕ) (samples logs : List Float) (model : List ℕ) (out sums : ℕ) : Type 0 where
+  pub size : length share ≡ SHARE
+  pub inside : index ≤ 7
+  pub begun : 1 ≤ progress
+  pub within : progress ≤ noted
+  pub few : noted ≤ 4096
+  pub same : length samples ≡ noted
+  pub taken : length logs ≡ 22
+  pub room : 480 * completes (waitedOf progress) (length samples) ≤ out
+  pub places : sums ≡ 22
+  pub right : passed (checked (counted vad noise denoise) (readOf model)) ≡ true
+  pub fine : good samples ≡ true
+
+last-passed : (model : Reply) (t : Bool) → passed (after model (lastTest t)) ≡ true → (passed model ≡ true) × (t ≡ true)
+last-passed model t = go (passed model) t refl
+  where
+    go : (p t : Bool) → passed model ≡ p → passed (cond p (lastTest t) model) ≡ true → (passed model ≡ true) × (t ≡ true)
+    go true true f e = (f, refl)
+    go true false f e = absurd (false-true e)
+    go false t f e = absurd (false-true (sym f ∙ e))
+
+module _ (share : List Float) (index vad noise denoise noted progress : ℕ) (samples logs : List Float) (model : List ℕ) (out sums : ℕ) where
+  abbrev Taken : Type 0
+  Taken = Resume share index vad noise denoise noted progress samples logs model out sums
+
+  pub resume-cleared : Clear (resumeRows share index noted progress samples (length logs) out sums)
+      → passed (checked (counted vad noise denoise) (readOf model)) ≡ true → good samples ≡ true
+      → Resume share index vad noise denoise noted progress samples logs model out sums
+  unfolding resumeFits
+  resume-cleared c right fine =
+      let p = both (leb index 7) _ (not-false _ (c .1 .0)) in
+      let q = both (leb 1 progress) _ (p .1) in
+      let r = both (leb progress noted) _ (q .1) in
+      let s = both (leb noted 4096) _ (r .1) in
+      let t = both (eqb (length samples) noted) _ (s .1) in
+      let u = both (eqb (length logs) 22) _ (t .1) in
+      let v = both (leb (480 * completes (waitedOf progress) (length samples)) out) _ (u .1) in
+      record {
+        size = eqb-true (length share) SHARE (not-false _ (c .0));
+        inside = leb-true index 7 (p .0);
+        begun = leb-true 1 progress (q .0);
+        within = leb-true progress noted (r .0);
+        few = leb-true noted 4096 (s .0);
+        same = eqb-true (length samples) noted (t .0);
+        taken = eqb-true (length logs) 22 (u .0);
+        room = leb-true _ out (v .0);
+        places = eqb-true sums 22 (v .1);
+        right = right;
+        fine = fine;
+      }
+
+  pub resume-accepted : passed (resumeReply share index vad noise denoise noted progress samples logs model out sums) ≡ true
+      → Resume share index vad noise denoise noted progress samples logs model out sums
+  unfolding resumeReply
+  resume-accepted =
+      by-rows Refused (after (checked (counted vad noise denoise) (readOf model)) (lastTest (good samples))) (λ r. passed r ≡ true → Taken)
+      (resumeRows share index noted progress samples (length logs) out sums) (λ n e. absurd (false-true e))
+      (λ c e. let p = last-passed (checked (counted vad noise denoise) (readOf model)) (good samples) e in resume-cleared c (p .0) (p .1))
+
+  -- what is left of the samples, and the place of the frame under way
+  pub within-samples : Resume share index vad noise denoise noted progress samples logs model out sums → progress ≤ length samples
+  within-samples k = rw (k .same) (k .within)
+
+  pub frame-fits : Resume share index vad noise denoise noted progress samples logs model out sums → 480 * (frameOf progress - 1) + 480 ≤ out
+  frame-fits k = omega (arith, k .room, k .same, k .begun, k .within)
+
+  suits : Taken → resumeFits index noted progress (length samples) (length logs) out sums ≡ true
+  unfolding resumeFits
+  suits k =
+      rw (
+        le-leb index 7 (k .inside),
+        le-leb 1 progress (k .begun),
+        le-leb progress noted (k .within),
+        le-leb noted 4096 (k .few),
+        eq-eqb (length samples) noted (k .same),
+        eq-eqb (length logs) 22 (k .taken),
+        le-leb _ out (k .room),
+        eq-eqb sums 22 (k .places),
+      )
+
+  pub resume-taken : Resume share index vad noise denoise noted progress samples logs model out sums
+      → resume share index vad noise denoise noted progress samples logs model out sums ≡ resumed share index vad noise denoise progress samples logs model
+  unfolding resume resumeReply
+  resume-taken k = rw (eq-eqb (length share) SHARE (k .size), suits k, k .right, k .fine)

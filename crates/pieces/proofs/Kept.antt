@@ -1,0 +1,69 @@
+-- What a call keeps, whatever it is given: a share's length; and, refused, the share and the answer buffers. Assumes nothing.
+use Prim.Native.Nat.{ℕ}
+use mathlib.Core.Bool.{Bool, true, false, cond}
+use mathlib.Core.List.{List, []}
+use mathlib.Core.Path.{_≡_, refl, sym, ap, _∙_}
+use lib.Dec.{ltb}
+use lib.ListN.{length, take, drop}
+use lib.Ieee.{Float}
+use Rattle.rules.specs.Place.{get, put}
+use Rattle.rules.specs.Written.{Written, nothing}
+use Rattle.frame.specs.declared.Reply.{Reply}
+use Rattle.frame.specs.declared.Reply.the-variants.{Done, Refused, Misread}
+use Rattle.frame.specs.Share.{SHARE}
+use Rattle.frame.specs.Reply.{passed}
+use Rattle.frame.proofs.Truth.{true-false}
+use Rattle.halves.specs.Halves.{secondHalf}
+use Rattle.pieces.specs.Pieces.{framePart, waits, Outcome, refused, ended, paused, further, piece, resume}
+use Rattle.pieces.proofs.Cases.{piece-by, resume-by}
+use Rattle.pieces.proofs.Halved.{first-length, second-passes}
+use Rattle.pieces.proofs.Shares.{part-length, waits-length, frame-length}
+
+pub record Keeps (share : List Float) (o : Outcome) : Type 0 where
+  pub size : length share ≡ SHARE → length (o .share) ≡ SHARE
+  pub still : passed (o .reply) ≡ false → o .share ≡ share
+  pub mute : passed (o .reply) ≡ false → o .written ≡ []
+
+-- ---- what becomes of the rest of a piece
+
+module _ (reply : Reply) (share rest : List Float) (w : Written) where
+  pub further-length : length share ≡ SHARE → length (further reply share rest w .share) ≡ SHARE
+  unfolding further
+  further-length l = go (ltb (length rest) 480)
+    where
+      go : (t : Bool) → length (cond t (ended reply share rest w) (paused reply share rest w) .share) ≡ SHARE
+      go true = waits-length share l rest
+      go false = frame-length share l _ (first-length (get framePart share) (take 480 rest) 22 (part-length share l))
+
+  pub further-reply : further reply share rest w .reply ≡ reply
+  unfolding further
+  further-reply = go (ltb (length rest) 480)
+    where
+      go : (t : Bool) → cond t (ended reply share rest w) (paused reply share rest w) .reply ≡ reply
+      go true = refl
+      go false = refl
+
+-- ---- the calls
+
+module _ (share : List Float) where
+  unmoved : (reply : Reply) → Keeps share (refused reply share)
+  unmoved reply = record { size = λ l. l; still = λ _. refl; mute = λ _. refl }
+
+  moved : {o : Outcome} → passed (o .reply) ≡ true → length (o .share) ≡ SHARE → Keeps share o
+  moved p l = record { size = λ _. l; still = λ e. absurd (true-false (sym p ∙ e)); mute = λ e. absurd (true-false (sym p ∙ e)) }
+
+  pub piece-kept : (waiting : ℕ) (samples : List Float) (out sums : ℕ) → Keeps share (piece share waiting samples out sums)
+  piece-kept waiting samples out sums =
+      piece-by share (Keeps share) (λ n. unmoved (Refused n)) waiting samples out sums
+      (λ k.
+      moved (ap passed (further-reply Done (waits share []) _ nothing)) (further-length Done (waits share []) _ nothing (waits-length share (k .size) [])))
+
+  pub resume-kept : (index vad noise denoise noted progress : ℕ) (samples logs : List Float) (model : List ℕ) (out sums : ℕ)
+      → Keeps share (resume share index vad noise denoise noted progress samples logs model out sums)
+  resume-kept index vad noise denoise noted progress samples logs model out sums =
+      resume-by share (Keeps share) (λ n. unmoved (Refused n)) index vad noise denoise noted progress samples logs model out sums (λ n l _. unmoved (Misread n l))
+      (λ k.
+      let s = secondHalf (get framePart share) index vad noise denoise logs model 480 in
+      let p = second-passes (get framePart share) index vad noise denoise logs model (part-length share (k .size)) (k .taken) (k .inside) (k .right) in
+      let mid = put framePart share (s .share) in
+      moved (ap passed (further-reply (s .reply) mid (drop progress samples) _) ∙ p .passes) (further-length (s .reply) mid (drop progress samples) _ (frame-length share (k .size) (s .share) (p .part))))

@@ -1,0 +1,154 @@
+// A resume: the frame under way is finished, and the rest of its piece waits or begins the next one.
+ghost use mathlib.Core.Bool.{true};
+ghost use mathlib.Core.Path.{_≡_};
+ghost use mathlib.Core.List.{[], _∷_};
+ghost use Prim.Native.Nat.{_≤_};
+ghost use lib.ListN.{length, drop};
+ghost use Rattle.rules.specs.Written.{nothing};
+ghost use Rattle.samples.specs.Samples.{good};
+ghost use Rattle.frame.specs.declared.Reply.the-variants.{Done};
+ghost use Rattle.pieces.specs.Pieces.{further, resumeFits, after, lastTest, resumeReply, resume, Worked};
+use frame::Reply;
+
+// Whether a resume of the piece noted fits its buffers.
+fn resume_fits(
+    index: usize,
+    piece: usize,
+    progress: usize,
+    size: usize,
+    logs: usize,
+    out: usize,
+    sums: usize,
+) -> bool
+    ensures { λ r. ⌜ r ≡ resumeFits index piece progress size logs out sums ⌝ }
+{
+    if index > 7 {
+        return false;
+    }
+    if progress < 1 {
+        return false;
+    }
+    if progress > piece {
+        return false;
+    }
+    if piece > 4096 {
+        return false;
+    }
+    if size != piece {
+        return false;
+    }
+    if logs != 22 {
+        return false;
+    }
+    let waited = 480 * ((progress + 479) / 480) - progress;
+    if 480 * ((waited + size) / 480) > out {
+        return false;
+    }
+    sums == 22
+}
+
+// The refusal of a model, or what follows.
+fn after(checked: Reply, last: Reply) -> Reply
+    ensures { λ r. ⌜ r ≡ after checked last ⌝ }
+{
+    if frame::passed(checked) {
+        return last;
+    }
+    checked
+}
+
+fn last_test(fine: bool) -> Reply
+    ensures { λ r. ⌜ r ≡ lastTest fine ⌝ }
+{
+    if fine {
+        return Reply::Done;
+    }
+    Reply::Refused(9)
+}
+
+// Refusals 5 and 7 to 9 of a resume, or Done.
+fn resume_reply(
+    share: &[f32],
+    index: usize,
+    vad: usize,
+    noise: usize,
+    denoise: usize,
+    piece: usize,
+    progress: usize,
+    samples: &[f32],
+    logs: &[f32],
+    model: &[u8],
+    out: usize,
+    sums: usize,
+) -> Reply
+    ensures { λ r. ⌜ r
+        ≡ resumeReply (now (share .entry)) index vad noise denoise piece progress
+        (now (samples .entry)) (now (logs .entry)) (now (model .entry)) out sums ⌝ }
+{
+    if share.len() != frame::SHARE {
+        return Reply::Refused(5);
+    }
+    if !resume_fits(index, piece, progress, samples.len(), logs.len(), out, sums) {
+        return Reply::Refused(5);
+    }
+    let last = last_test(samples::all_good(samples));
+    after(frame::check(model, vad, noise, denoise), last)
+}
+
+// The samples from `from` on wait, or the first 480 of them begin a frame, and 22 sums are written.
+fn go_on(share: &mut [f32], samples: &[f32], from: usize, sums: &mut [f32])
+    requires { ⌜ (length (now share) ≡ 6144) × (from ≤ length (now samples)) × (good (now samples) ≡ true) × (length (now sums) ≡ 22) ⌝ }
+    ensures { λ _. ⌜ Worked (further Done (now (share .entry)) (drop from (now (samples .entry))) nothing)
+        Done (now (share .exit)) ([] ∷ now (sums .entry) ∷ []) ([] ∷ now (sums .exit) ∷ []) ⌝ }
+{
+    if samples.len() - from < 480 {
+        crate::waiting::keep(share, samples, from);
+        return;
+    }
+    let end = from + 480;
+    crate::frames::enter(share, &samples[from..end], sums);
+}
+
+// The frame under way is finished with its logarithms and written to its place of the output. The rest of the samples waits, or 480 of
+// them begin the next frame, and 22 sums are written. Silent, or heard with voice and energy.
+pub fn resume(
+    share: &mut [f32],
+    index: usize,
+    vad: usize,
+    noise: usize,
+    denoise: usize,
+    piece: usize,
+    progress: usize,
+    samples: &[f32],
+    logs: &[f32],
+    model: &[u8],
+    out: &mut [f32],
+    sums: &mut [f32],
+) -> Reply
+    ensures { λ r. ⌜ Worked
+        (resume (now (share .entry)) index vad noise denoise piece progress
+        (now (samples .entry)) (now (logs .entry)) (now (model .entry)) (length (now (out .entry))) (length (now (sums .entry))))
+        r (now (share .exit)) (now (out .entry) ∷ now (sums .entry) ∷ []) (now (out .exit) ∷ now (sums .exit) ∷ []) ⌝ }
+{
+    let reply = resume_reply(
+        share,
+        index,
+        vad,
+        noise,
+        denoise,
+        piece,
+        progress,
+        samples,
+        logs,
+        model,
+        out.len(),
+        sums.len(),
+    );
+    if !frame::passed(reply) {
+        return reply;
+    }
+    let start = 480 * ((progress + 479) / 480 - 1);
+    let told = crate::frames::leave(share, index, vad, noise, denoise, logs, model, out, start);
+    go_on(share, samples, progress, sums);
+    told
+}

@@ -1,0 +1,63 @@
+// A frame's two halves over its part of a share. Their callers have tested what they could refuse.
+ghost use mathlib.Core.Bool.{true};
+ghost use mathlib.Core.Path.{_≡_};
+ghost use Prim.Native.Nat.{_+_, _≤_};
+ghost use lib.ListN.{length};
+ghost use Rattle.rules.specs.Place.{get, put};
+ghost use Rattle.rules.specs.Written.{from, over};
+ghost use Rattle.samples.specs.Samples.{good};
+ghost use Rattle.model.specs.Model.{readOf};
+ghost use Rattle.frame.specs.Reply.{passed};
+ghost use Rattle.frame.specs.Frame.{counted};
+ghost use Rattle.frame.specs.Parts.{checked};
+ghost use Rattle.halves.specs.Halves.{buffer, firstHalf, secondHalf};
+ghost use Rattle.pieces.specs.Pieces.{framePart};
+use frame::PART;
+use frame::Reply;
+
+// 480 samples begin a frame, and its sums are written.
+pub(crate) fn enter(share: &mut [f32], samples: &[f32], sums: &mut [f32])
+    requires { ⌜ (length (now share) ≡ 6144) × (length (now samples) ≡ 480) × (good (now samples) ≡ true) × (length (now sums) ≡ 22) ⌝ }
+    ensures { λ _. ⌜ now (share .exit)
+        ≡ put framePart (now (share .entry)) (firstHalf (get framePart (now (share .entry))) (now (samples .entry)) 22 .share) ⌝ }
+    ensures { λ _. ⌜ now (sums .exit) ≡ buffer (firstHalf (get framePart (now (share .entry))) (now (samples .entry)) 22) ⌝ }
+{
+    halves::first_half(&mut share[0..PART], samples, sums);
+}
+
+// The frame under way is finished, and written from `start` on.
+pub(crate) fn leave(
+    share: &mut [f32],
+    index: usize,
+    vad: usize,
+    noise: usize,
+    denoise: usize,
+    logs: &[f32],
+    model: &[u8],
+    out: &mut [f32],
+    start: usize,
+) -> Reply
+    requires { ⌜ (length (now share) ≡ 6144) × (index ≤ 7) × (length (now logs) ≡ 22) × (start + 480 ≤ length (now out)) ⌝ }
+    requires { ⌜ passed (checked (counted vad noise denoise) (readOf (now model))) ≡ true ⌝ }
+    ensures { λ r. ⌜ r
+        ≡ secondHalf (get framePart (now (share .entry))) index vad noise denoise (now (logs .entry)) (now (model .entry)) 480 .reply ⌝ }
+    ensures { λ _. ⌜ now (share .exit)
+        ≡ put framePart (now (share .entry))
+        (secondHalf (get framePart (now (share .entry))) index vad noise denoise (now (logs .entry)) (now (model .entry)) 480 .share) ⌝ }
+    ensures { λ _. ⌜ now (out .exit)
+        ≡ over (from start
+        (buffer (secondHalf (get framePart (now (share .entry))) index vad noise denoise (now (logs .entry)) (now (model .entry)) 480)))
+        (now (out .entry)) ⌝ }
+{
+    let end = start + 480;
+    halves::second_half(
+        &mut share[0..PART],
+        index,
+        vad,
+        noise,
+        denoise,
+        logs,
+        model,
+        &mut out[start..end],
+    )
+}

@@ -1,0 +1,26 @@
+-- Laws of what is written to a lent buffer.
+--     over-none     nothing is written
+--     over-next     two writes that meet are one
+--     lent-over     a part of a buffer as the code lends it
+-- Assumes nothing.
+use Prim.Native.Nat.{ℕ, _+_, _-_, _≤_}
+use native.Mathlib.Nat.{add-sub-cancel-left}
+use mathlib.Core.List.{List, [], _++_}
+use mathlib.Core.Path.{_≡_}
+use lib.ListN.{length, take-append-drop}
+use lib.Ieee.{Float}
+use Rattle.rules.specs.Place.{put}
+use Rattle.rules.specs.Written.{from, over}
+use Rattle.rules.proofs.Places.{put-next}
+
+pub over-none : (k : ℕ) (held : List Float) → over (from k []) held ≡ held
+unfolding put
+over-none k held = take-append-drop k held
+
+pub over-next : (k n : ℕ) (ys zs held : List Float) → length ys ≡ n → k ≤ length held
+    → over (from (k + n) zs) (over (from k ys) held) ≡ over (from k (ys ++ zs)) held
+over-next k n ys zs held e h = rw (← e) (put-next k held ys zs h)
+
+pub lent-over : (start n : ℕ) (out new numbers : List Float) → new ≡ numbers → length numbers ≡ n
+    → put (record { at = start; size = start + n - start }) out new ≡ over (from start numbers) out
+lent-over start n out new numbers e l = rw (add-sub-cancel-left start n, e, l)

@@ -1,0 +1,25 @@
+-- What a call writes to a lent buffer, whatever the buffer held. Laws: proofs/Writing.antt.
+use Prim.Native.Nat.{ℕ}
+use mathlib.Core.List.{List, [], _∷_}
+use lib.ListN.{length}
+use lib.Ieee.{Float}
+use Rattle.rules.specs.Place.{put}
+
+-- all of it; or these numbers from a place on, where the others stay
+pub data Written : Type 0 where
+  all : (numbers : List Float) → Written
+  from : (at : ℕ) (numbers : List Float) → Written
+
+abbrev pub nothing : Written
+nothing = from 0 []
+
+-- a buffer that held these, afterwards
+abbrev pub over : Written → List Float → List Float
+over (all numbers) held = numbers
+over (from at numbers) held = put (record { at = at; size = length numbers }) held numbers
+
+-- the buffers that a call was lent, in order; a refusal writes to none
+abbrev pub onto : List Written → List (List Float) → List (List Float)
+onto [] held = held
+onto (w ∷ ws) [] = []
+onto (w ∷ ws) (h ∷ hs) = over w h ∷ onto ws hs
