@@ -169,7 +169,7 @@ use mathlib.Core.List.{{List, [], _∷_, map}}
 use Prim.Native.Nat.{{ℕ, _+_, _*_}}
 use lib.Ieee.{{Float, ofBits}}
 use Rattle.rules.specs.F32.{{at}}
-use Rattle.logs.specs.F64.{{f64}}
+use Rattle.rules.specs.F64.{{f64}}
 use Rattle.logs.specs.declared.table.Row.{{Row}}
 
 -- 33 rows: a centre near 32 / (32 + i), of 20 binary digits, and the high and the low part of minus its logarithm

@@ -16,7 +16,7 @@ use lib.Ieee.Fits.{fits-widens, down-pos}
 use lib.Ieee.Positive.{positive}
 use Rattle.numbers.proofs.Held.{fits-says, place}
 use Rattle.numbers.proofs.Pattern.{pattern-value}
-use Rattle.logs.specs.F64.{f64, _*₆₄_, _-₆₄_}
+use Rattle.rules.specs.F64.{f64, _*₆₄_, _-₆₄_}
 use Rattle.logs.specs.Tables.{rowAt, twoHigh}
 use Rattle.logs.specs.Log10.{exponentOf, mantissaOf, rowOf, restOf, highOf}
 use Rattle.logs.specs.Exact.{Exactly, wholes, digitsOf, RestExact, HighExact, Exact}

@@ -1,5 +1,4 @@
 pub mod Exact
-pub mod Keys
 pub mod Nudged
 pub mod Rule
 pub mod Special

@@ -8,7 +8,7 @@ use lib.Ieee.{Float, nan, binary64, fits, isNan, nanBits, toBits, lt, eq, ne}
 use lib.Ieee.Bits.{toBits-lt}
 use borrow.Author.Tests.{eq-eqb, ne-eqb}
 use Rattle.numbers.proofs.NoNan.{magnitude-le, real-pattern}
-use Rattle.logs.specs.F64.{f64}
+use Rattle.rules.specs.F64.{f64}
 use Rattle.logs.specs.Log10.{nudged}
 
 module _ (t z : Float) where

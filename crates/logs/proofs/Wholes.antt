@@ -12,7 +12,7 @@ use lib.Ieee.Exact.{HasValue, round-exact}
 use lib.Ieee.Fits.{down-pos}
 use lib.Ieee.Scale.{round-same}
 use borrow.Author.Tests.{lt-ltb, le-ltb, ltb-true, ltb-false}
-use Rattle.logs.specs.F64.{_+₆₄_, _-₆₄_, _*₆₄_}
+use Rattle.rules.specs.F64.{_+₆₄_, _-₆₄_, _*₆₄_}
 use Rattle.logs.specs.Exact.{Exactly}
 
 -- n / 2^g, rounded, is itself

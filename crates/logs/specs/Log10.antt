@@ -11,7 +11,7 @@ use lib.Ieee.{Float, nan, inf, fin, binary64, ofInt, toBits, lt, ne}
 use Rattle.rules.specs.F32.{at}
 use Rattle.rules.specs.Tab.{tab}
 use Rattle.numbers.specs.Narrowed.{narrowed}
-use Rattle.logs.specs.F64.{f64, _+₆₄_, _-₆₄_, _*₆₄_}
+use Rattle.rules.specs.F64.{f64, _+₆₄_, _-₆₄_, _*₆₄_}
 use Rattle.logs.specs.Tables.{rowAt, twoHigh, twoLow, slopeHigh, slopeLow, series2, series3, series4, series5, series6, series7}
 
 -- ---- x = 2^e * m, by its bits as an f64: every f32 above 0 is a normal f64

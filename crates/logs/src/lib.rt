@@ -4,7 +4,7 @@
 ghost use mathlib.Core.Path.{_≡_};
 ghost use lib.ListN.{length};
 ghost use Rattle.rules.specs.Leaf.{Leaf, _leaving_};
-ghost use Rattle.logs.specs.F64.{_-₆₄_};
+ghost use Rattle.rules.specs.F64.{_-₆₄_};
 ghost use Rattle.logs.specs.Log10.{series, lostOf, nudged, summed, logOfBits, log10Of, logsOf, LogsFits};
 
 mod table;

@@ -2,8 +2,9 @@
 use Prim.Native.Nat.{ℕ}
 use mathlib.Core.List.{List, [], _∷_, _++_}
 use lib.ListN.{length}
-use lib.Ieee.{Float, binary64, add, sub, mul}
+use lib.Ieee.{Float}
 use Rattle.rules.specs.F32.{f32, at}
+use Rattle.rules.specs.F64.{_+₆₄_, _-₆₄_, _*₆₄_}
 use Rattle.rules.specs.Loop.{loop}
 use Rattle.numbers.specs.declared.filter.Biquad.{Biquad}
 use Rattle.numbers.specs.declared.filter.Memory.{Memory}
@@ -20,17 +21,6 @@ memoryList mem = mem .m0 ∷ mem .m1 ∷ []
 -- BIQUAD_HP: a is -1.99599 and 0.99600, and b is -2.0 and 1.0
 abbrev pub highPass : Biquad
 highPass = record { a0 = f32 0xBFFF7C9A; a1 = f32 0x3F7EF9DB; b0 = f32 0xC0000000; b1 = f32 0x3F800000 }
-
-infixl 65 _+₆₄_ _-₆₄_
-infixl 70 _*₆₄_
-abbrev _+₆₄_ : Float → Float → Float
-x +₆₄ y = add binary64 x y
-
-abbrev _-₆₄_ : Float → Float → Float
-x -₆₄ y = sub binary64 x y
-
-abbrev _*₆₄_ : Float → Float → Float
-x *₆₄ y = mul binary64 x y
 
 -- for (&x, y) in input.iter().zip(output) {
 --     let x64 = x as f64;

@@ -6,7 +6,7 @@ use lib.Dec.{T}
 use lib.Ieee.{binary32, binary64, fits, isNan, div, neg, ofBits}
 use lib.Ieee.Fits.{and-i, fits-widens}
 use lib.Ieee.Positive.{above}
-use Rattle.numbers.proofs.Special.{above-zero, above-real}
+use Rattle.numbers.proofs.Special.{above-zero, zero-tested, below-tested, above-real}
 use Rattle.numbers.specs.Narrowed.{narrowed}
 use Rattle.logs.proofs.Special.{log-of-zero, no-log, log-of-infinity, log-above}
 use Rattle.logs.proofs.log10.Statement.{statement}
@@ -40,11 +40,11 @@ returns-2 c =
 
 returns-3 : tie.Need-returns-3
 unfolding ofBits div neg
-returns-3 c = log-of-zero (c .before .before .args .x) (c .if3 .taken)
+returns-3 c = let x = c .before .before .args .x in log-of-zero x (zero-tested x (c .if3 .taken))
 
 returns-4 : tie.Need-returns-4
 unfolding ofBits div
-returns-4 c = no-log (c .before .before .args .x) (c .before .if1 .left) (c .if3 .left)
+returns-4 c = let x = c .before .before .args .x in no-log x (below-tested x (c .before .if1 .left) (c .if3 .left))
 
 pub log10-spec : {M : Type 1} → statement M
 log10-spec =

@@ -7,7 +7,7 @@ use lib.Dec.{T, le→leb}
 use lib.IntN.{pos}
 use lib.Ieee.{Float, binary64, inFloat}
 use Rattle.numbers.proofs.NoNan.{real-pattern}
-use Rattle.logs.specs.F64.{f64, _+₆₄_, _-₆₄_, _*₆₄_}
+use Rattle.rules.specs.F64.{f64, _+₆₄_, _-₆₄_, _*₆₄_}
 use Rattle.logs.specs.Tables.{twoHigh, twoLow}
 use Rattle.logs.specs.declared.table.Row.{Row}
 use Rattle.logs.specs.Log10.{exponentOf, mantissaOf, restOf, highOf, lowOf, summed, logOfBits}

@@ -6,7 +6,7 @@ use lib.Dec.{T}
 use lib.Ieee.{Float, binary64, fits}
 use lib.Ieee.Compare.{differs-from-itself}
 use Rattle.numbers.proofs.NoNan.{real-of}
-use Rattle.logs.specs.F64.{_-₆₄_}
+use Rattle.rules.specs.F64.{_-₆₄_}
 use Rattle.logs.proofs.Nudged.{broken, off-middle, nothing-lost, moved, Beside, beside}
 use Rattle.logs.proofs.nudge.Statement.{statement}
 use Rattle.logs.proofs.nudge.Tie as tie
