@@ -10,7 +10,7 @@ use mathlib.Core.Bool.{Bool, true, false, cond, not}
 use mathlib.Core.List.{List, [], _∷_, _++_, map}
 use mathlib.Core.Path.{_≡_, refl, sym, ap, _∙_}
 use borrow.Author.Tests.{eqb-false, not-false, not-true}
-use lib.Dec.{eqb, ltb}
+use lib.Dec.{ltb}
 use lib.ListN.{length, getD}
 use lib.Ieee.{Float}
 use Rattle.rules.specs.F32.{zeros}
@@ -18,7 +18,6 @@ use Rattle.rules.specs.Loop.{loop}
 use Rattle.rules.specs.Place.{get, put}
 use Rattle.rules.specs.Written.{Written, from, nothing, over, onto}
 use Rattle.rules.proofs.Places.{length-get, length-put}
-use Rattle.rules.proofs.Tabs.{length-tab}
 use Rattle.rules.proofs.Writing.{over-none, over-next}
 use Rattle.logs.specs.Log10.{logsOf}
 use Rattle.model.specs.Model.{readOf}
@@ -46,9 +45,9 @@ use Rattle.dictation.specs.Resuming.{handedIn, Fitting}
 use Rattle.dictation.proofs.Cuts.{is-whole}
 use Rattle.dictation.proofs.Resumes.{completed}
 use Rattle.dictation.proofs.Taken.{let-through, onward, piece-passed, resume-passed}
-use Rattle.whole.specs.Whole.{takeReply, Taking, taking, takeFrames, Taken, take}
+use Rattle.whole.specs.Whole.{Taking, taking, takeFrames, Taken, take}
 use Rattle.whole.specs.Parts.{three}
-use Rattle.whole.proofs.Accepted.{Take, take-accepted, fits-sizes, good-both}
+use Rattle.whole.proofs.Accepted.{good-both, logs-length, Take, take-accepted, fits-sizes}
 use Rattle.runs.specs.Runs.{standsAt, resumeFrom}
 use Rattle.runs.specs.Taking.{Told, lentTo, answersOf, Dictates, AsDictated}
 use Rattle.runs.proofs.Takes.{taken-is}
@@ -204,10 +203,6 @@ module _ (n side : ℕ) (rec : Record) (store samples : List Float) (model : Lis
   lends : (m j : ℕ) → Lends j (lents j m)
   lends zero j = tt
   lends (suc m) j = (refl, lends m (suc j))
-
-  logs-length : (sums : List Float) → length (logsOf sums) ≡ 22
-  unfolding logsOf
-  logs-length sums = length-tab 22 _
 
   fitting : checked (counted (rec .vad) (rec .noise) (rec .denoise)) (readOf model) ≡ Done → (m j : ℕ) → Fitting rec (lents j m)
   fitting e zero j = tt

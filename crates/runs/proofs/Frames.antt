@@ -16,7 +16,7 @@ use Rattle.frame.specs.Reply.{passed}
 use Rattle.desk.specs.declared.Record.{Record}
 use Rattle.desk.specs.Desk.{Ask, firstHalf, secondHalf, Given, desk}
 use Rattle.isolation.specs.Run.{Call, State, after, ended}
-use Rattle.whole.specs.Laws.{firstOf, secondOf}
+use Rattle.whole.specs.Laws.{firstOf}
 use Rattle.whole.specs.Whole.{buffer, frameReply, frame}
 use Rattle.whole.proofs.Halves.{two-halves, refused-is}
 use Rattle.runs.specs.Runs.{on, leaving, FrameRuns}

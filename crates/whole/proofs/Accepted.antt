@@ -1,13 +1,13 @@
 -- What is known of a call that none of the tests refused.
 --     Past, passed-by                  the gate let it through, its rows are clear, the model is right and the samples are good
 --     Frame, frame-accepted            a frame
---     Take, take-accepted, fits-sizes  a take
---     good-bad, good-rest, good-both   samples behind others: whether all are good
+--     Take, take-accepted, take-known  a take; fits-sizes, its numbers
+--     good-bad, good-rest, good-both   samples behind others: whether all are good; logs-length, of our logarithms
 -- Assumes nothing.
 use Prim.Native.Nat.{ℕ, _*_, _≤_}
 use mathlib.Core.Bool.{Bool, true, false, cond, _&&_}
 use mathlib.Core.List.{List, [], _∷_, _++_}
-use mathlib.Core.Path.{_≡_, refl, sym, _∙_}
+use mathlib.Core.Path.{_≡_, refl, sym, ap, _∙_}
 use borrow.Author.Tests.{eqb-true, leb-true, not-false}
 use lib.Dec.{eqb, leb}
 use lib.ListN.{length}
@@ -15,10 +15,12 @@ use lib.Ieee.{Float}
 use Rattle.rules.specs.Place.{get}
 use Rattle.rules.specs.Refusals.{Row, _when_, refusing, wrong}
 use Rattle.rules.proofs.Refused.{Clear, by-rows, right}
+use Rattle.rules.proofs.Tabs.{length-tab}
 use Rattle.samples.specs.Samples.{goodSample, good}
+use Rattle.logs.specs.Log10.{logsOf}
 use Rattle.model.specs.Model.{readOf}
 use Rattle.frame.specs.declared.Reply.{Reply}
-use Rattle.frame.specs.declared.Reply.the-variants.{Done, Refused}
+use Rattle.frame.specs.declared.Reply.the-variants.{Refused}
 use Rattle.frame.specs.Reply.{passed}
 use Rattle.frame.specs.Frame.{counted}
 use Rattle.frame.specs.Parts.{checked}
@@ -51,6 +53,11 @@ good-both xs ys e = go (good xs) refl
     go : (t : Bool) → good xs ≡ t → (good xs ≡ true) × (good ys ≡ true)
     go true h = (h, sym (good-rest xs ys h) ∙ e)
     go false h = absurd (false-true (sym (good-bad xs ys h) ∙ e))
+
+-- our logarithms are as many as a frame is lent
+pub logs-length : (sums : List Float) → length (logsOf sums) ≡ 22
+unfolding logsOf
+logs-length sums = length-tab 22 _
 
 -- ---- past the tests
 
@@ -126,6 +133,9 @@ module _ (n side : ℕ) (rec : Record) (store samples : List Float) (model : Lis
         right = k .right;
         fine = k .fine;
       }
+
+  pub take-known : {r : Reply} → r ≡ takeReply n side rec store samples model out answers → passed r ≡ true → Take n side rec store samples model out answers
+  take-known e p = take-accepted (ap passed (sym e) ∙ p)
 
 -- the numbers of a piece that fits
 pub fits-sizes : (waiting size out sums : ℕ) → pieceFits waiting size out sums ≡ true

@@ -6,22 +6,21 @@
 -- Assumes nothing.
 use Prim.Native.Nat.{ℕ, _*_, _<_}
 use native.Mathlib.Omega.{arith}
-use mathlib.Core.Bool.{Bool, true, false, cond}
+use mathlib.Core.Bool.{true, false}
 use mathlib.Core.List.{List, [], _∷_, map}
 use mathlib.Core.Path.{_≡_, refl, sym, ap, _∙_}
 use borrow.Author.Tests.{eq-eqb}
 use lib.ListN.{length}
 use lib.Ieee.{Float}
 use Rattle.rules.specs.Place.{get, put}
-use Rattle.rules.specs.Written.{all, onto}
+use Rattle.rules.specs.Written.{all}
 use Rattle.rules.proofs.Places.{length-get}
 use Rattle.logs.specs.Log10.{logsOf}
 use Rattle.frame.specs.declared.Reply.{Reply}
 use Rattle.frame.specs.Share.{SHARE, PART}
-use Rattle.frame.specs.Frame.{Effect}
 use Rattle.frame.specs.Reply.{passed}
 use Rattle.halves.specs.Halves as halves
-use Rattle.pieces.specs.Pieces.{Outcome, framePart}
+use Rattle.pieces.specs.Pieces.{framePart}
 use Rattle.pieces.proofs.Halved.{Halved, first-passes}
 use Rattle.desk.specs.declared.Record.{Record}
 use Rattle.desk.specs.declared.Answer.{Answer}

@@ -1,8 +1,8 @@
 -- A frame that is accepted is its two halves (`two-halves`); what is refused changes nothing (`refused-is`, `frame-leaves`, `take-leaves`). Assumes nothing.
-use Prim.Native.Nat.{ℕ, _*_, _≤_, _<_}
+use Prim.Native.Nat.{ℕ, _*_, _<_}
 use native.Mathlib.Omega.{arith}
-use mathlib.Core.Bool.{Bool, true, false, cond, _&&_}
-use mathlib.Core.List.{List, [], _∷_, map}
+use mathlib.Core.Bool.{Bool, true, false}
+use mathlib.Core.List.{List, map}
 use mathlib.Core.Path.{_≡_, refl, sym, ap, _∙_}
 use borrow.Author.Tests.{eqb-true, lt-ltb, eq-eqb, not-false}
 use lib.Dec.{eqb}
@@ -11,10 +11,9 @@ use lib.Ieee.{Float}
 use Rattle.rules.specs.Place.{get, put}
 use Rattle.rules.specs.Written.{all}
 use Rattle.rules.proofs.Places.{length-get, length-put}
-use Rattle.rules.proofs.Tabs.{length-tab}
 use Rattle.logs.specs.Log10.{logsOf}
 use Rattle.frame.specs.declared.Reply.{Reply}
-use Rattle.frame.specs.Share.{SHARE, PART}
+use Rattle.frame.specs.Share.{SHARE}
 use Rattle.frame.specs.Frame.{Effect}
 use Rattle.frame.specs.Reply.{passed}
 use Rattle.frame.proofs.Truth.{true-false}
@@ -29,7 +28,7 @@ use Rattle.desk.proofs.Ranged.{bounded, range-kept}
 use Rattle.desk.proofs.Turned.{none, through}
 use Rattle.whole.specs.Whole.{buffer, turnedAway, frameReply, frame, take}
 use Rattle.whole.specs.Laws.{firstOf, secondOf, TwoHalves, FrameLeaves, TakeLeaves}
-use Rattle.whole.proofs.Accepted.{Frame, frame-accepted}
+use Rattle.whole.proofs.Accepted.{logs-length, Frame, frame-accepted}
 use Rattle.whole.proofs.Framed.{let-in, partOf, part-length, first-halved}
 
 -- behind a call 1 that was let through, the second half is
@@ -72,10 +71,6 @@ module _ (n side : ℕ) (rec : Record) (store samples : List Float) (model : Lis
   due : rec .due ≡ 1
   unfolding isDue
   due = let c = none n side rec (length store) 1 (k .gated) in eqb-true (rec .due) 1 (both (eqb (rec .due) 1) (idle rec) (not-false _ (c .1 .1 .1 .1 .0)) .0)
-
-  logs-length : (sums : List Float) → length (logsOf sums) ≡ 22
-  unfolding logsOf
-  logs-length sums = length-tab 22 _
 
   second-halved : (sums : List Float)
       → Halved 480 (halves.secondHalf (partOf side between) (next .index) (next .vad) (next .noise) (next .denoise) (logsOf sums) model 480)

@@ -6,7 +6,7 @@
 use Prim.Native.Nat.{ℕ}
 use mathlib.Core.Bool.{true, false}
 use mathlib.Core.List.{List, [], _∷_}
-use mathlib.Core.Path.{_≡_, refl, sym, ap, _∙_}
+use mathlib.Core.Path.{_≡_, refl, ap, _∙_}
 use lib.ListN.{length, getD}
 use lib.Ieee.{Float}
 use Rattle.rules.specs.F32.{zeros}
@@ -20,7 +20,7 @@ use Rattle.desk.specs.declared.Record.{Record}
 use Rattle.desk.specs.declared.Answer.{Answer}
 use Rattle.desk.specs.Desk.{piece, resume, Given, desk, Served}
 use Rattle.desk.specs.Surface.{heardOf}
-use Rattle.whole.specs.Whole.{takeReply, Taking, taking, takeStep, takeFrames, takeBegins, take, Took}
+use Rattle.whole.specs.Whole.{takeReply, Taking, taking, takeStep, takeFrames, take, Took}
 use Rattle.whole.specs.Parts.{three, standing}
 
 -- a call with two buffers

@@ -1,14 +1,11 @@
 -- `whole::one_piece::take` meets its contract: it is refused, or a piece and then its frames are called. Assumes nothing.
 use borrow.Author.Needs.{needs}
 use native.Mathlib.Omega.{arith}
-use mathlib.Core.Bool.{true}
-use mathlib.Core.Path.{_≡_, refl, sym, ap, _∙_}
 use denote.Ref.{now}
 use lib.ListN.{length}
-use Rattle.frame.specs.Reply.{passed}
 use Rattle.rules.proofs.Tests.{answered-no, answered-yes}
 use Rattle.desk.specs.Gate.{BENCHES}
-use Rattle.whole.proofs.Accepted.{Take, take-accepted, fits-sizes}
+use Rattle.whole.proofs.Accepted.{Take, take-known, fits-sizes}
 use Rattle.whole.proofs.Taken.{refused, took}
 use Rattle.whole.proofs.one_piece.take.Statement.{statement}
 use Rattle.whole.proofs.one_piece.take.Tie as tie
@@ -18,8 +15,8 @@ known : (c : tie.Else1) → let a = c .before .before .before .before .before .b
     Take BENCHES (a .side .0) (a .rec) (now (a .store)) (now (a .piece)) (now (a .model)) (length (now (a .out))) (length (now (a .answers)))
 known c =
     let a = c .before .before .before .before .before .before .before .before .before .args in
-    take-accepted BENCHES (a .side .0) (a .rec) (now (a .store)) (now (a .piece)) (now (a .model)) (length (now (a .out))) (length (now (a .answers)))
-    (ap passed (sym (c .before .before .take-reply .ensures)) ∙ answered-yes (c .before .passed .ensures) (c .if1 .left))
+    take-known BENCHES (a .side .0) (a .rec) (now (a .store)) (now (a .piece)) (now (a .model)) (length (now (a .out))) (length (now (a .answers)))
+    (c .before .before .take-reply .ensures) (answered-yes (c .before .passed .ensures) (c .if1 .left))
 
 add-frames : tie.Need-add-frames
 add-frames c = let e = c .before .before .before .before .before .before .before .before .before .before .before in omega (arith, fits-sizes _ _ _ 22 (known e .fits))

@@ -1,7 +1,7 @@
 -- `whole::tests::frame_reply` meets its contract: each answer by the tests that lead to it. Assumes nothing.
 use borrow.Author.Needs.{needs}
-use mathlib.Core.Path.{sym, ap, _∙_}
-use borrow.Author.Tests.{eq-eqb, ne-eqb}
+use mathlib.Core.Path.{_∙_}
+use borrow.Author.Tests.{ne-eqb}
 use Rattle.rules.proofs.Tests.{tests}
 use Rattle.whole.specs.Whole.{frameReply}
 use Rattle.whole.proofs.tests.frame_reply.Statement.{statement}

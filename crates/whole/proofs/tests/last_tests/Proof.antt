@@ -1,6 +1,5 @@
 -- `whole::tests::last_tests` meets its contract. Assumes nothing.
 use borrow.Author.Needs.{needs}
-use mathlib.Core.Path.{sym, _∙_}
 use borrow.Author.Tests.{not-true, not-false}
 use Rattle.rules.proofs.Tests.{answered-no, answered-yes}
 use Rattle.whole.proofs.tests.last_tests.Statement.{statement}
