@@ -7,6 +7,7 @@ pub mod cleaned;
 pub mod demo;
 pub mod folder;
 pub mod lags;
+pub mod logs;
 pub mod mend;
 pub mod pack;
 pub mod page;
