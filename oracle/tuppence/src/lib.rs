@@ -132,6 +132,11 @@ surface! {
         record: &mut [u32], store: &mut [f32], side: u32, piece: &[f32], logs: &[f32], model: &[u8],
         out: &mut [f32], sums: &mut [f32], answer: &mut [f32]
     ) -> u32;
+}
+
+// A frame, and a piece with three answers for each frame that it completes, with our own logarithms.
+#[cfg(feature = "whole")]
+surface! {
     tuppence_frame as frame(
         record: &mut [u32], store: &mut [f32], side: u32, samples: &[f32], model: &[u8], out: &mut [f32], answer: &mut [f32]
     ) -> u32;
