@@ -58,9 +58,7 @@ pub fn bench() {
     println!("time of the latter, the Rust = 1: {:.2}", ours.as_secs_f64() / text.as_secs_f64());
 
     parts_of("of a frame in four calls", &of_calls(&recorder.spent));
-    let spent = pieces.spent;
-    let own = [("piece", spent.pieces[0]), ("resume", spent.pieces[1]), ("logarithms", spent.logarithms)];
-    parts_of("of a frame in pieces", &own);
+    parts_of("of a frame in pieces", &[("the library", pieces.spent.pieces)]);
 }
 
 fn of_calls(spent: &Spent) -> [(&'static str, Duration); 7] {

@@ -101,6 +101,26 @@ pub fn dictation(bench: usize) -> Dictation {
     Dictation { voice: clean, noisy }
 }
 
+/// Seeded noise, the demo's voice now and then, and stretches of silence.
+pub fn minutes(minutes: usize, bench: usize) -> Vec<f32> {
+    let n = minutes * 60 * RATE as usize;
+    let (voice, mut rng) = (dictation(bench).voice, Rng(99 + bench as u64));
+    let mut samples: Vec<f32> = grinder(n, 11 + bench as u64, 60.0, 280.0).iter().map(|x| (900.0 * x) as f32).collect();
+    let mut at = 0;
+    while at < n {
+        let (kind, length) = (rng.next() % 4, (RATE as u64 + rng.next() % (4 * RATE as u64)) as usize);
+        for (x, i) in samples[at..n.min(at + length)].iter_mut().zip(0..) {
+            match kind {
+                0 => *x = 0.0,
+                1 | 2 => *x += voice[i % voice.len()] as f32,
+                _ => {}
+            }
+        }
+        at += length;
+    }
+    samples
+}
+
 /// Decibels.
 fn db(ratio: f64) -> f64 {
     10.0 * ratio.log10()

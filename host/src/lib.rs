@@ -8,6 +8,7 @@ pub mod demo;
 pub mod files;
 pub mod folder;
 pub mod lags;
+pub mod logs;
 pub mod mend;
 pub mod overview;
 pub mod pack;

@@ -48,6 +48,9 @@ host: cleans two dictations, one for each bench
   host lags
       How often our own lag and that of the Rust text agree, on the demo's voices
       and on seeded ones of known pitch.
+  host logs
+      How far the sound moves where the library's own logarithms are lent, and not
+      those of this machine: on the demo and on ten minutes of noise and speech.
   host --help, host --version
 
 Exit status: 0 done, 2 something was not right; then nothing is written, but of a
@@ -105,6 +108,7 @@ fn run(words: &[String]) -> Result<(), String> {
         [version] if version == "--version" => println!("host {}", env!("CARGO_PKG_VERSION")),
         [bench] if bench == "bench" => host::bench::bench(),
         [lags] if lags == "lags" => host::lags::lags()?,
+        [logs] if logs == "logs" => host::logs::logs(),
         [demo, dir] if demo == "demo" => {
             host::demo::demo(dir.as_ref())?;
             println!("Look at {dir}/benches.svg, and listen to {dir}/left-before.wav and {dir}/left.wav.");

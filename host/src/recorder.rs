@@ -9,14 +9,13 @@ use std::time::{Duration, Instant};
 /// The store's published length, and a side's share of it (docs/STORE.md).
 pub const STORE: usize = 98_304;
 const SHARE: usize = 6_144;
-/// A record's numbers: how many, and where the two stand that count frames, and the length of a piece that pauses.
+/// A record's numbers: how many, and where the two stand that count frames.
 const RECORD: usize = 10;
 const FRAMES: usize = 5;
 const HEARD: usize = 6;
-const PAUSED: usize = 8;
-/// The most samples of a piece, and of the frames that it may complete: 479 may wait.
+/// The most samples of a piece, and the most frames that it may complete: 479 may wait.
 pub const PIECE: usize = 4_096;
-const COMPLETED: usize = (479 + PIECE) / FRAME * FRAME;
+const COMPLETED: usize = (479 + PIECE) / FRAME;
 /// `input_mem`, the first numbers of a share: what the lag is searched in.
 const INPUT_MEM: usize = 1_728;
 
@@ -38,8 +37,8 @@ impl Side {
     }
 }
 
-/// How frames are run: in pieces of the recording as it comes, with the library's lag and transforms, so that the logarithms alone are left to
-/// this program (request 12); or each in four calls, with this program's transforms and the lag of the text's own finder, or the library's.
+/// How frames are run: in pieces of the recording as it comes, all by the library, so that this program hands samples in and takes samples out;
+/// or each in four calls, with this program's transforms and logarithms and the lag of the text's own finder, or the library's.
 #[derive(Clone, Copy, Debug, PartialEq)]
 pub enum Way {
     Own,
@@ -81,8 +80,7 @@ pub struct Frame {
 #[derive(Clone, Copy, Default)]
 pub struct Spent {
     pub calls: [Duration; 4],
-    /// A piece, and a resume.
-    pub pieces: [Duration; 2],
+    pub pieces: Duration,
     pub transforms: Duration,
     pub lag: Duration,
     pub logarithms: Duration,
@@ -94,7 +92,8 @@ struct Buffers {
     spectrum: [f32; SPECTRUM],
     sums: [f32; 22],
     out: [f32; SPECTRUM],
-    completed: [f32; COMPLETED],
+    completed: [[f32; FRAME]; COMPLETED],
+    answers: [[f32; 3]; COMPLETED],
 }
 
 /// One store, and for each bench its record, its pitch finder, and where frames are run in four calls the samples that are none yet.
@@ -129,7 +128,8 @@ impl Recorder {
                 spectrum: [0.0; SPECTRUM],
                 sums: [0.0; 22],
                 out: [0.0; SPECTRUM],
-                completed: [0.0; COMPLETED],
+                completed: [[0.0; FRAME]; COMPLETED],
+                answers: [[0.0; 3]; COMPLETED],
             }),
             spent: Spent::default(),
         }
@@ -178,12 +178,7 @@ impl Recorder {
         Ok(())
     }
 
-    /// What the bench's record says of the frame that was begun behind so many, and this answer.
-    fn frame(&self, side: Side, number: u32, answer: [f32; 3]) -> Frame {
-        Frame { number, heard: Heard::of(answer), heard_so_far: self.records[side as usize][HEARD] }
-    }
-
-    /// A piece, resumed to its end.
+    /// A piece in one call. Its frames are numbered from those before them, as the record is.
     fn piece(
         &mut self,
         side: Side,
@@ -191,25 +186,18 @@ impl Recorder {
         model: &[u8],
         each: &mut impl FnMut(Frame, &[f32]),
     ) -> Result<(), Refusal> {
-        let bench = side as u32;
         let Recorder { store, records, buffers: b, spent, .. } = self;
         let record = &mut records[side as usize];
-        done(timed(&mut spent.pieces[0], || {
-            tuppence::piece(record, store, bench, piece, &mut b.completed, &mut b.sums)
+        let (before, mut heard_so_far) = (record[FRAMES], record[HEARD]);
+        done(timed(&mut spent.pieces, || {
+            let (out, answers) = (b.completed.as_flattened_mut(), b.answers.as_flattened_mut());
+            tuppence::take(record, store, side as u32, piece, model, out, answers)
         }))?;
-        for at in (0..).step_by(FRAME) {
-            let Recorder { store, records, buffers: b, spent, .. } = self;
-            let record = &mut records[side as usize];
-            if record[PAUSED] == 0 {
-                break;
-            }
-            let (number, mut answer) = (record[FRAMES], [0.0; 3]);
-            let logs = timed(&mut spent.logarithms, || b.sums.map(f32::log10));
-            done(timed(&mut spent.pieces[1], || {
-                let (out, sums) = (&mut b.completed, &mut b.sums);
-                tuppence::resume(record, store, bench, piece, &logs, model, out, sums, &mut answer)
-            }))?;
-            each(self.frame(side, number, answer), &self.buffers.completed[at..at + FRAME]);
+        let frames = record[FRAMES].wrapping_sub(before);
+        for (frame, (samples, answer)) in (0..frames).zip(b.completed.iter().zip(&b.answers)) {
+            let heard = Heard::of(*answer);
+            heard_so_far = heard_so_far.wrapping_add(u32::from(heard.is_heard()));
+            each(Frame { number: before.wrapping_add(frame), heard, heard_so_far }, samples);
         }
         Ok(())
     }
@@ -228,7 +216,8 @@ impl Recorder {
         for samples in frames {
             let (number, mut out) = (self.records[side as usize][FRAMES], [0.0; FRAME]);
             let answer = self.calls(side, samples, model, &mut out)?;
-            each(self.frame(side, number, answer), &out);
+            let heard_so_far = self.records[side as usize][HEARD];
+            each(Frame { number, heard: Heard::of(answer), heard_so_far }, &out);
         }
         self.waiting[side as usize] = rest.to_vec();
         Ok(())

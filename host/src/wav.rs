@@ -335,6 +335,24 @@ mod tests {
         assert_eq!(wav, Wav { rate: 48_000, channels: vec![vec![0.0, 1.0, -2.0, 32_767.0, -32_768.0]], clipped: 0 });
     }
 
+    /// The sizes of a header have 32 bits: what would go beyond them is not written.
+    #[test]
+    fn more_than_a_file_can_hold() {
+        let mut writer = Writer::new(io::Cursor::new(Vec::new()), 48_000).unwrap();
+        writer.size = UNKNOWN - 36 - 5;
+        assert!(writer.write(&[1.0; 3]).is_err() && writer.write(&[1.0; 2]).is_ok() && writer.write(&[1.0]).is_err());
+        let file = writer.finish().unwrap().into_inner();
+        assert_eq!((file.len(), &file[4..8]), (44 + 4, &(UNKNOWN - 1).to_le_bytes()[..]));
+    }
+
+    /// Until the end is known, what is there counts.
+    #[test]
+    fn a_file_that_was_never_closed() {
+        let mut writer = Writer::new(io::Cursor::new(Vec::new()), 48_000).unwrap();
+        writer.write(&[5.0, 6.0]).unwrap();
+        assert_eq!(read(&writer.to.into_inner()).unwrap().channels, [[5.0, 6.0]]);
+    }
+
     /// A file of 32-bit floats.
     fn floats(channels: u8, samples: &[f32]) -> Vec<u8> {
         let mut bytes = write(48_000, &vec![0.0; 2 * samples.len()]);

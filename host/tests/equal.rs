@@ -2,10 +2,10 @@
 //! but for the signs of zeros. With our own lag and transforms it is the same however the recording is cut.
 
 use host::clean::{frames_of, in_memory};
-use host::demo::{dictation, grinder, Rng, HOUSE};
+use host::demo::{dictation, minutes, HOUSE};
 use host::recorder::{Heard, Recorder, Side, Way, PIECE};
 use host::reference::Reference;
-use host::{FRAME, RATE};
+use host::FRAME;
 
 /// One bench by the text: its output, and the voice of each frame.
 fn by_the_text(recording: &[f32]) -> (Vec<f32>, Vec<f32>) {
@@ -51,26 +51,6 @@ fn both_agree(left: &[f32], right: &[f32]) {
 #[test]
 fn the_demo() {
     both_agree(&dictation(0).noisy, &dictation(1).noisy);
-}
-
-/// Seeded noise, the demo's voice now and then, and stretches of silence.
-fn minutes(minutes: usize, bench: usize) -> Vec<f32> {
-    let n = minutes * 60 * RATE as usize;
-    let (voice, mut rng) = (dictation(bench).voice, Rng(99 + bench as u64));
-    let mut samples: Vec<f32> = grinder(n, 11 + bench as u64, 60.0, 280.0).iter().map(|x| (900.0 * x) as f32).collect();
-    let mut at = 0;
-    while at < n {
-        let (kind, length) = (rng.next() % 4, (RATE as u64 + rng.next() % (4 * RATE as u64)) as usize);
-        for (x, i) in samples[at..n.min(at + length)].iter_mut().zip(0..) {
-            match kind {
-                0 => *x = 0.0,
-                1 | 2 => *x += voice[i % voice.len()] as f32,
-                _ => {}
-            }
-        }
-        at += length;
-    }
-    samples
 }
 
 #[test]

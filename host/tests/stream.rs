@@ -117,6 +117,19 @@ fn a_stream_with_a_broken_sample() {
     assert!(frames > 0 && wav::read(&left).unwrap().channels[0].len() <= 480 * frames);
 }
 
+/// Where the disk is full, what was written stays beside its place, and can be read.
+#[cfg(target_os = "linux")]
+#[test]
+fn a_full_disk() {
+    let path = folder("full");
+    fs::create_dir(path.join("out")).unwrap();
+    std::os::unix::fs::symlink("/dev/full", path.join("out/left.wav.part")).unwrap();
+    let (output, said) = deliver(clean(&path, &["-", "--raw", "--out", "out"]), &stereo()[HEADER..]);
+    assert!(output.status.code() == Some(2) && said.contains("left.wav") && said.contains(".part"), "{said}");
+    let right = wav::read(&fs::read(path.join("out/right.wav.part")).unwrap()).unwrap();
+    assert!(!right.channels[0].is_empty() && !path.join("out/right.wav").exists());
+}
+
 /// The most memory that a process had so far, in KiB, while it is there.
 #[cfg(target_os = "linux")]
 fn peak(child: &Child) -> Option<u64> {

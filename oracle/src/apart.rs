@@ -11,6 +11,8 @@ use std::ops::Range;
 
 /// So many of 80 calls begin a piece where call 1 is due: each comes to some fifteen calls, with all their transforms.
 const PIECES: usize = 2;
+/// And so many are whole.
+const WHOLE: usize = 2;
 
 /// What a run has of its own.
 struct Run {
@@ -24,7 +26,7 @@ impl Run {
     fn new(seed: u64) -> Run {
         let mut rng = Rng::new(seed);
         let store = rng.list_of(STORE, Mood::Any);
-        let callers = std::array::from_fn(|bench| Caller::in_pieces(bench as u32, PIECES));
+        let callers = std::array::from_fn(|bench| Caller::with_whole(bench as u32, PIECES, WHOLE));
         Run { rng, store, records: vec![vec![0; RECORD]; BENCHES], callers }
     }
 
@@ -68,7 +70,7 @@ fn received(lent: &[f32], held: &[f32], written: Range<usize>) -> Vec<u32> {
 
 /// So many calls of one bench.
 fn compare_one(tally: &mut Tally, one: usize, seed: u64, calls: u64) {
-    let mut caller = Caller::in_pieces(one as u32, PIECES);
+    let mut caller = Caller::with_whole(one as u32, PIECES, WHOLE);
     let rng = &mut Rng::new(seed);
     let mut runs = [Run::new(seed + 1), Run::new(seed + 2)];
     for _ in 0..calls {

@@ -2,11 +2,12 @@
 
 use crate::desk::{DUE, PIECE as NOTED, PROGRESS, WAITING};
 use crate::dictation::{completed, under_way, LONGEST};
+use crate::lent;
 use crate::models::{self, Shape};
 use crate::rng::{Mood, Rng};
 use std::ops::Range;
 
-/// The functions of a desk.
+/// The functions of a desk, and the logarithms that belong to it.
 pub struct Surface {
     pub open: fn(&mut [u32], &mut [f32], u32, &[u8]) -> u32,
     pub call1: fn(&mut [u32], &mut [f32], u32, &[f32], &mut [f32]) -> u32,
@@ -18,7 +19,18 @@ pub struct Surface {
     pub second_half: fn(&mut [u32], &mut [f32], u32, &[f32], &[u8], &mut [f32], &mut [f32]) -> u32,
     pub piece: fn(&mut [u32], &mut [f32], u32, &[f32], &mut [f32], &mut [f32]) -> u32,
     pub resume: fn(&mut [u32], &mut [f32], u32, &[f32], &[f32], &[u8], &mut [f32], &mut [f32], &mut [f32]) -> u32,
+    pub logs: fn(&mut [f32], &[f32]) -> u32,
+    /// None where a whole call is made of the calls that it is by definition.
+    pub whole: Option<Whole>,
 }
+
+/// A frame and a piece in one call.
+pub struct Whole {
+    pub frame: WholeCall,
+    pub take: WholeCall,
+}
+
+type WholeCall = fn(&mut [u32], &mut [f32], u32, &[f32], &[u8], &mut [f32], &mut [f32]) -> u32;
 
 /// The proved desk.
 pub const OURS: Surface = Surface {
@@ -32,6 +44,8 @@ pub const OURS: Surface = Surface {
     second_half: tuppence::second_half,
     piece: tuppence::piece,
     resume: tuppence::resume,
+    logs: tuppence::logs,
+    whole: Some(Whole { frame: tuppence::frame, take: tuppence::take }),
 };
 
 /// Calls 1 and 2, and calls 3 and 4, in one.
@@ -40,6 +54,9 @@ pub const SECOND_HALF: u32 = 6;
 /// A piece of dictation, and what takes it on from a pause.
 pub const PIECE: u32 = 7;
 pub const RESUME: u32 = 8;
+/// A frame in one call, and a piece.
+pub const FRAME: u32 = 9;
+pub const TAKE: u32 = 10;
 
 /// One call: its arguments, and what its answer buffers hold before it. Call 0 is an opening.
 #[derive(Clone, Default)]
@@ -47,7 +64,7 @@ pub struct Ask {
     pub call: u32,
     pub side: u32,
     /// Samples; the first spectrum; the second spectrum and the logarithms; the inverse. Of the halves, samples; logarithms. A
-    /// piece; the same and logarithms.
+    /// piece; the same and logarithms. Samples; a piece.
     pub given: Vec<Vec<f32>>,
     /// Call 2's; none for its sister, which finds its own.
     pub lag: Option<u32>,
@@ -83,13 +100,21 @@ impl Ask {
             (RESUME, [piece, logs], [out, sums, answer]) => {
                 (desk.resume)(record, store, self.side, piece, logs, &self.model, out, sums, answer)
             }
+            (FRAME, [samples], [out, answer]) => match &desk.whole {
+                Some(whole) => (whole.frame)(record, store, self.side, samples, &self.model, out, answer),
+                None => lent::frame(desk, record, store, self.side, samples, &self.model, out, answer),
+            },
+            (TAKE, [piece], [out, answers]) => match &desk.whole {
+                Some(whole) => (whole.take)(record, store, self.side, piece, &self.model, out, answers),
+                None => lent::take(desk, record, store, self.side, piece, &self.model, out, answers),
+            },
             _ => unreachable!("a call of another shape"),
         };
         (number, lent)
     }
 
     /// The places of each answer buffer that an accepted call writes, by the record before it and after it: those of a frame that
-    /// is completed, and sums where a piece pauses. What is neither a piece nor a resume writes whole buffers.
+    /// is completed, and sums where a piece pauses. What has nothing to do with a piece writes whole buffers.
     pub fn written(&self, before: &[u32], after: &[u32]) -> Vec<Range<usize>> {
         let sums = if noted(after, NOTED) > 0 { 0..22 } else { 0..0 };
         match self.call {
@@ -97,6 +122,10 @@ impl Ask {
             RESUME => {
                 let (frame, _) = under_way(noted(before, PROGRESS));
                 vec![480 * (frame - 1)..480 * frame, sums, 0..3]
+            }
+            TAKE => {
+                let frames = completed(noted(before, WAITING), self.given[0].len());
+                vec![0..480 * frames, 0..3 * frames]
             }
             _ => self.held.iter().map(|held| 0..held.len()).collect(),
         }
@@ -126,8 +155,9 @@ pub struct Caller {
     next: Session,
     spectrum: Vec<f32>,
     sums: Vec<f32>,
-    /// Where call 1 is due, so many of 80 calls begin a piece.
+    /// Where call 1 is due, so many of 80 calls begin a piece, and so many are whole.
     pieces: usize,
+    whole: usize,
     /// The piece last lent, and its output as it was left.
     piece: Vec<f32>,
     out: Vec<f32>,
@@ -143,15 +173,26 @@ impl Caller {
         Caller { pieces, ..Caller::new(side) }
     }
 
+    /// One that besides makes so many whole calls in 80 there.
+    pub fn with_whole(side: u32, pieces: usize, whole: usize) -> Caller {
+        Caller { whole, ..Caller::in_pieces(side, pieces) }
+    }
+
     /// The next call, by the side's record. The plain sums that a half is held against take their time: one call in twelve is one.
     pub fn ask(&mut self, rng: &mut Rng, record: &[u32]) -> Ask {
         // a damaged record may note any number
         let (due, unfinished, waiting) =
             (noted(record, DUE).min(4), noted(record, NOTED), noted(record, WAITING).min(479));
+        let calls = if self.whole > 0 { TAKE } else { RESUME } as usize;
         let call = match (rng.below(80), due) {
             (0, _) => 0,
-            (1..=3, _) => 1 + rng.below(8) as u32,
+            (1..=3, _) => 1 + rng.below(calls) as u32,
             _ if unfinished > 0 => RESUME,
+            // a frame is refused where samples wait
+            (n, 1) if n >= 80 - self.whole => match if waiting > 0 { rng.once_in(20) } else { !rng.once_in(4) } {
+                true => FRAME,
+                false => TAKE,
+            },
             _ if waiting > 0 => PIECE,
             (4..=16, 1) => FIRST_HALF,
             (4..=16, 3) => SECOND_HALF,
@@ -171,6 +212,8 @@ impl Caller {
                 Ask { held: vec![held(rng, 480), held(rng, 3)], ..ask }
             }
             PIECE => self.piece(rng, waiting),
+            FRAME => Ask { model: self.model(rng), held: vec![held(rng, 480), held(rng, 3)], ..self.samples(rng) },
+            TAKE => self.take(rng, waiting),
             _ => self.resume(rng, unfinished, noted(record, PROGRESS)),
         };
         ask.call = call;
@@ -220,8 +263,14 @@ impl Caller {
     fn piece(&mut self, rng: &mut Rng, waiting: usize) -> Ask {
         let len = if rng.once_in(40) { rng.pick(&[0, LONGEST + 1, 65_536]) } else { piece_length(rng, waiting) };
         let piece = self.recorded(rng, len);
-        let held = vec![output(rng, completed(waiting, piece.len())), held(rng, 22)];
+        let held = vec![at_least(rng, 480 * completed(waiting, piece.len())), held(rng, 22)];
         Ask { given: vec![piece], held, ..Ask::default() }
+    }
+
+    fn take(&mut self, rng: &mut Rng, waiting: usize) -> Ask {
+        let mut ask = self.piece(rng, waiting);
+        ask.held[1] = at_least(rng, 3 * completed(waiting, ask.given[0].len()));
+        Ask { model: self.model(rng), ..ask }
     }
 
     /// Mostly with the piece and the output that were lent before. Other samples of the noted length are taken as well.
@@ -235,7 +284,7 @@ impl Caller {
         let frames = completed(waited, piece.len());
         let out = match self.out.len() >= 480 * frames && !rng.once_in(20) {
             true => self.out.clone(),
-            false => output(rng, frames),
+            false => at_least(rng, 480 * frames),
         };
         let given = vec![piece, second.given[1].clone()];
         Ask { given, held: vec![out, held(rng, 22), held(rng, 3)], ..second }
@@ -268,7 +317,14 @@ impl Caller {
         if !rng.once_in(4) && logs.len() == self.sums.len() {
             logs = self.sums.iter().map(|x| x.log10()).collect();
         }
-        let model = match rng.below(16) {
+        let model = self.model(rng);
+        let held = vec![held(rng, 961), held(rng, 3)];
+        Ask { given: vec![spectrum, logs], model, held, ..Ask::default() }
+    }
+
+    /// Mostly that of the opening.
+    fn model(&self, rng: &mut Rng) -> Vec<u8> {
+        match rng.below(16) {
             0 => models::any(rng),
             1 => models::good(rng),
             // another model with the same three counts
@@ -278,9 +334,7 @@ impl Caller {
                 models::of_shape(rng, [dense, vad, noise, denoise])
             }
             _ => self.session.model.clone(),
-        };
-        let held = vec![held(rng, 961), held(rng, 3)];
-        Ask { given: vec![spectrum, logs], model, held, ..Ask::default() }
+        }
     }
 
     fn inverse(&mut self, rng: &mut Rng) -> Ask {
@@ -338,13 +392,13 @@ pub fn piece_length(rng: &mut Rng, waiting: usize) -> usize {
     }
 }
 
-/// What the output of so many frames holds before the call: mostly of their length, or longer, now and then too short.
-fn output(rng: &mut Rng, frames: usize) -> Vec<f32> {
+/// What a buffer of at least n numbers holds before the call: mostly so many, or more, now and then too few.
+fn at_least(rng: &mut Rng, n: usize) -> Vec<f32> {
     let len = match rng.below(40) {
-        0 => (480 * frames).saturating_sub(1),
-        1 => rng.below(480 * frames + 1),
-        2..=9 => 480 * frames + rng.below(1_000),
-        _ => 480 * frames,
+        0 => n.saturating_sub(1),
+        1 => rng.below(n + 1),
+        2..=9 => n + rng.below(1_000),
+        _ => n,
     };
     rng.list_of(len, Mood::Any)
 }

@@ -1,10 +1,10 @@
-//! Any desk beside the desk by the text: both are asked the same, and all that they answer and leave is compared.
+//! Any desk beside the desk by the text, or beside another: both are asked the same, and all that they answer and leave is compared.
 
-use crate::ask::{Ask, Surface, PIECE, RESUME, SECOND_HALF};
+use crate::ask::{Ask, Surface, FRAME, PIECE, RESUME, SECOND_HALF, TAKE};
 use crate::desk::{self, BENCHES, COUNTS, EX, LAG, RECORD, SHARE, STORE, WAIT, X};
-use crate::dictation;
 use crate::rng::{Mood, Rng};
 use crate::tally::{floats, kept, signed, By, Given, Tally, Value};
+use crate::{dictation, logs};
 use std::ops::Range;
 
 /// The desk by the text.
@@ -19,6 +19,8 @@ pub const TEXT: Surface = Surface {
     second_half: desk::second_half,
     piece: dictation::piece,
     resume: dictation::resume,
+    logs: logs::nearest,
+    whole: None,
 };
 
 /// A desk's store and all its records.
@@ -39,16 +41,18 @@ impl World {
     }
 }
 
-/// What the text answered, and its world before that.
+/// What the text, or whoever stands for it, answered, and its world before that.
 pub struct Answered {
     pub number: u32,
     pub lent: Vec<Vec<f32>>,
     pub before: World,
 }
 
-/// The two desks.
+/// The two desks; whether they must agree bit for bit.
 pub struct Beside<'a> {
     desk: &'a Surface,
+    reference: &'a Surface,
+    exact: bool,
     ours: World,
     pub rusts: World,
 }
@@ -56,13 +60,19 @@ pub struct Beside<'a> {
 impl Beside<'_> {
     pub fn new<'a>(rng: &mut Rng, desk: &'a Surface) -> Beside<'a> {
         let ours = World::new(rng);
-        Beside { desk, rusts: ours.clone(), ours }
+        Beside { desk, reference: &TEXT, exact: false, rusts: ours.clone(), ours }
+    }
+
+    /// Bit for bit beside another desk. All damage is passing, that of the store too.
+    pub fn exactly<'a>(rng: &mut Rng, desk: &'a Surface, reference: &'a Surface) -> Beside<'a> {
+        Beside { reference, exact: true, ..Beside::new(rng, desk) }
     }
 
     /// Both suffer the damage, are asked, and are compared; a passing damage is mended.
     pub fn put(&mut self, tally: &mut Tally, side: usize, ask: &Ask, damage: &Damage) -> Answered {
-        let Beside { desk, ours, rusts } = self;
-        let saved = damage.passing().then(|| [ours.clone(), rusts.clone()]);
+        let Beside { desk, reference, exact, ours, rusts } = self;
+        let passing = damage.passing() || (*exact && !matches!(damage, Damage::None));
+        let saved = passing.then(|| [ours.clone(), rusts.clone()]);
         for world in [&mut *ours, rusts] {
             damage.apply(world, side);
         }
@@ -71,17 +81,18 @@ impl Beside<'_> {
         let given = given(&words, ask, &held);
         let given = Given::new(&given);
         let (number, lent) = ask.put(desk, &mut ours.records[side], &mut ours.store);
-        let (want, wanted) = ask.put(&TEXT, &mut rusts.records[side], &mut rusts.store);
-        if want == 0 {
+        let (want, wanted) = ask.put(reference, &mut rusts.records[side], &mut rusts.store);
+        if want == 0 && !*exact {
             let written = ask.written(&before.records[side], &rusts.records[side]);
             // a maximum, which leaves the signs of zeros open, stands in call 3 alone
-            let by = if matches!(ask.call, 3 | SECOND_HALF | RESUME) { floats } else { signed };
+            let by = if matches!(ask.call, 3 | SECOND_HALF | RESUME | FRAME | TAKE) { floats } else { signed };
             let left = all(&number, parts(&lent, &written, [floats; 2]), ours, side, [floats; 2]);
             let right = all(&want, parts(&wanted, &written, [kept, by]), rusts, side, [kept, floats]);
             tally.judge(what(ask), given, &left, &right);
         } else {
+            let (lents, world) = if want == 0 { (&wanted, &*rusts) } else { (&ask.held, &held) };
             let left = all(&number, whole(&lent, floats), ours, side, [floats; 2]);
-            let right = all(&want, whole(&ask.held, kept), &held, side, [kept; 2]);
+            let right = all(&want, whole(lents, kept), world, side, [kept; 2]);
             tally.judge(what(ask), given, &left, &right);
         }
         if let Some([a, b]) = saved {
@@ -106,6 +117,8 @@ fn what(ask: &Ask) -> &'static str {
     match ask.call {
         PIECE => "a piece",
         RESUME => "a resume",
+        FRAME => "a frame in one call",
+        TAKE => "a piece in one call",
         _ => "frame",
     }
 }

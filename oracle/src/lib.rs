@@ -26,9 +26,13 @@ pub mod desk;
 #[cfg(feature = "frame")]
 pub mod dictation;
 #[cfg(feature = "frame")]
+pub mod faults;
+#[cfg(feature = "frame")]
 pub mod frame;
 #[cfg(feature = "lag")]
 pub mod lag;
+#[cfg(feature = "frame")]
+pub mod lent;
 #[cfg(feature = "logs")]
 pub mod logs;
 #[cfg(feature = "sheet")]
@@ -49,6 +53,8 @@ pub mod shadow;
 pub mod sheet;
 #[cfg(feature = "transforms")]
 pub mod transforms;
+#[cfg(feature = "frame")]
+pub mod whole;
 #[cfg(feature = "model")]
 pub mod writer;
 
@@ -108,4 +114,6 @@ pub const GROUPS: &[Group] = &[
     ("apart", apart::compare),
     #[cfg(feature = "frame")]
     ("pieces", pieces::compare),
+    #[cfg(feature = "frame")]
+    ("whole", whole::compare),
 ];

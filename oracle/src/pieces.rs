@@ -75,7 +75,7 @@ fn compare_with(tally: &mut Tally, seed: u64, frames: u64, desk: &Surface) -> Me
 
 /// Mostly none. Else a record with the new numbers at their limits, one at a time, or several that may belong together; samples that wait
 /// changed from outside; or what befalls any call.
-fn damage(rng: &mut Rng, side: usize, record: &[u32]) -> Damage {
+pub fn damage(rng: &mut Rng, side: usize, record: &[u32]) -> Damage {
     let piece = rng.pick(&[1, 479, 480, 481, 1_000, 4_095, 4_096, 4_097]);
     let noted = record[desk::PIECE];
     let progress =

@@ -44,7 +44,7 @@ pub const STORE: usize = BENCHES * frame::SHARE;
 const FIRST: u32 = 0;
 
 // Behind the numbers of a frame's four calls.
-const PIECE: usize = 5;
+pub const PIECE: usize = 5;
 
 const RESUME: usize = 6;
 
@@ -239,7 +239,7 @@ fn is_due(rec: Record, call: usize) -> bool
 }
 
 // Refusals 1 to 4, or 0: `call` is the call asked for, and 0 an opening.
-fn gate(side: Side, rec: Record, len: usize, call: usize) -> u32
+pub fn gate(side: Side, rec: Record, len: usize, call: usize) -> u32
     ensures { λ r. ⌜ r ≡ gate BENCHES (side .0) rec len call ⌝ }
 {
     if side.0 >= BENCHES {

@@ -1,3 +1,4 @@
 pub mod Answers
+mod Given
 mod Handed
 pub mod Networks

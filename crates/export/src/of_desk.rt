@@ -28,7 +28,7 @@ fn wide(x: u32) -> usize
 }
 
 // A record from its numbers; a list of another length is out of range.
-fn record_in(record: &[u32]) -> Record
+pub(crate) fn record_in(record: &[u32]) -> Record
     ensures { λ r. ⌜ r ≡ recordIn (now («record» .entry)) ⌝ }
 {
     if record.len() != RECORD {
@@ -85,7 +85,7 @@ fn number_of(reply: Reply) -> u32
 }
 
 // The record of a call that is done is handed back, and the number returned.
-fn hand_back(record: &mut [u32], given: Answer) -> u32
+pub(crate) fn hand_back(record: &mut [u32], given: Answer) -> u32
     requires { ⌜ HandsBack (now «record») given ⌝ }
     ensures { λ r. ⌜ (r ≡ replyNumber (given .reply))
         × (now («record» .exit) ≡ cond (passed (given .reply)) (numbersOf (given .rec)) (now («record» .entry))) ⌝ }
@@ -197,56 +197,22 @@ pub extern "C" fn tuppence_call2_own(
     hand_back(record, given)
 }
 
-// What call 3, the second half and a resume answer, as three numbers.
-struct Three {
-    heard: f32,
-    voice: f32,
-    energy: f32,
-}
-
-fn three_of(reply: Reply) -> Three
-    ensures { λ r. ⌜ (r .heard ∷ r .voice ∷ r .energy ∷ []) ≡ heardOf reply ⌝ }
-{
-    match reply {
-        Reply::Heard(voice, energy) => Three {
-            heard: 1.0,
-            voice,
-            energy,
-        },
-        Reply::Done => none(),
-        Reply::Silent => none(),
-        Reply::Numbered(_, _) => none(),
-        Reply::Refused(_) => none(),
-        Reply::Misread(_, _) => none(),
-    }
-}
-
-fn none() -> Three
-    ensures { λ r. ⌜ (r .heard ∷ r .voice ∷ r .energy ∷ []) ≡ heardOf Reply.Silent ⌝ }
-{
-    Three {
-        heard: 0.0,
-        voice: 0.0,
-        energy: 0.0,
-    }
-}
-
-// A call that is done writes them.
-fn tell(answer: &mut [f32], reply: Reply)
+// What call 3, the second half and a resume answer is written as three numbers, where the call is done.
+pub(crate) fn tell(answer: &mut [f32], reply: Reply)
     requires { ⌜ (passed reply ≡ true → length (now answer) ≡ 3) ⌝ }
     ensures { λ _. ⌜ now (answer .exit) ≡ cond (passed reply) (heardOf reply) (now (answer .entry)) ⌝ }
 {
     if !frame::passed(reply) {
         return;
     }
-    let three = three_of(reply);
+    let three = whole::three_of(reply);
     answer[0] = three.heard;
     answer[1] = three.voice;
     answer[2] = three.energy;
 }
 
 // An `answer` of another length than three is a wrong length among the others: then the call is lent no place of `out`, and refuses.
-fn places(answer: usize, out: usize) -> usize
+pub(crate) fn places(answer: usize, out: usize) -> usize
     ensures { λ r. ⌜ r ≡ outOf answer out ⌝ }
 {
     if answer != 3 {

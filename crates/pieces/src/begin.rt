@@ -7,7 +7,7 @@ ghost use Rattle.pieces.specs.Parts.{pieceReply};
 use frame::Reply;
 
 // Whether a piece of this size, with so many waiting, fits its buffers.
-fn piece_fits(waiting: usize, size: usize, out: usize, sums: usize) -> bool
+pub fn piece_fits(waiting: usize, size: usize, out: usize, sums: usize) -> bool
     ensures { λ r. ⌜ r ≡ pieceFits waiting size out sums ⌝ }
 {
     if waiting > 479 {

@@ -6,4 +6,5 @@ mod frames;
 mod waiting;
 
 pub use begin::piece;
+pub use begin::piece_fits;
 pub use finish::resume;

@@ -339,6 +339,90 @@ fn of_frame(rng: &mut Rng) -> Vec<Row> {
     vec![Row { name: "a heard frame, four calls", ours, rusts }]
 }
 
+/// An opened bench, whose frames are all heard.
+#[cfg(feature = "frame")]
+struct Bench {
+    record: [u32; 10],
+    store: Vec<f32>,
+    model: Vec<u8>,
+    out: [f32; 9 * 480],
+    answers: [f32; 9 * 3],
+}
+
+#[cfg(feature = "frame")]
+impl Bench {
+    fn opened(model: &[u8]) -> Bench {
+        let (mut record, mut store) = ([0; 10], vec![0.0; 98_304]);
+        assert_eq!(tuppence::open(&mut record, &mut store, 1, model), 0);
+        Bench { record, store, model: model.to_vec(), out: [0.0; 9 * 480], answers: [0.0; 9 * 3] }
+    }
+
+    fn frame(&mut self, samples: &[f32]) {
+        let Bench { record, store, model, out, answers } = self;
+        let refused = tuppence::frame(record, store, 1, samples, model, &mut out[..480], &mut answers[..3]);
+        assert!(refused == 0 && answers[0] == 1.0, "the frame is heard");
+    }
+
+    /// How many frames the piece completes.
+    fn take(&mut self, piece: &[f32]) -> u32 {
+        let Bench { record, store, model, out, answers } = self;
+        let done = record[5];
+        let refused = tuppence::take(record, store, 1, piece, model, out, answers);
+        assert!(refused == 0 && answers[0] == 1.0, "the frames are heard");
+        record[5] - done
+    }
+}
+
+/// The text's `process_frame` with its own lag and the machine's logarithms; its transforms are ours, of which it has none here.
+#[cfg(feature = "frame")]
+fn text_with_our_transforms(samples: &'static [f32], model: &[u8]) -> Side {
+    let mut text = DenoiseState::from_model(RnnModel::from_bytes(model).unwrap());
+    let mut frames = samples.chunks_exact(480).cycle();
+    Box::new(move |times| {
+        feed::install(feed::Functions {
+            forward: Box::new(|window, spectrum| _ = tuppence::forward(spectrum, window)),
+            inverse: Box::new(|spectrum, window| _ = tuppence::inverse(window, spectrum)),
+            log10: f32::log10,
+        });
+        let mut output = [0.0; 480];
+        let start = Instant::now();
+        for _ in 0..times {
+            text.process_frame(black_box(&mut output), frames.next().unwrap());
+        }
+        start.elapsed()
+    })
+}
+
+/// Frames in one call.
+#[cfg(feature = "frame")]
+fn of_whole(rng: &mut Rng) -> Vec<Row> {
+    let samples: Vec<f32> = rng.list_of(100 * 480, Mood::Audio).iter().map(|x| x.min(32_767.0)).collect();
+    let samples: &'static [f32] = Box::leak(samples.into_boxed_slice());
+    let model = models::of_shape(rng, models::USUAL);
+    let [mut one, mut other] = [(); 2].map(|_| Bench::opened(&model));
+    let (mut frames, mut pieces) = (samples.chunks_exact(480).cycle(), samples.chunks_exact(4_096).cycle());
+    let takes: Side = Box::new(move |times| {
+        let each = |_| {
+            let start = Instant::now();
+            let frames = other.take(pieces.next().unwrap());
+            start.elapsed() / frames
+        };
+        (0..times).map(each).sum()
+    });
+    vec![
+        Row {
+            name: "a frame in one call",
+            ours: timed(move || one.frame(frames.next().unwrap())),
+            rusts: text_with_our_transforms(samples, &model),
+        },
+        Row {
+            name: "4,096 samples in one call, a frame",
+            ours: takes,
+            rusts: text_with_our_transforms(samples, &model),
+        },
+    ]
+}
+
 fn main() {
     let rng = &mut Rng::new(1);
     let mut rows = vec![];
@@ -360,6 +444,8 @@ fn main() {
     rows.extend(of_sheet(rng));
     #[cfg(feature = "frame")]
     rows.extend(of_frame(rng));
+    #[cfg(feature = "frame")]
+    rows.extend(of_whole(rng));
     let words: Vec<String> = std::env::args().skip(1).collect();
     if let [name, side, times] = &words[..] {
         let row = rows.iter_mut().find(|row| row.name.starts_with(&name[..])).expect("no such row");

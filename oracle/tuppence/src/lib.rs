@@ -134,6 +134,17 @@ surface! {
     ) -> u32;
 }
 
+// A frame, and a piece with three answers for each frame that it completes, with our own logarithms.
+#[cfg(feature = "whole")]
+surface! {
+    tuppence_frame as frame(
+        record: &mut [u32], store: &mut [f32], side: u32, samples: &[f32], model: &[u8], out: &mut [f32], answer: &mut [f32]
+    ) -> u32;
+    tuppence_take as take(
+        record: &mut [u32], store: &mut [f32], side: u32, piece: &[f32], model: &[u8], out: &mut [f32], answers: &mut [f32]
+    ) -> u32;
+}
+
 // Start, number of records and side of a good sheet; an entry is its frame's number, and 2^32 more where it was heard;
 // of a mended file, how many bytes and records it has.
 #[cfg(feature = "sheet")]

@@ -9,7 +9,8 @@ use Rattle.rules.specs.Place.{get, put}
 use Rattle.desk.specs.Gate.{BENCHES}
 use Rattle.desk.specs.Desk.{resume}
 use Rattle.desk.proofs.Replies.{no-resume-out}
-use Rattle.export.proofs.Handed.{hands-back, no-more, three, handed-three}
+use Rattle.export.proofs.Given.{no-more}
+use Rattle.export.proofs.Handed.{hands-back, three, handed-three}
 use Rattle.export.proofs.of_desk.tuppence_resume.Statement.{statement}
 use Rattle.export.proofs.of_desk.tuppence_resume.Tie as tie
 

@@ -1,9 +1,9 @@
--- `three_of` meets its contract. Assumes nothing.
+-- `whole::heard::three_of` meets its contract. Assumes nothing.
 use borrow.Author.Needs.{needs}
 use mathlib.Core.Path.{sym, ap}
 use Rattle.desk.specs.Surface.{heardOf}
-use Rattle.export.proofs.of_desk.three_of.Statement.{statement}
-use Rattle.export.proofs.of_desk.three_of.Tie as tie
+use Rattle.whole.proofs.heard.three_of.Statement.{statement}
+use Rattle.whole.proofs.heard.three_of.Tie as tie
 
 pub three-of-spec : {M : Type 1} → statement M
 three-of-spec =

@@ -1,0 +1,73 @@
+-- `tuppence_take` meets its contract: it is a take of `whole`, and its answer is handed back as numbers. Assumes nothing.
+use Prim.Native.Nat.{ℕ}
+use mathlib.Core.Bool.{cond}
+use mathlib.Core.List.{List}
+use mathlib.Core.Path.{_≡_}
+use borrow.Author.Needs.{needs}
+use denote.Ref.{now}
+use lib.Ieee.{Float}
+use Rattle.frame.specs.Reply.{passed}
+use Rattle.desk.specs.declared.Answer.{Answer}
+use Rattle.desk.specs.declared.Record.{Record}
+use Rattle.desk.specs.Gate.{BENCHES}
+use Rattle.desk.specs.Surface.{recordIn, numbersOf, replyNumber}
+use Rattle.whole.specs.Whole.{take, Took}
+use Rattle.whole.specs.Surface.{HostTook}
+use Rattle.whole.proofs.Ranged.{take-small, take-range}
+use Rattle.export.specs.Parts.{HandsBack}
+use Rattle.export.proofs.Given as any
+use Rattle.export.proofs.of_whole.tuppence_take.Statement.{statement}
+use Rattle.export.proofs.of_whole.tuppence_take.Tie as tie
+
+-- the record as the code has it, and what the take left
+module _ (side : ℕ) (ns : List ℕ) (b : Record) (store samples : List Float) (model : List ℕ) (out answers : List Float)
+    {store′ out′ answers′ : List Float} {given : Answer}
+    (read : b ≡ recordIn ns) (took : Took (take BENCHES side b store samples model out answers) given store′ out′ answers′) where
+  hands-back : HandsBack ns given
+  hands-back =
+      any.hands-back ns b read
+      (record {
+        small = take-small BENCHES side samples model b store out answers;
+        ranged = take-range BENCHES side samples model b store out answers;
+      })
+      (took .answered)
+
+  handed : {number : ℕ} {ns′ : List ℕ} → (number ≡ replyNumber (given .reply)) × (ns′ ≡ cond (passed (given .reply)) (numbersOf (given .rec)) ns)
+      → HostTook (take BENCHES side (recordIn ns) store samples model out answers) number ns ns′ store′ out′ answers′
+  handed h =
+      rw (← read)
+      (record {
+        numbers = rw (← took .answered) (h .0);
+        records = rw (← took .answered) (h .1);
+        stores = took .stores;
+        writes = took .writes;
+      })
+
+hand-back-requires : tie.Need-hand-back-requires
+hand-back-requires c κs =
+    let d = c .before .before .before .before .before .before .before in
+    let r = d .before .before .before .before in
+    let a = r .before .before .before .before .before .before .before .before .args in
+    hands-back (a .side) _ _ (now (a .store)) (now (a .piece)) (now (a .model)) (now (a .out)) (now (a .answers)) (r .record-in .ensures) (d .take .ensures)
+
+returns : tie.Need-returns
+returns c =
+    let h = c .before .before in
+    let d = h .before .before .before .before .before .before .before .before in
+    let r = d .before .before .before .before in
+    let a = r .before .before .before .before .before .before .before .before .args in
+    handed (a .side) _ _ (now (a .store)) (now (a .piece)) (now (a .model)) (now (a .out)) (now (a .answers)) (r .record-in .ensures) (d .take .ensures)
+    (h .hand-back .ensures)
+
+pub tuppence-take-spec : {M : Type 1} → statement M
+tuppence-take-spec =
+    tie.close
+    (tie.spec
+    (λ c κs. search needs)  -- record-in-requires
+    (λ c κs. search needs)  -- take-requires
+    hand-back-requires
+    (λ c. search needs)  -- same-length
+    (λ c. search needs)  -- same-length-2
+    (λ c. search needs)  -- same-length-3
+    (λ c. search needs)  -- same-length-4
+    returns)

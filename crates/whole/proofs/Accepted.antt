@@ -1,0 +1,149 @@
+-- What is known of a call that none of the tests refused.
+--     Past, passed-by                  the gate let it through, its rows are clear, the model is right and the samples are good
+--     Frame, frame-accepted            a frame
+--     Take, take-accepted, take-known  a take; fits-sizes, its numbers
+--     good-bad, good-rest, good-both   samples behind others: whether all are good; logs-length, of our logarithms
+-- Assumes nothing.
+use Prim.Native.Nat.{ℕ, _*_, _≤_}
+use mathlib.Core.Bool.{Bool, true, false, cond, _&&_}
+use mathlib.Core.List.{List, [], _∷_, _++_}
+use mathlib.Core.Path.{_≡_, refl, sym, ap, _∙_}
+use borrow.Author.Tests.{eqb-true, leb-true, not-false}
+use lib.Dec.{eqb, leb}
+use lib.ListN.{length}
+use lib.Ieee.{Float}
+use Rattle.rules.specs.Place.{get}
+use Rattle.rules.specs.Refusals.{Row, _when_, refusing, wrong}
+use Rattle.rules.proofs.Refused.{Clear, by-rows, right}
+use Rattle.rules.proofs.Tabs.{length-tab}
+use Rattle.samples.specs.Samples.{goodSample, good}
+use Rattle.logs.specs.Log10.{logsOf}
+use Rattle.model.specs.Model.{readOf}
+use Rattle.frame.specs.declared.Reply.{Reply}
+use Rattle.frame.specs.declared.Reply.the-variants.{Refused}
+use Rattle.frame.specs.Reply.{passed}
+use Rattle.frame.specs.Frame.{counted}
+use Rattle.frame.specs.Parts.{checked}
+use Rattle.frame.proofs.Truth.{true-false, false-true}
+use Rattle.pieces.specs.Pieces.{waitingIn, completes, pieceFits, after, lastTest}
+use Rattle.pieces.proofs.Goods.{both}
+use Rattle.desk.specs.declared.Record.{Record}
+use Rattle.desk.specs.Gate.{PIECE, gate, shareOf}
+use Rattle.whole.specs.Whole.{refusal, frameReply, takeRows, takeReply}
+
+-- ---- good samples behind others
+
+pub good-bad : (xs ys : List Float) → good xs ≡ false → good (xs ++ ys) ≡ false
+unfolding good
+good-bad [] ys e = absurd (true-false e)
+good-bad (x ∷ xs) ys e = go (goodSample x) e (good-bad xs ys)
+  where
+    go : (t : Bool) → (t && good xs) ≡ false → (good xs ≡ false → good (xs ++ ys) ≡ false) → (t && good (xs ++ ys)) ≡ false
+    go true e f = f e
+    go false e f = refl
+
+pub good-rest : (xs ys : List Float) → good xs ≡ true → good (xs ++ ys) ≡ good ys
+unfolding good
+good-rest [] ys e = refl
+good-rest (x ∷ xs) ys e = let b = both (goodSample x) (good xs) e in rw (b .0) (good-rest xs ys (b .1))
+
+pub good-both : (xs ys : List Float) → good (xs ++ ys) ≡ true → (good xs ≡ true) × (good ys ≡ true)
+good-both xs ys e = go (good xs) refl
+  where
+    go : (t : Bool) → good xs ≡ t → (good xs ≡ true) × (good ys ≡ true)
+    go true h = (h, sym (good-rest xs ys h) ∙ e)
+    go false h = absurd (false-true (sym (good-bad xs ys h) ∙ e))
+
+-- our logarithms are as many as a frame is lent
+pub logs-length : (sums : List Float) → length (logsOf sums) ≡ 22
+unfolding logsOf
+logs-length sums = length-tab 22 _
+
+-- ---- past the tests
+
+last-passed : (model : Reply) (t : Bool) → passed (after model (lastTest t)) ≡ true → (passed model ≡ true) × (t ≡ true)
+last-passed model t = go (passed model) t refl
+  where
+    go : (p t : Bool) → passed model ≡ p → passed (cond p (lastTest t) model) ≡ true → (passed model ≡ true) × (t ≡ true)
+    go true true f e = (f, refl)
+    go true false f e = absurd (false-true e)
+    go false t f e = absurd (false-true (sym f ∙ e))
+
+pub record Past (number : ℕ) (rec : Record) (rows : List Row) (model : List ℕ) (samples : List Float) : Type 0 where
+  pub gated : number ≡ 0
+  pub clear : Clear rows
+  pub right : passed (checked (counted (rec .vad) (rec .noise) (rec .denoise)) (readOf model)) ≡ true
+  pub fine : good samples ≡ true
+
+module _ (number : ℕ) (rec : Record) (rows : List Row) (model : List ℕ) (samples : List Float) where
+  abbrev behind : Reply
+  behind = after (checked (counted (rec .vad) (rec .noise) (rec .denoise)) (readOf model)) (lastTest (good samples))
+
+  abbrev past : Type 0
+  past = Past number rec rows model samples
+
+  pub passed-by : passed (refusal number rec rows model samples) ≡ true → Past number rec rows model samples
+  passed-by = go (eqb number 0) refl
+    where
+      go : (t : Bool) → eqb number 0 ≡ t → passed (cond t (refusing rows Refused behind) (Refused number)) ≡ true → past
+      go true e =
+          by-rows Refused behind (λ r. passed r ≡ true → past) rows (λ n q. absurd (false-true q))
+          (λ c q.
+          let l = last-passed (checked (counted (rec .vad) (rec .noise) (rec .denoise)) (readOf model)) (good samples) q in
+          record { gated = eqb-true number 0 e; clear = c; right = l .0; fine = l .1 })
+      go false e = λ p. absurd (false-true p)
+
+-- ---- a frame
+
+pub record Frame (n side : ℕ) (rec : Record) (store samples : List Float) (model : List ℕ) (out : ℕ) : Type 0 where
+  pub gated : gate n side rec (length store) 1 ≡ 0
+  pub size : length samples ≡ 480
+  pub room : out ≡ 480
+  pub right : passed (checked (counted (rec .vad) (rec .noise) (rec .denoise)) (readOf model)) ≡ true
+  pub fine : good samples ≡ true
+
+module _ (n side : ℕ) (rec : Record) (store samples : List Float) (model : List ℕ) (out : ℕ) where
+  pub frame-accepted : passed (frameReply n side rec (length store) samples model out) ≡ true → Frame n side rec store samples model out
+  unfolding frameReply
+  frame-accepted p =
+      let lengths : List (ℕ × ℕ) = (length samples, 480) ∷ (out, 480) ∷ [] in
+      let k = passed-by (gate n side rec (length store) 1) rec (5 when wrong lengths ∷ []) model samples p in
+      let l = right lengths (k .clear .0) in
+      record { gated = k .gated; size = l .0; room = l .1 .0; right = k .right; fine = k .fine }
+
+-- ---- a take
+
+pub record Take (n side : ℕ) (rec : Record) (store samples : List Float) (model : List ℕ) (out answers : ℕ) : Type 0 where
+  pub gated : gate n side rec (length store) PIECE ≡ 0
+  pub fits : pieceFits (rec .waiting) (length samples) out 22 ≡ true
+  pub told : 3 * completes (rec .waiting) (length samples) ≤ answers
+  pub right : passed (checked (counted (rec .vad) (rec .noise) (rec .denoise)) (readOf model)) ≡ true
+  pub fine : good (waitingIn (rec .waiting) (get (shareOf side) store) ++ samples) ≡ true
+
+module _ (n side : ℕ) (rec : Record) (store samples : List Float) (model : List ℕ) (out answers : ℕ) where
+  pub take-accepted : passed (takeReply n side rec store samples model out answers) ≡ true → Take n side rec store samples model out answers
+  unfolding takeReply
+  take-accepted p =
+      let all = waitingIn (rec .waiting) (get (shareOf side) store) ++ samples in
+      let k = passed-by (gate n side rec (length store) PIECE) rec (takeRows rec (length samples) out answers) model all p in
+      record {
+        gated = k .gated;
+        fits = not-false _ (k .clear .0);
+        told = leb-true _ answers (not-false _ (k .clear .1 .0));
+        right = k .right;
+        fine = k .fine;
+      }
+
+  pub take-known : {r : Reply} → r ≡ takeReply n side rec store samples model out answers → passed r ≡ true → Take n side rec store samples model out answers
+  take-known e p = take-accepted (ap passed (sym e) ∙ p)
+
+-- the numbers of a piece that fits
+pub fits-sizes : (waiting size out sums : ℕ) → pieceFits waiting size out sums ≡ true
+    → (waiting ≤ 479) × (1 ≤ size) × (size ≤ 4096) × (480 * completes waiting size ≤ out)
+unfolding pieceFits
+fits-sizes waiting size out sums e =
+    let p = both (leb waiting 479) _ e in
+    let q = both (leb 1 size) _ (p .1) in
+    let r = both (leb size 4096) _ (q .1) in
+    let s = both (leb (480 * completes waiting size) out) _ (r .1) in
+    (leb-true waiting 479 (p .0), leb-true 1 size (q .0), leb-true size 4096 (r .0), leb-true _ out (s .0))

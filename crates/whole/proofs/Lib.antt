@@ -1,0 +1,5 @@
+pub mod Accepted
+mod Framed
+pub mod Halves
+pub mod Ranged
+mod Taken

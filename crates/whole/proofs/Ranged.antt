@@ -1,0 +1,158 @@
+-- What a frame and a take give a host that hands their record back as numbers.
+--     frame-small, take-small      a refused model's number and layer are small
+--     frame-range, take-range      where it is done, the record that it was given and the one that it gives back are in range
+--     frame-buffers                a frame writes to its buffer, or is refused and writes to none
+--     frame-no-out                 a frame with no place for its samples is refused
+-- Assumes nothing.
+use Prim.Native.Nat.{ℕ, zero, suc}
+use native.Mathlib.Omega.{arith}
+use mathlib.Core.Bool.{Bool, true, false, cond}
+use mathlib.Core.List.{List, [], _∷_, _++_}
+use mathlib.Core.Path.{_≡_, refl, sym, _∙_}
+use borrow.Author.Tests.{not-false}
+use lib.Dec.{eqb}
+use lib.ListN.{length}
+use lib.Ieee.{Float}
+use Rattle.rules.specs.Loop.{loop}
+use Rattle.rules.specs.Place.{get}
+use Rattle.rules.specs.Refusals.{Row, _when_, refusing, wrong}
+use Rattle.rules.proofs.Refused.{by-rows}
+use Rattle.samples.specs.Samples.{good}
+use Rattle.logs.specs.Log10.{logsOf}
+use Rattle.model.specs.Model.{readOf}
+use Rattle.model.specs.declared.Reading.{Reading}
+use Rattle.model.specs.declared.Reading.the-variants.{Good, Refused as Unread}
+use Rattle.model.proofs.Bounds.{refused-in}
+use Rattle.frame.specs.declared.Reply.{Reply}
+use Rattle.frame.specs.declared.Reply.the-variants.{Done, Refused}
+use Rattle.frame.specs.Reply.{passed}
+use Rattle.frame.specs.Frame.{counted}
+use Rattle.frame.specs.Parts.{checked}
+use Rattle.frame.proofs.Truth.{false-true}
+use Rattle.pieces.specs.Pieces.{waitingIn, completes, after, lastTest}
+use Rattle.desk.specs.declared.Record.{Record}
+use Rattle.desk.specs.Gate.{PIECE, inRange, gate, shareOf}
+use Rattle.desk.specs.Desk.{Ask, firstHalf, secondHalf, piece, resume, Given, desk}
+use Rattle.desk.proofs.Buffers.{buffers}
+use Rattle.desk.proofs.Ranged.{range-kept}
+use Rattle.desk.proofs.Replies.{Small, small}
+use Rattle.desk.proofs.Settled.{refused-keeps}
+use Rattle.desk.proofs.Turned.{none}
+use Rattle.whole.specs.Whole.{buffer, turnedAway, refusal, frameReply, frame, takeRows, takeReply, Taking, takeStep, takeFrames, takeBegins, take}
+use Rattle.whole.proofs.Accepted.{frame-accepted, take-accepted}
+
+-- ---- the tests before a call
+
+module _ (number : ℕ) (rec : Record) (rows : List Row) (model : List ℕ) (samples : List Float) where
+  refusal-small : Small (refusal number rec rows model samples)
+  unfolding checked
+  refusal-small = go (eqb number 0)
+    where
+      by-samples : (t : Bool) → Small (lastTest t)
+      by-samples true = tt
+      by-samples false = tt
+
+      by-count : (t : Bool) → Small (after (cond t Done (Refused 8)) (lastTest (good samples)))
+      by-count true = by-samples (good samples)
+      by-count false = tt
+
+      by-reading : (r : Reading) → r ≡ readOf model → Small (after (checked (counted (rec .vad) (rec .noise) (rec .denoise)) r) (lastTest (good samples)))
+      by-reading (Unread n l) e = let r = refused-in model e in (r .1, r .2)
+      by-reading (Good m) e = by-count (counted (rec .vad) (rec .noise) (rec .denoise) m)
+
+      behind : Reply
+      behind = after (checked (counted (rec .vad) (rec .noise) (rec .denoise)) (readOf model)) (lastTest (good samples))
+
+      go : (t : Bool) → Small (cond t (refusing rows Refused behind) (Refused number))
+      go true = by-rows Refused behind Small rows (λ _. tt) (λ _. by-reading (readOf model) refl)
+      go false = tt
+
+-- the gate lets no other record through
+let-in-range : (n side : ℕ) (rec : Record) (len call : ℕ) → gate n side rec len call ≡ 0 → inRange rec ≡ true
+let-in-range n side rec len call e = not-false (inRange rec) (none n side rec len call e .1 .1 .0)
+
+-- ---- a frame
+
+module _ (n side : ℕ) (rec : Record) (store samples : List Float) (model : List ℕ) where
+  module _ (out : ℕ) where
+    abbrev reply : Reply
+    reply = frameReply n side rec (length store) samples model out
+
+    abbrev one : Given
+    one = desk n side rec store (firstHalf samples 22)
+
+    abbrev asked : Ask
+    asked = secondHalf (logsOf (buffer one)) model out
+
+    abbrev two : Given
+    two = desk n side (one .answer .rec) (one .store) asked
+
+    -- what holds of its second half, where no test refuses it, and of a refusal, holds of a frame
+    frame-by : (P : Given → Type 0) → (passed reply ≡ true → P two) → (passed reply ≡ false → P (turnedAway rec store reply))
+        → P (frame n side rec store samples model out)
+    unfolding frame
+    frame-by P two-halves refused = go (passed reply) refl
+      where
+        go : (t : Bool) → passed reply ≡ t → P (cond t two (turnedAway rec store reply))
+        go true e = two-halves e
+        go false e = refused e
+
+    reply-small : Small reply
+    unfolding frameReply
+    reply-small = refusal-small (gate n side rec (length store) 1) rec (5 when wrong ((length samples, 480) ∷ (out, 480) ∷ []) ∷ []) model samples
+
+    pub frame-small : Small (frame n side rec store samples model out .answer .reply)
+    frame-small = frame-by (λ o. Small (o .answer .reply)) (λ _. small n side (one .answer .rec) (one .store) asked) (λ _. reply-small)
+
+    pub frame-range : passed (frame n side rec store samples model out .answer .reply) ≡ true
+        → (inRange rec ≡ true) × (inRange (frame n side rec store samples model out .answer .rec) ≡ true)
+    frame-range =
+        frame-by (λ o. passed (o .answer .reply) ≡ true → (inRange rec ≡ true) × (inRange (o .answer .rec) ≡ true))
+        (λ p q.
+        let k = frame-accepted n side rec store samples model out p in
+        (let-in-range n side rec (length store) 1 (k .gated), range-kept n side (one .answer .rec) (one .store) asked q .1))
+        (λ f q. absurd (false-true (sym f ∙ q)))
+
+    pub frame-buffers : length (frame n side rec store samples model out .written) ≡ cond (passed (frame n side rec store samples model out .answer .reply)) 1 0
+    frame-buffers =
+        frame-by (λ o. length (o .written) ≡ cond (passed (o .answer .reply)) 1 0) (λ _. buffers n side (one .answer .rec) (one .store) asked) (λ f. rw f)
+
+  pub frame-no-out : passed (frame n side rec store samples model 0 .answer .reply) ≡ false
+  frame-no-out =
+      frame-by 0 (λ o. passed (o .answer .reply) ≡ false)
+      (λ p. let k = frame-accepted n side rec store samples model 0 p in absurd (omega (arith, k .room))) (λ f. f)
+
+-- ---- a take
+
+module _ (n side : ℕ) where
+  -- a call of the desk is done, and gives a record in range, or is refused, and leaves it
+  stays : (b : Record) (store : List Float) (ask : Ask) → inRange b ≡ true → inRange (desk n side b store ask .answer .rec) ≡ true
+  stays b store ask r = go (passed (desk n side b store ask .answer .reply)) refl
+    where
+      go : (t : Bool) → passed (desk n side b store ask .answer .reply) ≡ t → inRange (desk n side b store ask .answer .rec) ≡ true
+      go true p = range-kept n side b store ask p .1
+      go false p = rw (refused-keeps n side b store ask p .0) r
+
+  module _ (samples : List Float) (model : List ℕ) where
+    steps-range : (k : ℕ) (t : Taking) → inRange (t .rec) ≡ true → inRange (loop k (takeStep n side samples model) t .rec) ≡ true
+    unfolding loop
+    steps-range zero t r = r
+    steps-range (suc k) t r =
+        let s = loop k (takeStep n side samples model) t in
+        stays (s .rec) (s .store) (resume samples (logsOf (s .sums)) model (length (s .out)) 22) (steps-range k t r)
+
+    module _ (rec : Record) (store out answers : List Float) where
+      pub take-small : Small (take n side rec store samples model out answers .answer .reply)
+      unfolding take takeReply
+      take-small =
+          refusal-small (gate n side rec (length store) PIECE) rec (takeRows rec (length samples) (length out) (length answers)) model
+          (waitingIn (rec .waiting) (get (shareOf side) store) ++ samples)
+
+      pub take-range : passed (take n side rec store samples model out answers .answer .reply) ≡ true
+          → (inRange rec ≡ true) × (inRange (take n side rec store samples model out answers .answer .rec) ≡ true)
+      unfolding take takeFrames
+      take-range p =
+          let k = take-accepted n side rec store samples model (length out) (length answers) p in
+          let r = let-in-range n side rec (length store) PIECE (k .gated) in
+          let begun = takeBegins n side rec store samples out answers in
+          (r, rw p (steps-range (completes (rec .waiting) (length samples)) begun (stays rec store (piece samples (length out) 22) r)))

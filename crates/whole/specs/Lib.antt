@@ -1,0 +1,4 @@
+pub mod Whole
+pub mod Surface
+pub mod Parts
+pub mod Laws

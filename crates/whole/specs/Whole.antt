@@ -1,0 +1,123 @@
+-- A frame, and a piece, in one call: where they pause for logarithms, our own are lent, and nothing is left to a host. By definition they are calls of
+-- the desk, one after the other; what may refuse these is tested before anything changes.
+use Prim.Native.Nat.{ℕ, _*_}
+use mathlib.Core.Bool.{cond, not}
+use mathlib.Core.List.{List, [], _∷_, _++_}
+use mathlib.Core.Path.{_≡_}
+use lib.Dec.{eqb, leb}
+use lib.ListN.{length, getD}
+use lib.Ieee.{Float}
+use Rattle.rules.specs.F32.{zeros}
+use Rattle.rules.specs.Loop.{loop}
+use Rattle.rules.specs.Place.{get, put}
+use Rattle.rules.specs.Refusals.{Row, _when_, refusing, wrong}
+use Rattle.rules.specs.Written.{Written, all, from, nothing, onto}
+use Rattle.samples.specs.Samples.{good}
+use Rattle.logs.specs.Log10.{logsOf}
+use Rattle.model.specs.Model.{readOf}
+use Rattle.frame.specs.Reply.{passed}
+use Rattle.frame.specs.declared.Reply.{Reply}
+use Rattle.frame.specs.declared.Reply.the-variants.{Done, Refused}
+use Rattle.frame.specs.Frame.{counted}
+use Rattle.frame.specs.Parts.{checked}
+use Rattle.pieces.specs.Pieces.{waitingIn, completes, pieceFits, after, lastTest}
+use Rattle.desk.specs.declared.Record.{Record}
+use Rattle.desk.specs.declared.Answer.{Answer}
+use Rattle.desk.specs.Gate.{PIECE, gate, shareOf}
+use Rattle.desk.specs.Desk.{Ask, firstHalf, secondHalf, piece, resume, Given, desk}
+use Rattle.desk.specs.Surface.{heardOf}
+
+-- what a call wrote into its first buffer
+abbrev pub filled : Written → List Float
+filled (all numbers) = numbers
+filled (from at numbers) = numbers
+
+abbrev pub buffer : Given → List Float
+buffer o = filled (getD (o .written) 0 nothing)
+
+abbrev pub turnedAway : Record → List Float → Reply → Given
+turnedAway rec store reply = record { answer = record { reply = reply; rec = rec }; store = store; written = [] }
+
+-- refusals 1 to 4 by the gate, for a call of this number; 5 by these rows; 7 and 8; and 9
+abbrev pub refusal : ℕ → Record → List Row → List ℕ → List Float → Reply
+refusal number rec rows model samples =
+    cond (eqb number 0)
+    (refusing rows Refused (after (checked (counted (rec .vad) (rec .noise) (rec .denoise)) (readOf model)) (lastTest (good samples))))
+    (Refused number)
+
+-- ---- a frame is its two halves
+
+unfoldable pub frameReply : ℕ → ℕ → Record → ℕ → List Float → List ℕ → ℕ → Reply
+frameReply n side rec len samples model out =
+    refusal (gate n side rec len 1) rec (5 when wrong ((length samples, 480) ∷ (out, 480) ∷ []) ∷ []) model samples
+
+unfoldable pub frame : ℕ → ℕ → Record → List Float → List Float → List ℕ → ℕ → Given
+frame n side rec store samples model out =
+    let reply = frameReply n side rec (length store) samples model out in
+    let one = desk n side rec store (firstHalf samples 22) in
+    cond (passed reply) (desk n side (one .answer .rec) (one .store) (secondHalf (logsOf (buffer one)) model out)) (turnedAway rec store reply)
+
+-- ---- a piece is resumed to its end
+
+-- lengths as a piece's, and answers, three for each frame that it completes
+abbrev pub takeRows : Record → ℕ → ℕ → ℕ → List Row
+takeRows rec size out answers =
+    5 when not (pieceFits (rec .waiting) size out 22) ∷ 5 when not (leb (3 * completes (rec .waiting) size) answers) ∷ []
+
+unfoldable pub takeReply : ℕ → ℕ → Record → List Float → List Float → List ℕ → ℕ → ℕ → Reply
+takeReply n side rec store samples model out answers =
+    refusal (gate n side rec (length store) PIECE) rec (takeRows rec (length samples) out answers) model
+    (waitingIn (rec .waiting) (get (shareOf side) store) ++ samples)
+
+-- where it stands between two calls: record, store and buffers; the sums are of no account to the caller
+pub record Taking : Type 0 where
+  pub rec : Record
+  pub store : List Float
+  pub out : List Float
+  pub sums : List Float
+  pub answers : List Float
+
+-- after a call, which was lent the output and the sums
+abbrev pub taking : Given → List Float → List Float → List Float → Taking
+taking o out sums answers =
+    let held = onto (o .written) (out ∷ sums ∷ []) in
+    record { rec = o .answer .rec; store = o .store; out = getD held 0 []; sums = getD held 1 []; answers = answers }
+
+-- frame j, from 0: a resume with our logarithms of the sums; three answers, heard or not, voice and energy
+abbrev pub takeStep : ℕ → ℕ → List Float → List ℕ → ℕ → Taking → Taking
+takeStep n side samples model j t =
+    let o = desk n side (t .rec) (t .store) (resume samples (logsOf (t .sums)) model (length (t .out)) 22) in
+    taking o (t .out) (t .sums) (put (record { at = 3 * j; size = 3 }) (t .answers) (heardOf (o .answer .reply)))
+
+unfoldable pub takeFrames : ℕ → ℕ → ℕ → List Float → List ℕ → Taking → Taking
+takeFrames k n side samples model t = loop k (takeStep n side samples model) t
+
+abbrev pub takeBegins : ℕ → ℕ → Record → List Float → List Float → List Float → List Float → Taking
+takeBegins n side rec store samples out answers = taking (desk n side rec store (piece samples (length out) 22)) out (zeros 22) answers
+
+abbrev pub takeEnds : ℕ → ℕ → Record → List Float → List Float → List ℕ → List Float → List Float → Taking
+takeEnds n side rec store samples model out answers =
+    takeFrames (completes (rec .waiting) (length samples)) n side samples model (takeBegins n side rec store samples out answers)
+
+-- what it gives: the answer, the store, and the two buffers
+pub record Taken : Type 0 where
+  pub answer : Answer
+  pub store : List Float
+  pub out : List Float
+  pub answers : List Float
+
+abbrev pub takenAs : Reply → Taking → Taken
+takenAs reply t = record { answer = record { reply = reply; rec = t .rec }; store = t .store; out = t .out; answers = t .answers }
+
+unfoldable pub take : ℕ → ℕ → Record → List Float → List Float → List ℕ → List Float → List Float → Taken
+take n side rec store samples model out answers =
+    let reply = takeReply n side rec store samples model (length out) (length answers) in
+    takenAs reply
+    (cond (passed reply) (takeEnds n side rec store samples model out answers)
+    (record { rec = rec; store = store; out = out; sums = []; answers = answers }))
+
+-- what a contract says of a take
+pub record Took (o : Taken) (answer : Answer) (store out answers : List Float) : Type 0 where
+  pub answered : answer ≡ o .answer
+  pub stores : store ≡ o .store
+  pub writes : (out ≡ o .out) × (answers ≡ o .answers)

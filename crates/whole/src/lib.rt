@@ -1,0 +1,10 @@
+// A frame, and a piece, in one call: where they pause for logarithms, our own are lent. What may refuse them is tested before anything changes.
+mod heard;
+mod one_frame;
+mod one_piece;
+mod tests;
+
+pub use heard::Three;
+pub use heard::three_of;
+pub use one_frame::frame;
+pub use one_piece::take;

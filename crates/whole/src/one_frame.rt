@@ -1,0 +1,34 @@
+// A frame in one call: its two halves, with our logarithms between them.
+ghost use mathlib.Core.List.{[], _∷_};
+ghost use lib.ListN.{length};
+ghost use Rattle.desk.specs.Gate.{BENCHES};
+ghost use Rattle.desk.specs.Desk.{Served};
+ghost use Rattle.whole.specs.Whole.{frame};
+use desk::Answer;
+use desk::Record;
+use desk::Side;
+
+// 480 samples and the model in, 480 numbers written; silent, or heard with voice and energy.
+pub fn frame(
+    side: Side,
+    rec: Record,
+    store: &mut [f32],
+    samples: &[f32],
+    model: &[u8],
+    out: &mut [f32],
+) -> Answer
+    ensures { λ r. ⌜ Served
+        (frame BENCHES (side .0) rec (now (store .entry)) (now (samples .entry)) (now (model .entry)) (length (now (out .entry))))
+        r (now (store .exit)) (now (out .entry) ∷ []) (now (out .exit) ∷ []) ⌝ }
+{
+    let reply = crate::tests::frame_reply(side, rec, store.len(), samples, model, out.len());
+    if !frame::passed(reply) {
+        return Answer { reply, rec };
+    }
+    let mut sums = [0.0f32; 22];
+    let first = desk::first_half(side, rec, store, samples, &mut sums);
+    let next = first.rec;
+    let mut logs = [0.0f32; 22];
+    logs::logs(&mut logs, &sums);
+    desk::second_half(side, next, store, &logs, model, out)
+}
