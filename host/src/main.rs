@@ -24,11 +24,12 @@ host: cleans two dictations, one for each bench
       the audio, and the files put in their places. Where a stream can't be read to
       its end, that is done with what came before, and told with exit status 2. (End a
       stream by stopping what records it: this program then closes its files.)
-      The library transforms each frame and finds its lag itself. With --lag crate
-      the lag is that of the Rust text's own finder, and the transforms are this
-      program's: that gives nnnoiseless's very numbers. (--lag own is the same as none.)
+      All that is done to a sample is done by the library. With --lag crate the lag
+      is that of the Rust text's own finder, and the transforms and logarithms are
+      this program's: that gives nnnoiseless's very numbers. (--lag own is the same
+      as none.)
       A long recording's progress is told, unless -q stands there.
-  host demo DIR
+  host demo DIR [--lag crate]
       The same with two dictations over a grinder and the house model, which come
       with the program; the recordings before cleaning are written too.
   host side FILE..
@@ -52,6 +53,15 @@ host: cleans two dictations, one for each bench
       How far the sound moves where the library's own logarithms are lent, and not
       those of this machine: on the demo and on ten minutes of noise and speech.
   host --help, host --version
+
+Examples:
+  host demo out
+  host clean --left l.wav --right r.wav --model house.rnn --out monday
+  arecord -f S16_LE -c 2 -r 48000 -t raw | host clean - --raw --model house.rnn --out monday
+  host side monday/left.wav monday/right.wav
+  host mend monday/left.wav --out left.wav
+  host unpack house.rnn --out layers
+  host pack --layers layers --out mine.rnn
 
 Exit status: 0 done, 2 something was not right; then nothing is written, but of a
 stream what came before.
@@ -82,6 +92,13 @@ fn way(words: &mut Vec<String>) -> Option<Way> {
     }
 }
 
+fn demo(words: &[String]) -> Option<(String, Way)> {
+    let mut words = words.to_vec();
+    let way = way(&mut words)?;
+    let [dir] = &words[..] else { return None };
+    Some((dir.clone(), way))
+}
+
 fn job(words: &[String]) -> Option<Job> {
     let mut words = words.to_vec();
     let way = way(&mut words)?;
@@ -109,9 +126,10 @@ fn run(words: &[String]) -> Result<(), String> {
         [bench] if bench == "bench" => host::bench::bench(),
         [lags] if lags == "lags" => host::lags::lags()?,
         [logs] if logs == "logs" => host::logs::logs(),
-        [demo, dir] if demo == "demo" => {
-            host::demo::demo(dir.as_ref())?;
-            println!("Look at {dir}/benches.svg, and listen to {dir}/left-before.wav and {dir}/left.wav.");
+        [word, rest @ ..] if word == "demo" => {
+            let (dir, way) = demo(rest).ok_or("demo: the options are not right; see host --help")?;
+            host::demo::demo(dir.as_ref(), way)?;
+            println!("Look at {dir}/index.html, and listen to {dir}/left-before.wav and {dir}/left.wav.");
         }
         [word, first, rest @ ..] if word == "side" => {
             let paths: Vec<PathBuf> = std::iter::once(first).chain(rest).map(PathBuf::from).collect();

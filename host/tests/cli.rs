@@ -134,7 +134,7 @@ fn the_demo_needs_no_files() {
     for name in WRITTEN.iter().chain(&["left-before.wav", "right-before.wav"]) {
         assert!(out.join(name).exists(), "{name}");
     }
-    assert!(String::from_utf8(output.stdout).unwrap().contains("benches.svg"));
+    assert!(String::from_utf8(output.stdout).unwrap().contains("index.html"));
     // the page names only files that are there, and no other place
     let page = fs::read_to_string(out.join("index.html")).unwrap();
     let names: Vec<&str> = page.split(['"']).skip(1).step_by(2).filter(|word| word.contains('.')).collect();
