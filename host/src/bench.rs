@@ -17,12 +17,10 @@ fn median(mut times: Vec<Duration>) -> Duration {
 
 /// The time of so many frames of one bench.
 fn frames(recorder: &mut Recorder, samples: &[f32]) -> Duration {
-    let mut out = [0.0; FRAME];
     recorder.open(Side::Left, HOUSE).expect("the house model");
-    let start = Instant::now();
-    for frame in samples.chunks_exact(FRAME) {
-        recorder.frame(Side::Left, frame, HOUSE, &mut out).expect("a frame");
-    }
+    let (start, mut count) = (Instant::now(), 0);
+    recorder.take(Side::Left, samples, HOUSE, |_, _| count += 1).expect("the frames");
+    assert_eq!(count, FRAMES);
     start.elapsed()
 }
 
@@ -41,10 +39,10 @@ pub fn bench() {
     let samples: Vec<f32> = grinder(FRAMES * FRAME, 7, 100.0, 340.0).iter().map(|x| (1_000.0 * x) as f32).collect();
     let mut out = [0.0; FRAME];
     let (mut ours, mut own, mut text) = (Vec::new(), Vec::new(), Vec::new());
-    let (mut recorder, mut halves) = (Recorder::default(), Recorder::new(Way::Own));
+    let (mut recorder, mut pieces) = (Recorder::new(Way::Text), Recorder::new(Way::Own));
     for _ in 0..ROUNDS {
         ours.push(frames(&mut recorder, &samples));
-        own.push(frames(&mut halves, &samples));
+        own.push(frames(&mut pieces, &samples));
 
         let mut reference = Reference::new(HOUSE).expect("the house model");
         let start = Instant::now();
@@ -54,15 +52,15 @@ pub fn bench() {
         text.push(start.elapsed());
     }
     let (ours, own, text) = (median(ours), median(own), median(text));
+    tell("one bench, our own lag and transforms, in pieces", own);
     tell("one bench, the text's lag and this program's transforms", ours);
-    tell("one bench, our own lag and transforms", own);
-    println!("process_frame of the Rust text, same transforms: {:.0} frames a second", per_second(text));
-    println!("time of the first, the Rust = 1: {:.2}", ours.as_secs_f64() / text.as_secs_f64());
+    println!("process_frame of the Rust text, the latter transforms: {:.0} frames a second", per_second(text));
+    println!("time of the latter, the Rust = 1: {:.2}", ours.as_secs_f64() / text.as_secs_f64());
 
     parts_of("of a frame in four calls", &of_calls(&recorder.spent));
-    let spent = halves.spent;
-    let own = [("first half", spent.halves[0]), ("second half", spent.halves[1]), ("logarithms", spent.logarithms)];
-    parts_of("of a frame in two halves", &own);
+    let spent = pieces.spent;
+    let own = [("piece", spent.pieces[0]), ("resume", spent.pieces[1]), ("logarithms", spent.logarithms)];
+    parts_of("of a frame in pieces", &own);
 }
 
 fn of_calls(spent: &Spent) -> [(&'static str, Duration); 7] {

@@ -1,63 +1,144 @@
-//! `host clean`: two recordings, one for each bench, cleaned frame by frame over one store.
+//! `host clean`: two recordings, one for each bench, cleaned as they come over one store. What is kept in memory is the same for any length.
 
-use crate::cleaned::Cleaned;
-use crate::folder::{told, Folder};
-use crate::recorder::{Recorder, Side, Way};
+use crate::cleaned::{Cleaned, Summary};
+use crate::files::Files;
+use crate::folder::told;
+use crate::recorder::{Frame, Recorder, Side, Way};
 use crate::refusal::Refusal;
-use crate::{page, picture, side, table, wav, FRAME, RATE};
+use crate::source::{Memory, Recordings, Source};
+use crate::{FRAME, RATE};
+use std::fmt;
 use std::fs;
-use std::path::{Path, PathBuf};
+use std::path::PathBuf;
 use std::time::Instant;
 
-/// The 480 samples of a frame; past the end of the recording they are 0.
-pub fn samples_of(recording: &[f32], frame: usize) -> [f32; FRAME] {
-    let mut samples = [0.0; FRAME];
-    let rest = recording.get(frame * FRAME..).unwrap_or(&[]);
-    let n = rest.len().min(FRAME);
-    samples[..n].copy_from_slice(&rest[..n]);
-    samples
+/// What becomes of both recordings, as they are cleaned.
+pub trait Sink {
+    fn before(&mut self, side: Side, samples: &[f32]) -> Result<(), String>;
+    fn after(&mut self, side: Side, samples: &[f32]) -> Result<(), String>;
+    /// The frames of each bench that came of one block each.
+    fn frames(&mut self, frames: &[Vec<Frame>; 2]) -> Result<(), String>;
 }
 
-/// How many frames a recording takes: one more than it fills, since what comes out of a frame belongs to the one before it.
-pub fn frames_of(recording: &[f32]) -> usize {
-    if recording.is_empty() {
-        0
-    } else {
-        recording.len().div_ceil(FRAME) + 1
+impl Sink for [Cleaned; 2] {
+    fn before(&mut self, side: Side, samples: &[f32]) -> Result<(), String> {
+        self[side as usize].before.extend(samples);
+        Ok(())
+    }
+
+    fn after(&mut self, side: Side, samples: &[f32]) -> Result<(), String> {
+        self[side as usize].after.extend(samples);
+        Ok(())
+    }
+
+    fn frames(&mut self, frames: &[Vec<Frame>; 2]) -> Result<(), String> {
+        for (bench, frames) in self.iter_mut().zip(frames) {
+            bench.frames.extend(frames);
+        }
+        Ok(())
     }
 }
 
-/// Runs both benches, frame by frame in turn. `progress` is told the share of the work that is done.
+/// Why a run has no good end.
+#[derive(Debug)]
+pub enum Trouble {
+    Refused(Refusal),
+    Told(String),
+}
+
+impl From<Refusal> for Trouble {
+    fn from(refusal: Refusal) -> Trouble {
+        Trouble::Refused(refusal)
+    }
+}
+
+impl From<String> for Trouble {
+    fn from(why: String) -> Trouble {
+        Trouble::Told(why)
+    }
+}
+
+impl fmt::Display for Trouble {
+    fn fmt(&self, f: &mut fmt::Formatter) -> fmt::Result {
+        match self {
+            Trouble::Refused(refusal) => write!(f, "{refusal}"),
+            Trouble::Told(why) => write!(f, "{why}"),
+        }
+    }
+}
+
+/// How many frames a recording takes: one more than it fills, since what comes out of a frame belongs to the one before it.
+pub fn frames_of(samples: u64) -> u64 {
+    if samples == 0 {
+        0
+    } else {
+        samples.div_ceil(FRAME as u64) + 1
+    }
+}
+
+/// How far a bench has come: samples that were taken, and that came out.
+#[derive(Default)]
+struct Bench {
+    taken: u64,
+    given: u64,
+    ended: bool,
+}
+
+impl Bench {
+    /// What the recorder is to take: the block, and behind the last one as much silence as fills the frames.
+    fn taken(&mut self, block: Vec<f32>) -> Vec<f32> {
+        self.taken += block.len() as u64;
+        if !block.is_empty() {
+            return block;
+        }
+        self.ended = true;
+        vec![0.0; (frames_of(self.taken) * FRAME as u64 - self.taken) as usize]
+    }
+
+    /// Of what came out, what belongs to the recording: the first frame's output is what came before it.
+    fn given<'a>(&mut self, out: &'a [f32]) -> &'a [f32] {
+        let first = self.given;
+        self.given += out.len() as u64;
+        let within = |place: u64| (place.clamp(first, self.given) - first) as usize;
+        &out[within(FRAME as u64)..within(FRAME as u64 + self.taken)]
+    }
+}
+
+/// Runs both benches, a block of each in turn. `progress` is told how many samples of the longer one were taken.
 pub fn run(
-    left: Vec<f32>,
-    right: Vec<f32>,
+    source: &mut impl Source,
     model: &[u8],
     way: Way,
-    mut progress: impl FnMut(f64),
-) -> Result<[Cleaned; 2], Refusal> {
+    to: &mut impl Sink,
+    mut progress: impl FnMut(u64),
+) -> Result<(), Trouble> {
     let mut recorder = Recorder::new(way);
     for side in Side::BOTH {
         recorder.open(side, model)?;
     }
-    let bench = |side, before| Cleaned { side, before, after: Vec::new(), frames: Vec::new() };
-    let mut benches = [bench(Side::Left, left), bench(Side::Right, right)];
-    let most = benches.iter().map(|b| frames_of(&b.before)).max().unwrap_or(0);
-    for frame in 0..most {
-        for bench in &mut benches {
-            if frame < frames_of(&bench.before) {
-                let mut out = [0.0; FRAME];
-                let samples = samples_of(&bench.before, frame);
-                bench.frames.push(recorder.frame(bench.side, &samples, model, &mut out)?);
-                bench.after.extend(out);
-            }
+    let mut benches = [Bench::default(), Bench::default()];
+    while !benches.iter().all(|bench| bench.ended) {
+        let mut frames = [Vec::new(), Vec::new()];
+        for (side, bench) in Side::BOTH.into_iter().zip(&mut benches).filter(|(_, bench)| !bench.ended) {
+            let block = source.next(side)?;
+            to.before(side, &block)?;
+            let mut out = Vec::new();
+            recorder.take(side, &bench.taken(block), model, |frame, samples| {
+                frames[side as usize].push(frame);
+                out.extend(samples);
+            })?;
+            to.after(side, bench.given(&out))?;
         }
-        progress(frame as f64 / most as f64);
+        to.frames(&frames)?;
+        progress(benches.iter().map(|bench| bench.taken).max().unwrap_or(0));
     }
-    for bench in &mut benches {
-        // The first frame's output is what came before the recording.
-        bench.after.drain(..FRAME.min(bench.after.len()));
-        bench.after.truncate(bench.before.len());
-    }
+    Ok(())
+}
+
+/// Both recordings in memory.
+pub fn in_memory(before: [&[f32]; 2], model: &[u8], way: Way) -> Result<[Cleaned; 2], Trouble> {
+    let mut benches = Side::BOTH.map(Cleaned::of);
+    run(&mut Memory(before), model, way, &mut benches, |_| ())?;
     Ok(benches)
 }
 
@@ -76,73 +157,73 @@ pub enum Inputs {
     Two { left: PathBuf, right: PathBuf },
     /// One file whose left channel is the left bench.
     Stereo(PathBuf),
+    /// The same from standard input, or without a header.
+    Stream { raw: bool },
 }
 
-fn bytes_of(path: &Path) -> Result<Vec<u8>, String> {
-    fs::read(path).map_err(|why| told(path, why))
+impl Inputs {
+    fn recordings(&self) -> Result<Recordings, String> {
+        match self {
+            Inputs::Two { left, right } => Recordings::two(left, right),
+            Inputs::Stereo(both) => Recordings::stereo(both),
+            Inputs::Stream { raw } => Recordings::stream(std::io::stdin().lock(), *raw),
+        }
+    }
 }
 
-fn channels_of(path: &Path, count: usize) -> Result<Vec<Vec<f32>>, String> {
-    let wav = wav::read(&bytes_of(path)?).map_err(|fault| told(path, fault))?;
-    if wav.rate != RATE {
-        return Err(told(path, format!("48,000 samples a second are wanted; this has {}", wav.rate)));
-    }
-    if wav.channels.len() != count {
-        let wanted = if count == 1 { "one channel is" } else { "two channels are" };
-        return Err(told(path, format!("{wanted} wanted; this has {}", wav.channels.len())));
-    }
-    if wav.clipped > 0 {
-        eprintln!("{}", told(path, format!("{} samples were beyond full scale, and are clipped", wav.clipped)));
-    }
-    Ok(wav.channels)
-}
-
-/// Writes the two recordings, each with its side sheet, the table, the picture and the page, and what else there is, by its name: a
-/// recording as it was before is named for the page.
-pub fn store(benches: &[Cleaned; 2], more: &[(String, Vec<u8>)], out: &Path) -> Result<(), String> {
-    let mut folder = Folder::new(out)?;
-    for (name, bytes) in more {
-        folder.write(name, bytes)?;
-    }
-    for bench in benches {
-        let name = format!("{}.wav", bench.side.name());
-        let file = side::with_sheet(bench).map_err(|refusal| told(name.as_ref(), refusal))?;
-        folder.write(&name, &file)?;
-    }
-    folder.write("frames.csv", table::csv(benches).as_bytes())?;
-    folder.write("benches.svg", picture::svg(benches).as_bytes())?;
-    let before = |bench: &Cleaned| format!("{}-before.wav", bench.side.name());
-    let named = |bench: &Cleaned| more.iter().map(|(name, _)| &name[..]).find(|name| *name == before(bench));
-    folder.write("index.html", page::html(benches, [named(&benches[0]), named(&benches[1])]).as_bytes())?;
-    folder.keep()
-}
-
-/// Tells how far a long recording has come, and how long it will take yet, on standard error.
-pub fn progress_of(samples: usize, quiet: bool) -> impl FnMut(f64) {
-    let tells = samples > 60 * RATE as usize && !quiet;
+/// Tells how far a long recording has come, on standard error: in tenths, with how long it will take yet, where its length is known, and else each
+/// ten minutes.
+fn progress_of(length: Option<u64>, quiet: bool) -> impl FnMut(u64) {
     let (mut told, start) = (0, Instant::now());
-    move |share| {
-        let tenth = (10.0 * share) as u32;
-        if tells && tenth > told {
-            told = tenth;
-            let left = start.elapsed().as_secs_f64() * (1.0 - share) / share;
-            eprintln!("{tenth}0 %, {left:.0} s left");
+    let ten_minutes = u64::from(600 * RATE);
+    move |taken| {
+        let step = match length {
+            Some(length) if length > u64::from(60 * RATE) => 10 * taken / length,
+            Some(_) => 0,
+            None => taken / ten_minutes,
+        };
+        if quiet || step <= told {
+            return;
+        }
+        told = step;
+        match length {
+            Some(length) if taken < length => {
+                let left = start.elapsed().as_secs_f64() * (length - taken) as f64 / taken as f64;
+                eprintln!("{step}0 %, {left:.0} s left");
+            }
+            Some(_) => {}
+            None => eprintln!("{step}0 minutes"),
         }
     }
 }
 
-pub fn clean(job: &Job) -> Result<[Cleaned; 2], String> {
-    let model = bytes_of(&job.model)?;
-    let (left, right) = match &job.inputs {
-        Inputs::Two { left, right } => (channels_of(left, 1)?.remove(0), channels_of(right, 1)?.remove(0)),
-        Inputs::Stereo(both) => {
-            let mut channels = channels_of(both, 2)?;
-            let right = channels.remove(1);
-            (channels.remove(0), right)
+/// Runs a job. Of files that can't be read to their end nothing is written; of a stream, what came before.
+pub fn clean(job: &Job) -> Result<[Summary; 2], String> {
+    let model = fs::read(&job.model).map_err(|why| told(&job.model, why))?;
+    let mut recordings = job.inputs.recordings()?;
+    let mut files = Files::new(&job.out)?;
+    let progress = progress_of(recordings.length(), job.quiet);
+    let outcome = run(&mut recordings, &model, job.way, &mut files, progress);
+    recordings.tell();
+    let outcome = outcome.map_err(|trouble| match trouble {
+        Trouble::Refused(refusal) => told(&job.model, refusal),
+        Trouble::Told(why) => why,
+    });
+    match (outcome, &job.inputs) {
+        (Ok(()), Inputs::Stream { .. }) => files.keep_or_leave(),
+        (Ok(()), _) => files.keep(None),
+        (Err(why), Inputs::Stream { .. }) if !files.is_empty() => Err(cut_short(files, why)),
+        (Err(why), _) => Err(why),
+    }
+}
+
+/// Of a stream that has no good end, what came before is closed and kept.
+fn cut_short(files: Files, why: String) -> String {
+    match files.keep_or_leave() {
+        Ok(summaries) => {
+            let seconds = summaries.iter().map(Summary::seconds).fold(0.0, f64::max);
+            format!("{why}; the {seconds:.2} seconds before that are cleaned and kept")
         }
-    };
-    let progress = progress_of(left.len().max(right.len()), job.quiet);
-    let benches = run(left, right, &model, job.way, progress).map_err(|refusal| told(&job.model, refusal))?;
-    store(&benches, &[], &job.out)?;
-    Ok(benches)
+        Err(worse) => format!("{why}; then {worse}"),
+    }
 }

@@ -1,7 +1,8 @@
 //! `host demo`: two short dictations over a grinder, cleaned with the house model.
 
-use crate::clean;
+use crate::clean::{in_memory, Sink};
 use crate::cleaned::Cleaned;
+use crate::files::Files;
 use crate::recorder::Way;
 use crate::{wav, FRAME, RATE};
 use std::f64::consts::TAU;
@@ -162,17 +163,28 @@ pub fn effect(dictation: &Dictation, after: &[f32]) -> Effect {
 
 /// Both dictations, cleaned with the house model.
 pub fn cleaned(dictations: &[Dictation; 2], way: Way) -> Result<[Cleaned; 2], String> {
-    let [left, right] = [&dictations[0], &dictations[1]].map(|d| d.noisy.clone());
-    clean::run(left, right, HOUSE, way, |_| ()).map_err(|refusal| refusal.to_string())
+    let [left, right] = dictations;
+    in_memory([&left.noisy, &right.noisy], HOUSE, way).map_err(|trouble| trouble.to_string())
+}
+
+/// Writes both recordings, before and after, and all that `host clean` writes.
+fn store([left, right]: &[Cleaned; 2], out: &Path) -> Result<(), String> {
+    let mut files = Files::new(out)?;
+    let names = [left, right].map(|bench| format!("{}-before.wav", bench.side.name()));
+    for (bench, name) in [left, right].into_iter().zip(&names) {
+        files.add(name, &wav::write(RATE, &bench.before))?;
+        files.before(bench.side, &bench.before)?;
+        files.after(bench.side, &bench.after)?;
+    }
+    files.frames(&[left.frames.clone(), right.frames.clone()])?;
+    files.keep(Some([&names[0], &names[1]])).map(|_| ())
 }
 
 /// Makes the dictations, cleans them, and writes both into the folder.
-pub fn demo(out: &Path) -> Result<[Cleaned; 2], String> {
+pub fn demo(out: &Path) -> Result<(), String> {
     let dictations = [dictation(0), dictation(1)];
-    let benches = cleaned(&dictations, Way::Text)?;
-    let before =
-        [&benches[0], &benches[1]].map(|b| (format!("{}-before.wav", b.side.name()), wav::write(RATE, &b.before)));
-    clean::store(&benches, &before, out)?;
+    let benches = cleaned(&dictations, Way::Own)?;
+    store(&benches, out)?;
     for (bench, dictation) in benches.iter().zip(&dictations) {
         let e = effect(dictation, &bench.after);
         println!(
@@ -184,5 +196,5 @@ pub fn demo(out: &Path) -> Result<[Cleaned; 2], String> {
             e.ratio[1]
         );
     }
-    Ok(benches)
+    Ok(())
 }

@@ -1,6 +1,7 @@
 //! Files that come to stand in a folder all together, or not at all.
 
 use std::fs;
+use std::io::Write;
 use std::path::{Path, PathBuf};
 
 /// What went wrong, and with which file.
@@ -65,12 +66,22 @@ impl Folder {
         Ok(Folder { path: path.to_owned(), made, files: Vec::new() })
     }
 
+    /// A file that is written beside its place, as `NAME.part`.
+    pub fn create(&mut self, name: &str) -> Result<fs::File, String> {
+        let file = File { place: self.path.join(name), aside: false, put: false };
+        let part = file.part();
+        self.files.push(file);
+        fs::File::create(&part).map_err(|why| told(&part, why))
+    }
+
     /// Writes a file beside its place.
     pub fn write(&mut self, name: &str, bytes: &[u8]) -> Result<(), String> {
-        let file = File { place: self.path.join(name), aside: false, put: false };
-        let written = fs::write(file.part(), bytes).map_err(|why| told(&file.part(), why));
-        self.files.push(file);
-        written
+        self.create(name)?.write_all(bytes).map_err(|why| told(&self.path.join(name), why))
+    }
+
+    /// Where something may be laid down for a while.
+    pub fn beside(&self, name: &str, ending: &str) -> PathBuf {
+        beside(&self.path.join(name), ending)
     }
 
     /// Puts all files into their places.
@@ -83,6 +94,12 @@ impl Folder {
         }
         self.made = false;
         Ok(())
+    }
+
+    /// Leaves the files as they were written, beside their places.
+    pub fn leave(mut self) {
+        self.files.clear();
+        self.made = false;
     }
 }
 

@@ -1,21 +1,25 @@
 //! The recorder box: it runs both benches over one lent store through the proved library, and does itself what the library
-//! leaves to its host: both transforms, the logarithm, the lag, the files.
+//! leaves to its host: the logarithm and the files; and where nnnoiseless's very numbers are wanted, both transforms and the lag.
 
 pub mod bench;
 pub mod clean;
 pub mod cleaned;
 pub mod demo;
+pub mod files;
 pub mod folder;
 pub mod lags;
 pub mod logs;
 pub mod mend;
+pub mod overview;
 pub mod pack;
 pub mod page;
 pub mod picture;
 pub mod recorder;
+pub mod records;
 pub mod reference;
 pub mod refusal;
 pub mod side;
+pub mod source;
 pub mod table;
 pub mod transform;
 pub mod wav;

@@ -8,12 +8,25 @@ host: cleans two dictations, one for each bench
 
   host clean --left L.wav --right R.wav --model M.rnn --out DIR
   host clean --both STEREO.wav --model M.rnn --out DIR
+  host clean - [--raw] --model M.rnn --out DIR
       Recordings of 48 kHz, 16-bit or 24-bit PCM or 32-bit float; of a stereo file
       the left channel is the left bench. Writes left.wav, right.wav, frames.csv,
       benches.svg and index.html, a page with all of it, into DIR. Each recording
       carries its side sheet behind the audio.
-      With --own the library transforms each frame and finds its lag itself; with
-      --own-lag it finds the lag, and not the Rust text's finder.
+      - is a stereo WAV stream on standard input, or with --raw one without a header:
+      16 bits, little end first, left and right in turn. A stream may be of any
+      length up to 12 hours and 25 minutes, which is what a WAV file can hold.
+      All recordings are cleaned as they are read, and written as they are cleaned:
+      it takes no more memory for ten hours than for a minute. On their way the files
+      are called left.wav.part and so on, their header says that the audio goes on to
+      the end, and the records of the side sheets lie in left.wav.sheet and
+      right.wav.sheet; at the end the headers are mended, the sheets written behind
+      the audio, and the files put in their places. Where a stream can't be read to
+      its end, that is done with what came before, and told with exit status 2. (End a
+      stream by stopping what records it: this program then closes its files.)
+      The library transforms each frame and finds its lag itself. With --lag crate
+      the lag is that of the Rust text's own finder, and the transforms are this
+      program's: that gives nnnoiseless's very numbers. (--lag own is the same as none.)
       A long recording's progress is told, unless -q stands there.
   host demo DIR
       The same with two dictations over a grinder and the house model, which come
@@ -40,7 +53,8 @@ host: cleans two dictations, one for each bench
       those of this machine: on the demo and on ten minutes of noise and speech.
   host --help, host --version
 
-Exit status: 0 done, 2 something was not right; then nothing is written.
+Exit status: 0 done, 2 something was not right; then nothing is written, but of a
+stream what came before.
 ";
 
 /// The values of the named options, each once; `None` where another word, or half an option, stands.
@@ -52,24 +66,40 @@ fn options(words: &[String], names: &[&str]) -> Option<Vec<PathBuf>> {
     names.iter().map(value).collect()
 }
 
+/// Takes a word out, where it stands there.
+fn flag(words: &mut Vec<String>, name: &str) -> bool {
+    words.iter().position(|word| word == name).map(|at| words.remove(at)).is_some()
+}
+
+/// Takes `--lag WHOSE` out.
+fn way(words: &mut Vec<String>) -> Option<Way> {
+    let Some(at) = words.iter().position(|word| word == "--lag") else { return Some(Way::Own) };
+    let whose = words.drain(at..(at + 2).min(words.len())).nth(1)?;
+    match &whose[..] {
+        "own" => Some(Way::Own),
+        "crate" => Some(Way::Text),
+        _ => None,
+    }
+}
+
 fn job(words: &[String]) -> Option<Job> {
     let mut words = words.to_vec();
-    let mut flag = |name| words.iter().position(|word| word == name).map(|at| words.remove(at)).is_some();
-    let way = match (flag("--own"), flag("--own-lag")) {
-        (true, true) => return None,
-        (true, false) => Way::Own,
-        (false, true) => Way::OwnLag,
-        (false, false) => Way::Text,
+    let way = way(&mut words)?;
+    let (quiet, stream, raw) = (flag(&mut words, "-q"), flag(&mut words, "-"), flag(&mut words, "--raw"));
+    let named = |names: &[&str]| options(&words, &[names, &["--model", "--out"]].concat());
+    let (inputs, mut rest) = if stream {
+        (Inputs::Stream { raw }, named(&[])?)
+    } else if raw {
+        return None;
+    } else if let Some(mut paths) = named(&["--left", "--right"]) {
+        let rest = paths.split_off(2);
+        (Inputs::Two { right: paths.pop()?, left: paths.pop()? }, rest)
+    } else {
+        let mut paths = named(&["--both"])?;
+        let rest = paths.split_off(1);
+        (Inputs::Stereo(paths.pop()?), rest)
     };
-    let quiet = flag("-q");
-    let words = &words[..];
-    if let Some(mut paths) = options(words, &["--left", "--right", "--model", "--out"]) {
-        let (out, model, right, left) = (paths.pop()?, paths.pop()?, paths.pop()?, paths.pop()?);
-        return Some(Job { inputs: Inputs::Two { left, right }, model, way, quiet, out });
-    }
-    let mut paths = options(words, &["--both", "--model", "--out"])?;
-    let (out, model, both) = (paths.pop()?, paths.pop()?, paths.pop()?);
-    Some(Job { inputs: Inputs::Stereo(both), model, way, quiet, out })
+    Some(Job { inputs, way, quiet, out: rest.pop()?, model: rest.pop()? })
 }
 
 fn run(words: &[String]) -> Result<(), String> {
@@ -104,7 +134,7 @@ fn run(words: &[String]) -> Result<(), String> {
             let job = job(rest).ok_or("clean: the options are not right; see host --help")?;
             let benches = clean(&job)?;
             for bench in &benches {
-                println!("{}: {} frames", bench.side.name(), bench.frames.len());
+                println!("{}: {} frames", bench.side.name(), bench.frames);
             }
         }
         _ => return Err("what shall be done? See host --help".into()),

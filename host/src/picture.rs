@@ -1,76 +1,66 @@
 //! One picture of both benches before and after, with the heard stretches marked.
 
-use crate::cleaned::Cleaned;
-use crate::recorder::{Frame, Heard};
+use crate::cleaned::Summary;
+use crate::overview::Column;
 use crate::{FRAME, RATE};
 use std::fmt::Write;
 
 const WIDTH: f64 = 1000.0;
-const LEFT: f64 = 90.0;
+const LEFT: f64 = 100.0;
 const STRIP: f64 = 90.0;
 const GAP: f64 = 16.0;
 const TOP: f64 = 46.0;
-/// Columns of a waveform.
-const COLUMNS: usize = 500;
+
+/// When a frame begins.
+fn second(frame: u64) -> f64 {
+    frame as f64 * FRAME as f64 / f64::from(RATE)
+}
+
+/// The columns of a recording, each with the seconds between which it stands. (The last frame stands behind its end.)
+fn columns(bench: &Summary) -> impl Iterator<Item = ([f64; 2], &Column)> {
+    let (wide, end) = (bench.overview.wide, bench.seconds());
+    let places = (0..).map(move |column| [second(column * wide), second((column + 1) * wide).min(end)]);
+    places.zip(&bench.overview.columns).take_while(move |(place, _)| place[0] < end)
+}
+
+/// Where in the picture a second lies.
+fn across(at: f64, seconds: f64) -> f64 {
+    LEFT + WIDTH * at / seconds
+}
 
 /// The outline of a waveform around `middle`: the largest and the least sample of each column. A sample of `peak` fills half a strip.
-fn outline(samples: &[f32], seconds: f64, middle: f64, peak: f32) -> String {
+fn outline(bench: &Summary, strip: fn(&Column) -> [f32; 2], seconds: f64, middle: f64, peak: f32) -> String {
     let (mut upper, mut lower) = (String::new(), Vec::new());
-    for column in 0..COLUMNS {
-        let at = |c: usize| (c as f64 / COLUMNS as f64 * seconds * f64::from(RATE)) as usize;
-        let Some(part) = samples.get(at(column)..at(column + 1).min(samples.len())) else { break };
-        let most = part.iter().fold(0.0f32, |a, b| a.max(*b));
-        let least = part.iter().fold(0.0f32, |a, b| a.min(*b));
-        let x = LEFT + WIDTH * (column as f64 + 0.5) / COLUMNS as f64;
+    for ([from, to], column) in columns(bench) {
+        let x = across((from + to) / 2.0, seconds);
         let y = |v: f32| middle - f64::from((v / peak).clamp(-1.0, 1.0)) * STRIP * 0.48;
-        write!(upper, "{x:.1},{:.1} ", y(most)).unwrap();
-        lower.push(format!("{x:.1},{:.1}", y(least)));
+        let [least, most] = strip(column).map(y);
+        write!(upper, "{x:.1},{most:.1} ").unwrap();
+        lower.push(format!("{x:.1},{least:.1}"));
     }
     lower.reverse();
     upper + &lower.join(" ")
 }
 
-/// The stretches of frames in a row for which `test` holds, in seconds.
-fn stretches(frames: &[Frame], test: impl Fn(&Heard) -> bool) -> Vec<(f64, f64)> {
-    let second = |frame: usize| frame as f64 * FRAME as f64 / f64::from(RATE);
-    let mut found: Vec<(f64, f64)> = Vec::new();
-    for frame in frames.iter().filter(|f| test(&f.heard)).map(|f| f.number as usize) {
+/// The stretches of columns in a row for which `test` holds, in seconds.
+fn stretches(bench: &Summary, test: fn(&Column) -> bool) -> Vec<[f64; 2]> {
+    let mut found: Vec<[f64; 2]> = Vec::new();
+    for ([from, to], _) in columns(bench).filter(|(_, column)| test(column)) {
         match found.last_mut() {
-            Some(last) if last.1 == second(frame) => last.1 = second(frame + 1),
-            _ => found.push((second(frame), second(frame + 1))),
+            Some(last) if last[1] == from => last[1] = to,
+            _ => found.push([from, to]),
         }
     }
     found
 }
 
-fn is_heard(heard: &Heard) -> bool {
-    matches!(heard, Heard::Voice { .. })
-}
-
-fn is_voice(heard: &Heard) -> bool {
-    matches!(heard, Heard::Voice { probability, .. } if *probability > 0.5)
-}
-
 /// How likely a voice is, as a line over a strip's foot: the most of each column.
-fn likelihood(frames: &[Frame], seconds: f64, foot: f64) -> String {
-    let wide = seconds * f64::from(RATE) / FRAME as f64 / COLUMNS as f64;
-    let mut most = vec![0.0f32; COLUMNS];
-    for frame in frames {
-        let column = (f64::from(frame.number) / wide.max(f64::MIN_POSITIVE)) as usize;
-        if let (Heard::Voice { probability, .. }, Some(most)) = (frame.heard, most.get_mut(column)) {
-            *most = most.max(probability);
-        }
-    }
-    let x = |column: usize| LEFT + WIDTH * (column as f64 + 0.5) / COLUMNS as f64;
-    let point = |(column, p): (usize, &f32)| format!("{:.1},{:.1}", x(column), foot - f64::from(*p) * STRIP * 0.4);
-    most.iter().enumerate().map(point).collect::<Vec<_>>().join(" ")
-}
-
-/// Where a frame's number does not follow the one before it, in seconds.
-fn gaps(frames: &[Frame]) -> Vec<f64> {
-    let follows = |pair: &[Frame]| pair[1].number == pair[0].number.wrapping_add(1);
-    let second = |pair: &[Frame]| f64::from(pair[1].number) * FRAME as f64 / f64::from(RATE);
-    frames.windows(2).filter(|pair| !follows(pair)).map(second).collect()
+fn likelihood(bench: &Summary, seconds: f64, foot: f64) -> String {
+    let point = |([from, to], column): ([f64; 2], &Column)| {
+        let (x, y) = (across((from + to) / 2.0, seconds), foot - f64::from(column.likely) * STRIP * 0.4);
+        format!("{x:.1},{y:.1}")
+    };
+    columns(bench).map(point).collect::<Vec<_>>().join(" ")
 }
 
 /// The most labels that stand side by side.
@@ -84,8 +74,8 @@ fn labelled(seconds: usize) -> impl Iterator<Item = usize> {
 }
 
 /// A strip for each recording, the heard stretches as a bar below it, and where a voice is likely the bar is dark.
-pub fn svg(benches: &[Cleaned; 2]) -> String {
-    let seconds = benches.iter().map(|b| b.before.len()).max().unwrap_or(0).max(1) as f64 / f64::from(RATE);
+pub fn svg(benches: &[Summary; 2]) -> String {
+    let seconds = benches.iter().map(Summary::seconds).fold(1.0 / f64::from(RATE), f64::max);
     let height = TOP + 4.0 * (STRIP + GAP) + 46.0;
     let mut text = format!(
         "<svg xmlns=\"http://www.w3.org/2000/svg\" viewBox=\"0 0 {} {height}\" font-family=\"sans-serif\" font-size=\"13\">\n\
@@ -95,39 +85,49 @@ pub fn svg(benches: &[Cleaned; 2]) -> String {
     );
     let mut top = TOP;
     for bench in benches {
-        // The loudest sample of the recording is the measure of both strips.
-        let peak = bench.before.iter().fold(1.0f32, |a, b| a.max(b.abs()));
-        for (what, samples, colour) in [("before", &bench.before, "#999999"), ("after", &bench.after, "#1f6f8b")] {
-            let middle = top + STRIP / 2.0;
-            writeln!(text, "<text x=\"8\" y=\"{:.0}\">{} {what}</text>", middle + 4.0, bench.side.name()).unwrap();
-            writeln!(text, "<polygon fill=\"{colour}\" points=\"{}\"/>", outline(samples, seconds, middle, peak))
-                .unwrap();
-            for (test, shade) in [(is_heard as fn(&Heard) -> bool, "#f2d7a6"), (is_voice, "#c0562f")] {
-                for (from, to) in stretches(&bench.frames, test) {
-                    let x = |s: f64| LEFT + WIDTH * (s / seconds).min(1.0);
-                    let (y, wide) = (top + STRIP, x(to) - x(from));
-                    writeln!(
-                        text,
-                        "<rect x=\"{:.1}\" y=\"{y:.1}\" width=\"{wide:.1}\" height=\"5\" fill=\"{shade}\"/>",
-                        x(from)
-                    )
-                    .unwrap();
-                }
-            }
-            if what == "after" {
-                let line = likelihood(&bench.frames, seconds, top + STRIP);
-                writeln!(text, "<polyline fill=\"none\" stroke=\"#c0562f\" points=\"{line}\"/>").unwrap();
-                for gap in gaps(&bench.frames) {
-                    let x = LEFT + WIDTH * (gap / seconds).min(1.0);
-                    let (from, to) = (top, top + STRIP);
-                    writeln!(text, "<path stroke=\"#d00000\" d=\"M{x:.1} {from:.1} V{to:.1}\"/>").unwrap();
-                }
-            }
+        for after in [false, true] {
+            strip(&mut text, bench, after, seconds, top);
             top += STRIP + GAP;
         }
     }
+    labels(&mut text, seconds, top);
+    text + "</svg>\n"
+}
+
+/// One recording, before or after.
+fn strip(text: &mut String, bench: &Summary, after: bool, seconds: f64, top: f64) {
+    let (middle, foot) = (top + STRIP / 2.0, top + STRIP);
+    let (what, colour, samples) = match after {
+        false => ("before", "#999999", (|column| column.before) as fn(&Column) -> [f32; 2]),
+        true => ("after", "#1f6f8b", (|column| column.after) as fn(&Column) -> [f32; 2]),
+    };
+    // the loudest sample of the recording as it was is the measure of both strips
+    let peak = bench.overview.columns.iter().flat_map(|column| column.before).fold(1.0f32, |a, b| a.max(b.abs()));
+    writeln!(text, "<text x=\"8\" y=\"{:.0}\">{} {what}</text>", middle + 4.0, bench.side.name()).unwrap();
+    let points = outline(bench, samples, seconds, middle, peak);
+    writeln!(text, "<polygon fill=\"{colour}\" points=\"{points}\"/>").unwrap();
+    for (test, shade) in [(Column::is_heard as fn(&Column) -> bool, "#f2d7a6"), (Column::is_voice, "#c0562f")] {
+        for stretch in stretches(bench, test) {
+            let [from, to] = stretch.map(|at| across(at, seconds));
+            let wide = to - from;
+            writeln!(text, "<rect x=\"{from:.1}\" y=\"{foot:.1}\" width=\"{wide:.1}\" height=\"5\" fill=\"{shade}\"/>")
+                .unwrap();
+        }
+    }
+    if after {
+        let line = likelihood(bench, seconds, foot);
+        writeln!(text, "<polyline fill=\"none\" stroke=\"#c0562f\" points=\"{line}\"/>").unwrap();
+        for ([at, _], _) in columns(bench).filter(|(_, column)| column.gap) {
+            let x = across(at, seconds);
+            writeln!(text, "<path stroke=\"#d00000\" d=\"M{x:.1} {top:.1} V{foot:.1}\"/>").unwrap();
+        }
+    }
+}
+
+/// Seconds and frames below all strips.
+fn labels(text: &mut String, seconds: f64, top: f64) {
     for second in labelled(seconds as usize) {
-        let x = LEFT + WIDTH * second as f64 / seconds;
+        let x = across(second as f64, seconds);
         writeln!(
             text,
             "<text x=\"{x:.0}\" y=\"{:.0}\" text-anchor=\"middle\" fill=\"#555555\">{second} s</text>\n\
@@ -139,19 +139,37 @@ pub fn svg(benches: &[Cleaned; 2]) -> String {
         .unwrap();
     }
     writeln!(text, "<text x=\"8\" y=\"{:.0}\" fill=\"#999999\">frame</text>", top + 30.0).unwrap();
-    text + "</svg>\n"
 }
 
 #[cfg(test)]
 mod tests {
     use super::*;
+    use crate::recorder::{Frame, Heard, Side};
+
+    /// Half a second of either side; frames 20 to 29 of the left one are missing.
+    fn benches() -> [Summary; 2] {
+        Side::BOTH.map(|side| {
+            let mut summary = Summary::of(side);
+            summary.before(&[100.0; 24_000]);
+            summary.after(&[50.0; 24_000]);
+            for number in (0..51).filter(|number| side == Side::Right || !(20..30).contains(number)) {
+                let heard = Heard::Voice { probability: 0.25, energy: 1.0 };
+                summary.frame(&Frame { number, heard, heard_so_far: number + 1 });
+            }
+            summary
+        })
+    }
 
     #[test]
     fn a_gap_is_drawn() {
-        let frame = |number| Frame { number, heard: Heard::Silent, heard_so_far: 0 };
-        assert_eq!(gaps(&[frame(0), frame(1), frame(2)]), [0.0; 0]);
-        assert_eq!(gaps(&[frame(7), frame(100), frame(101), frame(200)]), [1.0, 2.0]);
-        assert_eq!(gaps(&[frame(u32::MAX), frame(0)]), [0.0; 0]);
+        let text = svg(&benches());
+        let strokes: Vec<&str> = text.lines().filter(|line| line.contains("#d00000")).collect();
+        // frame 30 of 50, in the second strip
+        let (x, top) = (LEFT + WIDTH * 0.6, TOP + STRIP + GAP);
+        assert_eq!(strokes, [format!("<path stroke=\"#d00000\" d=\"M{x:.1} {top:.1} V{:.1}\"/>", top + STRIP)]);
+        // the bars stop where frames are missing, and end with the recording
+        let bars: Vec<[f64; 2]> = stretches(&benches()[0], Column::is_heard);
+        assert_eq!(bars, [[0.0, 0.2], [0.3, 0.5]]);
     }
 
     #[test]

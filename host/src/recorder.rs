@@ -9,10 +9,14 @@ use std::time::{Duration, Instant};
 /// The store's published length, and a side's share of it (docs/STORE.md).
 pub const STORE: usize = 98_304;
 const SHARE: usize = 6_144;
-/// A record's numbers: how many, and where the two stand that count frames.
-const RECORD: usize = 7;
+/// A record's numbers: how many, and where the two stand that count frames, and the length of a piece that pauses.
+const RECORD: usize = 10;
 const FRAMES: usize = 5;
 const HEARD: usize = 6;
+const PAUSED: usize = 8;
+/// The most samples of a piece, and of the frames that it may complete: 479 may wait.
+pub const PIECE: usize = 4_096;
+const COMPLETED: usize = (479 + PIECE) / FRAME * FRAME;
 /// `input_mem`, the first numbers of a share: what the lag is searched in.
 const INPUT_MEM: usize = 1_728;
 
@@ -34,13 +38,13 @@ impl Side {
     }
 }
 
-/// How a frame is run: in four calls, with the lag of the text's own finder or with the library's (request 04); or in two halves, with
-/// the library's lag and transforms, so that the logarithms alone are left to this program (request 08).
+/// How frames are run: in pieces of the recording as it comes, with the library's lag and transforms, so that the logarithms alone are left to
+/// this program (request 12); or each in four calls, with this program's transforms and the lag of the text's own finder, or the library's.
 #[derive(Clone, Copy, Debug, PartialEq)]
 pub enum Way {
+    Own,
     Text,
     OwnLag,
-    Own,
 }
 
 /// What a frame gave besides its 480 samples.
@@ -48,6 +52,20 @@ pub enum Way {
 pub enum Heard {
     Silent,
     Voice { probability: f32, energy: f32 },
+}
+
+impl Heard {
+    fn of([heard, probability, energy]: [f32; 3]) -> Heard {
+        if heard == 0.0 {
+            Heard::Silent
+        } else {
+            Heard::Voice { probability, energy }
+        }
+    }
+
+    pub fn is_heard(self) -> bool {
+        matches!(self, Heard::Voice { .. })
+    }
 }
 
 /// A frame by its number, from 0 at the opening, and what it was.
@@ -63,7 +81,8 @@ pub struct Frame {
 #[derive(Clone, Copy, Default)]
 pub struct Spent {
     pub calls: [Duration; 4],
-    pub halves: [Duration; 2],
+    /// A piece, and a resume.
+    pub pieces: [Duration; 2],
     pub transforms: Duration,
     pub lag: Duration,
     pub logarithms: Duration,
@@ -75,13 +94,15 @@ struct Buffers {
     spectrum: [f32; SPECTRUM],
     sums: [f32; 22],
     out: [f32; SPECTRUM],
+    completed: [f32; COMPLETED],
 }
 
-/// One store, and for each bench its record and its pitch finder.
+/// One store, and for each bench its record, its pitch finder, and where frames are run in four calls the samples that are none yet.
 pub struct Recorder {
     store: Vec<f32>,
     records: [[u32; RECORD]; 2],
     way: Way,
+    waiting: [Vec<f32>; 2],
     finders: [PitchFinder; 2],
     transform: Transform,
     buffers: Box<Buffers>,
@@ -90,7 +111,7 @@ pub struct Recorder {
 
 impl Default for Recorder {
     fn default() -> Recorder {
-        Recorder::new(Way::Text)
+        Recorder::new(Way::Own)
     }
 }
 
@@ -100,6 +121,7 @@ impl Recorder {
             store: vec![0.0; STORE],
             records: [[0; RECORD]; 2],
             way,
+            waiting: [Vec::new(), Vec::new()],
             finders: [PitchFinder::new(), PitchFinder::new()],
             transform: Transform::default(),
             buffers: Box::new(Buffers {
@@ -107,6 +129,7 @@ impl Recorder {
                 spectrum: [0.0; SPECTRUM],
                 sums: [0.0; 22],
                 out: [0.0; SPECTRUM],
+                completed: [0.0; COMPLETED],
             }),
             spent: Spent::default(),
         }
@@ -134,45 +157,94 @@ impl Recorder {
     pub fn open(&mut self, side: Side, model: &[u8]) -> Result<(), Refusal> {
         done(tuppence::open(&mut self.records[side as usize], &mut self.store, side as u32, model))?;
         self.finders[side as usize] = PitchFinder::new();
+        self.waiting[side as usize].clear();
         Ok(())
     }
 
-    /// One frame of a bench: 480 samples in, 480 out.
-    pub fn frame(&mut self, side: Side, samples: &[f32], model: &[u8], out: &mut [f32]) -> Result<Frame, Refusal> {
-        let frame = self.records[side as usize][FRAMES];
-        let answer = match self.way {
-            Way::Own => self.halves(side, samples, model, out)?,
-            _ => self.calls(side, samples, model, out)?,
-        };
-        let [heard, probability, energy] = answer;
-        let heard = if heard == 0.0 { Heard::Silent } else { Heard::Voice { probability, energy } };
-        Ok(Frame { number: frame, heard, heard_so_far: self.records[side as usize][HEARD] })
+    /// So many samples of a bench as there are. `each` is given the frames that they complete, and the 480 samples of each.
+    pub fn take(
+        &mut self,
+        side: Side,
+        samples: &[f32],
+        model: &[u8],
+        mut each: impl FnMut(Frame, &[f32]),
+    ) -> Result<(), Refusal> {
+        for piece in samples.chunks(PIECE) {
+            match self.way {
+                Way::Own => self.piece(side, piece, model, &mut each)?,
+                _ => self.whole(side, piece, model, &mut each)?,
+            }
+        }
+        Ok(())
     }
 
-    /// In two halves.
-    fn halves(&mut self, side: Side, samples: &[f32], model: &[u8], out: &mut [f32]) -> Result<[f32; 3], Refusal> {
+    /// What the bench's record says of the frame that was begun behind so many, and this answer.
+    fn frame(&self, side: Side, number: u32, answer: [f32; 3]) -> Frame {
+        Frame { number, heard: Heard::of(answer), heard_so_far: self.records[side as usize][HEARD] }
+    }
+
+    /// A piece, resumed to its end.
+    fn piece(
+        &mut self,
+        side: Side,
+        piece: &[f32],
+        model: &[u8],
+        each: &mut impl FnMut(Frame, &[f32]),
+    ) -> Result<(), Refusal> {
+        let bench = side as u32;
         let Recorder { store, records, buffers: b, spent, .. } = self;
-        let (number, record) = (side as u32, &mut records[side as usize]);
-        done(timed(&mut spent.halves[0], || tuppence::first_half(record, store, number, samples, &mut b.sums)))?;
-        let logs = timed(&mut spent.logarithms, || b.sums.map(f32::log10));
-        let mut answer = [0.0; 3];
-        done(timed(&mut spent.halves[1], || {
-            tuppence::second_half(record, store, number, &logs, model, &mut out[..FRAME], &mut answer)
+        let record = &mut records[side as usize];
+        done(timed(&mut spent.pieces[0], || {
+            tuppence::piece(record, store, bench, piece, &mut b.completed, &mut b.sums)
         }))?;
-        Ok(answer)
+        for at in (0..).step_by(FRAME) {
+            let Recorder { store, records, buffers: b, spent, .. } = self;
+            let record = &mut records[side as usize];
+            if record[PAUSED] == 0 {
+                break;
+            }
+            let (number, mut answer) = (record[FRAMES], [0.0; 3]);
+            let logs = timed(&mut spent.logarithms, || b.sums.map(f32::log10));
+            done(timed(&mut spent.pieces[1], || {
+                let (out, sums) = (&mut b.completed, &mut b.sums);
+                tuppence::resume(record, store, bench, piece, &logs, model, out, sums, &mut answer)
+            }))?;
+            each(self.frame(side, number, answer), &self.buffers.completed[at..at + FRAME]);
+        }
+        Ok(())
+    }
+
+    /// The frames that these samples complete, in four calls each.
+    fn whole(
+        &mut self,
+        side: Side,
+        samples: &[f32],
+        model: &[u8],
+        each: &mut impl FnMut(Frame, &[f32]),
+    ) -> Result<(), Refusal> {
+        let mut waiting = std::mem::take(&mut self.waiting[side as usize]);
+        waiting.extend(samples);
+        let (frames, rest) = waiting.as_chunks::<FRAME>();
+        for samples in frames {
+            let (number, mut out) = (self.records[side as usize][FRAMES], [0.0; FRAME]);
+            let answer = self.calls(side, samples, model, &mut out)?;
+            each(self.frame(side, number, answer), &out);
+        }
+        self.waiting[side as usize] = rest.to_vec();
+        Ok(())
     }
 
     /// In four calls.
     fn calls(&mut self, side: Side, samples: &[f32], model: &[u8], out: &mut [f32]) -> Result<[f32; 3], Refusal> {
         let number = side as u32;
-        let Recorder { store, records, way, finders, transform, buffers: b, spent } = self;
+        let Recorder { store, records, way, finders, transform, buffers: b, spent, .. } = self;
         let record = &mut records[side as usize];
 
         done(timed(&mut spent.calls[0], || tuppence::call1(record, store, number, samples, &mut b.window)))?;
         timed(&mut spent.transforms, || transform.forward(&b.window, &mut b.spectrum));
 
         done(match way {
-            Way::Text | Way::Own => {
+            Way::Own | Way::Text => {
                 let input_mem = &store[side as usize * SHARE..][..INPUT_MEM];
                 let (lag, _gain) = timed(&mut spent.lag, || finders[side as usize].process(input_mem));
                 timed(&mut spent.calls[1], || {
@@ -192,7 +264,7 @@ impl Recorder {
         }))?;
         timed(&mut spent.transforms, || transform.inverse(&b.out, &mut b.window));
 
-        done(timed(&mut spent.calls[3], || tuppence::call4(record, store, number, &b.window, &mut out[..FRAME])))?;
+        done(timed(&mut spent.calls[3], || tuppence::call4(record, store, number, &b.window, out)))?;
         Ok(answer)
     }
 }

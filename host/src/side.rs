@@ -1,9 +1,8 @@
-//! The side sheet behind a recording's audio: written by `host clean`, and by `host side FILE..` told to a clerk.
+//! `host side FILE..`: the side sheet behind a recording's audio, told to a clerk.
 
-use crate::cleaned::Cleaned;
-use crate::recorder::{Frame, Heard, Side};
+use crate::cleaned::gaps;
+use crate::recorder::Side;
 use crate::refusal::Refusal;
-use crate::{wav, RATE};
 use std::fmt;
 use std::path::{Path, PathBuf};
 
@@ -31,22 +30,9 @@ impl Sheet {
         Ok(Sheet {
             side: Side::BOTH[side],
             heard: records.filter(|r| r[4] == 1).count(),
-            gaps: frames.windows(2).filter(|w| w[1] != w[0].wrapping_add(1)).map(|w| w[0]).collect(),
+            gaps: gaps(&frames).into_iter().map(|[before, _]| before).collect(),
             frames: frames.len(),
         })
-    }
-}
-
-/// A cleaned recording: its audio, and behind it the sheet of its frames.
-pub fn with_sheet(bench: &Cleaned) -> Result<Vec<u8>, Refusal> {
-    let mut file = wav::write(RATE, &bench.after);
-    let heard = |frame: &Frame| u64::from(matches!(frame.heard, Heard::Voice { .. }));
-    let entries: Vec<u64> = bench.frames.iter().map(|frame| u64::from(frame.number) | heard(frame) << 32).collect();
-    let audio = file.len();
-    file.resize(audio + 8 * entries.len() + 16, 0);
-    match tuppence::sheet_write(&mut file[audio..], tuppence::side_of(bench.side as u32), &entries) {
-        0 => Ok(file),
-        refused => Err(Refusal(refused)),
     }
 }
 

@@ -1,22 +1,24 @@
-//! The table of frames, as CSV.
+//! The table of frames, as CSV, written as they come.
 
-use crate::cleaned::Cleaned;
-use crate::recorder::Heard;
-use std::fmt::Write;
+use crate::recorder::{Frame, Heard, Side};
+use std::io::{self, Write};
 
-/// A row for each frame of each bench, in the order in which they ran: its number since the opening, and how many were heard so far.
-pub fn csv(benches: &[Cleaned; 2]) -> String {
-    let mut text = String::from("side,frame,heard so far,state,voice,energy\n");
-    let most = benches.iter().map(|b| b.frames.len()).max().unwrap_or(0);
+pub fn head(to: &mut impl Write) -> io::Result<()> {
+    writeln!(to, "side,frame,heard so far,state,voice,energy")
+}
+
+/// A row for each frame of each bench, in turn: its number since the opening, and how many were heard so far.
+pub fn rows(to: &mut impl Write, frames: &[Vec<Frame>; 2]) -> io::Result<()> {
+    let most = frames.iter().map(Vec::len).max().unwrap_or(0);
     for at in 0..most {
-        for bench in benches {
-            let Some(frame) = bench.frames.get(at) else { continue };
-            write!(text, "{},{},{},", bench.side.name(), frame.number, frame.heard_so_far).unwrap();
+        for (side, frames) in Side::BOTH.into_iter().zip(frames) {
+            let Some(frame) = frames.get(at) else { continue };
+            write!(to, "{},{},{},", side.name(), frame.number, frame.heard_so_far)?;
             match frame.heard {
-                Heard::Silent => writeln!(text, "silent,,").unwrap(),
-                Heard::Voice { probability, energy } => writeln!(text, "heard,{probability},{energy}").unwrap(),
+                Heard::Silent => writeln!(to, "silent,,")?,
+                Heard::Voice { probability, energy } => writeln!(to, "heard,{probability},{energy}")?,
             }
         }
     }
-    text
+    Ok(())
 }

@@ -1,20 +1,17 @@
-//! WAV files: 16-bit or 24-bit PCM or f32 in, 16-bit PCM out. A sample is a number from -32768 to 32767, as the library takes it; a float beyond
-//! these, as full scale is, is taken for the nearer of the two.
+//! WAV files: 16-bit or 24-bit PCM or f32 in, 16-bit PCM out, both block by block. A sample is a number from -32768 to 32767, as the library takes it; a
+//! float beyond these, as full scale is, is taken for the nearer of the two.
 
 use std::fmt;
-
-/// What a file holds: its channels, each as long as the others.
-#[derive(Debug, PartialEq)]
-pub struct Wav {
-    pub rate: u32,
-    pub channels: Vec<Vec<f32>>,
-    /// How many samples lay beyond the two ends.
-    pub clipped: usize,
-}
+use std::io::{self, ErrorKind, Read, Seek, SeekFrom, Write};
 
 /// The ends of what the library takes.
 const LOWEST: f32 = -32_768.0;
 const HIGHEST: f32 = 32_767.0;
+
+/// What a header says of a length that is not known yet.
+const UNKNOWN: u32 = u32::MAX;
+/// From here on, or with 0, programs that write a stream mean that they don't know its length: they put 2 GiB or 4 GiB there, or a little less.
+const OPEN: u64 = 0x7FFF_F000;
 
 /// Why a file is not taken.
 #[derive(Debug, PartialEq)]
@@ -28,8 +25,10 @@ pub enum Fault {
     /// A sample, counted from 0 in its channel, that is NaN or infinite.
     NotFinite {
         channel: usize,
-        sample: usize,
+        sample: u64,
     },
+    /// It can't be read on.
+    Unreadable(String),
 }
 
 impl fmt::Display for Fault {
@@ -43,81 +42,234 @@ impl fmt::Display for Fault {
             Fault::NotFinite { channel, sample } => {
                 write!(f, "sample {sample} of channel {channel} (both counted from 0) is not a finite number")
             }
+            Fault::Unreadable(why) => write!(f, "{why}"),
         }
     }
 }
 
-fn u16_at(bytes: &[u8], at: usize) -> Option<u16> {
-    Some(u16::from_le_bytes(bytes.get(at..at + 2)?.try_into().ok()?))
-}
-
-fn u32_at(bytes: &[u8], at: usize) -> Option<u32> {
-    Some(u32::from_le_bytes(bytes.get(at..at + 4)?.try_into().ok()?))
-}
-
-/// Where a chunk with this name starts, and how many bytes it says it has.
-fn place(bytes: &[u8], name: &[u8; 4]) -> Option<(usize, usize)> {
-    let mut at = 12;
-    loop {
-        let size = u32_at(bytes, at + 4)? as usize;
-        if &bytes[at..at + 4] == name {
-            return Some((at + 8, size));
+impl From<io::Error> for Fault {
+    fn from(why: io::Error) -> Fault {
+        match why.kind() {
+            // a header that ends too soon
+            ErrorKind::UnexpectedEof => Fault::NotWav,
+            _ => Fault::Unreadable(why.to_string()),
         }
-        at = at.checked_add(8)?.checked_add(size)?.checked_add(size % 2)?;
     }
 }
 
-/// The part of a chunk with this name.
-fn chunk<'a>(bytes: &'a [u8], name: &[u8; 4]) -> Option<&'a [u8]> {
-    // A recorder that lost power leaves a size that is too large: what is there counts.
-    let (at, size) = place(bytes, name)?;
-    Some(&bytes[at..at.saturating_add(size).min(bytes.len())])
+/// How a sample stands in the bytes.
+#[derive(Clone, Copy)]
+enum Sample {
+    Pcm16,
+    Pcm24,
+    Float,
 }
 
-/// Where the audio ends, as the header says: behind the samples, and the byte that an odd number of them is filled up with.
-pub fn audio_end(bytes: &[u8]) -> Result<usize, Fault> {
-    read(bytes)?;
-    let (at, size) = place(bytes, b"data").ok_or(Fault::NotWav)?;
-    Ok(at.saturating_add(size).saturating_add(size % 2))
+impl Sample {
+    fn of(tag: u16, bits: u16) -> Result<Sample, Fault> {
+        match (tag, bits) {
+            (1, 16) => Ok(Sample::Pcm16),
+            (1, 24) => Ok(Sample::Pcm24),
+            (3, 32) => Ok(Sample::Float),
+            _ => Err(Fault::Format { tag, bits }),
+        }
+    }
+
+    fn size(self) -> usize {
+        match self {
+            Sample::Pcm16 => 2,
+            Sample::Pcm24 => 3,
+            Sample::Float => 4,
+        }
+    }
+
+    fn number(self, b: &[u8]) -> f32 {
+        match self {
+            Sample::Pcm16 => f32::from(i16::from_le_bytes([b[0], b[1]])),
+            // the third byte is a fraction of a sample
+            Sample::Pcm24 => i32::from_le_bytes([0, b[0], b[1], b[2]]) as f32 / 65_536.0,
+            Sample::Float => 32_768.0 * f32::from_le_bytes([b[0], b[1], b[2], b[3]]),
+        }
+    }
 }
 
-pub fn read(bytes: &[u8]) -> Result<Wav, Fault> {
-    if bytes.get(..4) != Some(b"RIFF") || bytes.get(8..12) != Some(b"WAVE") {
+/// A recording that is read block by block.
+pub struct Reader<R> {
+    from: io::Take<R>,
+    pub rate: u32,
+    pub channels: usize,
+    sample: Sample,
+    /// Where the audio starts, and how many bytes it says it has.
+    place: [u64; 2],
+    /// Bytes that are not yet a sample of each channel.
+    carried: Vec<u8>,
+    /// How many samples of a channel were given.
+    given: u64,
+    /// How many samples lay beyond the two ends.
+    pub clipped: u64,
+}
+
+/// The header of a chunk: its name and its size.
+fn chunk(from: &mut impl Read) -> Result<([u8; 4], u32), Fault> {
+    let mut bytes = [0; 8];
+    from.read_exact(&mut bytes)?;
+    let [a, b, c, d, size @ ..] = bytes;
+    Ok(([a, b, c, d], u32::from_le_bytes(size)))
+}
+
+/// What a format's chunk says that matters: tag, channels, samples a second, bits.
+fn format(bytes: &[u8]) -> Result<(u16, u16, u32, u16), Fault> {
+    let at = |i: usize| bytes.get(i..i + 2).map_or(0, |b| u16::from_le_bytes([b[0], b[1]]));
+    if bytes.len() < 16 {
         return Err(Fault::NotWav);
     }
-    let format = chunk(bytes, b"fmt ").filter(|f| f.len() >= 16).ok_or(Fault::NotWav)?;
-    let data = chunk(bytes, b"data").ok_or(Fault::NotWav)?;
-    let at = |i| u16_at(format, i).unwrap_or(0);
-    // An extensible format has its own tag in front of the identifier's rest.
+    // an extensible format has its own tag in front of the identifier's rest
     let tag = if at(0) == 0xFFFE { at(24) } else { at(0) };
-    let (count, bits) = (at(2), at(14));
-    if count != 1 && count != 2 {
-        return Err(Fault::Channels(count));
-    }
-    let samples: Vec<f32> = match (tag, bits) {
-        (1, 16) => data.chunks_exact(2).map(|b| f32::from(i16::from_le_bytes([b[0], b[1]]))).collect(),
-        // the third byte is a fraction of a sample
-        (1, 24) => data.chunks_exact(3).map(|b| i32::from_le_bytes([0, b[0], b[1], b[2]]) as f32 / 65_536.0).collect(),
-        (3, 32) => data.chunks_exact(4).map(|b| 32_768.0 * f32::from_le_bytes([b[0], b[1], b[2], b[3]])).collect(),
-        _ => return Err(Fault::Format { tag, bits }),
-    };
-    let count = usize::from(count);
-    let whole = &samples[..samples.len() - samples.len() % count];
-    if let Some(at) = whole.iter().position(|x| !x.is_finite()) {
-        return Err(Fault::NotFinite { channel: at % count, sample: at / count });
-    }
-    let clipped = whole.iter().filter(|x| !(LOWEST..=HIGHEST).contains(*x)).count();
-    let taken = |x: &f32| x.clamp(LOWEST, HIGHEST);
-    let channels = (0..count).map(|c| whole.iter().skip(c).step_by(count).map(taken).collect()).collect();
-    Ok(Wav { rate: u32_at(format, 4).unwrap_or(0), channels, clipped })
+    Ok((tag, at(2), u32::from(at(4)) | u32::from(at(6)) << 16, at(14)))
 }
 
-/// One channel as 16-bit PCM: rounded, and kept within its ends; a NaN is 0.
-pub fn write(rate: u32, samples: &[f32]) -> Vec<u8> {
-    let size = 2 * samples.len() as u32;
-    let mut bytes = Vec::with_capacity(44 + size as usize);
+impl<R: Read> Reader<R> {
+    /// Reads on to the first sample. The format stands in front of the audio, as WAV has it.
+    pub fn new(mut from: R) -> Result<Reader<R>, Fault> {
+        let mut riff = [0; 12];
+        from.read_exact(&mut riff)?;
+        if &riff[..4] != b"RIFF" || &riff[8..] != b"WAVE" {
+            return Err(Fault::NotWav);
+        }
+        let (mut at, mut seen) = (12, None);
+        loop {
+            let (name, size) = chunk(&mut from)?;
+            at += 8;
+            if &name == b"data" {
+                let (tag, channels, rate, bits) = seen.ok_or(Fault::NotWav)?;
+                return Reader::of(from, rate, channels, Sample::of(tag, bits), [at, size.into()]);
+            }
+            let whole = u64::from(size) + u64::from(size % 2);
+            let mut head = Vec::new();
+            from.by_ref().take(whole.min(40)).read_to_end(&mut head)?;
+            io::copy(&mut from.by_ref().take(whole - head.len() as u64), &mut io::sink())?;
+            if &name == b"fmt " && seen.is_none() {
+                head.truncate(size as usize);
+                seen = Some(format(&head)?);
+            }
+            at += whole;
+        }
+    }
+
+    /// The same, where the length may not have been known when the header was written.
+    pub fn stream(from: R) -> Result<Reader<R>, Fault> {
+        let mut reader = Reader::new(from)?;
+        if reader.place[1] == 0 || reader.place[1] >= OPEN {
+            reader.from.set_limit(u64::MAX);
+        }
+        Ok(reader)
+    }
+
+    /// Samples of 16 bits, little end first, without a header, up to the end.
+    pub fn raw(from: R, rate: u32, channels: u16) -> Result<Reader<R>, Fault> {
+        Reader::of(from, rate, channels, Ok(Sample::Pcm16), [0, UNKNOWN.into()])
+    }
+
+    fn of(from: R, rate: u32, channels: u16, sample: Result<Sample, Fault>, place: [u64; 2]) -> Result<Self, Fault> {
+        if channels != 1 && channels != 2 {
+            return Err(Fault::Channels(channels));
+        }
+        // A stream that does not know its length says so, and a recorder that lost power leaves a size that is too large: what is there counts.
+        let most = if place[1] == UNKNOWN.into() { u64::MAX } else { place[1] };
+        Ok(Reader {
+            from: from.take(most),
+            rate,
+            channels: channels.into(),
+            sample: sample?,
+            place,
+            carried: Vec::new(),
+            given: 0,
+            clipped: 0,
+        })
+    }
+
+    /// How many samples each channel has, in a file of so many bytes.
+    pub fn length(&self, bytes: u64) -> u64 {
+        let [start, size] = self.place;
+        size.min(bytes.saturating_sub(start)) / (self.sample.size() * self.channels) as u64
+    }
+
+    /// Where the audio ends, as the header says: behind the samples, and the byte that an odd number of them is filled up with.
+    pub fn end(&self) -> u64 {
+        self.place[0] + self.place[1] + self.place[1] % 2
+    }
+
+    /// Reads on behind these bytes until they are so many at most. How many came; none at the end.
+    fn more(&mut self, bytes: &mut Vec<u8>, most: usize) -> io::Result<usize> {
+        let had = bytes.len();
+        bytes.resize(most, 0);
+        let more = loop {
+            match self.from.read(&mut bytes[had..]) {
+                Err(why) if why.kind() == ErrorKind::Interrupted => {}
+                more => break more?,
+            }
+        };
+        bytes.truncate(had + more);
+        Ok(more)
+    }
+
+    /// What comes next, at most so many samples of each channel, as soon as there is any; none at the end.
+    pub fn block(&mut self, most: usize) -> Result<Vec<Vec<f32>>, Fault> {
+        let one = self.sample.size() * self.channels;
+        let mut bytes = std::mem::take(&mut self.carried);
+        while bytes.len() < one && self.more(&mut bytes, most * one)? > 0 {}
+        self.carried = bytes.split_off(bytes.len() - bytes.len() % one);
+        let mut channels = vec![Vec::with_capacity(bytes.len() / one); self.channels];
+        for (i, b) in bytes.chunks_exact(self.sample.size()).enumerate() {
+            let (channel, number) = (i % self.channels, self.sample.number(b));
+            if !number.is_finite() {
+                let sample = self.given + (i / self.channels) as u64;
+                return Err(Fault::NotFinite { channel, sample });
+            }
+            self.clipped += u64::from(!(LOWEST..=HIGHEST).contains(&number));
+            channels[channel].push(number.clamp(LOWEST, HIGHEST));
+        }
+        self.given += channels[0].len() as u64;
+        Ok(channels)
+    }
+}
+
+/// What a file holds: its channels, each as long as the others.
+#[derive(Debug, PartialEq)]
+pub struct Wav {
+    pub rate: u32,
+    pub channels: Vec<Vec<f32>>,
+    /// How many samples lay beyond the two ends.
+    pub clipped: u64,
+}
+
+/// Where the audio ends, as the header says, of a file that is read.
+pub fn audio_end(bytes: &[u8]) -> Result<usize, Fault> {
+    read(bytes)?;
+    Ok(Reader::new(bytes)?.end() as usize)
+}
+
+/// A whole file.
+pub fn read(bytes: &[u8]) -> Result<Wav, Fault> {
+    let mut reader = Reader::new(bytes)?;
+    let mut channels = vec![Vec::new(); reader.channels];
+    loop {
+        let block = reader.block(BLOCK)?;
+        if block[0].is_empty() {
+            return Ok(Wav { rate: reader.rate, channels, clipped: reader.clipped });
+        }
+        channels.iter_mut().zip(block).for_each(|(all, more)| all.extend(more));
+    }
+}
+
+/// Samples that are read at a time.
+const BLOCK: usize = 4_096;
+
+/// The header of one channel of 16-bit PCM, with so many bytes of audio.
+fn header(rate: u32, size: u32) -> Vec<u8> {
+    let mut bytes = Vec::with_capacity(44);
     bytes.extend(b"RIFF");
-    bytes.extend((36 + size).to_le_bytes());
+    bytes.extend(size.saturating_add(36).to_le_bytes());
     bytes.extend(b"WAVEfmt ");
     bytes.extend(16u32.to_le_bytes());
     bytes.extend([1, 0, 1, 0]);
@@ -126,10 +278,50 @@ pub fn write(rate: u32, samples: &[f32]) -> Vec<u8> {
     bytes.extend([2, 0, 16, 0]);
     bytes.extend(b"data");
     bytes.extend(size.to_le_bytes());
-    for x in samples {
-        bytes.extend((x.round().clamp(LOWEST, HIGHEST) as i16).to_le_bytes());
-    }
     bytes
+}
+
+/// One channel as 16-bit PCM, written as it comes: rounded, and kept within its ends; a NaN is 0. Until its end is known the header says that the
+/// audio goes on to the end of the file.
+pub struct Writer<W: Write + Seek> {
+    to: W,
+    rate: u32,
+    size: u32,
+}
+
+impl<W: Write + Seek> Writer<W> {
+    pub fn new(mut to: W, rate: u32) -> io::Result<Writer<W>> {
+        to.write_all(&header(rate, UNKNOWN))?;
+        Ok(Writer { to, rate, size: 0 })
+    }
+
+    pub fn write(&mut self, samples: &[f32]) -> io::Result<()> {
+        let more = u32::try_from(2 * samples.len()).ok().and_then(|more| self.size.checked_add(more));
+        // the sizes of a WAV file have 32 bits, and that of the whole counts 36 more
+        let Some(size) = more.filter(|size| *size < UNKNOWN - 36) else {
+            return Err(io::Error::other("a WAV file can't hold more than 12 hours and 25 minutes"));
+        };
+        let bytes: Vec<u8> =
+            samples.iter().flat_map(|x| (x.round().clamp(LOWEST, HIGHEST) as i16).to_le_bytes()).collect();
+        self.to.write_all(&bytes)?;
+        self.size = size;
+        Ok(())
+    }
+
+    /// Mends the header. What follows is written behind the audio.
+    pub fn finish(mut self) -> io::Result<W> {
+        self.to.seek(SeekFrom::Start(0))?;
+        self.to.write_all(&header(self.rate, self.size))?;
+        self.to.seek(SeekFrom::End(0))?;
+        Ok(self.to)
+    }
+}
+
+/// A whole file of one channel.
+pub fn write(rate: u32, samples: &[f32]) -> Vec<u8> {
+    let mut writer = Writer::new(io::Cursor::new(Vec::new()), rate).expect("memory takes it");
+    writer.write(samples).expect("memory takes it");
+    writer.finish().expect("memory takes it").into_inner()
 }
 
 #[cfg(test)]
@@ -141,6 +333,24 @@ mod tests {
         let samples = [0.0, 1.4, -1.6, 40_000.0, -40_000.0];
         let wav = read(&write(48_000, &samples)).unwrap();
         assert_eq!(wav, Wav { rate: 48_000, channels: vec![vec![0.0, 1.0, -2.0, 32_767.0, -32_768.0]], clipped: 0 });
+    }
+
+    /// The sizes of a header have 32 bits: what would go beyond them is not written.
+    #[test]
+    fn more_than_a_file_can_hold() {
+        let mut writer = Writer::new(io::Cursor::new(Vec::new()), 48_000).unwrap();
+        writer.size = UNKNOWN - 36 - 5;
+        assert!(writer.write(&[1.0; 3]).is_err() && writer.write(&[1.0; 2]).is_ok() && writer.write(&[1.0]).is_err());
+        let file = writer.finish().unwrap().into_inner();
+        assert_eq!((file.len(), &file[4..8]), (44 + 4, &(UNKNOWN - 1).to_le_bytes()[..]));
+    }
+
+    /// Until the end is known, what is there counts.
+    #[test]
+    fn a_file_that_was_never_closed() {
+        let mut writer = Writer::new(io::Cursor::new(Vec::new()), 48_000).unwrap();
+        writer.write(&[5.0, 6.0]).unwrap();
+        assert_eq!(read(&writer.to.into_inner()).unwrap().channels, [[5.0, 6.0]]);
     }
 
     /// A file of 32-bit floats.

@@ -127,19 +127,6 @@ fn a_stereo_file_is_both_benches() {
 }
 
 #[test]
-fn our_own_lag_is_used_where_it_is_asked_for() {
-    let given = Given::new("own-lag");
-    let [l, r, m, o] = ["left.wav", "right.wav", "house.rnn", "own"].map(|name| given.at(name));
-    let output = host(&["clean", "--left", &l, "--right", &r, "--own-lag", "--model", &m, "--out", &o]);
-    assert!(output.status.success(), "{}", String::from_utf8_lossy(&output.stderr));
-    assert!(given.clean("left.wav", "right.wav", "house.rnn", "out").status.success());
-    let left =
-        |out: &str| wav::read(&fs::read(given.path.join(out).join("left.wav")).unwrap()).unwrap().channels.remove(0);
-    assert_eq!(left("own").len(), left("out").len());
-    assert_ne!(left("own"), left("out"));
-}
-
-#[test]
 fn the_demo_needs_no_files() {
     let out = folder("demo").join("out");
     let output = host(&["demo", out.to_str().unwrap()]);
@@ -155,23 +142,28 @@ fn the_demo_needs_no_files() {
     assert!(names.iter().all(|name| out.join(name).exists()) && !page.contains("://"), "{names:?}");
 }
 
-/// Our own lag and transforms clean the same dictation, a little otherwise.
+/// The text's lag and this program's transforms clean the same dictation, a little otherwise.
 #[test]
-fn with_our_own_transforms() {
-    let given = Given::new("own");
-    let [l, r, m, one, two] = ["left.wav", "right.wav", "house.rnn", "one", "two"].map(|name| given.at(name));
+fn with_the_lag_of_the_crate() {
+    let given = Given::new("lag");
+    let [l, r, m, one, two, three] =
+        ["left.wav", "right.wav", "house.rnn", "one", "two", "three"].map(|name| given.at(name));
     let words = ["clean", "--left", &l, "--right", &r, "--model", &m, "--out"];
-    assert!(host(&[&words[..], &[&one, "--own"]].concat()).status.success());
-    assert!(host(&[&words[..], &[&two, "--own-lag"]].concat()).status.success());
-    assert_eq!(host(&[&words[..], &[&two, "--own-lag", "--own"]].concat()).status.code(), Some(2));
-    // the lag is the same, and the transforms' last bits are all that differs: a recording hardly moves
+    assert!(host(&[&words[..], &[&one]].concat()).status.success());
+    assert!(host(&[&words[..], &[&two, "--lag", "own"]].concat()).status.success());
+    assert!(host(&[&["clean", "--lag", "crate"], &words[1..], &[&three]].concat()).status.success());
+    for bad in [&["--lag", "mine"][..], &["--lag"], &["--raw"]] {
+        given.fails(host(&[&words[..], &[&given.at("out")], bad].concat()), &["--help"]);
+    }
     for name in ["left.wav", "right.wav"] {
         let read = |folder: &str| {
             wav::read(&fs::read(given.path.join(folder).join(name)).unwrap()).unwrap().channels.remove(0)
         };
-        let (one, two) = (read("one"), read("two"));
-        let far = one.iter().zip(&two).map(|(a, b)| (a - b).abs()).fold(0.0, f32::max);
-        assert!(one.len() == two.len() && far <= 64.0, "{name}: {far}");
+        let (own, again, crates) = (read("one"), read("two"), read("three"));
+        assert!(own == again && own != crates && own.len() == crates.len(), "{name}");
+        let power = |list: &[f32]| list.iter().map(|x| f64::from(x * x)).sum::<f64>();
+        let apart: Vec<f32> = own.iter().zip(&crates).map(|(a, b)| a - b).collect();
+        assert!(power(&apart) < 0.05 * power(&own), "{name}");
     }
 }
 
@@ -180,8 +172,8 @@ fn with_our_own_transforms() {
 fn a_long_recording_tells_its_progress() {
     let given = Given::new("long");
     given.put("long.wav", &wav::write(48_000, &vec![0.0; 61 * 48_000]));
-    let [l, m, o] = ["long.wav", "house.rnn", "out"].map(|name| given.at(name));
-    let words = ["clean", "--left", &l, "--right", &l, "--model", &m, "--out", &o, "-q"];
+    let [l, r, m, o] = ["long.wav", "right.wav", "house.rnn", "out"].map(|name| given.at(name));
+    let words = ["clean", "--left", &l, "--right", &r, "--model", &m, "--out", &o, "-q"];
     let told = |words: &[&str]| {
         let output = host(words);
         assert!(output.status.success());
@@ -321,7 +313,15 @@ fn a_second_run_takes_the_place_of_the_first() {
 #[test]
 fn other_words() {
     let given = Given::new("words");
-    for words in [&[][..], &["clean"], &["clean", "--own-lag"], &["clean", "--left", "x"], &["demo"], &["wash", "x"]] {
+    for words in [
+        &[][..],
+        &["clean"],
+        &["clean", "--own"],
+        &["clean", "--left", "x"],
+        &["clean", "-"],
+        &["demo"],
+        &["wash", "x"],
+    ] {
         given.fails(host(words), &["--help"]);
     }
     let help = host(&["--help"]);

@@ -1,9 +1,9 @@
-//! What the box gives is what the Rust text's `process_frame` gives for the same samples, model and transforms, bit for bit
-//! but for the signs of zeros.
+//! With `--lag crate`, what the box gives is what the Rust text's `process_frame` gives for the same samples, model and transforms, bit for bit
+//! but for the signs of zeros. With our own lag and transforms it is the same however the recording is cut.
 
-use host::clean::{frames_of, run, samples_of};
+use host::clean::{frames_of, in_memory};
 use host::demo::{dictation, minutes, HOUSE};
-use host::recorder::{Heard, Way};
+use host::recorder::{Heard, Recorder, Side, Way, PIECE};
 use host::reference::Reference;
 use host::FRAME;
 
@@ -11,9 +11,12 @@ use host::FRAME;
 fn by_the_text(recording: &[f32]) -> (Vec<f32>, Vec<f32>) {
     let mut reference = Reference::new(HOUSE).unwrap();
     let (mut output, mut voices) = (Vec::new(), Vec::new());
-    for frame in 0..frames_of(recording) {
+    // past its end there is silence
+    let mut samples = recording.to_vec();
+    samples.resize(FRAME * frames_of(recording.len() as u64) as usize, 0.0);
+    for frame in samples.chunks_exact(FRAME) {
         let mut out = [0.0; FRAME];
-        voices.push(reference.frame(&samples_of(recording, frame), &mut out));
+        voices.push(reference.frame(frame, &mut out));
         output.extend(out);
     }
     output.drain(..FRAME.min(output.len()));
@@ -25,11 +28,12 @@ fn alike(a: f32, b: f32) -> bool {
     a == b || (a.is_nan() && b.is_nan())
 }
 
-fn both_agree(left: Vec<f32>, right: Vec<f32>) {
-    for bench in run(left, right, HOUSE, Way::Text, |_| ()).unwrap() {
+fn both_agree(left: &[f32], right: &[f32]) {
+    for bench in in_memory([left, right], HOUSE, Way::Text).unwrap() {
+        assert_eq!(bench.before, if bench.side == Side::Left { left } else { right });
         let (output, voices) = by_the_text(&bench.before);
         let name = bench.side.name();
-        assert_eq!(bench.after.len(), output.len());
+        assert_eq!((bench.after.len(), bench.frames.len()), (output.len(), voices.len()));
         for (i, (a, b)) in bench.after.iter().zip(output).enumerate() {
             assert!(alike(*a, b), "{name}, sample {i}: {a} and {b}");
         }
@@ -46,18 +50,49 @@ fn both_agree(left: Vec<f32>, right: Vec<f32>) {
 
 #[test]
 fn the_demo() {
-    both_agree(dictation(0).noisy, dictation(1).noisy);
+    both_agree(&dictation(0).noisy, &dictation(1).noisy);
 }
 
 #[test]
 fn ten_minutes_of_noise_and_speech() {
-    both_agree(minutes(10, 0), minutes(10, 1));
+    both_agree(&minutes(10, 0), &minutes(10, 1));
 }
 
 #[test]
 fn recordings_of_odd_lengths() {
     let sound = minutes(1, 0);
     for n in [0, 1, 479, 480, 481, 5_000] {
-        both_agree(sound[..n].to_vec(), sound[7_000..7_000 + 2 * n].to_vec());
+        both_agree(&sound[..n], &sound[7_000..7_000 + 2 * n]);
+    }
+}
+
+/// All that a recorder gives, by pieces of these lengths in turn.
+fn cut(way: Way, samples: &[f32], lengths: &[usize]) -> (Vec<f32>, Vec<(u32, Heard, u32)>) {
+    let (mut recorder, mut output, mut frames, mut rest) = (Recorder::new(way), vec![], vec![], samples);
+    recorder.open(Side::Right, HOUSE).unwrap();
+    for length in lengths.iter().cycle() {
+        let (piece, behind) = rest.split_at(rest.len().min(*length));
+        let each = |frame: host::recorder::Frame, out: &[f32]| {
+            frames.push((frame.number, frame.heard, frame.heard_so_far));
+            output.extend(out);
+        };
+        recorder.take(Side::Right, piece, HOUSE, each).unwrap();
+        rest = behind;
+        if rest.is_empty() {
+            break;
+        }
+    }
+    (output, frames)
+}
+
+#[test]
+fn however_it_is_cut() {
+    let sound = &minutes(1, 1)[..200 * FRAME + 7];
+    for way in [Way::Own, Way::Text] {
+        let whole = cut(way, sound, &[FRAME]);
+        assert_eq!(whole.1.len(), 200);
+        for lengths in [&[1][..], &[479, 2, 1, 960], &[PIECE], &[3 * PIECE + 1, 5], &[sound.len()]] {
+            assert!(cut(way, sound, lengths) == whole, "{way:?}, {lengths:?}");
+        }
     }
 }

@@ -1,7 +1,7 @@
 //! Fixed cases, through the static library and the box.
 
 use host::demo::HOUSE;
-use host::recorder::{Recorder, Side};
+use host::recorder::{Recorder, Side, Way};
 use host::refusal::Refusal;
 use host::FRAME;
 
@@ -28,7 +28,7 @@ fn weights_of_0_give_halves() {
 
 #[test]
 fn a_lag_of_768_passes_and_769_gives_6() {
-    let (mut store, mut record) = (vec![1.0; 98_304], [0; 7]);
+    let (mut store, mut record) = (vec![1.0; 98_304], [0; 10]);
     let (mut window, mut sums) = ([2.0; 960], [3.0; 22]);
     assert_eq!(tuppence::open(&mut record, &mut store, 1, &smallest()), 0);
     assert_eq!(tuppence::call1(&mut record, &mut store, 1, &[100.0; 480], &mut window), 0);
@@ -36,7 +36,7 @@ fn a_lag_of_768_passes_and_769_gives_6() {
     assert_eq!(tuppence::call2(&mut record, &mut store, 1, &[0.5; 961], 769, &mut window, &mut sums), 6);
     assert!(before == (store.clone(), record, window, sums));
     assert_eq!(tuppence::call2(&mut record, &mut store, 1, &[0.5; 961], 768, &mut window, &mut sums), 0);
-    assert_eq!(record, [3, 0, 1, 1, 1, 0, 0]);
+    assert_eq!(record, [3, 0, 1, 1, 1, 0, 0, 0, 0, 0]);
     // The other fifteen shares were never opened, and are as they were.
     assert!(store[..6_144].iter().chain(&store[12_288..]).all(|x| *x == 1.0));
 }
@@ -44,7 +44,7 @@ fn a_lag_of_768_passes_and_769_gives_6() {
 #[test]
 fn the_sister_of_call_2_is_call_2_with_the_lag_of_that_sides_own_input() {
     const PERIODS: [usize; 2] = [300, 500];
-    let (mut store, mut records) = (vec![1.0; 98_304], [[0; 7]; 2]);
+    let (mut store, mut records) = (vec![1.0; 98_304], [[0; 10]; 2]);
     for (side, period) in PERIODS.into_iter().enumerate() {
         assert_eq!(tuppence::open(&mut records[side], &mut store, side as u32, &smallest()), 0);
         records[side][0] = 2;
@@ -79,7 +79,7 @@ fn even_benches_are_left_and_odd_ones_right() {
 
 #[test]
 fn bench_15_is_the_last_and_98_304_numbers_are_the_only_store() {
-    let open = |side, len| tuppence::open(&mut [0; 7], &mut vec![1.0; len], side, &smallest());
+    let open = |side, len| tuppence::open(&mut [0; 10], &mut vec![1.0; len], side, &smallest());
     assert_eq!((open(15, 98_304), open(16, 98_304)), (0, 1));
     assert_eq!([12_288, 98_303, 98_305].map(|len| open(0, len)), [2; 3]);
 }
@@ -90,14 +90,15 @@ fn pulses() -> Vec<f32> {
     (0..100 * FRAME).map(|i| strength(i) * (1.0 - (i % 120) as f32 / 8.0).max(0.0)).collect()
 }
 
-/// What comes out, with or without an opening after each frame that this model has refused.
-fn disturbed(by: Option<&[u8]>) -> Vec<f32> {
-    let (mut recorder, mut output) = (Recorder::default(), Vec::new());
+/// Some of them are in a frame, and the rest wait.
+const PARTLY: usize = FRAME + 7;
+
+/// What comes out, with or without an opening after each piece that this model has refused.
+fn disturbed(way: Way, by: Option<&[u8]>) -> Vec<f32> {
+    let (mut recorder, mut output) = (Recorder::new(way), Vec::new());
     recorder.open(Side::Left, HOUSE).unwrap();
-    for samples in pulses().chunks_exact(FRAME) {
-        let mut out = [0.0; FRAME];
-        recorder.frame(Side::Left, samples, HOUSE, &mut out).unwrap();
-        output.extend(out);
+    for samples in pulses().chunks(PARTLY) {
+        recorder.take(Side::Left, samples, HOUSE, |_, out| output.extend(out)).unwrap();
         if let Some(model) = by {
             assert_eq!(recorder.open(Side::Left, model), Err(Refusal(7 + 256 * 11)));
         }
@@ -107,5 +108,7 @@ fn disturbed(by: Option<&[u8]>) -> Vec<f32> {
 
 #[test]
 fn a_refused_opening_changes_nothing() {
-    assert!(disturbed(Some(b"")) == disturbed(None));
+    for way in [Way::Own, Way::Text] {
+        assert!(disturbed(way, Some(b"")) == disturbed(way, None), "{way:?}");
+    }
 }

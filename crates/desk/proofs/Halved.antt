@@ -33,7 +33,7 @@ use Rattle.desk.specs.declared.Answer.{Answer}
 use Rattle.desk.specs.Gate.{idle, inRange, isFrame, isDue, refusals, gate, shareOf}
 use Rattle.desk.specs.Desk.{Ask, call1, call2Own, call3, call4, firstHalf, secondHalf, callOf, nextDue, advanced, numbered, answered, onShare, Given, desk}
 use Rattle.desk.proofs.Turned.{none, through}
-use Rattle.desk.proofs.Ranged.{both, next-due, advanced-range}
+use Rattle.desk.proofs.Ranged.{both, advanced-range}
 
 -- a half that is two calls of the desk: both are done, it leaves the second's record and store, and this is its reply and what it writes
 pub record InTurn (one two half : Given) (reply : Reply) (written : List Written) : Type 0 where

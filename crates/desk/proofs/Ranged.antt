@@ -122,37 +122,38 @@ bounded b e = go (eqb (b .due) 0) refl
 counted : (n : ℕ) → 1 ≤ n → n ≤ 127 → (leb 1 n && leb n 127) ≡ true
 counted n h k = rw (le-leb 1 n h, le-leb n 127 k)
 
+pub next-due : (d : ℕ) → (1 ≤ nextDue d) × (nextDue d ≤ 4)
+next-due d = go (ltb d 4) refl
+  where
+    go : (t : Bool) → ltb d 4 ≡ t → (1 ≤ cond t (d + 1) 1) × (cond t (d + 1) 1 ≤ 4)
+    go true h = (omega arith, omega (arith, ltb-true d 4 h))
+    go false h = (omega arith, omega arith)
+
+pub next-index : (i : ℕ) (r : Reply) → i ≤ 7 → nextIndex i r ≤ 7
+next-index i (Heard v e) h = go (ltb i 7) refl
+  where
+    go : (t : Bool) → ltb i 7 ≡ t → cond t (i + 1) 0 ≤ 7
+    go true k = omega (arith, ltb-true i 7 k)
+    go false k = omega arith
+next-index i Done h = h
+next-index i Silent h = h
+next-index i (Numbered f n) h = h
+next-index i (Refused n) h = h
+next-index i (Misread n l) h = h
+
+-- of an open record its index, its counts and what a piece leaves
+pub open-range : (b : Record) → (b .due ≡ 0 → ⊥) → inRange b ≡ true → (b .index ≤ 7) × (inCounts b ≡ true) × (inPieces b ≡ true)
+unfolding inRange
+open-range b ne e =
+    let rest = both (leb (b .index) 7) (inCounts b && inPieces b) (both (leb (b .due) 4) _ (rw (ne-eqb (b .due) 0 ne) at e) .1) in
+    let last = both (inCounts b) (inPieces b) (rest .1) in
+    (leb-true (b .index) 7 (rest .0), last .0, last .1)
+
 module _ (b : Record) (reply : Reply) where
-  pub next-due : (d : ℕ) → (1 ≤ nextDue d) × (nextDue d ≤ 4)
-  next-due d = go (ltb d 4) refl
-    where
-      go : (t : Bool) → ltb d 4 ≡ t → (1 ≤ cond t (d + 1) 1) × (cond t (d + 1) 1 ≤ 4)
-      go true h = (omega arith, omega (arith, ltb-true d 4 h))
-      go false h = (omega arith, omega arith)
-
-  next-index : (i : ℕ) (r : Reply) → i ≤ 7 → nextIndex i r ≤ 7
-  next-index i (Heard v e) h = go (ltb i 7) refl
-    where
-      go : (t : Bool) → ltb i 7 ≡ t → cond t (i + 1) 0 ≤ 7
-      go true k = omega (arith, ltb-true i 7 k)
-      go false k = omega arith
-  next-index i Done h = h
-  next-index i Silent h = h
-  next-index i (Numbered f n) h = h
-  next-index i (Refused n) h = h
-  next-index i (Misread n l) h = h
-
-  -- of an open record, its index and its counts
-  pub open-range : (b .due ≡ 0 → ⊥) → inRange b ≡ true → (b .index ≤ 7) × (inCounts b ≡ true)
-  unfolding inRange
-  open-range ne e =
-      let rest = both (leb (b .index) 7) (inCounts b && inPieces b) (both (leb (b .due) 4) _ (rw (ne-eqb (b .due) 0 ne) at e) .1) in
-      (leb-true (b .index) 7 (rest .0), both (inCounts b) (inPieces b) (rest .1) .0)
-
   pub advanced-range : (b .due ≡ 0 → ⊥) → inRange b ≡ true → inRange (advanced b reply) ≡ true
   unfolding inRange inCounts inPieces resting
   advanced-range ne e =
-      let rest = open-range ne e in
+      let rest = open-range b ne e in
       let due = next-due (b .due) in
       let i = next-index (b .index) reply (rest .0) in
       rw (ne-eqb (nextDue (b .due)) 0 (λ z. omega arith), le-leb (nextDue (b .due)) 4 (due .1), le-leb (nextIndex (b .index) reply) 7 i, rest .1)
@@ -164,7 +165,7 @@ lastly b = Numbered (oneMore (b .frame)) (b .heard)
 -- a half moves it on twice
 twice-range : (b : Record) (reply last : Reply) → (b .due ≡ 0 → ⊥) → inRange b ≡ true → inRange (advanced (advanced b reply) last) ≡ true
 twice-range b reply last ne e =
-    advanced-range (advanced b reply) last (λ z. let due = next-due b reply (b .due) in omega arith) (advanced-range b reply ne e)
+    advanced-range (advanced b reply) last (λ z. let due = next-due (b .due) in omega arith) (advanced-range b reply ne e)
 
 -- samples of a piece that are in no frame yet wait, or a frame is under way
 carried-range : (b : Record) (rest size progress : ℕ) → b .index ≤ 7 → inCounts b ≡ true → size ≤ 4096 → 1 ≤ progress → (480 ≤ rest → progress ≤ size)
@@ -206,14 +207,14 @@ done-range b share (call4 x k) r o p = rw p (advanced-range b (onShare b share (
 done-range b share (firstHalf x s) r o p = rw p (twice-range b (onShare b share (firstHalf x s) .reply) (onShare b share (firstHalf x s) .reply) (eqb-false (b .due) 0 o) r)
 done-range b share (secondHalf l m k) r o p = rw p (twice-range b (onShare b share (secondHalf l m k) .reply) (lastly (advanced b (onShare b share (secondHalf l m k) .reply))) (eqb-false (b .due) 0 o) r)
 done-range b share (piece x k s) r o p =
-    let ajar = open-range b (onShare b share (piece x k s) .reply) (eqb-false (b .due) 0 o) r in
+    let ajar = open-range b (eqb-false (b .due) 0 o) r in
     let f = piece-fitted share (b .waiting) x k s p in
     rw p (carried-range b (b .waiting + length x) (length x) (480 - b .waiting) (ajar .0) (ajar .1) (f .few) (omega (arith, f .waits)) (λ h. omega (arith, f .waits)))
 done-range b share (resume x l m k s) r o p =
     let reply = onShare b share (resume x l m k s) .reply in
     let next = numbered (advanced b reply) in
     let ne = eqb-false (b .due) 0 o in
-    let ajar = open-range next reply (λ z. let due = next-due b reply (advanced b reply .due) in omega arith) (twice-range b reply (lastly (advanced b reply)) ne r) in
+    let ajar = open-range next (λ z. let due = next-due (advanced b reply .due) in omega arith) (twice-range b reply (lastly (advanced b reply)) ne r) in
     let f = resume-fitted share (b .index) (b .vad) (b .noise) (b .denoise) (b .piece) (b .progress) x l m k s p in
     rw p (carried-range next (length x - b .progress) (length x) (b .progress + 480) (ajar .0) (ajar .1) (omega (arith, f .same, f .few)) (omega arith) (λ h. omega (arith, f .same, f .within)))
 

@@ -2,7 +2,8 @@
 --     Piece, piece-cleared, piece-accepted, piece-taken         a piece
 --     Resume, resume-cleared, resume-accepted, resume-taken     a resume
 -- Assumes nothing.
-use Prim.Native.Nat.{ℕ, _*_, _≤_}
+use Prim.Native.Nat.{ℕ, _+_, _-_, _*_, _≤_}
+use native.Mathlib.Omega.{arith}
 use mathlib.Core.Bool.{Bool, true, false, cond}
 use mathlib.Core.List.{List}
 use mathlib.Core.Path.{_≡_, refl, sym, _∙_}
@@ -20,7 +21,7 @@ use Rattle.frame.specs.Reply.{passed}
 use Rattle.frame.specs.Frame.{counted}
 use Rattle.frame.specs.Parts.{checked}
 use Rattle.frame.proofs.Truth.{false-true}
-use Rattle.pieces.specs.Pieces.{waitingIn, completes, waitedOf, pieceFits, pieceRows, begun, piece, resumeFits, resumeRows, after, lastTest, resumeReply, resumed, resume}
+use Rattle.pieces.specs.Pieces.{waitingIn, completes, frameOf, waitedOf, pieceFits, pieceRows, begun, piece, resumeFits, resumeRows, after, lastTest, resumeReply, resumed, resume}
 use Rattle.pieces.specs.Parts.{pieceReply}
 use Rattle.pieces.proofs.Goods.{both}
 
@@ -134,6 +135,13 @@ module _ (share : List Float) (index vad noise denoise noted progress : ℕ) (sa
       by-rows Refused (after (checked (counted vad noise denoise) (readOf model)) (lastTest (good samples))) (λ r. passed r ≡ true → Taken)
       (resumeRows share index noted progress samples (length logs) out sums) (λ n e. absurd (false-true e))
       (λ c e. let p = last-passed (checked (counted vad noise denoise) (readOf model)) (good samples) e in resume-cleared c (p .0) (p .1))
+
+  -- what is left of the samples, and the place of the frame under way
+  pub within-samples : Resume share index vad noise denoise noted progress samples logs model out sums → progress ≤ length samples
+  within-samples k = rw (k .same) (k .within)
+
+  pub frame-fits : Resume share index vad noise denoise noted progress samples logs model out sums → 480 * (frameOf progress - 1) + 480 ≤ out
+  frame-fits k = omega (arith, k .room, k .same, k .begun, k .within)
 
   suits : Taken → resumeFits index noted progress (length samples) (length logs) out sums ≡ true
   unfolding resumeFits

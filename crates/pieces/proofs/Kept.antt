@@ -1,20 +1,20 @@
 -- What a call keeps, whatever it is given: a share's length; and, refused, the share and the answer buffers. Assumes nothing.
-use Prim.Native.Nat.{ℕ, _*_, _-_}
+use Prim.Native.Nat.{ℕ}
 use mathlib.Core.Bool.{Bool, true, false, cond}
-use mathlib.Core.List.{List, [], _++_}
-use mathlib.Core.Path.{_≡_, refl, sym, _∙_}
+use mathlib.Core.List.{List, []}
+use mathlib.Core.Path.{_≡_, refl, sym, ap, _∙_}
 use lib.Dec.{ltb}
 use lib.ListN.{length, take, drop}
 use lib.Ieee.{Float}
 use Rattle.rules.specs.Place.{get, put}
-use Rattle.rules.specs.Written.{Written, from, nothing}
+use Rattle.rules.specs.Written.{Written, nothing}
 use Rattle.frame.specs.declared.Reply.{Reply}
 use Rattle.frame.specs.declared.Reply.the-variants.{Done, Refused, Misread}
 use Rattle.frame.specs.Share.{SHARE}
 use Rattle.frame.specs.Reply.{passed}
 use Rattle.frame.proofs.Truth.{true-false}
-use Rattle.halves.specs.Halves.{buffer, secondHalf}
-use Rattle.pieces.specs.Pieces.{framePart, waits, waitingIn, frameOf, Outcome, refused, ended, paused, further, piece, resume}
+use Rattle.halves.specs.Halves.{secondHalf}
+use Rattle.pieces.specs.Pieces.{framePart, waits, Outcome, refused, ended, paused, further, piece, resume}
 use Rattle.pieces.proofs.Cases.{piece-by, resume-by}
 use Rattle.pieces.proofs.Halved.{first-length, second-passes}
 use Rattle.pieces.proofs.Shares.{part-length, waits-length, frame-length}
@@ -56,8 +56,7 @@ module _ (share : List Float) where
   piece-kept waiting samples out sums =
       piece-by share (Keeps share) (λ n. unmoved (Refused n)) waiting samples out sums
       (λ k.
-      let all = waitingIn waiting share ++ samples in
-      moved (rw (further-reply Done (waits share []) all nothing)) (further-length Done (waits share []) all nothing (waits-length share (k .size) [])))
+      moved (ap passed (further-reply Done (waits share []) _ nothing)) (further-length Done (waits share []) _ nothing (waits-length share (k .size) [])))
 
   pub resume-kept : (index vad noise denoise noted progress : ℕ) (samples logs : List Float) (model : List ℕ) (out sums : ℕ)
       → Keeps share (resume share index vad noise denoise noted progress samples logs model out sums)
@@ -67,6 +66,4 @@ module _ (share : List Float) where
       let s = secondHalf (get framePart share) index vad noise denoise logs model 480 in
       let p = second-passes (get framePart share) index vad noise denoise logs model (part-length share (k .size)) (k .taken) (k .inside) (k .right) in
       let mid = put framePart share (s .share) in
-      let rest = drop progress samples in
-      let w = from (480 * (frameOf progress - 1)) (buffer s) in
-      moved (rw (further-reply (s .reply) mid rest w) (p .passes)) (further-length (s .reply) mid rest w (frame-length share (k .size) (s .share) (p .part))))
+      moved (ap passed (further-reply (s .reply) mid (drop progress samples) _) ∙ p .passes) (further-length (s .reply) mid (drop progress samples) _ (frame-length share (k .size) (s .share) (p .part))))

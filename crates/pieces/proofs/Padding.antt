@@ -63,7 +63,7 @@ padded-none n xs e =
     let c : i < length xs = rw length-replicate at b in
     getD-replicate (length xs) i (f32 0) (f32 0) c ∙ sym (getD-tab n none i (f32 0) (omega arith)))
 
--- one number less
+-- fewer places
 pub padded-less : (n m : ℕ) (xs : List Float) → n ≤ m → take n (padded m xs) ≡ padded n xs
 unfolding padded
 padded-less n m xs h =

@@ -1,16 +1,17 @@
 -- From what the parts of the code leave to the definitions.
---     entered, finished              a frame's halves, over its part of a share
---     further-ends, further-pauses   what becomes of the rest of a piece
---     piece-refused, piece-ends, piece-pauses         the ways that a piece ends
---     resume-refused, resume-ends, resume-pauses      the ways that a resume ends
+--     entered, finished, finished-length          a frame's halves, over its part of a share
+--     rest-waits, rest-begins                     what becomes of the rest of a piece
+--     piece-refused, piece-ends, piece-pauses     the ways that a piece ends
+--     resume-refused, resume-goes                 the ways that a resume ends
 -- Assumes nothing.
 use Prim.Native.Nat.{ℕ, _+_, _-_, _*_, _≤_, _<_}
 use native.Mathlib.Nat.{add-sub-cancel-left}
 use native.Mathlib.Omega.{arith}
-use mathlib.Core.Bool.{true, false, cond}
+use mathlib.Core.Bool.{Bool, true, false, cond}
 use mathlib.Core.List.{List, [], _∷_, _++_}
 use mathlib.Core.Path.{_≡_, refl, sym, ap, ap₂, _∙_}
 use borrow.Author.Tests.{lt-ltb, le-ltb}
+use lib.Dec.{ltb}
 use lib.ListN.{length, getD, take, drop, length-append, length-drop}
 use lib.Ieee.{Float}
 use Rattle.rules.specs.Place.{Place, get, put}
@@ -29,12 +30,12 @@ use Rattle.frame.specs.Frame as frame
 use Rattle.frame.specs.Parts.{checked}
 use Rattle.halves.specs.Halves.{buffer, firstHalf, secondHalf}
 use Rattle.halves.proofs.Onward.{wrote}
-use Rattle.pieces.specs.Pieces.{framePart, waitingPlace, waitingIn, padded, waits, frameOf, Outcome, Worked, refused, further, pieceRows, begun, piece, resumeReply, resumed, resume}
+use Rattle.pieces.specs.Pieces.{framePart, waitingPlace, waitingIn, padded, waits, frameOf, Outcome, Worked, refused, ended, paused, further, pieceRows, begun, piece, resumeReply, resumed, resume}
 use Rattle.pieces.specs.Parts.{pieceReply}
 use Rattle.pieces.proofs.Accepted.{Piece, piece-accepted}
-use Rattle.pieces.proofs.Halved.{Halved, first-passes, second-passes}
+use Rattle.pieces.proofs.Halved.{Halved, first-passes, second-length, second-passes}
 use Rattle.pieces.proofs.Padding.{padded-full, padded-less}
-use Rattle.pieces.proofs.Shares.{part-length, waiting-length, waits-waits}
+use Rattle.pieces.proofs.Shares.{part-length, waiting-length, waits-waits, frame-length}
 
 -- ---- a frame's halves
 
@@ -54,6 +55,11 @@ module _ (share : List Float) (l : length share ≡ SHARE) where
       let v = rw n at w in
       (ap (put framePart share) (v .shares), written (first-passes (get framePart share) samples (part-length share l) k g) v)
 
+  pub finished-length : (index vad noise denoise : ℕ) (logs : List Float) (model : List ℕ) {share′ : List Float}
+      → share′ ≡ put framePart share (secondHalf (get framePart share) index vad noise denoise logs model 480 .share) → length share′ ≡ SHARE
+  finished-length index vad noise denoise logs model e =
+      ap length e ∙ frame-length share l _ (second-length (get framePart share) index vad noise denoise logs model 480 (part-length share l))
+
   pub finished : (index vad noise denoise : ℕ) (logs : List Float) (model : List ℕ) (out : List Float) (start : ℕ) {reply : Reply} {part new : List Float}
       → index ≤ 7 → length logs ≡ 22 → start + 480 ≤ length out → passed (checked (counted vad noise denoise) (readOf model)) ≡ true
       → frame.Worked (secondHalf (get framePart share) index vad noise denoise logs model (length (get (lentFrom start) out))) reply part (get (lentFrom start) out ∷ []) (new ∷ [])
@@ -67,19 +73,44 @@ module _ (share : List Float) (l : length share ≡ SHARE) where
 
 -- ---- what becomes of the rest of a piece
 
-module _ (reply : Reply) (share rest : List Float) (w : Written) (out sums : List Float) {share′ out′ : List Float} (o : out′ ≡ over w out) where
-  further-ends : length rest < 480 → share′ ≡ waits share rest → Worked (further reply share rest w) reply share′ (out ∷ sums ∷ []) (out′ ∷ sums ∷ [])
+module _ (share rest out sums : List Float) {share′ : List Float} where
+  further-ends : length rest < 480 → share′ ≡ waits share rest → Worked (further Done share rest nothing) Done share′ (out ∷ sums ∷ []) (out ∷ sums ∷ [])
   unfolding further
   further-ends h s =
       rw (lt-ltb (length rest) 480 h)
-      (record { replies = refl; shares = s; writes = ap₂ (λ (a b : List Float). a ∷ b ∷ []) o (sym (over-none 0 sums)) })
+      (record { replies = refl; shares = s; writes = ap₂ (λ (a b : List Float). a ∷ b ∷ []) (sym (over-none 0 out)) (sym (over-none 0 sums)) })
 
   further-pauses : {sums′ : List Float} → let f = firstHalf (get framePart share) (take 480 rest) 22 in
       480 ≤ length rest → share′ ≡ put framePart share (f .share) → sums′ ≡ buffer f
-      → Worked (further reply share rest w) reply share′ (out ∷ sums ∷ []) (out′ ∷ sums′ ∷ [])
+      → Worked (further Done share rest nothing) Done share′ (out ∷ sums ∷ []) (out ∷ sums′ ∷ [])
   unfolding further
   further-pauses h s t =
-      rw (le-ltb (length rest) 480 h) (record { replies = refl; shares = s; writes = ap₂ (λ (a b : List Float). a ∷ b ∷ []) o t })
+      rw (le-ltb (length rest) 480 h) (record { replies = refl; shares = s; writes = ap₂ (λ (a b : List Float). a ∷ b ∷ []) (sym (over-none 0 out)) t })
+
+-- the samples from a place on, as the code finds them
+module _ (share samples : List Float) (at : ℕ) (sums : List Float) {share′ : List Float} where
+  pub rest-waits : length samples - at < 480 → share′ ≡ waits share (drop at samples)
+      → Worked (further Done share (drop at samples) nothing) Done share′ ([] ∷ sums ∷ []) ([] ∷ sums ∷ [])
+  rest-waits h s = further-ends share (drop at samples) [] sums (rw (length-drop at samples) h) s
+
+  pub rest-begins : {sums′ : List Float} → let f = firstHalf (get framePart share) (take (at + 480 - at) (drop at samples)) 22 in
+      480 ≤ length samples - at → share′ ≡ put framePart share (f .share) → sums′ ≡ buffer f
+      → Worked (further Done share (drop at samples) nothing) Done share′ ([] ∷ sums ∷ []) ([] ∷ sums′ ∷ [])
+  rest-begins h s t =
+      further-pauses share (drop at samples) [] sums (rw (length-drop at samples) h)
+      (rw (add-sub-cancel-left at 480) at s) (rw (add-sub-cancel-left at 480) at t)
+
+-- whatever the reply and the output are: they are not looked at
+carried : (reply : Reply) (share rest : List Float) (w : Written) (out : List Float) {share′ out′ sums sums′ : List Float} → out′ ≡ over w out
+    → Worked (further Done share rest nothing) Done share′ ([] ∷ sums ∷ []) ([] ∷ sums′ ∷ [])
+    → Worked (further reply share rest w) reply share′ (out ∷ sums ∷ []) (out′ ∷ sums′ ∷ [])
+unfolding further
+carried reply share rest w out {share′} {out′} {sums} {sums′} o = go (ltb (length rest) 480)
+  where
+    go : (t : Bool) → Worked (cond t (ended Done share rest nothing) (paused Done share rest nothing)) Done share′ ([] ∷ sums ∷ []) ([] ∷ sums′ ∷ [])
+        → Worked (cond t (ended reply share rest w) (paused reply share rest w)) reply share′ (out ∷ sums ∷ []) (out′ ∷ sums′ ∷ [])
+    go true v = record { replies = refl; shares = v .shares; writes = ap₂ (λ (a b : List Float). a ∷ b ∷ []) o (ap (λ (l : List (List Float)). getD l 1 []) (v .writes)) }
+    go false v = record { replies = refl; shares = v .shares; writes = ap₂ (λ (a b : List Float). a ∷ b ∷ []) o (ap (λ (l : List (List Float)). getD l 1 []) (v .writes)) }
 
 -- ---- a piece
 
@@ -111,14 +142,14 @@ module _ (share : List Float) (waiting : ℕ) (samples out sums : List Float) (r
     pub piece-ends : {share′ : List Float} → waiting + length samples < 480 → share′ ≡ put (waitingPlace 479) share (take 479 first)
         → Worked (piece share waiting samples (length out) (length sums)) Done share′ (out ∷ sums ∷ []) (out ∷ sums ∷ [])
     piece-ends h s =
-        rw begins (further-ends Done (waits share []) all nothing out sums (sym (over-none 0 out)) (omega (arith, size)) (s ∙ rw (f, padded-less 479 480 all (omega arith), waits-waits share (took .size) [] all)))
+        rw begins (further-ends (waits share []) all out sums (omega (arith, size)) (s ∙ rw (f, padded-less 479 480 all (omega arith), waits-waits share (took .size) [] all)))
 
     pub piece-pauses : {mid share′ sums′ : List Float} → 480 ≤ waiting + length samples → mid ≡ waits share []
         → share′ ≡ put framePart mid (firstHalf (get framePart mid) first 22 .share) → sums′ ≡ buffer (firstHalf (get framePart mid) first 22)
         → Worked (piece share waiting samples (length out) (length sums)) Done share′ (out ∷ sums ∷ []) (out ∷ sums′ ∷ [])
     piece-pauses h m s t =
         let whole : first ≡ take 480 all = f ∙ padded-full 480 all (omega (arith, size)) in
-        rw begins (further-pauses Done (waits share []) all nothing out sums (sym (over-none 0 out)) (omega (arith, size)) (s ∙ rw (m, whole)) (t ∙ rw (m, whole)))
+        rw begins (further-pauses (waits share []) all out sums (omega (arith, size)) (s ∙ rw (m, whole)) (t ∙ rw (m, whole)))
 
 -- ---- a resume
 
@@ -138,23 +169,11 @@ module _ (share : List Float) (index vad noise denoise noted progress : ℕ) (sa
       → Worked (resume share index vad noise denoise noted progress samples logs model (length out) (length sums)) r share (out ∷ sums ∷ []) (out ∷ sums ∷ [])
   resume-refused p = rw (resume-is, p) (record { replies = refl; shares = refl; writes = refl })
 
-  module _ (z : passed r ≡ true) (told : Reply) (mid out′ : List Float)
-      (left : (told ≡ half .reply) × ((mid ≡ put framePart share (half .share)) × (out′ ≡ over (from (480 * (frameOf progress - 1)) (buffer half)) out))) where
-    abbrev rest : List Float
-    rest = drop progress samples
-
-    goes : whole ≡ further told mid rest (from (480 * (frameOf progress - 1)) (buffer half))
-    goes = resume-is ∙ rw (z, left .0, left .1 .0)
-
-    pub resume-ends : {share′ : List Float} → length samples - progress < 480 → share′ ≡ waits mid rest
-        → Worked (resume share index vad noise denoise noted progress samples logs model (length out) (length sums)) told share′ (out ∷ sums ∷ []) (out′ ∷ sums ∷ [])
-    resume-ends h s =
-        let l = length-drop progress samples in
-        rw goes (further-ends told mid rest (from (480 * (frameOf progress - 1)) (buffer half)) out sums (left .1 .1) (omega arith) s)
-
-    pub resume-pauses : {share′ sums′ : List Float} → 480 ≤ length samples - progress
-        → share′ ≡ put framePart mid (firstHalf (get framePart mid) (take 480 rest) 22 .share) → sums′ ≡ buffer (firstHalf (get framePart mid) (take 480 rest) 22)
-        → Worked (resume share index vad noise denoise noted progress samples logs model (length out) (length sums)) told share′ (out ∷ sums ∷ []) (out′ ∷ sums′ ∷ [])
-    resume-pauses h s t =
-        let l = length-drop progress samples in
-        rw goes (further-pauses told mid rest (from (480 * (frameOf progress - 1)) (buffer half)) out sums (left .1 .1) (omega arith) s t)
+  pub resume-goes : passed r ≡ true → {told : Reply} {mid share′ out′ sums′ : List Float}
+      → (told ≡ half .reply) × ((mid ≡ put framePart share (half .share)) × (out′ ≡ over (from (480 * (frameOf progress - 1)) (buffer half)) out))
+      → Worked (further Done mid (drop progress samples) nothing) Done share′ ([] ∷ sums ∷ []) ([] ∷ sums′ ∷ [])
+      → Worked (resume share index vad noise denoise noted progress samples logs model (length out) (length sums)) told share′ (out ∷ sums ∷ []) (out′ ∷ sums′ ∷ [])
+  resume-goes z {told} {mid} left w =
+      let o = from (480 * (frameOf progress - 1)) (buffer half) in
+      let goes : whole ≡ further told mid (drop progress samples) o = resume-is ∙ rw (z, left .0, left .1 .0) in
+      rw goes (carried told mid (drop progress samples) o out (left .1 .1) w)

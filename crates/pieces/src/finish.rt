@@ -1,8 +1,13 @@
 // A resume: the frame under way is finished, and the rest of its piece waits or begins the next one.
+ghost use mathlib.Core.Bool.{true};
 ghost use mathlib.Core.Path.{_≡_};
 ghost use mathlib.Core.List.{[], _∷_};
-ghost use lib.ListN.{length};
-ghost use Rattle.pieces.specs.Pieces.{resumeFits, after, lastTest, resumeReply, resume, Worked};
+ghost use Prim.Native.Nat.{_≤_};
+ghost use lib.ListN.{length, drop};
+ghost use Rattle.rules.specs.Written.{nothing};
+ghost use Rattle.samples.specs.Samples.{good};
+ghost use Rattle.frame.specs.declared.Reply.the-variants.{Done};
+ghost use Rattle.pieces.specs.Pieces.{further, resumeFits, after, lastTest, resumeReply, resume, Worked};
 use frame::Reply;
 
 // Whether a resume of the piece noted fits its buffers.
@@ -90,6 +95,20 @@ fn resume_reply(
     after(frame::check(model, vad, noise, denoise), last)
 }
 
+// The samples from `from` on wait, or the first 480 of them begin a frame, and 22 sums are written.
+fn go_on(share: &mut [f32], samples: &[f32], from: usize, sums: &mut [f32])
+    requires { ⌜ (length (now share) ≡ 6144) × (from ≤ length (now samples)) × (good (now samples) ≡ true) × (length (now sums) ≡ 22) ⌝ }
+    ensures { λ _. ⌜ Worked (further Done (now (share .entry)) (drop from (now (samples .entry))) nothing)
+        Done (now (share .exit)) ([] ∷ now (sums .entry) ∷ []) ([] ∷ now (sums .exit) ∷ []) ⌝ }
+{
+    if samples.len() - from < 480 {
+        crate::waiting::keep(share, samples, from);
+        return;
+    }
+    let end = from + 480;
+    crate::frames::enter(share, &samples[from..end], sums);
+}
+
 // The frame under way is finished with its logarithms and written to its place of the output. The rest of the samples waits, or 480 of
 // them begin the next frame, and 22 sums are written. Silent, or heard with voice and energy.
 pub fn resume(
@@ -130,11 +149,6 @@ pub fn resume(
     }
     let start = 480 * ((progress + 479) / 480 - 1);
     let told = crate::frames::leave(share, index, vad, noise, denoise, logs, model, out, start);
-    if samples.len() - progress < 480 {
-        crate::waiting::keep(share, samples, progress);
-        return told;
-    }
-    let next = progress + 480;
-    crate::frames::enter(share, &samples[progress..next], sums);
+    go_on(share, samples, progress, sums);
     told
 }

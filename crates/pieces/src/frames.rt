@@ -16,7 +16,7 @@ use frame::PART;
 use frame::Reply;
 
 // 480 samples begin a frame, and its sums are written.
-pub fn enter(share: &mut [f32], samples: &[f32], sums: &mut [f32])
+pub(crate) fn enter(share: &mut [f32], samples: &[f32], sums: &mut [f32])
     requires { ⌜ (length (now share) ≡ 6144) × (length (now samples) ≡ 480) × (good (now samples) ≡ true) × (length (now sums) ≡ 22) ⌝ }
     ensures { λ _. ⌜ now (share .exit)
         ≡ put framePart (now (share .entry)) (firstHalf (get framePart (now (share .entry))) (now (samples .entry)) 22 .share) ⌝ }
@@ -26,7 +26,7 @@ pub fn enter(share: &mut [f32], samples: &[f32], sums: &mut [f32])
 }
 
 // The frame under way is finished, and written from `start` on.
-pub fn leave(
+pub(crate) fn leave(
     share: &mut [f32],
     index: usize,
     vad: usize,

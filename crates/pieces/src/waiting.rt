@@ -37,7 +37,7 @@ fn join(out: &mut [f32], front: &[f32], rest: &[f32])
 }
 
 // Whether the samples that wait are good.
-pub fn waiting_good(share: &[f32], waiting: usize) -> bool
+pub(crate) fn waiting_good(share: &[f32], waiting: usize) -> bool
     requires { ⌜ (length (now share) ≡ 6144) × (waiting ≤ 479) ⌝ }
     ensures { λ r. ⌜ r ≡ good (waitingIn waiting (now (share .entry))) ⌝ }
 {
@@ -46,7 +46,7 @@ pub fn waiting_good(share: &[f32], waiting: usize) -> bool
 }
 
 // `first` becomes the samples that wait and those of a piece, zeros behind them.
-pub fn gather(first: &mut [f32], share: &[f32], waiting: usize, samples: &[f32])
+pub(crate) fn gather(first: &mut [f32], share: &[f32], waiting: usize, samples: &[f32])
     requires { ⌜ (length (now share) ≡ 6144) × (waiting ≤ 479) ⌝ }
     ensures { λ _. ⌜ now (first .exit)
         ≡ padded (length (now (first .entry))) (waitingIn waiting (now (share .entry)) ++ now (samples .entry)) ⌝ }
@@ -56,7 +56,7 @@ pub fn gather(first: &mut [f32], share: &[f32], waiting: usize, samples: &[f32])
 }
 
 // The first 479 numbers wait.
-pub fn settle(share: &mut [f32], first: &[f32])
+pub(crate) fn settle(share: &mut [f32], first: &[f32])
     requires { ⌜ (length (now share) ≡ 6144) × (length (now first) ≡ 480) ⌝ }
     ensures { λ _. ⌜ now (share .exit) ≡ put (waitingPlace 479) (now (share .entry)) (take 479 (now (first .entry))) ⌝ }
 {
@@ -64,7 +64,7 @@ pub fn settle(share: &mut [f32], first: &[f32])
 }
 
 // Nothing waits.
-pub fn empty(share: &mut [f32])
+pub(crate) fn empty(share: &mut [f32])
     requires { ⌜ length (now share) ≡ 6144 ⌝ }
     ensures { λ _. ⌜ now (share .exit) ≡ waits (now (share .entry)) [] ⌝ }
 {
@@ -72,7 +72,7 @@ pub fn empty(share: &mut [f32])
 }
 
 // The samples from `from` on wait.
-pub fn keep(share: &mut [f32], samples: &[f32], from: usize)
+pub(crate) fn keep(share: &mut [f32], samples: &[f32], from: usize)
     requires { ⌜ (length (now share) ≡ 6144) × (from ≤ length (now samples)) ⌝ }
     ensures { λ _. ⌜ now (share .exit) ≡ waits (now (share .entry)) (drop from (now (samples .entry))) ⌝ }
 {

@@ -1,18 +1,21 @@
 -- `pieces::finish::resume_reply` meets its contract: each answer by the tests that lead to it. Assumes nothing.
-use mathlib.Core.Path.{_∙_}
+use mathlib.Core.Bool.{true}
+use mathlib.Core.Path.{_≡_, _∙_}
 use borrow.Author.Needs.{needs}
+use denote.Ref.{now}
+use lib.ListN.{length}
 use Rattle.rules.proofs.Tests.{tests, answered-no, answered-yes}
-use Rattle.pieces.specs.Pieces.{resumeReply}
+use Rattle.pieces.specs.Pieces.{resumeFits, resumeReply}
 use Rattle.pieces.proofs.finish.resume_reply.Statement.{statement}
 use Rattle.pieces.proofs.finish.resume_reply.Tie as tie
+
+fits : (c : tie.Else2) → let a = c .before .before .before .before .before .before .before .args in resumeFits (a .index) (a .piece) (a .progress) (length (now (a .samples))) (length (now (a .logs))) (a .out) (a .sums) ≡ true
+fits c = answered-yes (c .before .resume-fits .ensures) (c .if2 .left)
 
 returns-3 : tie.Need-returns-3
 unfolding resumeReply
 returns-3 c =
-    let f = c .before .before .before .before in
-    c .after .ensures
-    ∙ rw (c .before .check .ensures, c .before .before .last-test .ensures, c .before .before .before .all-good .ensures)
-    (search (tests, answered-yes (f .before .resume-fits .ensures) (f .if2 .left)))
+    c .after .ensures ∙ rw (c .before .check .ensures, c .before .before .last-test .ensures, c .before .before .before .all-good .ensures) (search (tests, fits (c .before .before .before .before)))
 
 pub resume-reply-spec : {M : Type 1} → statement M
 unfolding resumeReply

@@ -1,0 +1,3 @@
+pub mod Dictation
+pub mod Cutting
+pub mod Resuming

@@ -1,0 +1,54 @@
+-- Laws of a record and of one piece: what is claimed. The proofs are in proofs/Cuts.antt and proofs/Resumes.antt.
+use Prim.Native.Nat.{ℕ, _+_, _*_, _≤_}
+use mathlib.Core.Bool.{true}
+use mathlib.Core.List.{List, [], _∷_}
+use mathlib.Core.Path.{_≡_}
+use lib.ListN.{length}
+use lib.Ieee.{Float}
+use Rattle.rules.specs.Written.{from, over}
+use Rattle.model.specs.Model.{readOf}
+use Rattle.frame.specs.declared.Reply.the-variants.{Done}
+use Rattle.frame.specs.Frame.{counted}
+use Rattle.frame.specs.Parts.{checked}
+use Rattle.frame.specs.Reply.{passed}
+use Rattle.pieces.specs.Pieces.{completes, frameOf, waitedOf}
+use Rattle.desk.specs.declared.Record.{Record}
+use Rattle.desk.specs.Gate.{inRange}
+use Rattle.desk.specs.Desk.{piece, Given, desk}
+use Rattle.dictation.specs.Dictation.{Lent, Dictated, dictated}
+use Rattle.dictation.specs.Cutting.{Led}
+
+-- any record that passes with a piece unfinished says which frame of it is under way and how many samples waited, and no other two numbers fit it
+abbrev pub Numbered : Type 0
+Numbered =
+    (rec : Record) → inRange rec ≡ true → (rec .piece ≡ 0 → ⊥)
+    → let j = frameOf (rec .progress) in let w = waitedOf (rec .progress) in
+    (1 ≤ j) × (j ≤ completes w (rec .piece)) × (w ≤ 479) × (w + rec .progress ≡ 480 * j)
+    × ((i v : ℕ) → v ≤ 479 → v + rec .progress ≡ 480 * i → (i ≡ j) × (v ≡ w))
+
+-- a piece of these samples, where the output held this
+abbrev pub handedIn : ℕ → ℕ → Record → List Float → List Float → List Float → Given
+handedIn n side rec store samples held = desk n side rec store (piece samples (length held) 22)
+
+-- a piece that is resumed to its end has as many frames as it completes; they fill its output from the front, and the places behind them stay
+abbrev pub Whole : Type 0
+Whole =
+    (n side : ℕ) (rec : Record) (store samples held : List Float) (lent : List Lent) (d : Dictated)
+    → Led n side samples (handedIn n side rec store samples held) held lent d
+    → let e = dictated side rec store samples lent in
+    (length lent ≡ completes (rec .waiting) (length samples)) × (length (e .out) ≡ 480 * length lent)
+    × (d ≡ record { rec = e .rec; store = e .store; told = e .told; out = over (from 0 (e .out)) held })
+
+-- to each frame 22 logarithms are lent, and a model that reads with the opening's counts
+abbrev pub Fitting : Record → List Lent → Type 0
+Fitting rec [] = Unit
+Fitting rec (l ∷ more) =
+    (length (l .logs) ≡ 22) × (checked (counted (rec .vad) (rec .noise) (rec .denoise)) (readOf (l .model)) ≡ Done) × Fitting rec more
+
+-- a piece that is accepted comes to its end: with the same samples and output, and what fits each frame, no resume is refused
+abbrev pub Completes : Type 0
+Completes =
+    (n side : ℕ) (rec : Record) (store samples held : List Float) (lent : List Lent)
+    → passed (handedIn n side rec store samples held .answer .reply) ≡ true
+    → length lent ≡ completes (rec .waiting) (length samples) → Fitting rec lent
+    → (d : Dictated) × Led n side samples (handedIn n side rec store samples held) held lent d

@@ -1,0 +1,1 @@
+// No code. specs/ has the law of cutting; proofs/ shows it.

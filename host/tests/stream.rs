@@ -1,0 +1,167 @@
+//! `host clean -`: what comes of a stream is what comes of the same file, however it is delivered; and it takes no more memory for a long one.
+
+use host::demo::{dictation, Rng, HOUSE};
+use host::side::Sheet;
+use host::wav;
+use std::fs;
+use std::io::Write;
+use std::path::{Path, PathBuf};
+use std::process::{Child, Command, Output, Stdio};
+
+/// A folder of its own for each test, with the house model in it.
+fn folder(name: &str) -> PathBuf {
+    let path = Path::new(env!("CARGO_TARGET_TMPDIR")).join(format!("stream-{name}"));
+    let _ = fs::remove_dir_all(&path);
+    fs::create_dir_all(&path).unwrap();
+    fs::write(path.join("house.rnn"), HOUSE).unwrap();
+    path
+}
+
+fn clean(path: &Path, words: &[&str]) -> Child {
+    let mut command = Command::new(env!("CARGO_BIN_EXE_host"));
+    command.arg("clean").args(words).args(["--model", "house.rnn"]).current_dir(path);
+    command.stdin(Stdio::piped()).stdout(Stdio::piped()).stderr(Stdio::piped()).spawn().unwrap()
+}
+
+/// Delivers bytes in parts of any lengths.
+fn deliver(mut child: Child, bytes: &[u8]) -> (Output, String) {
+    let (mut to, mut rng, mut rest) = (child.stdin.take().unwrap(), Rng(12), bytes);
+    while !rest.is_empty() {
+        let most = [3, 700, 4_000, 40_000][(rng.next() % 4) as usize];
+        let (part, behind) = rest.split_at(rest.len().min(1 + rng.next() as usize % most));
+        // a program that has stopped reads no more
+        if to.write_all(part).is_err() {
+            break;
+        }
+        rest = behind;
+    }
+    drop(to);
+    let output = child.wait_with_output().unwrap();
+    let said = String::from_utf8(output.stderr.clone()).unwrap();
+    (output, said)
+}
+
+/// Both dictations as one stereo file.
+fn stereo() -> Vec<u8> {
+    let sides = [dictation(0).noisy, dictation(1).noisy];
+    let n = sides[0].len().min(sides[1].len()) - 11;
+    let mut file = wav::write(48_000, &(0..2 * n).map(|i| sides[i % 2][i / 2]).collect::<Vec<_>>());
+    file[22] = 2;
+    file
+}
+
+const HEADER: usize = 44;
+const WRITTEN: [&str; 5] = ["left.wav", "right.wav", "frames.csv", "benches.svg", "index.html"];
+
+fn names(path: &Path) -> Vec<String> {
+    let mut names: Vec<String> =
+        fs::read_dir(path).unwrap().map(|e| e.unwrap().file_name().into_string().unwrap()).collect();
+    names.sort();
+    names
+}
+
+#[test]
+fn a_stream_is_its_file() {
+    let path = folder("file");
+    let file = stereo();
+    fs::write(path.join("both.wav"), &file).unwrap();
+    assert!(clean(&path, &["--both", "both.wav", "--out", "file"]).wait().unwrap().success());
+    // a whole file with something behind its audio; headers that do not know the length; none
+    let with = |size: u32| [&file[..HEADER - 4], &size.to_le_bytes(), &file[HEADER..]].concat();
+    let streams = [
+        ("whole", [&file[..], b"LIST of what is no sound"].concat(), &["-"][..]),
+        ("none", with(0), &["-"]),
+        ("two", with(0x7FFF_F024), &["-"]),
+        ("four", with(u32::MAX), &["-"]),
+        ("raw", file[HEADER..].to_vec(), &["--raw", "-"]),
+        ("lost", [&file[HEADER..], &[1, 2, 3]].concat(), &["-", "--raw"]),
+    ];
+    for (name, bytes, words) in streams {
+        let (output, said) = deliver(clean(&path, &[words, &["--out", name]].concat()), &bytes);
+        assert!(output.status.success() && said.is_empty(), "{name}: {said}");
+        assert_eq!(names(&path.join(name)), names(&path.join("file")));
+        for written in WRITTEN {
+            let read = |folder: &str| fs::read(path.join(folder).join(written)).unwrap();
+            assert!(read(name) == read("file"), "{name}: {written}");
+        }
+    }
+}
+
+#[test]
+fn an_empty_stream() {
+    let path = folder("empty");
+    let (output, said) = deliver(clean(&path, &["-", "--raw", "--out", "out"]), &[]);
+    assert!(output.status.success(), "{said}");
+    assert_eq!(Sheet::of(&fs::read(path.join("out/left.wav")).unwrap()).unwrap().frames, 0);
+    let (output, said) = deliver(clean(&path, &["-", "--out", "none"]), &[]);
+    assert!(output.status.code() == Some(2) && said.contains("standard input: not a WAV file"), "{said}");
+    assert!(!path.join("none").exists());
+}
+
+/// Of a stream that breaks off what came before is kept, with its header and its sheet; the status says that it was not all.
+#[test]
+fn a_stream_with_a_broken_sample() {
+    let path = folder("broken");
+    let mut file = wav::write(48_000, &[0.0; 4 * 6_000]);
+    (file[20], file[22], file[34]) = (3, 2, 32);
+    file[HEADER + 8 * 5_000..][..4].copy_from_slice(&f32::NAN.to_le_bytes());
+    let (output, said) = deliver(clean(&path, &["-", "--out", "out"]), &file);
+    assert_eq!(output.status.code(), Some(2));
+    assert!(
+        said.contains("sample 5000 of channel 0") && said.contains("seconds before that are cleaned and kept"),
+        "{said}"
+    );
+    assert_eq!(names(&path.join("out")).len(), WRITTEN.len());
+    let left = fs::read(path.join("out/left.wav")).unwrap();
+    let frames = Sheet::of(&left).unwrap().frames;
+    assert!(frames > 0 && wav::read(&left).unwrap().channels[0].len() <= 480 * frames);
+}
+
+/// Where the disk is full, what was written stays beside its place, and can be read.
+#[cfg(target_os = "linux")]
+#[test]
+fn a_full_disk() {
+    let path = folder("full");
+    fs::create_dir(path.join("out")).unwrap();
+    std::os::unix::fs::symlink("/dev/full", path.join("out/left.wav.part")).unwrap();
+    let (output, said) = deliver(clean(&path, &["-", "--raw", "--out", "out"]), &stereo()[HEADER..]);
+    assert!(output.status.code() == Some(2) && said.contains("left.wav") && said.contains(".part"), "{said}");
+    let right = wav::read(&fs::read(path.join("out/right.wav.part")).unwrap()).unwrap();
+    assert!(!right.channels[0].is_empty() && !path.join("out/right.wav").exists());
+}
+
+/// The most memory that a process had so far, in KiB, while it is there.
+#[cfg(target_os = "linux")]
+fn peak(child: &Child) -> Option<u64> {
+    let status = fs::read_to_string(format!("/proc/{}/status", child.id())).ok()?;
+    status.lines().find_map(|line| line.strip_prefix("VmHWM:"))?.trim().split(' ').next()?.parse().ok()
+}
+
+/// The most memory that so many seconds of noise take.
+#[cfg(target_os = "linux")]
+fn peak_of(path: &Path, seconds: usize) -> u64 {
+    let mut child = clean(path, &["-", "--raw", "-q", "--out", "out"]);
+    let (mut to, mut rng) = (child.stdin.take().unwrap(), Rng(5));
+    for _ in 0..seconds {
+        let bytes: Vec<u8> = (0..2 * 48_000).flat_map(|_| ((1_000.0 * rng.number()) as i16).to_le_bytes()).collect();
+        to.write_all(&bytes).unwrap();
+    }
+    drop(to);
+    let mut most = 0;
+    while child.try_wait().unwrap().is_none() {
+        most = most.max(peak(&child).unwrap_or(0));
+        std::thread::sleep(std::time::Duration::from_millis(1));
+    }
+    assert!(child.wait().unwrap().success());
+    most
+}
+
+/// What was kept of the longer one would be 30 MB: two sides of 80 seconds, before and after, as f32.
+#[cfg(target_os = "linux")]
+#[test]
+fn a_long_stream_takes_no_more_memory() {
+    let path = folder("memory");
+    let [short, long] = [10, 90].map(|seconds| peak_of(&path, seconds));
+    println!("10 seconds: {short} KiB at most; 90 seconds: {long} KiB");
+    assert!(short > 1_000 && long < short + 512, "{short} KiB for 10 seconds, {long} KiB for 90");
+}
