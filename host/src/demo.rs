@@ -187,7 +187,7 @@ pub fn demo(out: &Path, way: Way) -> Result<(), String> {
     store(&benches, out)?;
     for (bench, dictation) in benches.iter().zip(&dictations) {
         let e = effect(dictation, &bench.after);
-        println!(
+        crate::say!(
             "{:5}  pauses {:+.1} dB, voice {:+.1} dB, signal to noise {:.1} dB before and {:.1} dB after",
             bench.side.name(),
             e.pauses,

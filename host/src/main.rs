@@ -121,15 +121,15 @@ fn job(words: &[String]) -> Option<Job> {
 
 fn run(words: &[String]) -> Result<(), String> {
     match words {
-        [help] if help == "--help" || help == "-h" => print!("{HELP}"),
-        [version] if version == "--version" => println!("host {}", env!("CARGO_PKG_VERSION")),
+        [help] if help == "--help" || help == "-h" => host::say!("{}", HELP.trim_end()),
+        [version] if version == "--version" => host::say!("host {}", env!("CARGO_PKG_VERSION")),
         [bench] if bench == "bench" => host::bench::bench(),
         [lags] if lags == "lags" => host::lags::lags()?,
         [logs] if logs == "logs" => host::logs::logs(),
         [word, rest @ ..] if word == "demo" => {
             let (dir, way) = demo(rest).ok_or("demo: the options are not right; see host --help")?;
             host::demo::demo(dir.as_ref(), way)?;
-            println!("Look at {dir}/index.html, and listen to {dir}/left-before.wav and {dir}/left.wav.");
+            host::say!("Look at {dir}/index.html, and listen to {dir}/left-before.wav and {dir}/left.wav.");
         }
         [word, first, rest @ ..] if word == "side" => {
             let paths: Vec<PathBuf> = std::iter::once(first).chain(rest).map(PathBuf::from).collect();
@@ -138,12 +138,12 @@ fn run(words: &[String]) -> Result<(), String> {
         [word, rest @ ..] if word == "pack" => {
             let paths =
                 options(rest, &["--layers", "--out"]).ok_or("pack: the options are not right; see host --help")?;
-            println!("{}: {} bytes", paths[1].display(), host::pack::pack(&paths[0], &paths[1])?);
+            host::say!("{}: {} bytes", paths[1].display(), host::pack::pack(&paths[0], &paths[1])?);
         }
         [word, model, rest @ ..] if word == "unpack" => {
             let paths = options(rest, &["--out"]).ok_or("unpack: the options are not right; see host --help")?;
             host::pack::unpack(model.as_ref(), &paths[0])?;
-            println!("{}: sixteen files", paths[0].display());
+            host::say!("{}: sixteen files", paths[0].display());
         }
         [word, file, option, out] if word == "mend" && option == "--out" => {
             host::mend::mend(file.as_ref(), out.as_ref())?;
@@ -152,7 +152,7 @@ fn run(words: &[String]) -> Result<(), String> {
             let job = job(rest).ok_or("clean: the options are not right; see host --help")?;
             let benches = clean(&job)?;
             for bench in &benches {
-                println!("{}: {} frames", bench.side.name(), bench.frames);
+                host::say!("{}: {} frames", bench.side.name(), bench.frames);
             }
         }
         _ => return Err("what shall be done? See host --help".into()),
@@ -165,7 +165,7 @@ fn main() -> ExitCode {
     match run(&words) {
         Ok(()) => ExitCode::SUCCESS,
         Err(why) => {
-            eprintln!("host: {why}");
+            host::warn!("host: {why}");
             ExitCode::from(2)
         }
     }
