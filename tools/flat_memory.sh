@@ -24,7 +24,7 @@ peak() {
     local pid=$!
     sound "$1" >"$scratch/fifo" &
     while now=$(sed -n 's/^VmHWM:[^0-9]*\([0-9]*\) kB$/\1/p' "/proc/$pid/status" 2>/dev/null) && [ -n "$now" ]; do
-        most=$now
+        if [ "$now" -gt "$most" ]; then most=$now; fi
         sleep 0.02
     done
     wait "$pid"

@@ -30,9 +30,9 @@ fn per_second(time: Duration) -> f64 {
 
 fn tell(way: &str, time: Duration) {
     let times = per_second(time) / 100.0;
-    println!("{way}: {:.0} frames a second, {times:.0} times as fast as it is spoken", per_second(time));
+    crate::say!("{way}: {:.0} frames a second, {times:.0} times as fast as it is spoken", per_second(time));
     // a bench speaks a frame every 10 ms
-    println!("  one core serves {:.0} benches in real time", times.floor());
+    crate::say!("  one core serves {:.0} benches in real time", times.floor());
 }
 
 pub fn bench() {
@@ -54,8 +54,8 @@ pub fn bench() {
     let (ours, own, text) = (median(ours), median(own), median(text));
     tell("one bench, our own lag and transforms, in pieces", own);
     tell("one bench, the text's lag and this program's transforms", ours);
-    println!("process_frame of the Rust text, the latter transforms: {:.0} frames a second", per_second(text));
-    println!("time of the latter, the Rust = 1: {:.2}", ours.as_secs_f64() / text.as_secs_f64());
+    crate::say!("process_frame of the Rust text, the latter transforms: {:.0} frames a second", per_second(text));
+    crate::say!("time of the latter, the Rust = 1: {:.2}", ours.as_secs_f64() / text.as_secs_f64());
 
     parts_of("of a frame in four calls", &of_calls(&recorder.spent));
     parts_of("of a frame in pieces", &[("the library", pieces.spent.pieces)]);
@@ -75,9 +75,9 @@ fn of_calls(spent: &Spent) -> [(&'static str, Duration); 7] {
 
 fn parts_of(what: &str, parts: &[(&str, Duration)]) {
     let whole: Duration = parts.iter().map(|p| p.1).sum();
-    println!("{what}:");
+    crate::say!("{what}:");
     for (name, time) in parts {
-        println!(
+        crate::say!(
             "  {name:11} {:5.1} %  {:6.1} us",
             100.0 * time.as_secs_f64() / whole.as_secs_f64(),
             1e6 * time.as_secs_f64() / (ROUNDS * FRAMES) as f64

@@ -189,10 +189,10 @@ fn progress_of(length: Option<u64>, quiet: bool) -> impl FnMut(u64) {
         match length {
             Some(length) if taken < length => {
                 let left = start.elapsed().as_secs_f64() * (length - taken) as f64 / taken as f64;
-                eprintln!("{step}0 %, {left:.0} s left");
+                crate::warn!("{step}0 %, {left:.0} s left");
             }
             Some(_) => {}
-            None => eprintln!("{step}0 minutes"),
+            None => crate::warn!("{step}0 minutes"),
         }
     }
 }

@@ -181,13 +181,13 @@ fn store([left, right]: &[Cleaned; 2], out: &Path) -> Result<(), String> {
 }
 
 /// Makes the dictations, cleans them, and writes both into the folder.
-pub fn demo(out: &Path) -> Result<(), String> {
+pub fn demo(out: &Path, way: Way) -> Result<(), String> {
     let dictations = [dictation(0), dictation(1)];
-    let benches = cleaned(&dictations, Way::Own)?;
+    let benches = cleaned(&dictations, way)?;
     store(&benches, out)?;
     for (bench, dictation) in benches.iter().zip(&dictations) {
         let e = effect(dictation, &bench.after);
-        println!(
+        crate::say!(
             "{:5}  pauses {:+.1} dB, voice {:+.1} dB, signal to noise {:.1} dB before and {:.1} dB after",
             bench.side.name(),
             e.pauses,

@@ -82,13 +82,13 @@ fn seeded(pitch: [f64; 2], below: f64) -> Vec<([f64; 2], f64)> {
 /// What either lag makes of the demo.
 fn effects() -> Result<(), String> {
     let dictations = [dictation(0), dictation(1)];
-    println!("\nthe demo, cleaned with either lag:\n");
-    println!("| bench | lag | noise in the pauses | voice | signal to noise, after |");
-    println!("|---|---|---|---|---|");
+    crate::say!("\nthe demo, cleaned with either lag:\n");
+    crate::say!("| bench | lag | noise in the pauses | voice | signal to noise, after |");
+    crate::say!("|---|---|---|---|---|");
     for (name, way) in [("the text's", Way::Text), ("ours", Way::OwnLag)] {
         for (bench, dictation) in cleaned(&dictations, way)?.iter().zip(&dictations) {
             let e = effect(dictation, &bench.after);
-            println!(
+            crate::say!(
                 "| {} | {name} | {:.2} dB | {:.2} dB | {:.2} dB |",
                 bench.side.name(),
                 e.pauses,
@@ -101,9 +101,9 @@ fn effects() -> Result<(), String> {
 }
 
 pub fn lags() -> Result<(), String> {
-    println!("within 2 samples; or an octave apart; or one a multiple of the other:\n");
-    println!("| voice | frames | ours and the text's | ours and the true period | the text's and the true period |");
-    println!("|---|---|---|---|---|");
+    crate::say!("within 2 samples; or an octave apart; or one a multiple of the other:\n");
+    crate::say!("| voice | frames | ours and the text's | ours and the true period | the text's and the true period |");
+    crate::say!("|---|---|---|---|---|");
     for (bench, name) in ["left", "right"].into_iter().enumerate() {
         let demo = dictation(bench);
         let speaking: Vec<bool> = demo.voice.chunks_exact(FRAME).map(|frame| power(frame) > 1e4).collect();
@@ -111,7 +111,7 @@ pub fn lags() -> Result<(), String> {
         for (how, samples) in [("alone", &alone), ("over its grinder", &demo.noisy)] {
             let pairs: Vec<_> =
                 both(samples).into_iter().zip(&speaking).filter(|(_, on)| **on).map(|(p, _)| p).collect();
-            println!("| demo, {name}, {how} | {} | {} | – | – |", pairs.len(), share(&pairs));
+            crate::say!("| demo, {name}, {how} | {} | {} | – | – |", pairs.len(), share(&pairs));
         }
     }
     for (what, pitch) in
@@ -121,7 +121,7 @@ pub fn lags() -> Result<(), String> {
             let all = seeded(pitch, below);
             let pairs: Vec<_> = all.iter().map(|(pair, _)| *pair).collect();
             let [ours, texts] = [0, 1].map(|i| share(&all.iter().map(|(pair, t)| [pair[i], *t]).collect::<Vec<_>>()));
-            println!(
+            crate::say!(
                 "| seeded, {what}, noise {below} dB below | {} | {} | {ours} | {texts} |",
                 all.len(),
                 share(&pairs)

@@ -1,5 +1,23 @@
 //! The recorder box: it runs both benches over one lent store through the proved library, and does itself what the library
-//! leaves to its host: the logarithm and the files; and where nnnoiseless's very numbers are wanted, both transforms and the lag.
+//! leaves to its host: files; and where nnnoiseless's very numbers are wanted, transforms, lag and logarithms.
+
+/// A line to standard output. Where nobody reads it any more, as behind `| head -1`, it is lost, and the work goes on.
+#[macro_export]
+macro_rules! say {
+    ($($words:tt)*) => {{
+        use std::io::Write;
+        let _ = writeln!(std::io::stdout(), $($words)*);
+    }};
+}
+
+/// The same to standard error.
+#[macro_export]
+macro_rules! warn {
+    ($($words:tt)*) => {{
+        use std::io::Write;
+        let _ = writeln!(std::io::stderr(), $($words)*);
+    }};
+}
 
 pub mod bench;
 pub mod clean;

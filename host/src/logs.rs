@@ -74,13 +74,16 @@ fn moved(recording: &[f32], lends: [fn(&Logs) -> Logs; 2]) -> Moved {
 }
 
 pub fn logs() {
-    println!("| recording | frames | logarithms that differ | largest difference of a sample | samples that differ in 16 bits |");
-    println!("|---|---|---|---|---|");
+    crate::say!("| recording | frames | logarithms that differ | largest difference of a sample | samples that differ in 16 bits |");
+    crate::say!("|---|---|---|---|---|");
     for (bench, side) in Side::BOTH.into_iter().enumerate() {
         for (what, recording) in [("the demo", dictation(bench).noisy), ("ten minutes", minutes(10, bench))] {
             let Moved { frames, logs, most, rounded } = moved(&recording, [machines, ours]);
             let (all, samples) = (22 * frames, FRAME * frames);
-            println!("| {what}, {} | {frames} | {logs} of {all} | {most:.5} | {rounded} of {samples} |", side.name());
+            crate::say!(
+                "| {what}, {} | {frames} | {logs} of {all} | {most:.5} | {rounded} of {samples} |",
+                side.name()
+            );
         }
     }
 }

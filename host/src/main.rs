@@ -24,11 +24,12 @@ host: cleans two dictations, one for each bench
       the audio, and the files put in their places. Where a stream can't be read to
       its end, that is done with what came before, and told with exit status 2. (End a
       stream by stopping what records it: this program then closes its files.)
-      The library transforms each frame and finds its lag itself. With --lag crate
-      the lag is that of the Rust text's own finder, and the transforms are this
-      program's: that gives nnnoiseless's very numbers. (--lag own is the same as none.)
+      All that is done to a sample is done by the library. With --lag crate the lag
+      is that of the Rust text's own finder, and the transforms and logarithms are
+      this program's: that gives nnnoiseless's very numbers. (--lag own is the same
+      as none.)
       A long recording's progress is told, unless -q stands there.
-  host demo DIR
+  host demo DIR [--lag crate]
       The same with two dictations over a grinder and the house model, which come
       with the program; the recordings before cleaning are written too.
   host side FILE..
@@ -52,6 +53,15 @@ host: cleans two dictations, one for each bench
       How far the sound moves where the library's own logarithms are lent, and not
       those of this machine: on the demo and on ten minutes of noise and speech.
   host --help, host --version
+
+Examples:
+  host demo out
+  host clean --left l.wav --right r.wav --model house.rnn --out monday
+  arecord -f S16_LE -c 2 -r 48000 -t raw | host clean - --raw --model house.rnn --out monday
+  host side monday/left.wav monday/right.wav
+  host mend monday/left.wav --out left.wav
+  host unpack house.rnn --out layers
+  host pack --layers layers --out mine.rnn
 
 Exit status: 0 done, 2 something was not right; then nothing is written, but of a
 stream what came before.
@@ -82,6 +92,13 @@ fn way(words: &mut Vec<String>) -> Option<Way> {
     }
 }
 
+fn demo(words: &[String]) -> Option<(String, Way)> {
+    let mut words = words.to_vec();
+    let way = way(&mut words)?;
+    let [dir] = &words[..] else { return None };
+    Some((dir.clone(), way))
+}
+
 fn job(words: &[String]) -> Option<Job> {
     let mut words = words.to_vec();
     let way = way(&mut words)?;
@@ -104,14 +121,15 @@ fn job(words: &[String]) -> Option<Job> {
 
 fn run(words: &[String]) -> Result<(), String> {
     match words {
-        [help] if help == "--help" || help == "-h" => print!("{HELP}"),
-        [version] if version == "--version" => println!("host {}", env!("CARGO_PKG_VERSION")),
+        [help] if help == "--help" || help == "-h" => host::say!("{}", HELP.trim_end()),
+        [version] if version == "--version" => host::say!("host {}", env!("CARGO_PKG_VERSION")),
         [bench] if bench == "bench" => host::bench::bench(),
         [lags] if lags == "lags" => host::lags::lags()?,
         [logs] if logs == "logs" => host::logs::logs(),
-        [demo, dir] if demo == "demo" => {
-            host::demo::demo(dir.as_ref())?;
-            println!("Look at {dir}/benches.svg, and listen to {dir}/left-before.wav and {dir}/left.wav.");
+        [word, rest @ ..] if word == "demo" => {
+            let (dir, way) = demo(rest).ok_or("demo: the options are not right; see host --help")?;
+            host::demo::demo(dir.as_ref(), way)?;
+            host::say!("Look at {dir}/index.html, and listen to {dir}/left-before.wav and {dir}/left.wav.");
         }
         [word, first, rest @ ..] if word == "side" => {
             let paths: Vec<PathBuf> = std::iter::once(first).chain(rest).map(PathBuf::from).collect();
@@ -120,12 +138,12 @@ fn run(words: &[String]) -> Result<(), String> {
         [word, rest @ ..] if word == "pack" => {
             let paths =
                 options(rest, &["--layers", "--out"]).ok_or("pack: the options are not right; see host --help")?;
-            println!("{}: {} bytes", paths[1].display(), host::pack::pack(&paths[0], &paths[1])?);
+            host::say!("{}: {} bytes", paths[1].display(), host::pack::pack(&paths[0], &paths[1])?);
         }
         [word, model, rest @ ..] if word == "unpack" => {
             let paths = options(rest, &["--out"]).ok_or("unpack: the options are not right; see host --help")?;
             host::pack::unpack(model.as_ref(), &paths[0])?;
-            println!("{}: sixteen files", paths[0].display());
+            host::say!("{}: sixteen files", paths[0].display());
         }
         [word, file, option, out] if word == "mend" && option == "--out" => {
             host::mend::mend(file.as_ref(), out.as_ref())?;
@@ -134,7 +152,7 @@ fn run(words: &[String]) -> Result<(), String> {
             let job = job(rest).ok_or("clean: the options are not right; see host --help")?;
             let benches = clean(&job)?;
             for bench in &benches {
-                println!("{}: {} frames", bench.side.name(), bench.frames);
+                host::say!("{}: {} frames", bench.side.name(), bench.frames);
             }
         }
         _ => return Err("what shall be done? See host --help".into()),
@@ -147,7 +165,7 @@ fn main() -> ExitCode {
     match run(&words) {
         Ok(()) => ExitCode::SUCCESS,
         Err(why) => {
-            eprintln!("host: {why}");
+            host::warn!("host: {why}");
             ExitCode::from(2)
         }
     }

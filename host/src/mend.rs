@@ -41,10 +41,10 @@ pub fn mend(path: &Path, out: &Path) -> Result<(), String> {
     // a new file, so that none is written over, least of all the one that was read
     let new = File::create_new(out).and_then(|mut new| new.write_all(&mended.file));
     new.map_err(|why| format!("{}: {why}", out.display()))?;
-    println!("{}: {}", out.display(), mended.sheet);
+    crate::say!("{}: {}", out.display(), mended.sheet);
     match (mended.whole, mended.lost) {
-        (true, _) => println!("The sheet was whole: the file is copied as it was."),
-        (false, lost) => println!("Kept {} frames, and lost the {lost} bytes behind them.", mended.sheet.frames),
+        (true, _) => crate::say!("The sheet was whole: the file is copied as it was."),
+        (false, lost) => crate::say!("Kept {} frames, and lost the {lost} bytes behind them.", mended.sheet.frames),
     }
     Ok(())
 }

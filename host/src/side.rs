@@ -66,7 +66,7 @@ pub fn side(paths: &[PathBuf]) -> Result<(), String> {
             Ok(sheet) if misnamed(path, &sheet) => {
                 bad.push(format!("{}: the name says another side: {sheet}", path.display()))
             }
-            Ok(sheet) => println!("{}: {sheet}", path.display()),
+            Ok(sheet) => crate::say!("{}: {sheet}", path.display()),
             Err(why) => bad.push(format!("{}: {why}", path.display())),
         }
     }

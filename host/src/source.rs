@@ -63,7 +63,7 @@ impl Recording {
     fn tell(&self) {
         if self.reader.clipped > 0 {
             let clipped = format!("{} samples were beyond full scale, and are clipped", self.reader.clipped);
-            eprintln!("{}", told(&self.name, clipped));
+            crate::warn!("{}", told(&self.name, clipped));
         }
     }
 }

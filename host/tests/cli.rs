@@ -4,7 +4,7 @@ use host::demo::{dictation, HOUSE};
 use host::wav;
 use std::fs;
 use std::path::{Path, PathBuf};
-use std::process::{Command, Output};
+use std::process::{Command, Output, Stdio};
 
 /// A folder of its own for each test.
 fn folder(name: &str) -> PathBuf {
@@ -134,7 +134,7 @@ fn the_demo_needs_no_files() {
     for name in WRITTEN.iter().chain(&["left-before.wav", "right-before.wav"]) {
         assert!(out.join(name).exists(), "{name}");
     }
-    assert!(String::from_utf8(output.stdout).unwrap().contains("benches.svg"));
+    assert!(String::from_utf8(output.stdout).unwrap().contains("index.html"));
     // the page names only files that are there, and no other place
     let page = fs::read_to_string(out.join("index.html")).unwrap();
     let names: Vec<&str> = page.split(['"']).skip(1).step_by(2).filter(|word| word.contains('.')).collect();
@@ -182,6 +182,17 @@ fn a_long_recording_tells_its_progress() {
     assert_eq!(told(&words), "");
     let lines = told(&words[..9]);
     assert!(lines.lines().count() == 9 && lines.starts_with("10 %, ") && lines.ends_with(" s left\n"), "{lines}");
+}
+
+#[test]
+fn nobody_reads_what_is_said() {
+    let given = Given::new("nobody");
+    let mut run = Command::new(env!("CARGO_BIN_EXE_host"));
+    let mut run = run.args(["demo", &given.at("out")]).stdout(Stdio::piped()).stderr(Stdio::piped()).spawn().unwrap();
+    drop(run.stdout.take());
+    let output = run.wait_with_output().unwrap();
+    assert_eq!((output.status.code(), &output.stderr[..]), (Some(0), &b""[..]));
+    assert!(given.path.join("out/left.wav").exists());
 }
 
 #[test]
