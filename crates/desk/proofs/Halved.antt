@@ -2,7 +2,7 @@
 -- nothing.
 use Prim.Native.Nat.{ℕ, _+_, _*_, _≤_, _<_}
 use native.Mathlib.Omega.{arith}
-use mathlib.Core.Bool.{Bool, true, false, cond, not}
+use mathlib.Core.Bool.{Bool, true, false, cond, not, false≢true}
 use mathlib.Core.List.{List, [], _∷_, map}
 use mathlib.Core.Path.{_≡_, refl, sym, ap, _∙_}
 use borrow.Author.Tests.{lt-ltb, eq-eqb, ne-eqb, eqb-true, eqb-false, not-false}
@@ -13,6 +13,7 @@ use Rattle.rules.specs.Place.{get, put}
 use Rattle.rules.specs.Written.{Written, all, from, nothing}
 use Rattle.rules.proofs.Places.{Within, length-get, length-put, get-put, put-put}
 use Rattle.rules.proofs.Refused.{clear}
+use Rattle.rules.proofs.Truth.{both}
 use Rattle.transforms.specs.Transform.{forwardOf, inverseOf}
 use Rattle.frame.specs.Reply.{passed, oneMore}
 use Rattle.frame.specs.Share.{SHARE, PART}
@@ -22,7 +23,6 @@ use Rattle.frame.specs.declared.Reply.{Reply}
 use Rattle.frame.specs.declared.Reply.the-variants.{Done, Numbered, Refused}
 use Rattle.frame.proofs.Cases.{call1-by, call4-by}
 use Rattle.frame.proofs.Keeps.{call1-keeps, call3-keeps}
-use Rattle.frame.proofs.Truth.{false-true}
 use Rattle.halves.specs.Halves.{lookedBack}
 use Rattle.halves.specs.Halves as halves
 use Rattle.halves.proofs.Joined.{Both, first-half-is, second-half-is}
@@ -33,7 +33,7 @@ use Rattle.desk.specs.declared.Answer.{Answer}
 use Rattle.desk.specs.Gate.{idle, inRange, isFrame, isDue, refusals, gate, shareOf}
 use Rattle.desk.specs.Desk.{Ask, call1, call2Own, call3, call4, firstHalf, secondHalf, callOf, nextDue, advanced, numbered, answered, onShare, Given, desk}
 use Rattle.desk.proofs.Turned.{none, through}
-use Rattle.desk.proofs.Ranged.{both, advanced-range}
+use Rattle.desk.proofs.Ranged.{advanced-range}
 
 -- a half that is two calls of the desk: both are done, it leaves the second's record and store, and this is its reply and what it writes
 pub record InTurn (one two half : Given) (reply : Reply) (written : List Written) : Type 0 where
@@ -101,7 +101,7 @@ module _ (n side : ℕ) (b : Record) (store : List Float) where
     where
       go : (t : Bool) → eqb (number ask) 0 ≡ t → passed (cond t (onShare b share ask) (refused (Refused (number ask)) share) .reply) ≡ true → number ask ≡ 0
       go true e p = eqb-true (number ask) 0 e
-      go false e p = absurd (false-true p)
+      go false e p = absurd (false≢true p)
 
   -- a call on the share as another call left it
   module _ (right : (side < n) × (length store ≡ n * SHARE)) (b₁ : Record) (left : List Float) (whole : length left ≡ SHARE) where
@@ -120,15 +120,15 @@ module _ (n side : ℕ) (b : Record) (store : List Float) where
 -- ---- what the calls that are done reply
 
 done-1 : (share samples : List Float) (window : ℕ) → passed (frame.call1 share samples window .reply) ≡ true → frame.call1 share samples window .reply ≡ Done
-done-1 share samples window = call1-by share (λ f. passed (f .reply) ≡ true → f .reply ≡ Done) (λ _ p. absurd (false-true p)) samples window (λ _ _ _. refl)
+done-1 share samples window = call1-by share (λ f. passed (f .reply) ≡ true → f .reply ≡ Done) (λ _ p. absurd (false≢true p)) samples window (λ _ _ _. refl)
 
 done-2 : (share spectrum : List Float) (window sums : ℕ) → passed (halves.call2Own share spectrum window sums .reply) ≡ true → halves.call2Own share spectrum window sums .reply ≡ Done
-done-2 share spectrum window sums = call2-own-by share (λ f. passed (f .reply) ≡ true → f .reply ≡ Done) (λ _ p. absurd (false-true p)) spectrum window sums (λ _ _. refl)
+done-2 share spectrum window sums = call2-own-by share (λ f. passed (f .reply) ≡ true → f .reply ≡ Done) (λ _ p. absurd (false≢true p)) spectrum window sums (λ _ _. refl)
 
 done-4 : (share : List Float) (n h : ℕ) (inverse : List Float) (out : ℕ) → passed (frame.call4 share n h inverse out .reply) ≡ true
     → frame.call4 share n h inverse out .reply ≡ Numbered (oneMore n) h
 done-4 share n h inverse out =
-    call4-by share (λ f. passed (f .reply) ≡ true → f .reply ≡ Numbered (oneMore n) h) (λ _ p. absurd (false-true p)) n h inverse out (λ _ _. refl)
+    call4-by share (λ f. passed (f .reply) ≡ true → f .reply ≡ Numbered (oneMore n) h) (λ _ p. absurd (false≢true p)) n h inverse out (λ _ _. refl)
 
 -- ---- the halves
 

@@ -12,6 +12,7 @@ use lib.Dec.{eqb, leb, ltb}
 use lib.ListN.{length}
 use lib.Ieee.{Float}
 use Rattle.rules.specs.Place.{get}
+use Rattle.rules.proofs.Truth.{both}
 use Rattle.model.specs.Model.{readOf}
 use Rattle.model.specs.declared.Reading.{Reading}
 use Rattle.model.specs.declared.Reading.the-variants.{Good, Refused as Unread}
@@ -25,10 +26,6 @@ use Rattle.desk.specs.Gate.{idle, allZero, inCounts, resting, underWay, 
 use Rattle.desk.specs.Desk.{Ask, opening, call1, call2, call2Own, call3, call4, firstHalf, secondHalf, piece, resume, callOf, holding, nextDue, nextIndex, advanced, numbered, carried, started, answered, onShare, opened, desk}
 use Rattle.desk.proofs.Pieced.{piece-fitted, resume-fitted}
 use Rattle.desk.proofs.Turned.{none}
-
-pub both : (a b : Bool) → (a && b) ≡ true → (a ≡ true) × (b ≡ true)
-both true b e = (refl, e)
-both false b e = absurd (let z : _≡_ {A = ℕ} 0 1 = cc in omega arith)
 
 either : (x : Bool) (a b : Bool) → (x ≡ true → a ≡ true) → (x ≡ false → b ≡ true) → cond x a b ≡ true
 either true a b f g = f refl

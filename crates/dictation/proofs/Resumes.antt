@@ -14,6 +14,7 @@ use Rattle.rules.specs.Place.{get, put}
 use Rattle.rules.specs.Written.{Written, from, nothing, over, onto}
 use Rattle.rules.proofs.Places.{length-put}
 use Rattle.rules.proofs.Writing.{over-none}
+use Rattle.rules.proofs.Truth.{both}
 use Rattle.samples.specs.Samples.{good}
 use Rattle.frame.specs.declared.Reply.{Reply}
 use Rattle.frame.specs.declared.Reply.the-variants.{Done, Silent, Heard, Numbered as Told, Refused, Misread}
@@ -21,7 +22,6 @@ use Rattle.frame.specs.Reply.{passed}
 use Rattle.frame.specs.Share.{SHARE}
 use Rattle.halves.specs.Halves.{buffer}
 use Rattle.pieces.specs.Pieces.{waitingIn, waits, waitedOf, completes}
-use Rattle.pieces.proofs.Goods.{both}
 use Rattle.pieces.proofs.Shares.{waiting-length, waits-length}
 use Rattle.desk.specs.declared.Record.{Record}
 use Rattle.desk.specs.Gate.{shareOf, idle, allZero, inCounts, underWay, inPieces, inRange, isDue, gate}

@@ -5,7 +5,7 @@
 -- Assumes nothing.
 use Prim.Native.Nat.{ℕ, suc, _-_, _≤_}
 use native.Mathlib.Omega.{arith}
-use mathlib.Core.Bool.{Bool, true, false, cond}
+use mathlib.Core.Bool.{Bool, true, false, cond, false≢true}
 use mathlib.Core.List.{List, [], _∷_, _++_, append-nil}
 use mathlib.Core.Path.{_≡_, refl, sym, ap, ap₂, _∙_}
 use borrow.Author.Tests.{eqb-true}
@@ -25,9 +25,6 @@ use Rattle.desk.proofs.Ranged.{bounded}
 use Rattle.desk.proofs.Replies.{Small}
 use Rattle.export.specs.Parts.{HandsBack}
 
-differ : {A : Type 0} → false ≡ true → A
-differ h = let z : _≡_ {A = ℕ} 0 1 = cc in absurd (omega arith)
-
 -- ---- the answer as numbers
 
 -- what is known of an answer to a call with this record
@@ -42,7 +39,7 @@ all-places ns e = go (eqb (length ns) RECORD) refl
   where
     go : (t : Bool) → eqb (length ns) RECORD ≡ t → length ns ≡ RECORD
     go true h = eqb-true (length ns) RECORD h
-    go false h = differ (rw h at e)
+    go false h = absurd (false≢true (rw h at e))
 
 pub hands-back : (ns : List ℕ) (b : Record) {a given : Answer} → b ≡ recordIn ns → Sound b a → given ≡ a → HandsBack ns given
 hands-back ns b {a} {given} read sound e =
@@ -128,7 +125,7 @@ module _ (ns : List ℕ) (store′ : List Float) (give : ℕ → Given) (out ans
     where
       go : (t : Bool) → eqb (length answer) 3 ≡ t → length answer ≡ 3
       go true e = eqb-true (length answer) 3 e
-      go false e = differ (sym (shut e) ∙ p)
+      go false e = absurd (false≢true (sym (shut e) ∙ p))
 
   pub told-three : {number : ℕ} {ns′ : List ℕ} {answer′ : List Float} → length new ≡ length (get (upTo end) out)
       → answer′ ≡ cond (passed (given .reply)) (heardOf (given .reply)) answer

@@ -7,7 +7,7 @@
 use Prim.Native.Nat.{ℕ, _+_, _-_, _*_, _%_, _<_}
 use native.Mathlib.Nat.{zero-add}
 use native.Mathlib.Omega.{arith}
-use mathlib.Core.Bool.{Bool, true, false, cond, _&&_}
+use mathlib.Core.Bool.{Bool, true, false, cond, _&&_, false≢true}
 use mathlib.Core.List.{List, [], _∷_, _++_}
 use mathlib.Core.Path.{_≡_, refl, sym, ap, _∙_}
 use borrow.Author.Tests.{eq-eqb, ne-eqb, eqb-true, eqb-false, ltb-true, ltb-false}
@@ -25,7 +25,6 @@ use Rattle.frame.specs.Frame.{Effect}
 use Rattle.frame.specs.declared.Reply.{Reply}
 use Rattle.frame.specs.declared.Reply.the-variants.{Done, Refused}
 use Rattle.frame.proofs.Cases.{call1-by, call2-by, call3-by, call4-by}
-use Rattle.frame.proofs.Truth.{false-true}
 use Rattle.halves.specs.Halves.{buffer}
 use Rattle.halves.specs.Halves as halves
 use Rattle.halves.proofs.Cases.{first-half-by, second-half-by}
@@ -78,7 +77,7 @@ module _ (b : Record) (share : List Float) where
   frame-step (opening m) shut = go (readOf m) (shut refl)
     where
       go : (r : Reading) → passed (opened share r .reply) ≡ false → Counted b (opening m) (opened share r .reply)
-      go (Good k) e = absurd (false-true (sym e))
+      go (Good k) e = absurd (false≢true (sym e))
       go (Unread n l) e = both refl refl
   frame-step (call1 x w) shut = call1-by (get framePart share) (CountedOf b (call1 x w)) (uncounted b (call1 x w)) x w (λ _ _. both refl refl)
   frame-step (call2 x l w s) shut = call2-by (get framePart share) (CountedOf b (call2 x l w s)) (uncounted b (call2 x l w s)) x l w s (λ _. both refl refl)
@@ -192,8 +191,8 @@ from-0 n s b store m = go (eqb (gate n s b (length store) 0) 0) (readOf m)
         → let reply = cond t (opened share r) (refused (Refused (gate n s b (length store) 0)) share) .reply in
         passed reply ≡ true → (cond (passed reply) (started b r) b .frame ≡ 0) × (cond (passed reply) (started b r) b .heard ≡ 0)
     go true (Good k) p = (refl, refl)
-    go true (Unread i l) p = absurd (false-true p)
-    go false r p = absurd (false-true p)
+    go true (Unread i l) p = absurd (false≢true p)
+    go false r p = absurd (false≢true p)
 
 pub numbering : (n : ℕ) → Numbering n
 numbering n s h st l model done calls u =

@@ -8,7 +8,7 @@
 use Prim.Native.Nat.{ℕ, _+_, _-_, _*_, _≤_}
 use native.Mathlib.Nat.{zero-add}
 use native.Mathlib.Omega.{arith}
-use mathlib.Core.Bool.{Bool, true, false, cond}
+use mathlib.Core.Bool.{Bool, true, false, cond, false≢true}
 use mathlib.Core.List.{List, [], _∷_, _++_}
 use mathlib.Core.Logic.{_⊎_, inl, inr}
 use mathlib.Core.Path.{_≡_, refl, sym, ap, ap₂, subst, _∙_}
@@ -40,7 +40,6 @@ use Rattle.frame.specs.declared.Reply.the-variants.{Done, Silent, Heard, Refuse
 use Rattle.frame.proofs.Keeps.{Keeps, end, call1-keeps, call2-keeps, call3-keeps, call4-keeps}
 use Rattle.frame.proofs.Beside.{Beside, AllApart, done1-beside, done2-beside, done3-beside, done4-beside}
 use Rattle.frame.proofs.Cases.{call1-by, call2-by, call3-by, call4-by}
-use Rattle.frame.proofs.Truth.{false-true}
 use Rattle.halves.specs.Halves.{buffer, lookedBack}
 use Rattle.halves.specs.Halves as halves
 use Rattle.halves.proofs.Sister.{call2-own-by, call2-own-keeps}
@@ -257,7 +256,7 @@ module _ (b : Record) (share : List Float) (whole : length share ≡ SHARE) wher
   first-notes : (index : ℕ) (q x : List Float) → passed (halves.firstHalf q x 22 .reply) ≡ true
       → let f = halves.firstHalf q x 22 in (recalledIn index (f .share) ≡ recalledIn index q) × (notedIn (f .share) ≡ firstNotes q x)
   first-notes index q x =
-      first-half-by q (λ f. passed (f .reply) ≡ true → (recalledIn index (f .share) ≡ recalledIn index q) × (notedIn (f .share) ≡ firstNotes q x)) (λ n e. absurd (false-true e)) x 22
+      first-half-by q (λ f. passed (f .reply) ≡ true → (recalledIn index (f .share) ≡ recalledIn index q) × (notedIn (f .share) ≡ firstNotes q x)) (λ n e. absurd (false≢true e)) x 22
       (λ sized l _. let a = done1 q x in (
         same-recalled index q (doneFirst q x .share)
             (λ p h. done-first-beside p q x (inl (omega arith), (inl (omega arith), (inl (omega arith), (inl (omega arith), (inl (omega arith), tt))))) sized l .same),
@@ -340,7 +339,7 @@ module _ (b : Record) (share : List Float) (whole : length share ≡ SHARE) wher
   on-share (opening m) shut = go (readOf m) (shut refl)
     where
       go : (r : Reading) → passed (opened share r .reply) ≡ false → Remembers b share (opening m) (givenOf b (opening m) (opened share r))
-      go (Good k) e = absurd (false-true (sym e))
+      go (Good k) e = absurd (false≢true (sym e))
       go (Unread n l) e = record { recalls = refl; notes = refl; counts = refl }
   on-share (call1 x w) shut = in-part (call1 x w) _ (call1-keeps part x w) (call1-leaves x w)
   on-share (call2 x l w s) shut = in-part (call2 x l w s) _ (call2-keeps part x l w s) (call2-leaves x l w s)
@@ -398,11 +397,11 @@ module _ (b : Record) (share : List Float) (whole : length share ≡ SHARE) (ask
 pub opens : (b : Record) (share : List Float) → length share ≡ SHARE → (m : List ℕ)
     → passed (desk 1 0 b share (opening m) .answer .reply) ≡ true → Opens (desk 1 0 b share (opening m))
 opens b share whole m =
-    by-gate b share whole (opening m) (λ o. passed (o .answer .reply) ≡ true → Opens o) (λ e. absurd (false-true e)) (go (readOf m) refl)
+    by-gate b share whole (opening m) (λ o. passed (o .answer .reply) ≡ true → Opens o) (λ e. absurd (false≢true e)) (go (readOf m) refl)
   where
     go : (r : Reading) → readOf m ≡ r → passed (opened share r .reply) ≡ true → Opens (givenOf b (opening m) (opened share r))
     go (Good k) e p = let w = wiped SHARE (omega arith) in rw e (record { forgets = w .0; unnotes = w .1; unheard = refl })
-    go (Unread n l) e p = absurd (false-true p)
+    go (Unread n l) e p = absurd (false≢true p)
 
 -- there is no third way
 pub either : (b : Record) (share : List Float) → length share ≡ SHARE → (ask : Ask) → Opens (desk 1 0 b share ask) ⊎ Remembers b share ask (desk 1 0 b share ask)

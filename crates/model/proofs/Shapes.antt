@@ -9,6 +9,7 @@ use borrow.Author.Tests.{eqb-true, not-false}
 use lib.Dec.{eqb}
 use lib.ListN.{length}
 use Rattle.rules.proofs.Refused.{Clear}
+use Rattle.rules.proofs.Truth.{neither}
 use Rattle.model.specs.declared.Kind.the-variants.{Dense, Gru}
 use Rattle.model.specs.declared.Model.{Model}
 use Rattle.model.specs.declared.Reading.the-variants.{Good}
@@ -36,11 +37,6 @@ pub record Shaped (size : ℕ) (m : Model) : Type 0 where
 
 pub same : (a b : ℕ) → (a ≠ b) ≡ false → a ≡ b
 same a b h = eqb-true a b (not-false (eqb a b) h)
-
-pub neither : (t u : Bool) → (t || u) ≡ false → (t ≡ false) × (u ≡ false)
-neither false false h = (refl, refl)
-neither true u h = absurd (let z : _≡_ {A = ℕ} 0 1 = cc in omega arith)
-neither false true h = absurd (let z : _≡_ {A = ℕ} 0 1 = cc in omega arith)
 
 pub shape : (s : List ℕ) (m : Model) → Written s m → Shaped (length s) m
 shape s m w =

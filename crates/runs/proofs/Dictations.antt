@@ -6,7 +6,7 @@
 -- Assumes nothing.
 use Prim.Native.Nat.{ℕ, zero, suc, _+_, _*_, _≤_}
 use native.Mathlib.Omega.{arith}
-use mathlib.Core.Bool.{Bool, true, false, cond, not}
+use mathlib.Core.Bool.{Bool, true, false, cond, not, false≢true}
 use mathlib.Core.List.{List, [], _∷_, _++_, map}
 use mathlib.Core.Path.{_≡_, refl, sym, ap, _∙_}
 use borrow.Author.Tests.{eqb-false, not-false, not-true}
@@ -29,7 +29,6 @@ use Rattle.frame.specs.declared.Reply.the-variants.{Done, Silent, Heard, Number
 use Rattle.frame.specs.Frame.{counted}
 use Rattle.frame.specs.Parts.{checked}
 use Rattle.frame.specs.Reply.{passed}
-use Rattle.frame.proofs.Truth.{false-true}
 use Rattle.pieces.specs.Pieces.{waitingIn, waits, completes, further}
 use Rattle.pieces.specs.Pieces as pieces
 use Rattle.pieces.proofs.Accepted.{Piece, piece-taken}
@@ -211,12 +210,12 @@ module _ (n side : ℕ) (rec : Record) (store samples : List Float) (model : Lis
 -- a model that passes
 is-done : (same : Model → Bool) (r : Reading) → passed (checked same r) ≡ true → checked same r ≡ Done
 unfolding checked
-is-done same (Unread m l) e = absurd (false-true e)
+is-done same (Unread m l) e = absurd (false≢true e)
 is-done same (Good m) e = go (same m) e
   where
     go : (t : Bool) → passed (cond t Done (Refused 8)) ≡ true → cond t Done (Refused 8) ≡ Done
     go true e = refl
-    go false e = absurd (false-true e)
+    go false e = absurd (false≢true e)
 
 pub dictates : Dictates
 unfolding takeFrames loop

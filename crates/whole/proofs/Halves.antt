@@ -1,7 +1,7 @@
 -- A frame that is accepted is its two halves (`two-halves`); what is refused changes nothing (`refused-is`, `frame-leaves`, `take-leaves`). Assumes nothing.
 use Prim.Native.Nat.{ℕ, _*_, _<_}
 use native.Mathlib.Omega.{arith}
-use mathlib.Core.Bool.{Bool, true, false}
+use mathlib.Core.Bool.{Bool, true, false, true≢false}
 use mathlib.Core.List.{List, map}
 use mathlib.Core.Path.{_≡_, refl, sym, ap, _∙_}
 use borrow.Author.Tests.{eqb-true, lt-ltb, eq-eqb, not-false}
@@ -11,15 +11,14 @@ use lib.Ieee.{Float}
 use Rattle.rules.specs.Place.{get, put}
 use Rattle.rules.specs.Written.{all}
 use Rattle.rules.proofs.Places.{length-get, length-put}
+use Rattle.rules.proofs.Truth.{both}
 use Rattle.logs.specs.Log10.{logsOf}
 use Rattle.frame.specs.declared.Reply.{Reply}
 use Rattle.frame.specs.Share.{SHARE}
 use Rattle.frame.specs.Frame.{Effect}
 use Rattle.frame.specs.Reply.{passed}
-use Rattle.frame.proofs.Truth.{true-false}
 use Rattle.halves.specs.Halves as halves
 use Rattle.pieces.specs.Pieces.{framePart}
-use Rattle.pieces.proofs.Goods.{both}
 use Rattle.pieces.proofs.Halved.{Halved, second-passes}
 use Rattle.desk.specs.declared.Record.{Record}
 use Rattle.desk.specs.Gate.{idle, inRange, isDue, gate, shareOf}
@@ -118,7 +117,7 @@ frame-leaves n side rec store samples model out = go (passed reply) refl
     go : (t : Bool) → passed reply ≡ t → passed (o .answer .reply) ≡ false → o ≡ turnedAway rec store (o .answer .reply)
     go true p e =
         let h = two-halves n side rec store samples model out p in
-        absurd (true-false (sym (ap (λ (g : Given). passed (g .answer .reply)) (h .2) ∙ h .1) ∙ e))
+        absurd (true≢false (sym (ap (λ (g : Given). passed (g .answer .reply)) (h .2) ∙ h .1) ∙ e))
     go false p e =
         let is = refused-is n side rec store samples model out p in
         is ∙ ap (λ (g : Given). turnedAway rec store (g .answer .reply)) (sym is)

@@ -6,7 +6,7 @@
 -- Assumes nothing.
 use Prim.Native.Nat.{ℕ, zero, suc}
 use native.Mathlib.Omega.{arith}
-use mathlib.Core.Bool.{Bool, true, false, cond}
+use mathlib.Core.Bool.{Bool, true, false, cond, false≢true}
 use mathlib.Core.List.{List, [], _∷_, _++_}
 use mathlib.Core.Path.{_≡_, refl, sym, _∙_}
 use borrow.Author.Tests.{not-false}
@@ -28,7 +28,6 @@ use Rattle.frame.specs.declared.Reply.the-variants.{Done, Refused}
 use Rattle.frame.specs.Reply.{passed}
 use Rattle.frame.specs.Frame.{counted}
 use Rattle.frame.specs.Parts.{checked}
-use Rattle.frame.proofs.Truth.{false-true}
 use Rattle.pieces.specs.Pieces.{waitingIn, completes, after, lastTest}
 use Rattle.desk.specs.declared.Record.{Record}
 use Rattle.desk.specs.Gate.{PIECE, inRange, gate, shareOf}
@@ -111,7 +110,7 @@ module _ (n side : ℕ) (rec : Record) (store samples : List Float) (model : Lis
         (λ p q.
         let k = frame-accepted n side rec store samples model out p in
         (let-in-range n side rec (length store) 1 (k .gated), range-kept n side (one .answer .rec) (one .store) asked q .1))
-        (λ f q. absurd (false-true (sym f ∙ q)))
+        (λ f q. absurd (false≢true (sym f ∙ q)))
 
     pub frame-buffers : length (frame n side rec store samples model out .written) ≡ cond (passed (frame n side rec store samples model out .answer .reply)) 1 0
     frame-buffers =
