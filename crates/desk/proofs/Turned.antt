@@ -7,7 +7,6 @@
 use Prim.Native.Nat.{ℕ, _*_, _<_}
 use mathlib.Core.Bool.{Bool, true, false, true≢false}
 use mathlib.Core.Path.{_≡_, refl}
-use native.Mathlib.Omega.{arith}
 use borrow.Author.Tests.{lt-ltb, eq-eqb, ltb-true, eqb-true, not-false}
 use lib.Dec.{eqb, ltb}
 use Rattle.rules.proofs.Cleared.{cleared}

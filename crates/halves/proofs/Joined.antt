@@ -7,7 +7,7 @@ use lib.Dec.{ltb}
 use lib.ListN.{length, drop}
 use lib.Ieee.{Float}
 use Rattle.rules.specs.Refusals.{_when_, wrong}
-use Rattle.rules.proofs.Refused.{Right, Clear, right, by-rows}
+use Rattle.rules.proofs.Refused.{Right, right, by-rows}
 use Rattle.transforms.specs.Transform.{forwardOf, inverseOf}
 use Rattle.frame.specs.declared.Reply.{Reply}
 use Rattle.frame.specs.declared.Reply.the-variants.{Refused}

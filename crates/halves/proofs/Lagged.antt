@@ -32,7 +32,7 @@ use Rattle.frame.specs.declared.Reply.the-variants.{Refused}
 use Rattle.frame.specs.Reply.{passed}
 use Rattle.frame.specs.Share.{PART, inputMem, keptX, keptEx, keptLag}
 use Rattle.frame.specs.Heard.{scaled, energies}
-use Rattle.frame.specs.Frame.{Effect, refusal, recent, putKept, done2, call2}
+use Rattle.frame.specs.Frame.{refusal, recent, putKept, done2, call2}
 use Rattle.frame.proofs.Beside.{done2-beside}
 use Rattle.frame.proofs.Sizes.{lag-at, looked-at}
 use Rattle.halves.specs.Own.{call2Own}

@@ -4,13 +4,13 @@
 --     numbering       what specs/Numbering.antt claims
 --     last-frame      after 4,294,967,295 comes 0
 -- Assumes nothing.
-use Prim.Native.Nat.{ℕ, _+_, _-_, _*_, _%_, _<_}
+use Prim.Native.Nat.{ℕ, _+_, _-_, _*_, _%_}
 use native.Mathlib.Nat.{zero-add}
 use native.Mathlib.Omega.{arith}
 use mathlib.Core.Bool.{Bool, true, false, cond, _&&_, false≢true}
 use mathlib.Core.List.{List, [], _∷_, _++_}
-use mathlib.Core.Path.{_≡_, refl, sym, ap, _∙_}
-use borrow.Author.Tests.{eq-eqb, ne-eqb, eqb-true, eqb-false, ltb-true, ltb-false}
+use mathlib.Core.Path.{_≡_, refl, sym, _∙_}
+use borrow.Author.Tests.{eq-eqb, eqb-true, ltb-true, ltb-false}
 use lib.Dec.{eqb, ltb}
 use lib.ListN.{length, drop}
 use lib.Ieee.{Float}
@@ -20,7 +20,6 @@ use Rattle.model.specs.Model.{readOf}
 use Rattle.model.specs.declared.Reading.{Reading}
 use Rattle.model.specs.declared.Reading.the-variants.{Good, Refused as Unread}
 use Rattle.frame.specs.Reply.{passed, oneMore}
-use Rattle.frame.specs.Share.{SHARE}
 use Rattle.frame.specs.Frame.{Effect}
 use Rattle.frame.specs.declared.Reply.{Reply}
 use Rattle.frame.specs.declared.Reply.the-variants.{Done, Refused}
@@ -29,12 +28,12 @@ use Rattle.halves.specs.Halves.{buffer}
 use Rattle.halves.specs.Halves as halves
 use Rattle.halves.proofs.Cases.{first-half-by, second-half-by}
 use Rattle.halves.proofs.Sister.{call2-own-by}
-use Rattle.pieces.specs.Pieces.{Outcome, framePart, waitingIn, waits, frameOf, refused}
+use Rattle.pieces.specs.Pieces.{framePart, waitingIn, waits, frameOf, refused}
 use Rattle.pieces.proofs.Cases.{piece-by, resume-by}
 use Rattle.pieces.proofs.Kept.{further-reply}
 use Rattle.desk.specs.declared.Record.{Record}
 use Rattle.desk.specs.Gate.{gate, shareOf}
-use Rattle.desk.specs.Desk.{Ask, opening, call1, call2, call2Own, call3, call4, firstHalf, secondHalf, piece, resume, callOf, lastOf, holding, advanced, numbered, carried, started, answered, opened, onShare, desk}
+use Rattle.desk.specs.Desk.{Ask, opening, call1, call2, call2Own, call3, call4, firstHalf, secondHalf, piece, resume, callOf, lastOf, holding, carried, started, answered, opened, onShare, desk}
 use Rattle.isolation.specs.Run.{Call, openingOf, State, given, after, ended}
 use Rattle.isolation.specs.Numbering.{endsFrame, hears, howMany, Unopened, Numbering}
 

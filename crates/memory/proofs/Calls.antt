@@ -21,7 +21,7 @@ use lib.Ieee.{Float, binary32, ofInt}
 use Rattle.rules.specs.F32.{at, f32}
 use Rattle.rules.specs.Place.{Place, get, put}
 use Rattle.rules.specs.Written.{Written, from, nothing}
-use Rattle.rules.proofs.Places.{length-get, length-put, get-get, get-put, get-put-apart}
+use Rattle.rules.proofs.Places.{length-put, get-get, get-put, get-put-apart}
 use Rattle.rules.proofs.Tabs.{length-tab}
 use Rattle.bands.proofs.Results.{length-corr}
 use Rattle.model.specs.Model.{readOf}
@@ -36,7 +36,7 @@ use Rattle.frame.specs.Heard.{scaled, energies, spoken}
 use Rattle.frame.specs.Frame.{Effect, done1, putKept, done4}
 use Rattle.frame.specs.Frame as frame
 use Rattle.frame.specs.declared.Reply.{Reply}
-use Rattle.frame.specs.declared.Reply.the-variants.{Done, Silent, Heard, Refused, Misread}
+use Rattle.frame.specs.declared.Reply.the-variants.{Done, Silent, Heard, Refused}
 use Rattle.frame.proofs.Keeps.{Keeps, end, call1-keeps, call2-keeps, call3-keeps, call4-keeps}
 use Rattle.frame.proofs.Beside.{Beside, AllApart, done1-beside, done2-beside, done3-beside, done4-beside}
 use Rattle.frame.proofs.Cases.{call1-by, call2-by, call3-by, call4-by}
@@ -48,16 +48,16 @@ use Rattle.halves.proofs.Kept.{done-first-beside, done-second-beside, first-hal
 use Rattle.pieces.specs.Pieces.{framePart, waitingIn, waits, frameOf, Outcome, refused, inPart, ended, paused, further}
 use Rattle.pieces.specs.Pieces as pieces
 use Rattle.pieces.proofs.Cases.{piece-by, resume-by}
-use Rattle.pieces.proofs.Goods.{good-append, good-take, good-drop, good-get}
+use Rattle.pieces.proofs.Goods.{good-append, good-take, good-drop}
 use Rattle.pieces.proofs.Halved.{first-passes, second-passes}
-use Rattle.pieces.proofs.Kept.{further-length, further-reply, piece-kept, resume-kept}
+use Rattle.pieces.proofs.Kept.{further-reply, piece-kept, resume-kept}
 use Rattle.pieces.proofs.Shares.{part-length, waits-length, frame-waits, frame-length, frame-back}
 use Rattle.desk.specs.declared.Record.{Record}
 use Rattle.desk.specs.Gate.{gate}
 use Rattle.desk.specs.Desk.{Ask, opening, call1, call2, call2Own, call3, call4, firstHalf, secondHalf, piece, resume, callOf, holding, advanced, numbered, carried, answered, opened, onShare, Given, desk}
 use Rattle.desk.proofs.Apart.{givenOf, one-bench}
 use Rattle.memory.specs.Hear.{blank, HeardFrame, heardAll}
-use Rattle.memory.specs.Brought.{recalledIn, isHeard, Noted, unnoted, noting, firstNotes, secondHears, restNotes, brought}
+use Rattle.memory.specs.Brought.{recalledIn, isHeard, Noted, unnoted, noting, firstNotes, restNotes, brought}
 use Rattle.memory.proofs.Heard.{notedIn, heard-frame}
 
 -- ---- what is left alone

@@ -6,7 +6,7 @@
 -- Assumes nothing.
 use Prim.Native.Nat.{ℕ, zero, suc, _+_, _*_, _≤_}
 use native.Mathlib.Omega.{arith}
-use mathlib.Core.Bool.{Bool, true, false, cond, not, false≢true}
+use mathlib.Core.Bool.{Bool, true, false, cond, false≢true}
 use mathlib.Core.List.{List, [], _∷_, _++_, map}
 use mathlib.Core.Path.{_≡_, refl, sym, ap, _∙_}
 use borrow.Author.Tests.{eqb-false, not-false, not-true}
@@ -35,7 +35,7 @@ use Rattle.pieces.proofs.Accepted.{Piece, piece-taken}
 use Rattle.pieces.proofs.Kept.{further-reply}
 use Rattle.desk.specs.declared.Record.{Record}
 use Rattle.desk.specs.Gate.{PIECE, RESUME, shareOf, isDue, gate}
-use Rattle.desk.specs.Desk.{piece, resume, holding, carried, Given, desk}
+use Rattle.desk.specs.Desk.{piece, holding, carried, Given, desk}
 use Rattle.desk.specs.Surface.{heardOf}
 use Rattle.desk.proofs.Turned.{none, through}
 use Rattle.dictation.specs.Dictation.{Lent, Dictated}
@@ -44,7 +44,7 @@ use Rattle.dictation.specs.Resuming.{handedIn, Fitting}
 use Rattle.dictation.proofs.Cuts.{is-whole}
 use Rattle.dictation.proofs.Resumes.{completed}
 use Rattle.dictation.proofs.Taken.{let-through, onward, piece-passed, resume-passed}
-use Rattle.whole.specs.Whole.{Taking, taking, takeFrames, Taken, take}
+use Rattle.whole.specs.Whole.{Taking, taking, takeFrames, Taken}
 use Rattle.whole.specs.Parts.{three}
 use Rattle.whole.proofs.Accepted.{good-both, logs-length, Take, take-accepted, fits-sizes}
 use Rattle.runs.specs.Runs.{standsAt, resumeFrom}

@@ -17,14 +17,14 @@ use Rattle.logs.specs.Log10.{logsOf}
 use Rattle.model.specs.Model.{readOf}
 use Rattle.frame.specs.Reply.{passed}
 use Rattle.frame.specs.declared.Reply.{Reply}
-use Rattle.frame.specs.declared.Reply.the-variants.{Done, Refused}
+use Rattle.frame.specs.declared.Reply.the-variants.{Refused}
 use Rattle.frame.specs.Frame.{counted}
 use Rattle.frame.specs.Parts.{checked}
 use Rattle.pieces.specs.Pieces.{waitingIn, completes, pieceFits, after, lastTest}
 use Rattle.desk.specs.declared.Record.{Record}
 use Rattle.desk.specs.declared.Answer.{Answer}
 use Rattle.desk.specs.Gate.{PIECE, gate, shareOf}
-use Rattle.desk.specs.Desk.{Ask, firstHalf, secondHalf, piece, resume, Given, desk}
+use Rattle.desk.specs.Desk.{firstHalf, secondHalf, piece, resume, Given, desk}
 use Rattle.desk.specs.Surface.{heardOf}
 
 -- what a call wrote into its first buffer
