@@ -10,7 +10,7 @@ use lib.Dec.{eqb}
 use lib.ListN.{length, drop, getD}
 use lib.Ieee.{Float}
 use Rattle.rules.specs.Place.{get, put}
-use Rattle.rules.specs.Written.{Written, all, from, nothing}
+use Rattle.rules.specs.Written.{Written, all, firstIn}
 use Rattle.rules.proofs.Places.{Within, length-get, length-put, get-put, put-put}
 use Rattle.rules.proofs.Refused.{clear}
 use Rattle.rules.proofs.Truth.{both}
@@ -146,16 +146,8 @@ answered-in b t d = rw d
 done-record : (b : Record) (r : Reply) → passed r ≡ true → cond (passed r) (advanced b r) b ≡ advanced b r
 done-record b r p = rw p
 
--- what a call wrote into its first answer buffer
-abbrev filled : Written → List Float
-filled (all numbers) = numbers
-filled (from at numbers) = numbers
-
-abbrev buffer : Given → List Float
-buffer o = filled (getD (o .written) 0 nothing)
-
 -- the buffers of a call of a frame
-the-first : (ws : List (List Float)) → filled (getD (map all ws) 0 nothing) ≡ getD ws 0 []
+the-first : (ws : List (List Float)) → firstIn (map all ws) ≡ getD ws 0 []
 the-first [] = refl
 the-first (w ∷ ws) = refl
 
@@ -198,7 +190,7 @@ module _ (n side : ℕ) (b : Record) (store : List Float) where
     one = desk n side b store (call1 samples 960)
 
     abbrev two : Given
-    two = desk n side (one .answer .rec) (one .store) (call2Own (forwardOf (buffer one)) 960 sums)
+    two = desk n side (one .answer .rec) (one .store) (call2Own (forwardOf (firstIn (one .written))) 960 sums)
 
     pub first-half-in-turn : let half = desk n side b store (firstHalf samples sums) in passed (half .answer .reply) ≡ true → InTurn one two half (two .answer .reply) (drop 1 (two .written))
     first-half-in-turn p =
@@ -210,7 +202,7 @@ module _ (n side : ℕ) (b : Record) (store : List Float) where
         let both = first-half-is part samples sums (ap (λ (g : Given). passed (g .answer .reply)) (sym h) ∙ p) in
         let spectrum = forwardOf (halves.buffer a) in
         let w =
-        ap (λ (g : Given). desk n side (g .answer .rec) (g .store) (call2Own (forwardOf (buffer g)) 960 sums)) o
+        ap (λ (g : Given). desk n side (g .answer .rec) (g .store) (call2Own (forwardOf (firstIn (g .written))) 960 sums)) o
         ∙ ap (λ (xs : List Float). desk n side (cond (passed (a .reply)) (advanced b (a .reply)) b) (put (shareOf side) store (put framePart mine (a .share))) (call2Own (forwardOf xs) 960 sums)) (the-first (a .written))
         ∙ ap (λ (r : Record). desk n side r (put (shareOf side) store (put framePart mine (a .share))) (call2Own spectrum 960 sums)) (done-record b (a .reply) (both .first))
         ∙ part-in right (advanced b (a .reply)) (a .share) (call1-keeps part samples 960 .size) (λ xs. halves.call2Own xs spectrum 960 sums) (call2Own spectrum 960 sums) (λ s. refl)
@@ -236,7 +228,7 @@ module _ (n side : ℕ) (b : Record) (store : List Float) where
     three = desk n side b store (call3 (forwardOf (lookedBack part)) logs model 961)
 
     abbrev four : Given
-    four = desk n side (three .answer .rec) (three .store) (call4 (inverseOf (buffer three)) out)
+    four = desk n side (three .answer .rec) (three .store) (call4 (inverseOf (firstIn (three .written))) out)
 
     pub second-half-in-turn : let half = desk n side b store (secondHalf logs model out) in passed (half .answer .reply) ≡ true → InTurn three four half (three .answer .reply) (four .written) × (four .answer .reply ≡ Numbered (half .answer .rec .frame) (half .answer .rec .heard))
     second-half-in-turn p =
@@ -252,7 +244,7 @@ module _ (n side : ℕ) (b : Record) (store : List Float) where
         (ap (λ (g : Given). passed (g .answer .reply)) (sym h) ∙ p) in
         let inverse = inverseOf (halves.buffer a) in
         let w =
-        ap (λ (g : Given). desk n side (g .answer .rec) (g .store) (call4 (inverseOf (buffer g)) out)) o
+        ap (λ (g : Given). desk n side (g .answer .rec) (g .store) (call4 (inverseOf (firstIn (g .written))) out)) o
         ∙ ap (λ (xs : List Float). desk n side (cond (passed (a .reply)) next b) (put (shareOf side) store (put framePart mine (a .share))) (call4 (inverseOf xs) out)) (the-first (a .written))
         ∙ ap (λ (r : Record). desk n side r (put (shareOf side) store (put framePart mine (a .share))) (call4 inverse out)) (done-record b (a .reply) (both .first))
         ∙ part-in right next (a .share) (call3-keeps part (b .index) (b .vad) (b .noise) (b .denoise) spectrum logs model 961 .size)

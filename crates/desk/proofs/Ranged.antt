@@ -22,7 +22,7 @@ use Rattle.frame.specs.declared.Reply.{Reply}
 use Rattle.frame.specs.declared.Reply.the-variants.{Done, Silent, Heard, Numbered, Refused, Misread}
 use Rattle.pieces.specs.Pieces.{refused}
 use Rattle.desk.specs.declared.Record.{Record}
-use Rattle.desk.specs.Gate.{idle, allZero, inCounts, resting, underWay, inPieces, inRange, isFrame, gate, shareOf}
+use Rattle.desk.specs.Gate.{idle, allZero, inCounts, resting, underWay, inPieces, inRange, notOpening, gate, shareOf}
 use Rattle.desk.specs.Desk.{Ask, opening, call1, call2, call2Own, call3, call4, firstHalf, secondHalf, piece, resume, callOf, holding, nextDue, nextIndex, advanced, numbered, carried, started, answered, onShare, opened, desk}
 use Rattle.desk.proofs.Pieced.{piece-fitted, resume-fitted}
 use Rattle.desk.proofs.Turned.{none}
@@ -193,7 +193,7 @@ started-range s (Good m) b share e p =
       counted _ (w .layer3 .some) (omega (arith, w .layer3 .neurons)),
     )
 
-done-range : (b : Record) (share : List Float) (ask : Ask) → inRange b ≡ true → (isFrame (callOf ask) && eqb (b .due) 0) ≡ false
+done-range : (b : Record) (share : List Float) (ask : Ask) → inRange b ≡ true → (notOpening (callOf ask) && eqb (b .due) 0) ≡ false
     → passed (onShare b share ask .reply) ≡ true → inRange (answered b ask (onShare b share ask .reply) .rec) ≡ true
 done-range b share (opening m) r o p = rw p (started-range m (readOf m) b share refl p)
 done-range b share (call1 x w) r o p = rw p (advanced-range b (onShare b share (call1 x w) .reply) (eqb-false (b .due) 0 o) r)

@@ -19,7 +19,7 @@ use Rattle.frame.specs.declared.Reply.the-variants.{Done, Refused}
 use Rattle.frame.specs.Frame.{Effect}
 use Rattle.frame.specs.Reply.{passed}
 use Rattle.halves.specs.Halves.{buffer, firstHalf, secondHalf}
-use Rattle.pieces.specs.Pieces.{Outcome, framePart, waitingIn, waits, refused, frameOf, further}
+use Rattle.pieces.specs.Pieces.{Outcome, framePart, waitingIn, waits, refused, frameAt, further}
 use Rattle.pieces.specs.Pieces as pieces
 use Rattle.pieces.proofs.Accepted.{Piece, piece-taken, Resume, resume-taken}
 use Rattle.pieces.proofs.Cases.{piece-by, resume-by}
@@ -142,7 +142,7 @@ module _ (n side : ℕ) (rec : Record) (store samples logs : List Float) (model 
   goes =
       onward side store (numbered (advanced rec (half .reply))) (half .reply) (put framePart mine (half .share))
       (drop (rec .progress) samples)
-      (length samples) (rec .progress + 480) (from (480 * (frameOf (rec .progress) - 1)) (buffer half))
+      (length samples) (rec .progress + 480) (from (480 * (frameAt (rec .progress) - 1)) (buffer half))
 
   pub resumed-onward : known
       → on side store rec (resume samples logs model out sums)
@@ -152,7 +152,7 @@ module _ (n side : ℕ) (rec : Record) (store samples logs : List Float) (model 
       let rest = drop (rec .progress) samples in
       rw (
         resume-taken mine (rec .index) (rec .vad) (rec .noise) (rec .denoise) (rec .piece) (rec .progress) samples logs model out sums k,
-        further-reply (half .reply) (put framePart mine (half .share)) rest (from (480 * (frameOf (rec .progress) - 1)) (buffer half)),
+        further-reply (half .reply) (put framePart mine (half .share)) rest (from (480 * (frameAt (rec .progress) - 1)) (buffer half)),
         half-passes k .passes,
         length-drop (rec .progress) samples,
       )

@@ -14,7 +14,8 @@ use lib.ListN.{length, drop, drop-of-length-le}
 use lib.Seq.{take-all}
 use lib.Ieee.{Float}
 use Rattle.rules.specs.Place.{Place, get, put}
-use Rattle.rules.specs.Written.{Written, all, over, onto}
+use Rattle.rules.specs.Written.{Written, all, onto}
+use Rattle.rules.proofs.Writing.{onto-more, to-none}
 use Rattle.frame.specs.Reply.{passed}
 use Rattle.desk.specs.declared.Record.{Record}
 use Rattle.desk.specs.declared.Answer.{Answer}
@@ -92,22 +93,11 @@ module _ (out : List Float) where
   kept [] h = refl
   kept (x ∷ xs) h = absurd (omega arith)
 
--- a buffer more, behind those that are written to
-onto-more : (ws us : List Written) (hs gs : List (List Float)) → length ws ≡ length hs → onto (ws ++ us) (hs ++ gs) ≡ onto ws hs ++ onto us gs
-onto-more [] us [] gs l = refl
-onto-more [] us (h ∷ hs) gs l = absurd (omega arith)
-onto-more (w ∷ ws) us [] gs l = absurd (omega arith)
-onto-more (w ∷ ws) us (h ∷ hs) gs l = ap (λ (t : List (List Float)). over w h ∷ t) (onto-more ws us hs gs (omega arith))
-
 joined : (p : Bool) (ws : List Written) (held left : List (List Float)) (told t t′ : List Float) → length ws ≡ cond p (length held) 0
     → left ≡ onto ws held → t′ ≡ cond p told t → left ++ (t′ ∷ []) ≡ onto (ws ++ cond p (all told ∷ []) []) (held ++ (t ∷ []))
 joined true ws held left told t t′ l e f = ap₂ (λ (x : List (List Float)) (y : List Float). x ++ (y ∷ [])) e f ∙ sym (onto-more ws (all told ∷ []) held (t ∷ []) l)
 joined false [] held left told t t′ l e f = ap₂ (λ (x : List (List Float)) (y : List Float). x ++ (y ∷ [])) e f
 joined false (w ∷ ws) held left told t t′ l e f = absurd (omega arith)
-
-none : (ws : List Written) → length ws ≡ 0 → ws ≡ []
-none [] l = refl
-none (w ∷ ws) l = absurd (omega arith)
 
 -- `others` are the buffers between `out` and `answer`
 module _ (ns : List ℕ) (store′ : List Float) (give : ℕ → Given) (out answer new : List Float) (others others′ : List (List Float)) (given : Answer) (end : ℕ)
@@ -155,7 +145,7 @@ module _ (ns : List ℕ) (store′ : List Float) (give : ℕ → Given) (out ans
           let s = rw (z, empty out) at served in
           let no = shut e in
           let o = give 0 in
-          let unwritten = none (o .written) (rw (known .no-place) at (known .writes 0)) in
+          let unwritten = to-none (o .written) (rw (known .no-place) at (known .writes 0)) in
           let untouched : others′ ≡ others = ap (drop 1) (rw unwritten at (s .writes)) in
           rw (e, z, kept out new (rw (z, empty out) at same))
           (record {

@@ -15,8 +15,7 @@ use Rattle.frame.specs.declared.Reply.{Reply}
 use Rattle.frame.specs.declared.Reply.the-variants.{Done, Refused}
 use Rattle.frame.specs.Reply.{passed}
 use Rattle.frame.specs.Share.{PART}
-use Rattle.frame.specs.Frame.{Effect, Worked, refusal, done1, call1, done2, call2, counted, modelled, done3, call3, done4, call4}
-use Rattle.frame.specs.Parts.{checked}
+use Rattle.frame.specs.Frame.{Effect, Worked, refusal, done1, call1, done2, call2, counted, modelled, done3, call3, done4, call4, checked}
 
 module _ (share : List Float) (whole : length share ≡ PART) where
   pub call1-done : (samples : List Float) (window : ℕ) → length samples ≡ 480 → window ≡ 960 → good samples ≡ true

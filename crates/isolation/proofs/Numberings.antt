@@ -28,12 +28,13 @@ use Rattle.halves.specs.Halves.{buffer}
 use Rattle.halves.specs.Halves as halves
 use Rattle.halves.proofs.Cases.{first-half-by, second-half-by}
 use Rattle.halves.proofs.Sister.{call2-own-by}
-use Rattle.pieces.specs.Pieces.{framePart, waitingIn, waits, frameOf, refused}
+use Rattle.pieces.specs.Pieces.{framePart, waitingIn, waits, frameAt, refused}
 use Rattle.pieces.proofs.Cases.{piece-by, resume-by}
 use Rattle.pieces.proofs.Kept.{further-reply}
 use Rattle.desk.specs.declared.Record.{Record}
 use Rattle.desk.specs.Gate.{gate, shareOf}
-use Rattle.desk.specs.Desk.{Ask, opening, call1, call2, call2Own, call3, call4, firstHalf, secondHalf, piece, resume, callOf, lastOf, holding, carried, started, answered, opened, onShare, desk}
+use Rattle.desk.specs.Desk.{Ask, opening, call1, call2, call2Own, call3, call4, firstHalf, secondHalf, piece, resume, callOf, lastOf, carried, started, answered, opened, onShare, desk}
+use Rattle.desk.proofs.Leaves.{carried-leaves}
 use Rattle.isolation.specs.Run.{Call, openingOf, State, given, after, ended}
 use Rattle.isolation.specs.Numbering.{endsFrame, hears, howMany, Unopened, Numbering}
 
@@ -63,13 +64,11 @@ uncounted b ask n = both (rw (no (eqb (lastOf ask) 4))) refl
     no false = refl
 
 -- a piece moves neither number
-carried-numbers : (r : Record) (rest size progress : ℕ) → (carried r rest size progress .frame ≡ r .frame) × (carried r rest size progress .heard ≡ r .heard)
-unfolding carried
-carried-numbers r rest size progress = go (ltb rest 480)
-  where
-    go : (t : Bool) → let c = cond t (holding 1 r rest 0 0) (holding 3 r 0 size progress) in (c .frame ≡ r .frame) × (c .heard ≡ r .heard)
-    go true = (refl, refl)
-    go false = (refl, refl)
+same-frame : (r : Record) (rest size progress : ℕ) → carried r rest size progress .frame ≡ r .frame
+same-frame r = carried-leaves (λ (x : Record). x .frame) r (λ _ _ _ _. refl)
+
+same-heard : (r : Record) (rest size progress : ℕ) → carried r rest size progress .heard ≡ r .heard
+same-heard r = carried-leaves (λ (x : Record). x .heard) r (λ _ _ _ _. refl)
 
 module _ (b : Record) (share : List Float) where
   frame-step : (ask : Ask) → (callOf ask ≡ 0 → passed (onShare b share ask .reply) ≡ false) → Counted b ask (onShare b share ask .reply)
@@ -92,15 +91,15 @@ module _ (b : Record) (share : List Float) where
       (λ _ _ _. both refl refl) (λ _. both refl refl) (λ _ _ _ _ _. both refl refl)
   frame-step (piece x o s) shut =
       piece-by share (λ f. Counted b (piece x o s) (f .reply)) (uncounted b (piece x o s)) (b .waiting) x o s
-      (λ _. rw (further-reply Done (waits share []) (waitingIn (b .waiting) share ++ x) nothing) (both (carried-numbers b _ _ _ .0) (carried-numbers b _ _ _ .1)))
+      (λ _. rw (further-reply Done (waits share []) (waitingIn (b .waiting) share ++ x) nothing) (both (same-frame b _ _ _) (same-heard b _ _ _)))
   frame-step (resume x l m o s) shut =
       resume-by share (λ f. Counted b (resume x l m o s) (f .reply)) (uncounted b (resume x l m o s)) (b .index) (b .vad) (b .noise) (b .denoise) (b .piece) (b .progress) x l m o s
       (λ _ _ _. both refl refl)
       (λ _.
       let h = halves.secondHalf (get framePart share) (b .index) (b .vad) (b .noise) (b .denoise) l m 480 in
-      rw (further-reply (h .reply) (put framePart share (h .share)) (drop (b .progress) x) (from (480 * (frameOf (b .progress) - 1)) (buffer h)))
+      rw (further-reply (h .reply) (put framePart share (h .share)) (drop (b .progress) x) (from (480 * (frameAt (b .progress) - 1)) (buffer h)))
       (second-half-by (get framePart share) (CountedOf b (resume x l m o s)) (uncounted b (resume x l m o s)) (b .index) (b .vad) (b .noise) (b .denoise) l m 480
-      (λ _ _ _. both refl refl) (λ _. both (carried-numbers _ _ _ _ .0) (carried-numbers _ _ _ _ .1)) (λ _ _ _ _ _. both (carried-numbers _ _ _ _ .0) (carried-numbers _ _ _ _ .1))))
+      (λ _ _ _. both refl refl) (λ _. both (same-frame _ _ _ _) (same-heard _ _ _ _)) (λ _ _ _ _ _. both (same-frame _ _ _ _) (same-heard _ _ _ _))))
 
 step : (n side : ℕ) (b : Record) (store : List Float) (ask : Ask)
     → (callOf ask ≡ 0 → passed (desk n side b store ask .answer .reply) ≡ false)

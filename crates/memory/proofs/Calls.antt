@@ -45,7 +45,7 @@ use Rattle.halves.specs.Halves as halves
 use Rattle.halves.proofs.Sister.{call2-own-by, call2-own-keeps}
 use Rattle.halves.proofs.Cases.{doneFirst, doneSecond, whole-after-1, first-half-by, second-half-by}
 use Rattle.halves.proofs.Kept.{done-first-beside, done-second-beside, first-half-keeps, second-half-keeps}
-use Rattle.pieces.specs.Pieces.{framePart, waitingIn, waits, frameOf, Outcome, refused, inPart, ended, paused, further}
+use Rattle.pieces.specs.Pieces.{framePart, waitingIn, waits, frameAt, Outcome, refused, inPart, atEnd, paused, further}
 use Rattle.pieces.specs.Pieces as pieces
 use Rattle.pieces.proofs.Cases.{piece-by, resume-by}
 use Rattle.pieces.proofs.Goods.{good-append, good-take, good-drop}
@@ -54,8 +54,9 @@ use Rattle.pieces.proofs.Kept.{further-reply, piece-kept, resume-kept}
 use Rattle.pieces.proofs.Shares.{part-length, waits-length, frame-waits, frame-length, frame-back}
 use Rattle.desk.specs.declared.Record.{Record}
 use Rattle.desk.specs.Gate.{gate}
-use Rattle.desk.specs.Desk.{Ask, opening, call1, call2, call2Own, call3, call4, firstHalf, secondHalf, piece, resume, callOf, holding, advanced, numbered, carried, answered, opened, onShare, Given, desk}
+use Rattle.desk.specs.Desk.{Ask, opening, call1, call2, call2Own, call3, call4, firstHalf, secondHalf, piece, resume, callOf, advanced, numbered, carried, answered, opened, onShare, Given, desk}
 use Rattle.desk.proofs.Apart.{givenOf, one-bench}
+use Rattle.desk.proofs.Leaves.{carried-leaves}
 use Rattle.memory.specs.Hear.{blank, HeardFrame, heardAll}
 use Rattle.memory.specs.Brought.{recalledIn, isHeard, Noted, unnoted, noting, firstNotes, restNotes, brought}
 use Rattle.memory.proofs.Heard.{notedIn, heard-frame}
@@ -270,7 +271,7 @@ module _ (b : Record) (share : List Float) (whole : length share ≡ SHARE) wher
   rest-notes index reply mid rest w l g = go (ltb (length rest) 480) refl
     where
       go : (t : Bool) → ltb (length rest) 480 ≡ t
-          → let o = cond t (ended reply mid rest w) (paused reply mid rest w) in
+          → let o = cond t (atEnd reply mid rest w) (paused reply mid rest w) in
           (recalledIn index (get framePart (o .share)) ≡ recalledIn index (get framePart mid))
           × (notedIn (get framePart (o .share)) ≡ cond t (notedIn (get framePart mid)) (firstNotes (get framePart mid) (take 480 rest)))
       go true e = (ap (recalledIn index) (frame-waits mid l rest), ap notedIn (frame-waits mid l rest))
@@ -284,12 +285,7 @@ module _ (b : Record) (share : List Float) (whole : length share ≡ SHARE) wher
 
   -- a piece moves no index
   carried-index : (r : Record) (rest size progress : ℕ) → carried r rest size progress .index ≡ r .index
-  unfolding carried
-  carried-index r rest size progress = go (ltb rest 480)
-    where
-      go : (t : Bool) → cond t (holding 1 r rest 0 0) (holding 3 r 0 size progress) .index ≡ r .index
-      go true = refl
-      go false = refl
+  carried-index r = carried-leaves (λ (x : Record). x .index) r (λ _ _ _ _. refl)
 
   piece-leaves : (x : List Float) (o s : ℕ) → let f = pieces.piece share (b .waiting) x o s in Leaves (piece x o s) (f .reply) (get framePart (f .share))
   unfolding heardAll
@@ -320,7 +316,7 @@ module _ (b : Record) (share : List Float) (whole : length share ≡ SHARE) wher
       let c = second-half-leaves l m 480 in
       let mid = put framePart share (h .share) in
       let rest = drop (b .progress) x in
-      let w = from (480 * (frameOf (b .progress) - 1)) (buffer h) in
+      let w = from (480 * (frameAt (b .progress) - 1)) (buffer h) in
       let next = numbered (advanced b (h .reply)) in
       let n = rest-notes (next .index) (h .reply) mid rest w (frame-length share whole (h .share) (p .part)) (good-drop (b .progress) x (k .fine)) in
       let same = frame-back share whole (h .share) (p .part) in

@@ -10,7 +10,7 @@ use Rattle.rules.specs.Place.{Place, get}
 use Rattle.rules.specs.Tab.{tab}
 use Rattle.rules.proofs.Truth.{both}
 use Rattle.samples.specs.Samples.{goodSample, good}
-use Rattle.pieces.specs.Pieces.{padded}
+use Rattle.pieces.specs.Pieces.{paddedTo}
 
 head : (x : Float) (xs : List Float) → good (x ∷ xs) ≡ true → (goodSample x ≡ true) × (good xs ≡ true)
 unfolding good
@@ -52,8 +52,8 @@ good-at [] i e = zero-good
 good-at (x ∷ xs) zero e = head x xs e .0
 good-at (x ∷ xs) (suc i) e = good-at xs i (head x xs e .1)
 
-pub good-padded : (n : ℕ) (xs : List Float) → good xs ≡ true → good (padded n xs) ≡ true
-unfolding padded tab
+pub good-padded : (n : ℕ) (xs : List Float) → good xs ≡ true → good (paddedTo n xs) ≡ true
+unfolding paddedTo tab
 good-padded n xs e = go n
   where
     go : (n : ℕ) → good (tab n (λ i. getD xs i (f32 0))) ≡ true

@@ -28,8 +28,7 @@ use Rattle.frame.specs.declared.Reply.the-variants.{Done, Silent, Heard, Refuse
 use Rattle.frame.specs.Reply.{passed}
 use Rattle.frame.specs.Share.{PART, inputMem, keptEx}
 use Rattle.frame.specs.Heard.{Spoken, spoken}
-use Rattle.frame.specs.Frame.{Effect, refusal, plusHundredth, overlapped, done1, counted, sounded, done3, modelled, call3}
-use Rattle.frame.specs.Parts.{checked}
+use Rattle.frame.specs.Frame.{Effect, refusal, plusHundredth, overlapped, done1, counted, sounded, done3, modelled, call3, checked}
 use Rattle.frame.proofs.Done.{call1-done, call2-done, call3-done}
 use Rattle.halves.specs.Own.{call2Own}
 use Rattle.halves.specs.Halves.{buffer, lookedBack, firstHalf, secondHalf}

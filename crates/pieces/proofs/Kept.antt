@@ -13,7 +13,7 @@ use Rattle.frame.specs.declared.Reply.the-variants.{Done, Refused, Misread}
 use Rattle.frame.specs.Share.{SHARE}
 use Rattle.frame.specs.Reply.{passed}
 use Rattle.halves.specs.Halves.{secondHalf}
-use Rattle.pieces.specs.Pieces.{framePart, waits, Outcome, refused, ended, paused, further, piece, resume}
+use Rattle.pieces.specs.Pieces.{framePart, waits, Outcome, refused, atEnd, paused, further, piece, resume}
 use Rattle.pieces.proofs.Cases.{piece-by, resume-by}
 use Rattle.pieces.proofs.Halved.{first-length, second-passes}
 use Rattle.pieces.proofs.Shares.{part-length, waits-length, frame-length}
@@ -30,7 +30,7 @@ module _ (reply : Reply) (share rest : List Float) (w : Written) where
   unfolding further
   further-length l = go (ltb (length rest) 480)
     where
-      go : (t : Bool) → length (cond t (ended reply share rest w) (paused reply share rest w) .share) ≡ SHARE
+      go : (t : Bool) → length (cond t (atEnd reply share rest w) (paused reply share rest w) .share) ≡ SHARE
       go true = waits-length share l rest
       go false = frame-length share l _ (first-length (get framePart share) (take 480 rest) 22 (part-length share l))
 
@@ -38,7 +38,7 @@ module _ (reply : Reply) (share rest : List Float) (w : Written) where
   unfolding further
   further-reply = go (ltb (length rest) 480)
     where
-      go : (t : Bool) → cond t (ended reply share rest w) (paused reply share rest w) .reply ≡ reply
+      go : (t : Bool) → cond t (atEnd reply share rest w) (paused reply share rest w) .reply ≡ reply
       go true = refl
       go false = refl
 

@@ -26,8 +26,7 @@ use Rattle.model.specs.declared.Reading.{Reading}
 use Rattle.model.specs.declared.Reading.the-variants.{Good, Refused as Unread}
 use Rattle.frame.specs.declared.Reply.{Reply}
 use Rattle.frame.specs.declared.Reply.the-variants.{Done, Silent, Heard, Numbered, Refused, Misread}
-use Rattle.frame.specs.Frame.{counted}
-use Rattle.frame.specs.Parts.{checked}
+use Rattle.frame.specs.Frame.{counted, checked}
 use Rattle.frame.specs.Reply.{passed}
 use Rattle.pieces.specs.Pieces.{waitingIn, waits, completes, further}
 use Rattle.pieces.specs.Pieces as pieces
@@ -98,7 +97,7 @@ unfolding further carried
 onward-sums side store rec reply share rest size progress w = go (ltb (length rest) 480)
   where
     go : (t : Bool) → (cond t (holding 1 rec (length rest) 0 0) (holding 3 rec 0 size progress) .piece ≡ 0 → ⊥) → (held a b : List Float)
-        → let ws = cond t (pieces.ended reply share rest w) (pieces.paused reply share rest w) .written in
+        → let ws = cond t (pieces.atEnd reply share rest w) (pieces.paused reply share rest w) .written in
         getD (onto ws (held ∷ a ∷ [])) 1 [] ≡ getD (onto ws (held ∷ b ∷ [])) 1 []
     go true h held a b = absurd (h refl)
     go false h held a b = refl
