@@ -21,7 +21,7 @@ use Rattle.desk.specs.declared.Record.{Record}
 use Rattle.desk.specs.declared.Answer.{Answer}
 use Rattle.desk.specs.Gate.{inRange}
 use Rattle.desk.specs.Desk.{Given, Served}
-use Rattle.desk.specs.Surface.{RECORD, recordIn, numbersOf, replyNumber, heardOf, toldBesides, outOf, Hosted}
+use Rattle.desk.specs.Surface.{RECORD, recordIn, numbersOf, replyNumber, heardOf, outOf, telling, Hosted}
 use Rattle.desk.proofs.Ranged.{bounded}
 use Rattle.desk.proofs.Replies.{Small}
 use Rattle.export.specs.Parts.{HandsBack}
@@ -54,10 +54,6 @@ hands-back ns b {a} {given} read sound e =
     })
 
 -- ---- a call with its answer as three numbers besides
-
--- as a host sees it
-abbrev pub telling : Given → Given
-telling o = record { answer = o .answer; store = o .store; written = o .written ++ toldBesides (o .answer .reply) }
 
 -- it writes to so many buffers, or is refused and writes to none; and it is refused where it is lent no place of `out`
 pub record Telling (buffers : ℕ) (give : ℕ → Given) : Type 0 where

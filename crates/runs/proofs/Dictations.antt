@@ -43,8 +43,7 @@ use Rattle.dictation.specs.Resuming.{handedIn, Fitting}
 use Rattle.dictation.proofs.Cuts.{is-whole}
 use Rattle.dictation.proofs.Resumes.{completed}
 use Rattle.dictation.proofs.Taken.{let-through, onward, piece-passed, resume-passed}
-use Rattle.whole.specs.Whole.{Taking, taking, takeFrames, Taken}
-use Rattle.whole.specs.Parts.{three}
+use Rattle.whole.specs.Whole.{Taking, taking, takeFrames, Taken, three}
 use Rattle.whole.proofs.Accepted.{good-both, logs-length, Take, take-accepted, fits-sizes}
 use Rattle.runs.specs.Runs.{standsAt, resumeFrom}
 use Rattle.runs.specs.Taking.{Told, lentTo, answersOf, Dictates, AsDictated}

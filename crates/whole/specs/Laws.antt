@@ -7,8 +7,7 @@ use lib.ListN.{length}
 use lib.Ieee.{Float}
 use Rattle.frame.specs.Reply.{passed}
 use Rattle.desk.specs.declared.Record.{Record}
-use Rattle.whole.specs.Whole.{unchanged, frameReply, frameBegins, frameEnds, frame, takenAs, take}
-use Rattle.whole.specs.Parts.{standing}
+use Rattle.whole.specs.Whole.{unchanged, frameReply, frameBegins, frameEnds, frame, takenAs, take, standing}
 
 -- a frame that is accepted is its two halves: neither is refused, and what the second gives is what the frame gives
 abbrev pub TwoHalves : Type 0

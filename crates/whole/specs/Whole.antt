@@ -9,7 +9,7 @@ use lib.ListN.{length, getD}
 use lib.Ieee.{Float}
 use Rattle.rules.specs.F32.{zeros}
 use Rattle.rules.specs.Loop.{loop}
-use Rattle.rules.specs.Place.{get, put}
+use Rattle.rules.specs.Place.{Place, get, put}
 use Rattle.rules.specs.Refusals.{Row, _when_, refusing, wrong}
 use Rattle.rules.specs.Written.{firstIn, onto}
 use Rattle.samples.specs.Samples.{good}
@@ -72,17 +72,23 @@ pub record Taking : Type 0 where
   pub sums : List Float
   pub answers : List Float
 
+abbrev pub standing : Record → List Float → List Float → List Float → List Float → Taking
+standing rec store out sums answers = record { rec = rec; store = store; out = out; sums = sums; answers = answers }
+
 -- after a call, which was lent the output and the sums
 abbrev pub taking : Given → List Float → List Float → List Float → Taking
 taking o out sums answers =
-    let held = onto (o .written) (out ∷ sums ∷ []) in
-    record { rec = o .answer .rec; store = o .store; out = getD held 0 []; sums = getD held 1 []; answers = answers }
+    let held = onto (o .written) (out ∷ sums ∷ []) in standing (o .answer .rec) (o .store) (getD held 0 []) (getD held 1 []) answers
 
--- frame j, from 0: a resume with our logarithms of the sums; three answers, heard or not, voice and energy
+-- where the answers of frame j stand, from 0
+abbrev pub three : ℕ → Place
+three j = record { at = 3 * j; size = 3 }
+
+-- frame j: a resume with our logarithms of the sums; three answers, heard or not, voice and energy
 abbrev pub takeStep : ℕ → ℕ → List Float → List ℕ → ℕ → Taking → Taking
 takeStep n side samples model j t =
     let o = desk n side (t .rec) (t .store) (resume samples (logsOf (t .sums)) model (length (t .out)) 22) in
-    taking o (t .out) (t .sums) (put (record { at = 3 * j; size = 3 }) (t .answers) (heardOf (o .answer .reply)))
+    taking o (t .out) (t .sums) (put (three j) (t .answers) (heardOf (o .answer .reply)))
 
 unfoldable pub takeFrames : ℕ → ℕ → ℕ → List Float → List ℕ → Taking → Taking
 takeFrames k n side samples model t = loop k (takeStep n side samples model) t
@@ -108,8 +114,7 @@ unfoldable pub take : ℕ → ℕ → Record → List Float → List Float → L
 take n side rec store samples model out answers =
     let reply = takeReply n side rec store samples model (length out) (length answers) in
     takenAs reply
-    (cond (passed reply) (takeEnds n side rec store samples model out answers)
-    (record { rec = rec; store = store; out = out; sums = []; answers = answers }))
+    (cond (passed reply) (takeEnds n side rec store samples model out answers) (standing rec store out [] answers))
 
 -- what a contract says of a take
 pub record Took (o : Taken) (answer : Answer) (store out answers : List Float) : Type 0 where
