@@ -27,7 +27,7 @@ use Rattle.desk.specs.Surface.{heardOf}
 abbrev pub unchanged : Record → List Float → Reply → Given
 unchanged rec store reply = record { answer = record { reply = reply; rec = rec }; store = store; written = [] }
 
--- the gate's number, 0 or 1 to 4; 5 by these rows; 7 to 9
+-- the gate's number, 1 to 4; where it is 0, 5 by these rows, and behind them 7 to 9
 abbrev pub tested : ℕ → Record → List Row → List ℕ → List Float → Reply
 tested number rec rows model samples =
     cond (eqb number 0) (refusing rows Refused (lastTests (rec .vad) (rec .noise) (rec .denoise) model (good samples))) (Refused number)
