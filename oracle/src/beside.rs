@@ -1,6 +1,6 @@
 //! Any desk beside the desk by the text, or beside another: both are asked the same, and all that they answer and leave is compared.
 
-use crate::ask::{Ask, Surface, FRAME, PIECE, RESUME, SECOND_HALF, TAKE};
+use crate::ask::{Ask, Caller, Surface, FRAME, PIECE, RESUME, SECOND_HALF, TAKE};
 use crate::desk::{self, BENCHES, COUNTS, EX, LAG, RECORD, SHARE, STORE, WAIT, X};
 use crate::rng::{Mood, Rng};
 use crate::tally::{floats, kept, signed, By, Given, Tally, Value};
@@ -66,6 +66,27 @@ impl Beside<'_> {
     /// Bit for bit beside another desk. All damage is passing, that of the store too.
     pub fn exactly<'a>(rng: &mut Rng, desk: &'a Surface, reference: &'a Surface) -> Beside<'a> {
         Beside { reference, exact: true, ..Beside::new(rng, desk) }
+    }
+
+    /// Any side's turn, with some damage by its record: which one it was, what it asked, and what it was answered.
+    pub fn turn(
+        &mut self,
+        tally: &mut Tally,
+        rng: &mut Rng,
+        callers: &mut [Caller; BENCHES],
+        damage: fn(&mut Rng, usize, &[u32]) -> Damage,
+    ) -> (usize, Ask, Answered) {
+        let side = rng.below(BENCHES);
+        let mut record = self.rusts.records[side].clone();
+        let damage = damage(rng, side, &record);
+        // now and then what is asked fits the record as it is damaged
+        if rng.once_in(2) {
+            damage.befall(&mut record);
+        }
+        let ask = callers[side].ask(rng, &record);
+        let answered = self.put(tally, side, &ask, &damage);
+        callers[side].answered(&ask, answered.number, &answered.lent);
+        (side, ask, answered)
     }
 
     /// Both suffer the damage, are asked, and are compared; a passing damage is mended.

@@ -1,6 +1,6 @@
 //! Request 12 by the text: a piece and a resume, over the desk's two halves.
 
-use crate::desk::{asked, broken, first_half, second_half, share_of, unfit, Due, PIECE, PROGRESS, WAIT, WAITING};
+use crate::desk::{asked, broken, first_half, pass, second_half, share_of, unfit, Due, PIECE, PROGRESS, WAIT, WAITING};
 
 /// The most samples of a piece.
 pub const LONGEST: usize = 4_096;
@@ -16,6 +16,11 @@ pub fn under_way(progress: usize) -> (usize, usize) {
     (frame, 480 * frame - progress)
 }
 
+/// The samples that wait, and a piece behind them.
+pub fn behind_waiting(record: &[u32], store: &mut [f32], side: u32, piece: &[f32]) -> Vec<f32> {
+    [&share_of(store, side)[WAIT][..record[WAITING] as usize], piece].concat()
+}
+
 pub fn piece(
     record: &mut [u32],
     store: &mut [f32],
@@ -29,7 +34,7 @@ pub fn piece(
     if !(1..=LONGEST).contains(&piece.len()) || out.len() < 480 * completed(waiting, piece.len()) {
         return 5;
     }
-    let samples = [&share_of(store, side)[WAIT][..waiting], piece].concat();
+    let samples = behind_waiting(record, store, side, piece);
     if broken(&samples) {
         return 9;
     }
@@ -56,10 +61,7 @@ pub fn resume(
     if piece.len() != noted || out.len() < 480 * completed(waited, noted) {
         return 5;
     }
-    let refused = unfit(model, record);
-    if refused != 0 {
-        return refused;
-    }
+    pass!(unfit(model, record));
     // nothing waits where a piece is unfinished
     if broken(piece) {
         return 9;
