@@ -1,6 +1,6 @@
 //! Openings and calls as a caller makes them: mostly the one that is due with arguments that fit, now and then another.
 
-use crate::desk::{DUE, PIECE as NOTED, PROGRESS, WAITING};
+use crate::desk::{DUE, PROGRESS, UNFINISHED, WAITING};
 use crate::dictation::{completed, under_way, LONGEST};
 use crate::lent;
 use crate::models::{self, Shape};
@@ -116,7 +116,7 @@ impl Ask {
     /// The places of each answer buffer that an accepted call writes, by the record before it and after it: those of a frame that
     /// is completed, and sums where a piece pauses. What has nothing to do with a piece writes whole buffers.
     pub fn written(&self, before: &[u32], after: &[u32]) -> Vec<Range<usize>> {
-        let sums = if noted(after, NOTED) > 0 { 0..22 } else { 0..0 };
+        let sums = if noted(after, UNFINISHED) > 0 { 0..22 } else { 0..0 };
         match self.call {
             PIECE => vec![0..0, sums],
             RESUME => {
@@ -178,13 +178,10 @@ impl Caller {
         Caller { whole, ..Caller::in_pieces(side, pieces) }
     }
 
-    /// The next call, by the side's record. The plain sums that a half is held against take their time: one call in twelve is one.
-    pub fn ask(&mut self, rng: &mut Rng, record: &[u32]) -> Ask {
-        // a damaged record may note any number
-        let (due, unfinished, waiting) =
-            (noted(record, DUE).min(4), noted(record, NOTED), noted(record, WAITING).min(479));
+    /// Mostly a call that is due. The plain sums that a half is held against take their time: one call in twelve is one.
+    fn call(&self, rng: &mut Rng, due: usize, unfinished: usize, waiting: usize) -> u32 {
         let calls = if self.whole > 0 { TAKE } else { RESUME } as usize;
-        let call = match (rng.below(80), due) {
+        match (rng.below(80), due) {
             (0, _) => 0,
             (1..=3, _) => 1 + rng.below(calls) as u32,
             _ if unfinished > 0 => RESUME,
@@ -198,7 +195,15 @@ impl Caller {
             (4..=16, 3) => SECOND_HALF,
             (n, 1) if n < 17 + self.pieces => PIECE,
             (_, due) => due as u32,
-        };
+        }
+    }
+
+    /// The next call, by the side's record.
+    pub fn ask(&mut self, rng: &mut Rng, record: &[u32]) -> Ask {
+        // a damaged record may note any number
+        let (due, unfinished, waiting) =
+            (noted(record, DUE).min(4), noted(record, UNFINISHED), noted(record, WAITING).min(479));
+        let call = self.call(rng, due, unfinished, waiting);
         let mut ask = match call {
             0 => self.opening(rng),
             1 => self.samples(rng),

@@ -1,7 +1,7 @@
 //! Request 12: the same samples with the same logarithms and models, cut in two ways, give the same output, answers, sums, record and store.
 
 use crate::ask::{piece_length, Ask, Surface, PIECE, RESUME};
-use crate::desk::{self, BENCHES, RECORD, STORE, WAITING};
+use crate::desk::{BENCHES, RECORD, STORE, UNFINISHED, WAITING};
 use crate::dictation::{completed, LONGEST};
 use crate::models::{self, Shape};
 use crate::rng::{Mood, Rng};
@@ -63,7 +63,7 @@ impl Bench<'_> {
         let places = 480 * completed(self.record[WAITING] as usize, piece.len());
         let held = vec![vec![9.0; places], vec![9.0; 22]];
         let mut lent = self.put(Ask { call: PIECE, given: vec![piece.to_vec()], held, ..Ask::default() });
-        while self.record[desk::PIECE] > 0 {
+        while self.record[UNFINISHED] > 0 {
             let Lent { logs, model } = frames.next().expect("there is no end of frames");
             given.sums.extend(&lent[1]);
             let logs = logs.unwrap_or_else(|| lent[1].iter().map(|x| x.log10()).collect());

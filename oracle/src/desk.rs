@@ -34,10 +34,10 @@ pub const WAIT: Range<usize> = 3776..4255;
 pub const DUE: usize = 0;
 pub const INDEX: usize = 1;
 pub const COUNTS: Range<usize> = 2..5;
-pub const FRAME: usize = 5;
+pub const FRAMES: usize = 5;
 pub const HEARD: usize = 6;
 pub const WAITING: usize = 7;
-pub const PIECE: usize = 8;
+pub const UNFINISHED: usize = 8;
 pub const PROGRESS: usize = 9;
 pub const RECORD: usize = 10;
 
@@ -80,9 +80,9 @@ pub enum Due {
 impl Due {
     fn is_met_by(self, record: &[u32]) -> bool {
         match self {
-            Due::Call(call) => record[DUE] == call && record[WAITING] == 0 && record[PIECE] == 0,
+            Due::Call(call) => record[DUE] == call && record[WAITING] == 0 && record[UNFINISHED] == 0,
             Due::Piece => record[DUE] == 1,
-            Due::Resume => record[PIECE] != 0,
+            Due::Resume => record[UNFINISHED] != 0,
         }
     }
 }
@@ -351,6 +351,6 @@ pub fn call4(record: &mut [u32], store: &mut [f32], side: u32, inverse: &[f32], 
     feed::finish();
     save(&mut text, share, record);
     record[DUE] = 1;
-    record[FRAME] = record[FRAME].wrapping_add(1);
+    record[FRAMES] = record[FRAMES].wrapping_add(1);
     0
 }

@@ -1,6 +1,8 @@
 //! Request 12 by the text: a piece and a resume, over the desk's two halves.
 
-use crate::desk::{asked, broken, first_half, pass, second_half, share_of, unfit, Due, PIECE, PROGRESS, WAIT, WAITING};
+use crate::desk::{
+    asked, broken, first_half, pass, second_half, share_of, unfit, Due, PROGRESS, UNFINISHED, WAIT, WAITING,
+};
 
 /// The most samples of a piece.
 pub const LONGEST: usize = 4_096;
@@ -56,7 +58,7 @@ pub fn resume(
     answer: &mut [f32],
 ) -> u32 {
     asked!(Due::Resume, record, store, side, logs 22, sums 22, answer 3);
-    let [noted, progress] = [PIECE, PROGRESS].map(|at| record[at] as usize);
+    let [noted, progress] = [UNFINISHED, PROGRESS].map(|at| record[at] as usize);
     let (frame, waited) = under_way(progress);
     if piece.len() != noted || out.len() < 480 * completed(waited, noted) {
         return 5;
@@ -66,7 +68,7 @@ pub fn resume(
     if broken(piece) {
         return 9;
     }
-    record[PIECE] = 0;
+    record[UNFINISHED] = 0;
     record[PROGRESS] = 0;
     let place = &mut out[480 * (frame - 1)..480 * frame];
     assert_eq!(second_half(record, store, side, logs, model, place, answer), 0, "the second half is due and fits");
@@ -84,7 +86,7 @@ fn go_on(record: &mut [u32], store: &mut [f32], side: u32, piece: usize, rest: &
     } else {
         let (frame, left) = rest.split_at(480);
         assert_eq!(first_half(record, store, side, frame, sums), 0, "the first half is due and fits");
-        record[PIECE] = piece as u32;
+        record[UNFINISHED] = piece as u32;
         record[PROGRESS] = (piece - left.len()) as u32;
     }
 }

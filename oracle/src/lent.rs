@@ -2,7 +2,7 @@
 //! What is to be refused is worked out from the ruling, before any call is made.
 
 use crate::ask::Surface;
-use crate::desk::{self, asked, broken, gate, pass, unfit, Due, WAITING};
+use crate::desk::{asked, broken, gate, pass, unfit, Due, UNFINISHED, WAITING};
 use crate::dictation::{behind_waiting, completed, LONGEST};
 
 /// Refusals 7, 8 and 9, or 0.
@@ -51,7 +51,7 @@ pub fn take(
     let mut sums = [0.0; 22];
     done((desk.piece)(record, store, side, piece, out, &mut sums));
     for answer in answers.chunks_exact_mut(3) {
-        if record[desk::PIECE] == 0 {
+        if record[UNFINISHED] == 0 {
             break;
         }
         let logs = logs(desk, &sums);

@@ -3,7 +3,7 @@
 use crate::answers::Answers;
 use crate::ask::{Caller, Surface, OURS, PIECE, RESUME};
 use crate::beside::{Beside, Damage};
-use crate::desk::{self, BENCHES, DUE, PROGRESS, SHARE, WAIT, WAITING};
+use crate::desk::{BENCHES, DUE, PROGRESS, SHARE, UNFINISHED, WAIT, WAITING};
 use crate::rng::Rng;
 use crate::tally::Tally;
 use crate::{cutting, Options};
@@ -50,7 +50,7 @@ fn compare_with(tally: &mut Tally, seed: u64, frames: u64, desk: &Surface) -> Me
     while met.answers.done(RESUME) < frames {
         let (side, ask, answered) = both.turn(tally, rng, &mut callers, damage);
         if ask.call >= PIECE {
-            met.count(ask.call, answered.number, both.rusts.records[side][desk::PIECE] > 0);
+            met.count(ask.call, answered.number, both.rusts.records[side][UNFINISHED] > 0);
         }
     }
     met
@@ -60,21 +60,19 @@ fn compare_with(tally: &mut Tally, seed: u64, frames: u64, desk: &Surface) -> Me
 /// changed from outside; or what befalls any call.
 pub fn damage(rng: &mut Rng, side: usize, record: &[u32]) -> Damage {
     let piece = rng.pick(&[1, 479, 480, 481, 1_000, 4_095, 4_096, 4_097]);
-    let noted = record[desk::PIECE];
+    let noted = record[UNFINISHED];
     let progress =
         |rng: &mut Rng, piece: u32| rng.pick(&[0, 1, 480, piece / 2, piece, piece.wrapping_add(1), u32::MAX]);
     let waiting = rng.pick(&[1, 478, 479, 480, u32::MAX]);
     let due = rng.below(6) as u32;
     match rng.below(200) {
         0..=2 => Damage::Record(vec![(WAITING, waiting)]),
-        3..=5 => Damage::Record(vec![(desk::PIECE, piece)]),
+        3..=5 => Damage::Record(vec![(UNFINISHED, piece)]),
         6..=9 => Damage::Record(vec![(PROGRESS, progress(rng, noted))]),
         10..=12 => Damage::Record(vec![(DUE, due)]),
-        13..=14 => {
-            Damage::Record(vec![(DUE, rng.pick(&[1, due])), (WAITING, waiting), (desk::PIECE, 0), (PROGRESS, 0)])
-        }
+        13..=14 => Damage::Record(vec![(DUE, rng.pick(&[1, due])), (WAITING, waiting), (UNFINISHED, 0), (PROGRESS, 0)]),
         15..=18 => {
-            let of_piece = [(desk::PIECE, piece), (PROGRESS, progress(rng, piece))];
+            let of_piece = [(UNFINISHED, piece), (PROGRESS, progress(rng, piece))];
             Damage::Record([&[(DUE, rng.pick(&[3, 3, due])), (WAITING, 0)][..], &of_piece].concat())
         }
         19..=22 => Damage::Store(side * SHARE + WAIT.start + rng.below(WAIT.len()), vec![rng.float()]),
