@@ -288,6 +288,28 @@ struct Frame {
     inverse: Vec<f32>,
 }
 
+/// The text's `process_frame`. What it asks for is put into the feed before the clock runs.
+#[cfg(feature = "frame")]
+fn fed_text(frames: &'static [Frame], model: &[u8]) -> Side {
+    let mut text = DenoiseState::from_model(RnnModel::from_bytes(model).unwrap());
+    let mut frames = frames.iter().cycle();
+    Box::new(move |times| {
+        let mut output = [0.0; 480];
+        let mut total = Duration::ZERO;
+        for frame in frames.by_ref().take(times) {
+            feed::start_unwatched();
+            frame.spectra.iter().for_each(|spectrum| feed::spectrum(spectrum));
+            feed::lag(frame.lag as usize);
+            feed::logs(&frame.logs);
+            feed::inverse(&frame.inverse);
+            let start = Instant::now();
+            text.process_frame(black_box(&mut output), &frame.samples);
+            total += start.elapsed();
+        }
+        total
+    })
+}
+
 #[cfg(feature = "frame")]
 fn of_frame(rng: &mut Rng) -> Vec<Row> {
     let frames: Vec<Frame> = (0..100)
@@ -301,12 +323,12 @@ fn of_frame(rng: &mut Rng) -> Vec<Row> {
         .collect();
     let frames: &'static [Frame] = Box::leak(frames.into_boxed_slice());
     let model = models::of_shape(rng, models::USUAL);
-    let mut text = DenoiseState::from_model(RnnModel::from_bytes(&model).unwrap());
+    let rusts = fed_text(frames, &model);
     let (mut record, mut store) = ([0; 10], vec![0.0; 98_304]);
     assert_eq!(tuppence::open(&mut record, &mut store, 1, &model), 0);
     let mut window = [0.0; 960];
     let (mut sums, mut spectrum, mut answer, mut out) = ([0.0; 22], [0.0; 961], [0.0; 3], [0.0; 480]);
-    let (mut i, mut j) = (0, 0);
+    let mut i = 0;
     let ours = timed(move || {
         let frame = &frames[i % frames.len()];
         let [x, p] = &frame.spectra;
@@ -317,24 +339,6 @@ fn of_frame(rng: &mut Rng) -> Vec<Row> {
         refused |= tuppence::call4(r, s, 1, &frame.inverse, &mut out);
         assert!(refused == 0 && answer[0] == 1.0, "the frame is heard");
         i += 1;
-    });
-    // what the text asks for is put into the feed before the clock runs
-    let rusts: Side = Box::new(move |times| {
-        let mut output = [0.0; 480];
-        let mut total = Duration::ZERO;
-        for _ in 0..times {
-            let frame = &frames[j % frames.len()];
-            feed::start_unwatched();
-            frame.spectra.iter().for_each(|spectrum| feed::spectrum(spectrum));
-            feed::lag(frame.lag as usize);
-            feed::logs(&frame.logs);
-            feed::inverse(&frame.inverse);
-            let start = Instant::now();
-            text.process_frame(black_box(&mut output), &frame.samples);
-            total += start.elapsed();
-            j += 1;
-        }
-        total
     });
     vec![Row { name: "a heard frame, four calls", ours, rusts }]
 }
