@@ -67,7 +67,7 @@ impl Folder {
     }
 
     /// A file that is written beside its place, as `NAME.part`.
-    pub fn create(&mut self, name: &str) -> Result<fs::File, String> {
+    pub fn create(&mut self, name: impl AsRef<Path>) -> Result<fs::File, String> {
         let file = File { place: self.path.join(name), aside: false, put: false };
         let part = file.part();
         self.files.push(file);
@@ -75,8 +75,8 @@ impl Folder {
     }
 
     /// Writes a file beside its place.
-    pub fn write(&mut self, name: &str, bytes: &[u8]) -> Result<(), String> {
-        self.create(name)?.write_all(bytes).map_err(|why| told(&self.path.join(name), why))
+    pub fn write(&mut self, name: impl AsRef<Path>, bytes: &[u8]) -> Result<(), String> {
+        self.create(&name)?.write_all(bytes).map_err(|why| told(&self.path.join(name), why))
     }
 
     /// Where something may be laid down for a while.

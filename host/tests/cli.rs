@@ -208,6 +208,23 @@ fn a_missing_file() {
     given.fails(given.clean("left.wav", "right.wav", "none.rnn", "out"), &["none.rnn"]);
 }
 
+/// A name in any bytes is taken as it is.
+#[cfg(unix)]
+#[test]
+fn a_name_that_is_not_unicode() {
+    use std::os::unix::ffi::OsStrExt;
+    let given = Given::new("bytes");
+    let name = given.path.join(std::ffi::OsStr::from_bytes(b"left-\xff.wav"));
+    fs::rename(given.path.join("left.wav"), &name).unwrap();
+    let clean = |model: &str| {
+        let mut host = Command::new(env!("CARGO_BIN_EXE_host"));
+        host.args(["clean", "--right", &given.at("right.wav"), "--model", &given.at(model), "--out", &given.at("out")]);
+        host.arg("--left").arg(&name).output().unwrap()
+    };
+    given.fails(clean("none.rnn"), &["none.rnn"]);
+    assert!(clean("house.rnn").status.success());
+}
+
 #[test]
 fn a_folder_for_a_file() {
     let given = Given::new("folder");
@@ -335,6 +352,7 @@ fn other_words() {
     ] {
         given.fails(host(words), &["--help"]);
     }
+    given.fails(host(&["mend", "x", "--to", "y"]), &["mend: ", "--help"]);
     let help = host(&["--help"]);
     assert!(help.status.success() && String::from_utf8(help.stdout).unwrap().contains("host clean --left"));
 }
