@@ -55,15 +55,17 @@ impl File {
 /// Dropped before its files are kept, it leaves the folder as it was.
 pub struct Folder {
     path: PathBuf,
-    made: bool,
+    /// The folders that were not there, the innermost first.
+    made: Vec<PathBuf>,
     files: Vec<File>,
 }
 
 impl Folder {
     pub fn new(path: &Path) -> Result<Folder, String> {
-        let made = !path.exists();
+        let made = path.ancestors().take_while(|path| !path.exists()).map(Path::to_owned).collect();
+        let folder = Folder { path: path.to_owned(), made, files: Vec::new() };
         fs::create_dir_all(path).map_err(|why| told(path, why))?;
-        Ok(Folder { path: path.to_owned(), made, files: Vec::new() })
+        Ok(folder)
     }
 
     /// A file that is written beside its place, as `NAME.part`.
@@ -92,22 +94,20 @@ impl Folder {
         for file in self.files.drain(..).filter(|file| file.aside) {
             let _ = fs::remove_file(file.old());
         }
-        self.made = false;
+        self.made.clear();
         Ok(())
     }
 
     /// Leaves the files as they were written, beside their places.
     pub fn leave(mut self) {
         self.files.clear();
-        self.made = false;
+        self.made.clear();
     }
 }
 
 impl Drop for Folder {
     fn drop(&mut self) {
         self.files.iter().rev().for_each(File::undo);
-        if self.made {
-            let _ = fs::remove_dir(&self.path);
-        }
+        self.made.iter().for_each(|path| _ = fs::remove_dir(path));
     }
 }

@@ -271,7 +271,10 @@ fn a_refused_model() {
         &["it ends within a layer's weights", "refusal 16", "layer 5", "vad_output"],
     );
     given.put("empty.rnn", b"");
-    given.fails(given.clean("left.wav", "right.wav", "empty.rnn", "out"), &["refusal 11", "layer 0", "input_dense"]);
+    given.fails(
+        given.clean("left.wav", "right.wav", "empty.rnn", "out/of/it"),
+        &["refusal 11", "layer 0", "input_dense"],
+    );
 }
 
 #[test]
