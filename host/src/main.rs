@@ -24,7 +24,9 @@ host: cleans two dictations, one for each bench
       right.wav.sheet; at the end the headers are mended, the sheets written behind
       the audio, and the files put in their places. Where a stream can't be read to
       its end, that is done with what came before, and told with exit status 2. (End a
-      stream by stopping what records it: this program then closes its files.)
+      stream by stopping what records it: this program then closes its files.) Where
+      the files of a stream can't be written, as on a full disk, what was cleaned stays
+      in those that end in .part.
       All that is done to a sample is done by the library. With --lag crate the lag
       is that of the Rust text's own finder, and the transforms and logarithms are
       this program's: that gives nnnoiseless's very numbers. (--lag own is the same
@@ -46,7 +48,8 @@ host: cleans two dictations, one for each bench
       A recording whose side sheet was torn: what follows the audio in whole records
       is kept, and the sheet closed again. FILE2 must not exist.
   host bench
-      Frames a second, where a frame's time goes, and the ratio to the Rust text.
+      Frames a second in pieces, as clean runs them, and in four calls each, as with
+      --lag crate; these beside the Rust text; and where a frame's time goes.
   host lags
       How often our own lag and that of the Rust text agree, on the demo's voices
       and on seeded ones of known pitch.
