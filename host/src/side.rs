@@ -1,6 +1,7 @@
 //! `host side FILE..`: the side sheet behind a recording's audio, told to a clerk.
 
 use crate::cleaned::gaps;
+use crate::folder::told;
 use crate::recorder::Side;
 use crate::refusal::Refusal;
 use std::fmt;
@@ -63,11 +64,9 @@ pub fn side(paths: &[PathBuf]) -> Result<(), String> {
     let mut bad = vec![];
     for path in paths {
         match one(path) {
-            Ok(sheet) if misnamed(path, &sheet) => {
-                bad.push(format!("{}: the name says another side: {sheet}", path.display()))
-            }
+            Ok(sheet) if misnamed(path, &sheet) => bad.push(told(path, format!("the name says another side: {sheet}"))),
             Ok(sheet) => crate::say!("{}: {sheet}", path.display()),
-            Err(why) => bad.push(format!("{}: {why}", path.display())),
+            Err(why) => bad.push(told(path, why)),
         }
     }
     if bad.is_empty() {

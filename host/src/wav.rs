@@ -401,7 +401,7 @@ mod tests {
     fn other_bytes_are_refused() {
         let good = write(48_000, &[1.0; 8]);
         for n in 0..44 {
-            assert!(read(&good[..n]).is_err() || n >= 44, "{n} bytes");
+            assert!(read(&good[..n]).is_err(), "{n} bytes");
         }
         let mut bytes = good.clone();
         bytes[34] = 8;

@@ -107,14 +107,12 @@ fn a_stream_with_a_broken_sample() {
     file[HEADER + 8 * 5_000..][..4].copy_from_slice(&f32::NAN.to_le_bytes());
     let (output, said) = deliver(clean(&path, &["-", "--out", "out"]), &file);
     assert_eq!(output.status.code(), Some(2));
-    assert!(
-        said.contains("sample 5000 of channel 0") && said.contains("seconds before that are cleaned and kept"),
-        "{said}"
-    );
     assert_eq!(names(&path.join("out")).len(), WRITTEN.len());
     let left = fs::read(path.join("out/left.wav")).unwrap();
-    let frames = Sheet::of(&left).unwrap().frames;
-    assert!(frames > 0 && wav::read(&left).unwrap().channels[0].len() <= 480 * frames);
+    let (frames, samples) = (Sheet::of(&left).unwrap().frames, wav::read(&left).unwrap().channels[0].len());
+    assert!(frames > 1 && samples == 480 * (frames - 1));
+    let kept = format!("the {:.2} seconds before that are cleaned and kept", samples as f64 / 48_000.0);
+    assert!(said.contains("sample 5000 of channel 0") && said.contains(&kept), "{said}");
 }
 
 /// Where the disk is full, what was written stays beside its place, and can be read.
