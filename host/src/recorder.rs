@@ -86,7 +86,7 @@ pub struct Spent {
     pub logarithms: Duration,
 }
 
-/// The buffers of one frame, for whichever bench calls.
+/// The buffers of a frame in four calls, and of a piece, for whichever bench calls.
 struct Buffers {
     window: [f32; WINDOW],
     spectrum: [f32; SPECTRUM],
