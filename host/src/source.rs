@@ -51,7 +51,13 @@ impl Recording {
         let file = File::open(path).map_err(|why| told(path, why))?;
         let size = file.metadata().map_err(|why| told(path, why))?.len();
         let mut recording = Recording::of(path, Reader::new(Box::new(file)), channels)?;
-        recording.length = Some(recording.reader.length(size));
+        let (length, behind) = (recording.reader.length(size), size.saturating_sub(recording.reader.end()));
+        // a stream's header means by this that the length is not known; that of a file is believed
+        if length == 0 && behind > 0 {
+            let unread = format!("its header says that there is no audio: {behind} bytes are not read");
+            crate::warn!("{}", told(path, unread));
+        }
+        recording.length = Some(length);
         Ok(recording)
     }
 

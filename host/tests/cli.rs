@@ -232,13 +232,23 @@ fn a_folder_for_a_file() {
     given.fails(given.clean("dir.wav", "right.wav", "house.rnn", "out"), &["dir.wav"]);
 }
 
-/// No sample, one, and many channels.
+/// No sample, one, and many channels; and a header that was never mended.
 #[test]
 fn strange_recordings() {
     let given = Given::new("strange");
     given.put("none.wav", &wav::write(48_000, &[]));
     given.put("one.wav", &wav::write(48_000, &[5.0]));
-    assert!(given.clean("none.wav", "one.wav", "house.rnn", "out").status.success());
+    let mut open = wav::write(48_000, &[5.0; 50]);
+    open[40..44].fill(0);
+    given.put("open.wav", &open);
+    let told = |left: &str| {
+        let output = given.clean(left, "one.wav", "house.rnn", "out");
+        assert!(output.status.success());
+        String::from_utf8(output.stderr).unwrap()
+    };
+    let why = told("open.wav");
+    assert!(why.ends_with("open.wav: its header says that there is no audio: 100 bytes are not read\n"), "{why}");
+    assert_eq!(told("none.wav"), "");
     let read = |name: &str| wav::read(&fs::read(given.path.join(name)).unwrap()).unwrap().channels[0].len();
     assert_eq!((read("out/left.wav"), read("out/right.wav")), (0, 1));
     fs::remove_dir_all(given.path.join("out")).unwrap();
