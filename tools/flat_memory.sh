@@ -33,7 +33,8 @@ peak() {
 }
 
 "$host" demo "$scratch/demo" >/dev/null
-tail -c +45 "$scratch/demo/right-before.wav" | head -c 600000 >"$scratch/stereo.raw"
+# head in front: behind tail it would end first, and tail fail
+head -c 600044 "$scratch/demo/right-before.wav" | tail -c +45 >"$scratch/stereo.raw"
 a=$(peak "$short")
 echo "$short s: $a KiB at most"
 b=$(peak "$long")
