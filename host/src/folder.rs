@@ -68,9 +68,14 @@ impl Folder {
         Ok(folder)
     }
 
+    /// Where a file comes to stand.
+    pub fn place(&self, name: impl AsRef<Path>) -> PathBuf {
+        self.path.join(name)
+    }
+
     /// A file that is written beside its place, as `NAME.part`.
     pub fn create(&mut self, name: impl AsRef<Path>) -> Result<fs::File, String> {
-        let file = File { place: self.path.join(name), aside: false, put: false };
+        let file = File { place: self.place(name), aside: false, put: false };
         let part = file.part();
         self.files.push(file);
         fs::File::create(&part).map_err(|why| told(&part, why))
@@ -78,12 +83,12 @@ impl Folder {
 
     /// Writes a file beside its place.
     pub fn write(&mut self, name: impl AsRef<Path>, bytes: &[u8]) -> Result<(), String> {
-        self.create(&name)?.write_all(bytes).map_err(|why| told(&self.path.join(name), why))
+        self.create(&name)?.write_all(bytes).map_err(|why| told(&self.place(name), why))
     }
 
     /// Where something may be laid down for a while.
     pub fn beside(&self, name: &str, ending: &str) -> PathBuf {
-        beside(&self.path.join(name), ending)
+        beside(&self.place(name), ending)
     }
 
     /// Puts all files into their places.

@@ -123,7 +123,7 @@ fn a_full_disk() {
     fs::create_dir(path.join("out")).unwrap();
     std::os::unix::fs::symlink("/dev/full", path.join("out/left.wav.part")).unwrap();
     let (output, said) = deliver(clean(&path, &["-", "--raw", "--out", "out"]), &stereo()[HEADER..]);
-    assert!(output.status.code() == Some(2) && said.contains("left.wav") && said.contains(".part"), "{said}");
+    assert!(output.status.code() == Some(2) && said.contains("out/left.wav: ") && said.contains(".part"), "{said}");
     let right = wav::read(&fs::read(path.join("out/right.wav.part")).unwrap()).unwrap();
     assert!(!right.channels[0].is_empty() && !path.join("out/right.wav").exists());
 }
