@@ -331,6 +331,23 @@ fn a_place_that_is_taken() {
     assert_eq!(fs::read(given.path.join("out/left.wav")).unwrap(), b"of yesterday");
 }
 
+/// What is read is not written over, whichever name it has on the way.
+#[test]
+fn recordings_that_stand_in_the_folder() {
+    let given = Given::new("within");
+    let sound = wav::write(48_000, &[5.0; 4_800]);
+    given.put("short.wav", &sound);
+    for (left, out) in [("left.wav", "."), ("left.wav.part", ""), ("../within/right.wav.sheet", "../within")] {
+        given.put(left, &sound);
+        let output = given.clean(left, "short.wav", "house.rnn", out);
+        let why = String::from_utf8(output.stderr).unwrap();
+        assert!(output.status.code() == Some(2) && why.contains("would be written over"), "{why}");
+        assert!(fs::read(given.path.join(left)).unwrap() == sound, "{left}");
+    }
+    given.put("left.wave", &sound);
+    assert!(given.clean("left.wave", "short.wav", "house.rnn", ".").status.success());
+}
+
 #[test]
 fn a_second_run_takes_the_place_of_the_first() {
     let given = Given::new("second");
