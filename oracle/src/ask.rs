@@ -5,6 +5,7 @@ use crate::dictation::{completed, under_way, LONGEST};
 use crate::lent;
 use crate::models::{self, Shape};
 use crate::rng::{Mood, Rng};
+use crate::tally::Value;
 use std::ops::Range;
 
 /// The functions of a desk, and the logarithms that belong to it.
@@ -78,10 +79,23 @@ impl Ask {
         [self.call, self.side].into_iter().chain(self.lag).collect()
     }
 
+    /// What a call is given to read, by name; `words` are its numbers.
+    pub fn named<'a>(&'a self, words: &'a [u32]) -> Vec<(&'static str, Value<'a>)> {
+        let mut named = vec![("call, side, lag", words.into()), ("model", (&self.model).into())];
+        named.extend(self.given.iter().map(|list| ("given", list.into())));
+        named
+    }
+
     /// Asks a desk. The number returned, and what the answer buffers hold afterwards.
     pub fn put(&self, desk: &Surface, record: &mut [u32], store: &mut [f32]) -> (u32, Vec<Vec<f32>>) {
         let mut lent = self.held.clone();
-        let number = match (self.call, &self.given[..], &mut lent[..]) {
+        let number = self.put_lending(&mut lent, desk, record, store);
+        (number, lent)
+    }
+
+    /// The same with answer buffers that hold something else beforehand.
+    pub fn put_lending(&self, lent: &mut [Vec<f32>], desk: &Surface, record: &mut [u32], store: &mut [f32]) -> u32 {
+        match (self.call, &self.given[..], lent) {
             (0, [], []) => (desk.open)(record, store, self.side, &self.model),
             (1, [samples], [window]) => (desk.call1)(record, store, self.side, samples, window),
             (2, [spectrum], [window, sums]) => match self.lag {
@@ -109,8 +123,7 @@ impl Ask {
                 None => lent::take(desk, record, store, self.side, piece, &self.model, out, answers),
             },
             _ => unreachable!("a call of another shape"),
-        };
-        (number, lent)
+        }
     }
 
     /// The places of each answer buffer that an accepted call writes, by the record before it and after it: those of a frame that

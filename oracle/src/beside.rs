@@ -146,8 +146,7 @@ fn what(ask: &Ask) -> &'static str {
 
 /// All that a call is given.
 fn given<'a>(words: &'a [u32], ask: &'a Ask, world: &'a World) -> Vec<(&'static str, Value<'a>)> {
-    let mut given = vec![("call, side, lag", Value::from(words)), ("model", Value::from(&ask.model))];
-    given.extend(ask.given.iter().map(|list| ("given", list.into())));
+    let mut given = ask.named(words);
     given.extend(ask.held.iter().map(|list| ("held", list.into())));
     given.extend(world.records.iter().map(|record| ("record", record.into())));
     given.push(("store", (&world.store).into()));

@@ -151,13 +151,8 @@ fn all<'a>(numbers: &'a [u32; 2], case: &'a Case, lent: &'a [Vec<f32>], by: By) 
 fn judge(tally: &mut Tally, desk: &Surface, case: &Case, lowest: u32) {
     let ask = &case.ask;
     let words = ask.words();
-    let given = [
-        ("call, side", Value::from(&words)),
-        ("model", (&ask.model).into()),
-        ("given", (&ask.given[0]).into()),
-        ("record", (&case.record).into()),
-        ("store", (&case.store).into()),
-    ];
+    let mut given = ask.named(&words);
+    given.extend([("record", Value::from(&case.record)), ("store", (&case.store).into())]);
     let given = Given::new(&given);
     let (mut ours, mut wanted) = (case.clone(), case.clone());
     let (number, lent) = ask.put(desk, &mut ours.record, &mut ours.store);
