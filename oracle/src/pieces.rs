@@ -50,7 +50,7 @@ fn compare_with(tally: &mut Tally, seed: u64, frames: u64, desk: &Surface) -> Me
     while met.answers.done(RESUME) < frames {
         let (side, ask, answered) = both.turn(tally, rng, &mut callers, damage);
         if ask.call >= PIECE {
-            met.count(ask.call, answered.number, both.rusts.records[side][UNFINISHED] > 0);
+            met.count(ask.call, answered.number, both.theirs.records[side][UNFINISHED] > 0);
         }
     }
     met

@@ -110,11 +110,8 @@ fn of_bands(rng: &mut Rng) -> Vec<Row> {
     let [xs, ps] = [bins(&x), bins(&p)];
     let gains = rng.list_of(22, Mood::Unit);
     let [g1, g2, g3, g4] = std::array::from_fn(|_| gains.clone());
-    let window = rng.list_of(960, Mood::Audio);
-    let [w1, w2, w3, w4] = std::array::from_fn(|_| window.clone());
     let [mut a22, mut b22, mut c22, mut d22] = [[0.0; 22]; 4];
     let [mut a481, mut b481] = [[0.0; 481]; 2];
-    let [mut a960, mut b960, mut c960, mut d960] = [[0.0; 960]; 4];
     vec![
         row(
             "band_corr",
@@ -127,6 +124,15 @@ fn of_bands(rng: &mut Rng) -> Vec<Row> {
             move || bands::interp_band_gain(&mut b481, black_box(&g2)),
         ),
         row("dct", move || tuppence::dct(&mut c22, black_box(&g3)), move || bands::dct(&mut d22, black_box(&g4))),
+    ]
+}
+
+#[cfg(feature = "bands")]
+fn of_windows(rng: &mut Rng) -> Vec<Row> {
+    let window = rng.list_of(960, Mood::Audio);
+    let [w1, w2, w3, w4] = std::array::from_fn(|_| window.clone());
+    let [mut a960, mut b960, mut c960, mut d960] = [[0.0; 960]; 4];
+    vec![
         row(
             "window",
             move || tuppence::window(&mut a960, black_box(&w1)),
@@ -433,7 +439,7 @@ fn main() {
     #[cfg(feature = "numbers")]
     rows.extend(of_numbers(rng));
     #[cfg(feature = "bands")]
-    rows.extend(of_bands(rng));
+    rows.extend([of_bands(rng), of_windows(rng)].into_iter().flatten());
     #[cfg(feature = "pitch")]
     rows.extend(of_pitch(rng));
     #[cfg(feature = "lag")]
@@ -447,9 +453,7 @@ fn main() {
     #[cfg(feature = "sheet")]
     rows.extend(of_sheet(rng));
     #[cfg(feature = "frame")]
-    rows.extend(of_frame(rng));
-    #[cfg(feature = "frame")]
-    rows.extend(of_whole(rng));
+    rows.extend([of_frame(rng), of_whole(rng)].into_iter().flatten());
     let words: Vec<String> = std::env::args().skip(1).collect();
     if let [name, side, times] = &words[..] {
         let row = rows.iter_mut().find(|row| row.name.starts_with(&name[..])).expect("no such row");
