@@ -92,7 +92,7 @@ impl Recordings {
     /// A WAV stream, or with `raw` samples of 16 bits, little end first, left and right in turn, without a header.
     pub fn stream(from: impl Read + 'static, raw: bool) -> Result<Recordings, String> {
         let from: Box<dyn Read> = Box::new(from);
-        let reader = if raw { Reader::raw(from, RATE, 2) } else { Reader::stream(from) };
+        let reader = if raw { Ok(Reader::raw(from, RATE, 2)) } else { Reader::stream(from) };
         Ok(Recordings::Stereo(Recording::of("standard input".as_ref(), reader, 2)?, Vec::new()))
     }
 

@@ -113,7 +113,7 @@ fn a_stereo_file_is_both_benches() {
     let n = sides[0].len().min(sides[1].len());
     let mixed: Vec<f32> = (0..2 * n).map(|i| sides[i % 2][i / 2]).collect();
     let mut stereo = wav::write(48_000, &mixed);
-    stereo[22] = 2;
+    (stereo[22], stereo[32]) = (2, 4);
     given.put("both.wav", &stereo);
     given.put("l.wav", &wav::write(48_000, &sides[0][..n]));
     given.put("r.wav", &wav::write(48_000, &sides[1][..n]));
@@ -270,6 +270,12 @@ fn another_format() {
     let given = Given::new("format");
     given.put("text.wav", b"no sound at all");
     given.fails(given.clean("text.wav", "right.wav", "house.rnn", "out"), &["text.wav", "not a WAV file"]);
+    // 24 bits in places of four bytes
+    let mut wide = wav::write(48_000, &[5.0; 96]);
+    (wide[32], wide[34]) = (4, 24);
+    given.put("wide.wav", &wide);
+    let words = ["wide.wav: 3 bytes are wanted for a sample of each channel; this has 4"];
+    given.fails(given.clean("left.wav", "wide.wav", "house.rnn", "out"), &words);
 }
 
 #[test]
@@ -298,7 +304,7 @@ fn an_unwritable_folder() {
 fn a_sample_that_is_not_finite() {
     let given = Given::new("broken");
     let mut floats = wav::write(48_000, &[0.0; 8]);
-    (floats[20], floats[34]) = (3, 32);
+    (floats[20], floats[32], floats[34]) = (3, 4, 32);
     floats[44 + 8..44 + 12].copy_from_slice(&f32::NAN.to_le_bytes());
     given.put("broken.wav", &floats);
     given.fails(given.clean("left.wav", "broken.wav", "house.rnn", "out"), &["broken.wav", "sample 2", "finite"]);
@@ -308,7 +314,7 @@ fn a_sample_that_is_not_finite() {
 fn full_scale_is_clipped() {
     let given = Given::new("clipped");
     let mut floats = wav::write(48_000, &[0.0; 8]);
-    (floats[20], floats[34]) = (3, 32);
+    (floats[20], floats[32], floats[34]) = (3, 4, 32);
     floats[44..48].copy_from_slice(&1.0f32.to_le_bytes());
     given.put("loud.wav", &floats);
     let output = given.clean("left.wav", "loud.wav", "house.rnn", "out");

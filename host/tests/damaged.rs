@@ -11,7 +11,7 @@ fn recordings() -> Vec<Vec<u8>> {
     let mut forms = vec![];
     for (tag, bits, channels) in [(1, 16, 1), (1, 24, 2), (3, 32, 1), (0xFE, 16, 2)] {
         let mut file = wav::write(48_000, &samples);
-        (file[20], file[22], file[34]) = (tag, channels, bits);
+        (file[20], file[22], file[32], file[34]) = (tag, channels, bits / 8 * channels, bits);
         let audio = file.len();
         file.resize(audio + 8 * 3 + 16, 0);
         assert_eq!(tuppence::sheet_write(&mut file[audio..], 1, &[0, 1, 1 << 32 | 2]), 0);
