@@ -67,10 +67,12 @@ impl Recording {
 
     /// Tells what was not as it should be.
     fn tell(&self) {
-        if self.reader.clipped > 0 {
-            let clipped = format!("{} samples were beyond full scale, and are clipped", self.reader.clipped);
-            crate::warn!("{}", told(&self.name, clipped));
-        }
+        let clipped = match self.reader.clipped {
+            0 => return,
+            1 => "1 sample was beyond full scale, and is clipped".into(),
+            n => format!("{n} samples were beyond full scale, and are clipped"),
+        };
+        crate::warn!("{}", told(&self.name, clipped));
     }
 }
 

@@ -315,12 +315,14 @@ fn full_scale_is_clipped() {
     let given = Given::new("clipped");
     let mut floats = wav::write(48_000, &[0.0; 8]);
     (floats[20], floats[32], floats[34]) = (3, 4, 32);
-    floats[44..48].copy_from_slice(&1.0f32.to_le_bytes());
-    given.put("loud.wav", &floats);
-    let output = given.clean("left.wav", "loud.wav", "house.rnn", "out");
-    assert!(output.status.success());
-    let told = String::from_utf8(output.stderr).unwrap();
-    assert!(told.contains("loud.wav: 1 samples were beyond full scale"), "{told}");
+    for (n, words) in [(0, "1 sample was"), (1, "2 samples were")] {
+        floats[44 + 4 * n..][..4].copy_from_slice(&1.0f32.to_le_bytes());
+        given.put("loud.wav", &floats);
+        let output = given.clean("left.wav", "loud.wav", "house.rnn", "out");
+        assert!(output.status.success());
+        let told = String::from_utf8(output.stderr).unwrap();
+        assert!(told.contains(&format!("loud.wav: {words} beyond full scale")), "{told}");
+    }
 }
 
 /// A folder stands in the table's place: the files that were put before it are taken back, and what they replaced is there again.
