@@ -2,8 +2,9 @@
 
 use host::demo::{Rng, HOUSE};
 use host::recorder::{Recorder, Side};
-use host::side::Sheet;
+use host::side::{tail, Sheet};
 use host::{mend, wav};
+use std::io::Cursor;
 
 /// A short recording with a sheet behind it, as `host clean` writes it, in one of the forms that are read.
 fn recordings() -> Vec<Vec<u8>> {
@@ -57,6 +58,7 @@ fn recordings_and_sheets() {
         for (count, ok) in read.iter_mut().zip(results) {
             *count += u32::from(ok);
         }
+        assert_eq!(Sheet::of(&tail(Cursor::new(&file)).unwrap()), Sheet::of(&file));
     }
     // some of each are read still, and some of each are not
     assert!(read.iter().all(|n| (1_000..99_000).contains(n)), "{read:?}");
