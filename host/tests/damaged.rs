@@ -2,8 +2,9 @@
 
 use host::demo::{Rng, HOUSE};
 use host::recorder::{Recorder, Side};
-use host::side::Sheet;
+use host::side::{tail, Sheet};
 use host::{mend, wav};
+use std::io::Cursor;
 
 /// A short recording with a sheet behind it, as `host clean` writes it, in one of the forms that are read.
 fn recordings() -> Vec<Vec<u8>> {
@@ -11,7 +12,7 @@ fn recordings() -> Vec<Vec<u8>> {
     let mut forms = vec![];
     for (tag, bits, channels) in [(1, 16, 1), (1, 24, 2), (3, 32, 1), (0xFE, 16, 2)] {
         let mut file = wav::write(48_000, &samples);
-        (file[20], file[22], file[34]) = (tag, channels, bits);
+        (file[20], file[22], file[32], file[34]) = (tag, channels, bits / 8 * channels, bits);
         let audio = file.len();
         file.resize(audio + 8 * 3 + 16, 0);
         assert_eq!(tuppence::sheet_write(&mut file[audio..], 1, &[0, 1, 1 << 32 | 2]), 0);
@@ -57,6 +58,7 @@ fn recordings_and_sheets() {
         for (count, ok) in read.iter_mut().zip(results) {
             *count += u32::from(ok);
         }
+        assert_eq!(Sheet::of(&tail(Cursor::new(&file)).unwrap()), Sheet::of(&file));
     }
     // some of each are read still, and some of each are not
     assert!(read.iter().all(|n| (1_000..99_000).contains(n)), "{read:?}");
