@@ -4,6 +4,7 @@ use crate::refusal::Refusal;
 use crate::transform::{Transform, SPECTRUM, WINDOW};
 use crate::FRAME;
 use nnnoiseless_text::probe::pitch::PitchFinder;
+use std::hint::black_box;
 use std::time::{Duration, Instant};
 
 /// The store's published length, and a side's share of it (docs/STORE.md).
@@ -150,7 +151,8 @@ fn done(number: u32) -> Result<(), Refusal> {
 /// Runs f and adds the time that it takes.
 fn timed<R>(spent: &mut Duration, f: impl FnOnce() -> R) -> R {
     let start = Instant::now();
-    let result = f();
+    // what is worked out is worked out here, and not where it is used
+    let result = black_box(f());
     *spent += start.elapsed();
     result
 }
