@@ -16,7 +16,7 @@ sound() {
     (while cat "$scratch/stereo.raw"; do :; done) 2>/dev/null | head -c "$bytes"
 }
 
-# The most memory of a run over so many seconds.
+# The most memory of a run over so many seconds, as it is told last.
 peak() {
     local most=0 now
     mkfifo "$scratch/fifo"
@@ -24,16 +24,17 @@ peak() {
     local pid=$!
     sound "$1" >"$scratch/fifo" &
     while now=$(sed -n 's/^VmHWM:[^0-9]*\([0-9]*\) kB$/\1/p' "/proc/$pid/status" 2>/dev/null) && [ -n "$now" ]; do
-        if [ "$now" -gt "$most" ]; then most=$now; fi
+        most=$now
         sleep 0.02
     done
-    wait "$pid"
+    wait "$pid" || exit
     rm "$scratch/fifo"
     echo "$most"
 }
 
 "$host" demo "$scratch/demo" >/dev/null
-tail -c +45 "$scratch/demo/right-before.wav" | head -c 600000 >"$scratch/stereo.raw"
+# head in front: behind tail it would end first, and tail fail
+head -c 600044 "$scratch/demo/right-before.wav" | tail -c +45 >"$scratch/stereo.raw"
 a=$(peak "$short")
 echo "$short s: $a KiB at most"
 b=$(peak "$long")

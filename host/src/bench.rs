@@ -38,11 +38,11 @@ fn tell(way: &str, time: Duration) {
 pub fn bench() {
     let samples: Vec<f32> = grinder(FRAMES * FRAME, 7, 100.0, 340.0).iter().map(|x| (1_000.0 * x) as f32).collect();
     let mut out = [0.0; FRAME];
-    let (mut ours, mut own, mut text) = (Vec::new(), Vec::new(), Vec::new());
-    let (mut recorder, mut pieces) = (Recorder::new(Way::Text), Recorder::new(Way::Own));
+    let (mut in_pieces, mut in_calls, mut text) = (Vec::new(), Vec::new(), Vec::new());
+    let (mut pieces, mut calls) = (Recorder::new(Way::Own), Recorder::new(Way::Text));
     for _ in 0..ROUNDS {
-        ours.push(frames(&mut recorder, &samples));
-        own.push(frames(&mut pieces, &samples));
+        in_pieces.push(frames(&mut pieces, &samples));
+        in_calls.push(frames(&mut calls, &samples));
 
         let mut reference = Reference::new(HOUSE).expect("the house model");
         let start = Instant::now();
@@ -51,14 +51,15 @@ pub fn bench() {
         }
         text.push(start.elapsed());
     }
-    let (ours, own, text) = (median(ours), median(own), median(text));
-    tell("one bench, our own lag and transforms, in pieces", own);
-    tell("one bench, the text's lag and this program's transforms", ours);
-    crate::say!("process_frame of the Rust text, the latter transforms: {:.0} frames a second", per_second(text));
-    crate::say!("time of the latter, the Rust = 1: {:.2}", ours.as_secs_f64() / text.as_secs_f64());
+    let beside = in_pieces.iter().sum::<Duration>() - pieces.spent.pieces;
+    let (in_pieces, in_calls, text) = (median(in_pieces), median(in_calls), median(text));
+    tell("one bench in pieces, all by the library", in_pieces);
+    tell("one bench in four calls a frame, the text's lag, this program's transforms and logarithms", in_calls);
+    crate::say!("process_frame of the Rust text with the same three: {:.0} frames a second", per_second(text));
+    crate::say!("time of the four calls, the Rust = 1: {:.2}", in_calls.as_secs_f64() / text.as_secs_f64());
 
-    parts_of("of a frame in four calls", &of_calls(&recorder.spent));
-    parts_of("of a frame in pieces", &[("the library", pieces.spent.pieces)]);
+    parts_of("of a frame in pieces", &[("the library", pieces.spent.pieces), ("the rest", beside)]);
+    parts_of("of a frame in four calls", &of_calls(&calls.spent));
 }
 
 fn of_calls(spent: &Spent) -> [(&'static str, Duration); 7] {

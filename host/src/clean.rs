@@ -9,7 +9,7 @@ use crate::source::{Memory, Recordings, Source};
 use crate::{FRAME, RATE};
 use std::fmt;
 use std::fs;
-use std::path::PathBuf;
+use std::path::{Path, PathBuf};
 use std::time::Instant;
 
 /// What becomes of both recordings, as they are cleaned.
@@ -157,7 +157,7 @@ pub enum Inputs {
     Two { left: PathBuf, right: PathBuf },
     /// One file whose left channel is the left bench.
     Stereo(PathBuf),
-    /// The same from standard input, or without a header.
+    /// The same from standard input; raw, it has no header.
     Stream { raw: bool },
 }
 
@@ -169,6 +169,22 @@ impl Inputs {
             Inputs::Stream { raw } => Recordings::stream(std::io::stdin().lock(), *raw),
         }
     }
+
+    fn files(&self) -> Vec<&Path> {
+        match self {
+            Inputs::Two { left, right } => vec![left, right],
+            Inputs::Stereo(both) => vec![both],
+            Inputs::Stream { .. } => vec![],
+        }
+    }
+}
+
+/// Whether a file stands where a recording is written, or is on its way.
+fn is_in_the_way(file: &Path, out: &Path) -> bool {
+    let (Ok(file), Ok(out)) = (file.canonicalize(), out.canonicalize()) else { return false };
+    let name = file.file_name().unwrap_or_default().to_string_lossy();
+    let ending = Side::BOTH.iter().find_map(|side| name.strip_prefix(&format!("{}.wav", side.name())));
+    file.parent() == Some(&out) && ending.is_some_and(|ending| ["", ".part", ".sheet", ".old"].contains(&ending))
 }
 
 /// Tells how far a long recording has come, on standard error: in tenths, with how long it will take yet, where its length is known, and else each
@@ -200,6 +216,9 @@ fn progress_of(length: Option<u64>, quiet: bool) -> impl FnMut(u64) {
 /// Runs a job. Of files that can't be read to their end nothing is written; of a stream, what came before.
 pub fn clean(job: &Job) -> Result<[Summary; 2], String> {
     let model = fs::read(&job.model).map_err(|why| told(&job.model, why))?;
+    if let Some(file) = job.inputs.files().into_iter().find(|file| is_in_the_way(file, &job.out)) {
+        return Err(told(file, "this would be written over; name another folder with --out"));
+    }
     let mut recordings = job.inputs.recordings()?;
     let mut files = Files::new(&job.out)?;
     let progress = progress_of(recordings.length(), job.quiet);

@@ -31,18 +31,19 @@ pub fn gaps(numbers: &[u32]) -> Vec<[u32; 2]> {
 /// A cleaned recording in short, which takes no more room for ten hours than for a minute.
 pub struct Summary {
     pub side: Side,
+    /// Those that came out: of a stream that breaks off, fewer than were taken.
     pub samples: u64,
     pub frames: u64,
     pub heard: u64,
     pub gaps: u64,
     pub overview: Overview,
-    after: u64,
+    taken: u64,
     last: Option<u32>,
 }
 
 impl Summary {
     pub fn of(side: Side) -> Summary {
-        Summary { side, samples: 0, frames: 0, heard: 0, gaps: 0, overview: Overview::default(), after: 0, last: None }
+        Summary { side, samples: 0, frames: 0, heard: 0, gaps: 0, overview: Overview::default(), taken: 0, last: None }
     }
 
     pub fn seconds(&self) -> f64 {
@@ -50,13 +51,13 @@ impl Summary {
     }
 
     pub fn before(&mut self, samples: &[f32]) {
-        self.overview.samples(self.samples, samples, |column| &mut column.before);
-        self.samples += samples.len() as u64;
+        self.overview.samples(self.taken, samples, |column| &mut column.before);
+        self.taken += samples.len() as u64;
     }
 
     pub fn after(&mut self, samples: &[f32]) {
-        self.overview.samples(self.after, samples, |column| &mut column.after);
-        self.after += samples.len() as u64;
+        self.overview.samples(self.samples, samples, |column| &mut column.after);
+        self.samples += samples.len() as u64;
     }
 
     pub fn frame(&mut self, frame: &Frame) {
@@ -88,7 +89,8 @@ mod tests {
         for (number, heard) in [(7, Heard::Silent), (8, voice), (100, voice), (101, Heard::Silent), (103, voice)] {
             summary.frame(&Frame { number, heard, heard_so_far: 0 });
         }
-        summary.before(&[1.0; 24_000]);
+        summary.before(&[1.0; 25_000]);
+        summary.after(&[1.0; 24_000]);
         assert_eq!((summary.frames, summary.heard, summary.gaps, summary.seconds()), (5, 3, 2, 0.5));
     }
 }

@@ -9,12 +9,12 @@ use crate::wav::Writer;
 use crate::{page, picture, table, RATE};
 use std::fs::File;
 use std::io::{BufWriter, Write};
-use std::path::Path;
+use std::path::{Path, PathBuf};
 
 const TABLE: &str = "frames.csv";
 
 struct Bench {
-    name: String,
+    place: PathBuf,
     audio: Writer<BufWriter<File>>,
     records: Records,
     summary: Summary,
@@ -23,17 +23,17 @@ struct Bench {
 impl Bench {
     fn new(side: Side, folder: &mut Folder) -> Result<Bench, String> {
         let name = format!("{}.wav", side.name());
-        let audio = Writer::new(BufWriter::new(folder.create(&name)?), RATE).map_err(|why| told(name.as_ref(), why))?;
+        let place = folder.place(&name);
+        let audio = Writer::new(BufWriter::new(folder.create(&name)?), RATE).map_err(|why| told(&place, why))?;
         let records = Records::new(folder.beside(&name, ".sheet"), side)?;
-        Ok(Bench { name, audio, records, summary: Summary::of(side) })
+        Ok(Bench { place, audio, records, summary: Summary::of(side) })
     }
 
     /// Closes the recording: its header, and its sheet.
     fn finish(self) -> Result<Summary, String> {
-        let name = self.name;
-        let mut file = self.audio.finish().map_err(|why| told(name.as_ref(), why))?;
+        let mut file = self.audio.finish().map_err(|why| told(&self.place, why))?;
         self.records.finish(&mut file)?;
-        file.flush().map_err(|why| told(name.as_ref(), why))?;
+        file.flush().map_err(|why| told(&self.place, why))?;
         Ok(self.summary)
     }
 }
@@ -51,7 +51,7 @@ impl Files {
         let [left, right] = Side::BOTH;
         let benches = [Bench::new(left, &mut folder)?, Bench::new(right, &mut folder)?];
         let mut table = BufWriter::new(folder.create(TABLE)?);
-        table::head(&mut table).map_err(|why| told(TABLE.as_ref(), why))?;
+        table::head(&mut table).map_err(|why| told(&folder.place(TABLE), why))?;
         Ok(Files { benches, table, folder })
     }
 
@@ -92,7 +92,7 @@ fn close(
     folder: &mut Folder,
     before: Option<[&str; 2]>,
 ) -> Result<[Summary; 2], String> {
-    table.flush().map_err(|why| told(TABLE.as_ref(), why))?;
+    table.flush().map_err(|why| told(&folder.place(TABLE), why))?;
     let [left, right] = benches;
     let summaries = [left.finish()?, right.finish()?];
     folder.write("benches.svg", picture::svg(&summaries).as_bytes())?;
@@ -109,7 +109,7 @@ impl Sink for Files {
     fn after(&mut self, side: Side, samples: &[f32]) -> Result<(), String> {
         let bench = &mut self.benches[side as usize];
         bench.summary.after(samples);
-        bench.audio.write(samples).map_err(|why| told(bench.name.as_ref(), why))
+        bench.audio.write(samples).map_err(|why| told(&bench.place, why))
     }
 
     fn frames(&mut self, frames: &[Vec<Frame>; 2]) -> Result<(), String> {
@@ -119,6 +119,6 @@ impl Sink for Files {
                 bench.records.push(frame)?;
             }
         }
-        table::rows(&mut self.table, frames).map_err(|why| told(TABLE.as_ref(), why))
+        table::rows(&mut self.table, frames).map_err(|why| told(&self.folder.place(TABLE), why))
     }
 }

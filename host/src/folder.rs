@@ -55,33 +55,40 @@ impl File {
 /// Dropped before its files are kept, it leaves the folder as it was.
 pub struct Folder {
     path: PathBuf,
-    made: bool,
+    /// The folders that were not there, the innermost first.
+    made: Vec<PathBuf>,
     files: Vec<File>,
 }
 
 impl Folder {
     pub fn new(path: &Path) -> Result<Folder, String> {
-        let made = !path.exists();
+        let made = path.ancestors().take_while(|path| !path.exists()).map(Path::to_owned).collect();
+        let folder = Folder { path: path.to_owned(), made, files: Vec::new() };
         fs::create_dir_all(path).map_err(|why| told(path, why))?;
-        Ok(Folder { path: path.to_owned(), made, files: Vec::new() })
+        Ok(folder)
+    }
+
+    /// Where a file comes to stand.
+    pub fn place(&self, name: impl AsRef<Path>) -> PathBuf {
+        self.path.join(name)
     }
 
     /// A file that is written beside its place, as `NAME.part`.
-    pub fn create(&mut self, name: &str) -> Result<fs::File, String> {
-        let file = File { place: self.path.join(name), aside: false, put: false };
+    pub fn create(&mut self, name: impl AsRef<Path>) -> Result<fs::File, String> {
+        let file = File { place: self.place(name), aside: false, put: false };
         let part = file.part();
         self.files.push(file);
         fs::File::create(&part).map_err(|why| told(&part, why))
     }
 
     /// Writes a file beside its place.
-    pub fn write(&mut self, name: &str, bytes: &[u8]) -> Result<(), String> {
-        self.create(name)?.write_all(bytes).map_err(|why| told(&self.path.join(name), why))
+    pub fn write(&mut self, name: impl AsRef<Path>, bytes: &[u8]) -> Result<(), String> {
+        self.create(&name)?.write_all(bytes).map_err(|why| told(&self.place(name), why))
     }
 
     /// Where something may be laid down for a while.
     pub fn beside(&self, name: &str, ending: &str) -> PathBuf {
-        beside(&self.path.join(name), ending)
+        beside(&self.place(name), ending)
     }
 
     /// Puts all files into their places.
@@ -92,22 +99,20 @@ impl Folder {
         for file in self.files.drain(..).filter(|file| file.aside) {
             let _ = fs::remove_file(file.old());
         }
-        self.made = false;
+        self.made.clear();
         Ok(())
     }
 
     /// Leaves the files as they were written, beside their places.
     pub fn leave(mut self) {
         self.files.clear();
-        self.made = false;
+        self.made.clear();
     }
 }
 
 impl Drop for Folder {
     fn drop(&mut self) {
         self.files.iter().rev().for_each(File::undo);
-        if self.made {
-            let _ = fs::remove_dir(&self.path);
-        }
+        self.made.iter().for_each(|path| _ = fs::remove_dir(path));
     }
 }

@@ -1,5 +1,6 @@
 use host::clean::{clean, Inputs, Job};
 use host::recorder::Way;
+use std::ffi::OsString;
 use std::path::PathBuf;
 use std::process::ExitCode;
 
@@ -23,7 +24,9 @@ host: cleans two dictations, one for each bench
       right.wav.sheet; at the end the headers are mended, the sheets written behind
       the audio, and the files put in their places. Where a stream can't be read to
       its end, that is done with what came before, and told with exit status 2. (End a
-      stream by stopping what records it: this program then closes its files.)
+      stream by stopping what records it: this program then closes its files.) Where
+      the files of a stream can't be written, as on a full disk, what was cleaned stays
+      in those that end in .part.
       All that is done to a sample is done by the library. With --lag crate the lag
       is that of the Rust text's own finder, and the transforms and logarithms are
       this program's: that gives nnnoiseless's very numbers. (--lag own is the same
@@ -45,7 +48,8 @@ host: cleans two dictations, one for each bench
       A recording whose side sheet was torn: what follows the audio in whole records
       is kept, and the sheet closed again. FILE2 must not exist.
   host bench
-      Frames a second, where a frame's time goes, and the ratio to the Rust text.
+      Frames a second in pieces, as clean runs them, and in four calls each, as with
+      --lag crate; these beside the Rust text; and where a frame's time goes.
   host lags
       How often our own lag and that of the Rust text agree, on the demo's voices
       and on seeded ones of known pitch.
@@ -68,38 +72,38 @@ stream what came before.
 ";
 
 /// The values of the named options, each once; `None` where another word, or half an option, stands.
-fn options(words: &[String], names: &[&str]) -> Option<Vec<PathBuf>> {
+fn options(words: &[OsString], names: &[&str]) -> Option<Vec<PathBuf>> {
     if words.len() != 2 * names.len() {
         return None;
     }
-    let value = |name: &&str| words.chunks_exact(2).find(|pair| pair[0] == *name).map(|pair| PathBuf::from(&pair[1]));
+    let value = |name: &&str| words.chunks_exact(2).find(|pair| pair[0] == **name).map(|pair| PathBuf::from(&pair[1]));
     names.iter().map(value).collect()
 }
 
 /// Takes a word out, where it stands there.
-fn flag(words: &mut Vec<String>, name: &str) -> bool {
+fn flag(words: &mut Vec<OsString>, name: &str) -> bool {
     words.iter().position(|word| word == name).map(|at| words.remove(at)).is_some()
 }
 
 /// Takes `--lag WHOSE` out.
-fn way(words: &mut Vec<String>) -> Option<Way> {
+fn way(words: &mut Vec<OsString>) -> Option<Way> {
     let Some(at) = words.iter().position(|word| word == "--lag") else { return Some(Way::Own) };
     let whose = words.drain(at..(at + 2).min(words.len())).nth(1)?;
-    match &whose[..] {
+    match whose.to_str()? {
         "own" => Some(Way::Own),
         "crate" => Some(Way::Text),
         _ => None,
     }
 }
 
-fn demo(words: &[String]) -> Option<(String, Way)> {
+fn demo(words: &[OsString]) -> Option<(PathBuf, Way)> {
     let mut words = words.to_vec();
     let way = way(&mut words)?;
     let [dir] = &words[..] else { return None };
-    Some((dir.clone(), way))
+    Some((dir.into(), way))
 }
 
-fn job(words: &[String]) -> Option<Job> {
+fn job(words: &[OsString]) -> Option<Job> {
     let mut words = words.to_vec();
     let way = way(&mut words)?;
     let (quiet, stream, raw) = (flag(&mut words, "-q"), flag(&mut words, "-"), flag(&mut words, "--raw"));
@@ -119,7 +123,11 @@ fn job(words: &[String]) -> Option<Job> {
     Some(Job { inputs, way, quiet, out: rest.pop()?, model: rest.pop()? })
 }
 
-fn run(words: &[String]) -> Result<(), String> {
+fn wrong(command: &str) -> String {
+    format!("{command}: the options are not right; see host --help")
+}
+
+fn run(words: &[OsString]) -> Result<(), String> {
     match words {
         [help] if help == "--help" || help == "-h" => host::say!("{}", HELP.trim_end()),
         [version] if version == "--version" => host::say!("host {}", env!("CARGO_PKG_VERSION")),
@@ -127,31 +135,30 @@ fn run(words: &[String]) -> Result<(), String> {
         [lags] if lags == "lags" => host::lags::lags()?,
         [logs] if logs == "logs" => host::logs::logs(),
         [word, rest @ ..] if word == "demo" => {
-            let (dir, way) = demo(rest).ok_or("demo: the options are not right; see host --help")?;
-            host::demo::demo(dir.as_ref(), way)?;
+            let (dir, way) = demo(rest).ok_or_else(|| wrong("demo"))?;
+            host::demo::demo(&dir, way)?;
+            let dir = dir.display();
             host::say!("Look at {dir}/index.html, and listen to {dir}/left-before.wav and {dir}/left.wav.");
         }
-        [word, first, rest @ ..] if word == "side" => {
-            let paths: Vec<PathBuf> = std::iter::once(first).chain(rest).map(PathBuf::from).collect();
-            host::side::side(&paths)?;
+        [word, files @ ..] if word == "side" && !files.is_empty() => {
+            host::side::side(&files.iter().map(PathBuf::from).collect::<Vec<_>>())?;
         }
         [word, rest @ ..] if word == "pack" => {
-            let paths =
-                options(rest, &["--layers", "--out"]).ok_or("pack: the options are not right; see host --help")?;
+            let paths = options(rest, &["--layers", "--out"]).ok_or_else(|| wrong("pack"))?;
             host::say!("{}: {} bytes", paths[1].display(), host::pack::pack(&paths[0], &paths[1])?);
         }
         [word, model, rest @ ..] if word == "unpack" => {
-            let paths = options(rest, &["--out"]).ok_or("unpack: the options are not right; see host --help")?;
+            let paths = options(rest, &["--out"]).ok_or_else(|| wrong("unpack"))?;
             host::pack::unpack(model.as_ref(), &paths[0])?;
             host::say!("{}: sixteen files", paths[0].display());
         }
-        [word, file, option, out] if word == "mend" && option == "--out" => {
-            host::mend::mend(file.as_ref(), out.as_ref())?;
+        [word, file, rest @ ..] if word == "mend" => {
+            let paths = options(rest, &["--out"]).ok_or_else(|| wrong("mend"))?;
+            host::mend::mend(file.as_ref(), &paths[0])?;
         }
         [word, rest @ ..] if word == "clean" => {
-            let job = job(rest).ok_or("clean: the options are not right; see host --help")?;
-            let benches = clean(&job)?;
-            for bench in &benches {
+            let job = job(rest).ok_or_else(|| wrong("clean"))?;
+            for bench in clean(&job)? {
                 host::say!("{}: {} frames", bench.side.name(), bench.frames);
             }
         }
@@ -161,7 +168,7 @@ fn run(words: &[String]) -> Result<(), String> {
 }
 
 fn main() -> ExitCode {
-    let words: Vec<String> = std::env::args().skip(1).collect();
+    let words: Vec<OsString> = std::env::args_os().skip(1).collect();
     match run(&words) {
         Ok(()) => ExitCode::SUCCESS,
         Err(why) => {

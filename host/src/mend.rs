@@ -1,9 +1,10 @@
 //! `host mend FILE --out FILE2`: a recording whose side sheet was torn, with its sheet closed again.
 
+use crate::folder::told;
 use crate::refusal::Refusal;
 use crate::side::Sheet;
 use crate::wav;
-use std::fs::File;
+use std::fs::{self, File};
 use std::io::Write;
 use std::path::Path;
 
@@ -36,11 +37,14 @@ pub fn of(file: &[u8]) -> Result<Mended, String> {
 
 /// Tells what was kept and what was lost. The file that is read is never written: what is written is a new file.
 pub fn mend(path: &Path, out: &Path) -> Result<(), String> {
-    let file = std::fs::read(path).map_err(|why| format!("{}: {why}", path.display()))?;
-    let mended = of(&file).map_err(|why| format!("{}: {why}", path.display()))?;
+    let file = fs::read(path).map_err(|why| told(path, why))?;
+    let mended = of(&file).map_err(|why| told(path, why))?;
     // a new file, so that none is written over, least of all the one that was read
-    let new = File::create_new(out).and_then(|mut new| new.write_all(&mended.file));
-    new.map_err(|why| format!("{}: {why}", out.display()))?;
+    let mut new = File::create_new(out).map_err(|why| told(out, why))?;
+    new.write_all(&mended.file).map_err(|why| {
+        let _ = fs::remove_file(out);
+        told(out, why)
+    })?;
     crate::say!("{}: {}", out.display(), mended.sheet);
     match (mended.whole, mended.lost) {
         (true, _) => crate::say!("The sheet was whole: the file is copied as it was."),

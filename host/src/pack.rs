@@ -100,7 +100,7 @@ pub fn pack(folder: &Path, out: &Path) -> Result<usize, String> {
         *array = fs::read(&path).map_err(|why| told(&path, why))?;
     }
     let file = written(&shapes, &arrays).map_err(|why| told(folder, why))?;
-    let name = out.file_name().and_then(|name| name.to_str()).ok_or_else(|| told(out, "this is no name of a file"))?;
+    let name = out.file_name().ok_or_else(|| told(out, "this is no name of a file"))?;
     let mut folder = Folder::new(out.parent().filter(|path| *path != Path::new("")).unwrap_or(Path::new(".")))?;
     folder.write(name, &file)?;
     folder.keep()?;

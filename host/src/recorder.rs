@@ -4,6 +4,7 @@ use crate::refusal::Refusal;
 use crate::transform::{Transform, SPECTRUM, WINDOW};
 use crate::FRAME;
 use nnnoiseless_text::probe::pitch::PitchFinder;
+use std::hint::black_box;
 use std::time::{Duration, Instant};
 
 /// The store's published length, and a side's share of it (docs/STORE.md).
@@ -86,7 +87,7 @@ pub struct Spent {
     pub logarithms: Duration,
 }
 
-/// The buffers of one frame, for whichever bench calls.
+/// The buffers of a frame in four calls, and of a piece, for whichever bench calls.
 struct Buffers {
     window: [f32; WINDOW],
     spectrum: [f32; SPECTRUM],
@@ -136,6 +137,9 @@ impl Recorder {
     }
 }
 
+/// What is given each frame, and its 480 samples.
+type Each<'a> = &'a mut dyn FnMut(Frame, &[f32]);
+
 fn done(number: u32) -> Result<(), Refusal> {
     if number == 0 {
         Ok(())
@@ -147,7 +151,8 @@ fn done(number: u32) -> Result<(), Refusal> {
 /// Runs f and adds the time that it takes.
 fn timed<R>(spent: &mut Duration, f: impl FnOnce() -> R) -> R {
     let start = Instant::now();
-    let result = f();
+    // what is worked out is worked out here, and not where it is used
+    let result = black_box(f());
     *spent += start.elapsed();
     result
 }
@@ -172,20 +177,14 @@ impl Recorder {
         for piece in samples.chunks(PIECE) {
             match self.way {
                 Way::Own => self.piece(side, piece, model, &mut each)?,
-                _ => self.whole(side, piece, model, &mut each)?,
+                _ => self.frames(side, piece, model, &mut each)?,
             }
         }
         Ok(())
     }
 
     /// A piece in one call. Its frames are numbered from those before them, as the record is.
-    fn piece(
-        &mut self,
-        side: Side,
-        piece: &[f32],
-        model: &[u8],
-        each: &mut impl FnMut(Frame, &[f32]),
-    ) -> Result<(), Refusal> {
+    fn piece(&mut self, side: Side, piece: &[f32], model: &[u8], each: Each) -> Result<(), Refusal> {
         let Recorder { store, records, buffers: b, spent, .. } = self;
         let record = &mut records[side as usize];
         let (before, mut heard_so_far) = (record[FRAMES], record[HEARD]);
@@ -203,13 +202,7 @@ impl Recorder {
     }
 
     /// The frames that these samples complete, in four calls each.
-    fn whole(
-        &mut self,
-        side: Side,
-        samples: &[f32],
-        model: &[u8],
-        each: &mut impl FnMut(Frame, &[f32]),
-    ) -> Result<(), Refusal> {
+    fn frames(&mut self, side: Side, samples: &[f32], model: &[u8], each: Each) -> Result<(), Refusal> {
         let mut waiting = std::mem::take(&mut self.waiting[side as usize]);
         waiting.extend(samples);
         let (frames, rest) = waiting.as_chunks::<FRAME>();

@@ -1,9 +1,12 @@
 //! `host side FILE..`: the side sheet behind a recording's audio, told to a clerk.
 
 use crate::cleaned::gaps;
+use crate::folder::told;
 use crate::recorder::Side;
 use crate::refusal::Refusal;
 use std::fmt;
+use std::fs::File;
+use std::io::{self, Read, Seek, SeekFrom};
 use std::path::{Path, PathBuf};
 
 /// A sheet in short. A gap stands where a frame's number does not follow the one before it.
@@ -47,6 +50,22 @@ impl fmt::Display for Sheet {
     }
 }
 
+/// The end of a file, from where its trailer points back to: all that a sheet is read from, without the hours of audio in front of it. A pipe,
+/// where there is no going back, is read whole.
+pub fn tail(mut file: impl Read + Seek) -> io::Result<Vec<u8>> {
+    let mut bytes = Vec::new();
+    if let Ok(size) = file.seek(SeekFrom::End(0)) {
+        let trailer = size.saturating_sub(16);
+        file.seek(SeekFrom::Start(trailer))?;
+        file.read_to_end(&mut bytes)?;
+        let distance = bytes.first_chunk().map_or(0, |word| u32::from_le_bytes(*word));
+        file.seek(SeekFrom::Start(trailer.saturating_sub(distance.into())))?;
+        bytes.clear();
+    }
+    file.read_to_end(&mut bytes)?;
+    Ok(bytes)
+}
+
 /// Whether a file's name has the other side's name in it, and not its own.
 fn misnamed(path: &Path, sheet: &Sheet) -> bool {
     let name = path.file_name().unwrap_or_default().to_string_lossy().to_lowercase();
@@ -57,17 +76,15 @@ fn misnamed(path: &Path, sheet: &Sheet) -> bool {
 /// A line for each file. The files without a good sheet come back, each with the reason.
 pub fn side(paths: &[PathBuf]) -> Result<(), String> {
     let one = |path: &Path| {
-        let file = std::fs::read(path).map_err(|why| why.to_string())?;
-        Sheet::of(&file).map_err(|refused| refused.to_string())
+        let end = File::open(path).and_then(tail).map_err(|why| why.to_string())?;
+        Sheet::of(&end).map_err(|refused| refused.to_string())
     };
     let mut bad = vec![];
     for path in paths {
         match one(path) {
-            Ok(sheet) if misnamed(path, &sheet) => {
-                bad.push(format!("{}: the name says another side: {sheet}", path.display()))
-            }
+            Ok(sheet) if misnamed(path, &sheet) => bad.push(told(path, format!("the name says another side: {sheet}"))),
             Ok(sheet) => crate::say!("{}: {sheet}", path.display()),
-            Err(why) => bad.push(format!("{}: {why}", path.display())),
+            Err(why) => bad.push(told(path, why)),
         }
     }
     if bad.is_empty() {

@@ -51,7 +51,13 @@ impl Recording {
         let file = File::open(path).map_err(|why| told(path, why))?;
         let size = file.metadata().map_err(|why| told(path, why))?.len();
         let mut recording = Recording::of(path, Reader::new(Box::new(file)), channels)?;
-        recording.length = Some(recording.reader.length(size));
+        let (length, behind) = (recording.reader.length(size), size.saturating_sub(recording.reader.end()));
+        // a stream's header means by this that the length is not known; that of a file is believed
+        if length == 0 && behind > 0 {
+            let unread = format!("its header says that there is no audio: {behind} bytes are not read");
+            crate::warn!("{}", told(path, unread));
+        }
+        recording.length = Some(length);
         Ok(recording)
     }
 
@@ -61,10 +67,12 @@ impl Recording {
 
     /// Tells what was not as it should be.
     fn tell(&self) {
-        if self.reader.clipped > 0 {
-            let clipped = format!("{} samples were beyond full scale, and are clipped", self.reader.clipped);
-            crate::warn!("{}", told(&self.name, clipped));
-        }
+        let clipped = match self.reader.clipped {
+            0 => return,
+            1 => "1 sample was beyond full scale, and is clipped".into(),
+            n => format!("{n} samples were beyond full scale, and are clipped"),
+        };
+        crate::warn!("{}", told(&self.name, clipped));
     }
 }
 
@@ -86,7 +94,7 @@ impl Recordings {
     /// A WAV stream, or with `raw` samples of 16 bits, little end first, left and right in turn, without a header.
     pub fn stream(from: impl Read + 'static, raw: bool) -> Result<Recordings, String> {
         let from: Box<dyn Read> = Box::new(from);
-        let reader = if raw { Reader::raw(from, RATE, 2) } else { Reader::stream(from) };
+        let reader = if raw { Ok(Reader::raw(from, RATE, 2)) } else { Reader::stream(from) };
         Ok(Recordings::Stereo(Recording::of("standard input".as_ref(), reader, 2)?, Vec::new()))
     }
 

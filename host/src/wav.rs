@@ -16,12 +16,18 @@ const OPEN: u64 = 0x7FFF_F000;
 /// Why a file is not taken.
 #[derive(Debug, PartialEq)]
 pub enum Fault {
-    NotWav,
+    /// And what tells.
+    NotWav(&'static str),
     Format {
         tag: u16,
         bits: u16,
     },
     Channels(u16),
+    /// Bytes that a sample of each channel has, and that it should have.
+    Block {
+        bytes: usize,
+        wanted: usize,
+    },
     /// A sample, counted from 0 in its channel, that is NaN or infinite.
     NotFinite {
         channel: usize,
@@ -34,11 +40,14 @@ pub enum Fault {
 impl fmt::Display for Fault {
     fn fmt(&self, f: &mut fmt::Formatter) -> fmt::Result {
         match self {
-            Fault::NotWav => write!(f, "not a WAV file"),
+            Fault::NotWav(what) => write!(f, "not a WAV file: {what}"),
             Fault::Format { tag, bits } => {
                 write!(f, "16-bit or 24-bit PCM or 32-bit float is wanted; this has format {tag} with {bits} bits")
             }
             Fault::Channels(n) => write!(f, "one or two channels are wanted; this has {n}"),
+            Fault::Block { bytes, wanted } => {
+                write!(f, "{wanted} bytes are wanted for a sample of each channel; this has {bytes}")
+            }
             Fault::NotFinite { channel, sample } => {
                 write!(f, "sample {sample} of channel {channel} (both counted from 0) is not a finite number")
             }
@@ -50,8 +59,8 @@ impl fmt::Display for Fault {
 impl From<io::Error> for Fault {
     fn from(why: io::Error) -> Fault {
         match why.kind() {
-            // a header that ends too soon
-            ErrorKind::UnexpectedEof => Fault::NotWav,
+            // the end, where a chunk should be
+            ErrorKind::UnexpectedEof => Fault::NotWav("it has no `data` chunk"),
             _ => Fault::Unreadable(why.to_string()),
         }
     }
@@ -109,6 +118,34 @@ pub struct Reader<R> {
     pub clipped: u64,
 }
 
+/// What a format's chunk says that matters.
+struct Format {
+    rate: u32,
+    channels: usize,
+    sample: Sample,
+}
+
+impl Format {
+    fn of(bytes: &[u8]) -> Result<Format, Fault> {
+        let at = |i: usize| bytes.get(i..i + 2).map_or(0, |b| u16::from_le_bytes([b[0], b[1]]));
+        if bytes.len() < 16 {
+            return Err(Fault::NotWav("its `fmt ` chunk is too short"));
+        }
+        let channels = at(2).into();
+        if channels != 1 && channels != 2 {
+            return Err(Fault::Channels(at(2)));
+        }
+        // an extensible format has its own tag in front of the identifier's rest
+        let tag = if at(0) == 0xFFFE { at(24) } else { at(0) };
+        let sample = Sample::of(tag, at(14))?;
+        let (bytes, wanted) = (at(12).into(), sample.size() * channels);
+        if bytes != wanted {
+            return Err(Fault::Block { bytes, wanted });
+        }
+        Ok(Format { rate: u32::from(at(4)) | u32::from(at(6)) << 16, channels, sample })
+    }
+}
+
 /// The header of a chunk: its name and its size.
 fn chunk(from: &mut impl Read) -> Result<([u8; 4], u32), Fault> {
     let mut bytes = [0; 8];
@@ -117,15 +154,16 @@ fn chunk(from: &mut impl Read) -> Result<([u8; 4], u32), Fault> {
     Ok(([a, b, c, d], u32::from_le_bytes(size)))
 }
 
-/// What a format's chunk says that matters: tag, channels, samples a second, bits.
-fn format(bytes: &[u8]) -> Result<(u16, u16, u32, u16), Fault> {
-    let at = |i: usize| bytes.get(i..i + 2).map_or(0, |b| u16::from_le_bytes([b[0], b[1]]));
-    if bytes.len() < 16 {
-        return Err(Fault::NotWav);
+/// The first bytes of a chunk, which takes `whole` bytes of the file; the others are passed over.
+fn head(from: &mut impl Read, size: u32, whole: u64) -> Result<Vec<u8>, Fault> {
+    let mut head = Vec::new();
+    from.by_ref().take(size.min(40).into()).read_to_end(&mut head)?;
+    let read = head.len() as u64;
+    let passed = io::copy(&mut from.by_ref().take(whole - read), &mut io::sink())?;
+    if read + passed < size.into() {
+        return Err(Fault::NotWav("a chunk in front of its audio goes beyond its end"));
     }
-    // an extensible format has its own tag in front of the identifier's rest
-    let tag = if at(0) == 0xFFFE { at(24) } else { at(0) };
-    Ok((tag, at(2), u32::from(at(4)) | u32::from(at(6)) << 16, at(14)))
+    Ok(head)
 }
 
 impl<R: Read> Reader<R> {
@@ -133,24 +171,23 @@ impl<R: Read> Reader<R> {
     pub fn new(mut from: R) -> Result<Reader<R>, Fault> {
         let mut riff = [0; 12];
         from.read_exact(&mut riff)?;
-        if &riff[..4] != b"RIFF" || &riff[8..] != b"WAVE" {
-            return Err(Fault::NotWav);
+        match (&riff[..4], &riff[8..]) {
+            (b"RIFF", b"WAVE") => (),
+            (b"RF64", b"WAVE") => return Err(Fault::NotWav("it is RF64")),
+            _ => return Err(Fault::NotWav("it does not start as one")),
         }
         let (mut at, mut seen) = (12, None);
         loop {
             let (name, size) = chunk(&mut from)?;
             at += 8;
             if &name == b"data" {
-                let (tag, channels, rate, bits) = seen.ok_or(Fault::NotWav)?;
-                return Reader::of(from, rate, channels, Sample::of(tag, bits), [at, size.into()]);
+                let format = seen.ok_or(Fault::NotWav("it has no `fmt ` chunk in front of its audio"))?;
+                return Ok(Reader::of(from, format, [at, size.into()]));
             }
             let whole = u64::from(size) + u64::from(size % 2);
-            let mut head = Vec::new();
-            from.by_ref().take(whole.min(40)).read_to_end(&mut head)?;
-            io::copy(&mut from.by_ref().take(whole - head.len() as u64), &mut io::sink())?;
+            let head = head(&mut from, size, whole)?;
             if &name == b"fmt " && seen.is_none() {
-                head.truncate(size as usize);
-                seen = Some(format(&head)?);
+                seen = Some(Format::of(&head)?);
             }
             at += whole;
         }
@@ -166,26 +203,14 @@ impl<R: Read> Reader<R> {
     }
 
     /// Samples of 16 bits, little end first, without a header, up to the end.
-    pub fn raw(from: R, rate: u32, channels: u16) -> Result<Reader<R>, Fault> {
-        Reader::of(from, rate, channels, Ok(Sample::Pcm16), [0, UNKNOWN.into()])
+    pub fn raw(from: R, rate: u32, channels: usize) -> Reader<R> {
+        Reader::of(from, Format { rate, channels, sample: Sample::Pcm16 }, [0, UNKNOWN.into()])
     }
 
-    fn of(from: R, rate: u32, channels: u16, sample: Result<Sample, Fault>, place: [u64; 2]) -> Result<Self, Fault> {
-        if channels != 1 && channels != 2 {
-            return Err(Fault::Channels(channels));
-        }
+    fn of(from: R, Format { rate, channels, sample }: Format, place: [u64; 2]) -> Self {
         // A stream that does not know its length says so, and a recorder that lost power leaves a size that is too large: what is there counts.
         let most = if place[1] == UNKNOWN.into() { u64::MAX } else { place[1] };
-        Ok(Reader {
-            from: from.take(most),
-            rate,
-            channels: channels.into(),
-            sample: sample?,
-            place,
-            carried: Vec::new(),
-            given: 0,
-            clipped: 0,
-        })
+        Reader { from: from.take(most), rate, channels, sample, place, carried: Vec::new(), given: 0, clipped: 0 }
     }
 
     /// How many samples each channel has, in a file of so many bytes.
@@ -356,7 +381,7 @@ mod tests {
     /// A file of 32-bit floats.
     fn floats(channels: u8, samples: &[f32]) -> Vec<u8> {
         let mut bytes = write(48_000, &vec![0.0; 2 * samples.len()]);
-        (bytes[20], bytes[22], bytes[34]) = (3, channels, 32);
+        (bytes[20], bytes[22], bytes[32], bytes[34]) = (3, channels, 4 * channels, 32);
         for (to, x) in bytes[44..].chunks_exact_mut(4).zip(samples) {
             to.copy_from_slice(&x.to_le_bytes());
         }
@@ -401,7 +426,7 @@ mod tests {
     fn other_bytes_are_refused() {
         let good = write(48_000, &[1.0; 8]);
         for n in 0..44 {
-            assert!(read(&good[..n]).is_err() || n >= 44, "{n} bytes");
+            assert!(read(&good[..n]).is_err(), "{n} bytes");
         }
         let mut bytes = good.clone();
         bytes[34] = 8;
@@ -409,5 +434,39 @@ mod tests {
         bytes = good;
         bytes[22] = 3;
         assert_eq!(read(&bytes), Err(Fault::Channels(3)));
+    }
+
+    /// Samples that have more room than they need would be read as others.
+    #[test]
+    fn gaps_between_samples_are_refused() {
+        for (bits, channels, bytes) in [(24, 1, 4), (24, 2, 8), (16, 1, 4), (16, 2, 2), (16, 1, 0)] {
+            let mut file = write(48_000, &[1.0; 12]);
+            (file[34], file[22], file[32]) = (bits, channels, bytes);
+            let fault = Fault::Block { bytes: bytes.into(), wanted: usize::from(bits / 8 * channels) };
+            assert_eq!(read(&file), Err(fault));
+        }
+    }
+
+    /// What a header lacks is named.
+    #[test]
+    fn broken_headers() {
+        let good = write(48_000, &[1.0; 8]);
+        let why = |file: &[u8]| match read(file) {
+            Err(Fault::NotWav(why)) => why,
+            other => panic!("{other:?}"),
+        };
+        let mut file = good.clone();
+        file[..4].copy_from_slice(b"RF64");
+        assert_eq!(why(&file), "it is RF64");
+        assert_eq!(why(&good[1..]), "it does not start as one");
+        assert_eq!(why(&good[..36]), "it has no `data` chunk");
+        assert_eq!(why(&[&good[..12], &good[36..]].concat()), "it has no `fmt ` chunk in front of its audio");
+        file = good;
+        file[16] = 14;
+        assert_eq!(why(&file), "its `fmt ` chunk is too short");
+        for size in [60, u32::MAX] {
+            file[16..20].copy_from_slice(&size.to_le_bytes());
+            assert_eq!(why(&file), "a chunk in front of its audio goes beyond its end", "{size}");
+        }
     }
 }

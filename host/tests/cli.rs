@@ -113,7 +113,7 @@ fn a_stereo_file_is_both_benches() {
     let n = sides[0].len().min(sides[1].len());
     let mixed: Vec<f32> = (0..2 * n).map(|i| sides[i % 2][i / 2]).collect();
     let mut stereo = wav::write(48_000, &mixed);
-    stereo[22] = 2;
+    (stereo[22], stereo[32]) = (2, 4);
     given.put("both.wav", &stereo);
     given.put("l.wav", &wav::write(48_000, &sides[0][..n]));
     given.put("r.wav", &wav::write(48_000, &sides[1][..n]));
@@ -208,6 +208,23 @@ fn a_missing_file() {
     given.fails(given.clean("left.wav", "right.wav", "none.rnn", "out"), &["none.rnn"]);
 }
 
+/// A name in any bytes is taken as it is.
+#[cfg(unix)]
+#[test]
+fn a_name_that_is_not_unicode() {
+    use std::os::unix::ffi::OsStrExt;
+    let given = Given::new("bytes");
+    let name = given.path.join(std::ffi::OsStr::from_bytes(b"left-\xff.wav"));
+    fs::rename(given.path.join("left.wav"), &name).unwrap();
+    let clean = |model: &str| {
+        let mut host = Command::new(env!("CARGO_BIN_EXE_host"));
+        host.args(["clean", "--right", &given.at("right.wav"), "--model", &given.at(model), "--out", &given.at("out")]);
+        host.arg("--left").arg(&name).output().unwrap()
+    };
+    given.fails(clean("none.rnn"), &["none.rnn"]);
+    assert!(clean("house.rnn").status.success());
+}
+
 #[test]
 fn a_folder_for_a_file() {
     let given = Given::new("folder");
@@ -215,13 +232,23 @@ fn a_folder_for_a_file() {
     given.fails(given.clean("dir.wav", "right.wav", "house.rnn", "out"), &["dir.wav"]);
 }
 
-/// No sample, one, and many channels.
+/// No sample, one, and many channels; and a header that was never mended.
 #[test]
 fn strange_recordings() {
     let given = Given::new("strange");
     given.put("none.wav", &wav::write(48_000, &[]));
     given.put("one.wav", &wav::write(48_000, &[5.0]));
-    assert!(given.clean("none.wav", "one.wav", "house.rnn", "out").status.success());
+    let mut open = wav::write(48_000, &[5.0; 50]);
+    open[40..44].fill(0);
+    given.put("open.wav", &open);
+    let told = |left: &str| {
+        let output = given.clean(left, "one.wav", "house.rnn", "out");
+        assert!(output.status.success());
+        String::from_utf8(output.stderr).unwrap()
+    };
+    let why = told("open.wav");
+    assert!(why.ends_with("open.wav: its header says that there is no audio: 100 bytes are not read\n"), "{why}");
+    assert_eq!(told("none.wav"), "");
     let read = |name: &str| wav::read(&fs::read(given.path.join(name)).unwrap()).unwrap().channels[0].len();
     assert_eq!((read("out/left.wav"), read("out/right.wav")), (0, 1));
     fs::remove_dir_all(given.path.join("out")).unwrap();
@@ -243,6 +270,12 @@ fn another_format() {
     let given = Given::new("format");
     given.put("text.wav", b"no sound at all");
     given.fails(given.clean("text.wav", "right.wav", "house.rnn", "out"), &["text.wav", "not a WAV file"]);
+    // 24 bits in places of four bytes
+    let mut wide = wav::write(48_000, &[5.0; 96]);
+    (wide[32], wide[34]) = (4, 24);
+    given.put("wide.wav", &wide);
+    let words = ["wide.wav: 3 bytes are wanted for a sample of each channel; this has 4"];
+    given.fails(given.clean("left.wav", "wide.wav", "house.rnn", "out"), &words);
 }
 
 #[test]
@@ -254,7 +287,10 @@ fn a_refused_model() {
         &["it ends within a layer's weights", "refusal 16", "layer 5", "vad_output"],
     );
     given.put("empty.rnn", b"");
-    given.fails(given.clean("left.wav", "right.wav", "empty.rnn", "out"), &["refusal 11", "layer 0", "input_dense"]);
+    given.fails(
+        given.clean("left.wav", "right.wav", "empty.rnn", "out/of/it"),
+        &["refusal 11", "layer 0", "input_dense"],
+    );
 }
 
 #[test]
@@ -268,7 +304,7 @@ fn an_unwritable_folder() {
 fn a_sample_that_is_not_finite() {
     let given = Given::new("broken");
     let mut floats = wav::write(48_000, &[0.0; 8]);
-    (floats[20], floats[34]) = (3, 32);
+    (floats[20], floats[32], floats[34]) = (3, 4, 32);
     floats[44 + 8..44 + 12].copy_from_slice(&f32::NAN.to_le_bytes());
     given.put("broken.wav", &floats);
     given.fails(given.clean("left.wav", "broken.wav", "house.rnn", "out"), &["broken.wav", "sample 2", "finite"]);
@@ -278,13 +314,15 @@ fn a_sample_that_is_not_finite() {
 fn full_scale_is_clipped() {
     let given = Given::new("clipped");
     let mut floats = wav::write(48_000, &[0.0; 8]);
-    (floats[20], floats[34]) = (3, 32);
-    floats[44..48].copy_from_slice(&1.0f32.to_le_bytes());
-    given.put("loud.wav", &floats);
-    let output = given.clean("left.wav", "loud.wav", "house.rnn", "out");
-    assert!(output.status.success());
-    let told = String::from_utf8(output.stderr).unwrap();
-    assert!(told.contains("loud.wav: 1 samples were beyond full scale"), "{told}");
+    (floats[20], floats[32], floats[34]) = (3, 4, 32);
+    for (n, words) in [(0, "1 sample was"), (1, "2 samples were")] {
+        floats[44 + 4 * n..][..4].copy_from_slice(&1.0f32.to_le_bytes());
+        given.put("loud.wav", &floats);
+        let output = given.clean("left.wav", "loud.wav", "house.rnn", "out");
+        assert!(output.status.success());
+        let told = String::from_utf8(output.stderr).unwrap();
+        assert!(told.contains(&format!("loud.wav: {words} beyond full scale")), "{told}");
+    }
 }
 
 /// A folder stands in the table's place: the files that were put before it are taken back, and what they replaced is there again.
@@ -299,6 +337,23 @@ fn a_place_that_is_taken() {
     let names: Vec<_> = fs::read_dir(given.path.join("out")).unwrap().map(|e| e.unwrap().file_name()).collect();
     assert!(names.len() == 2 && given.path.join("out/frames.csv/within").exists(), "{names:?}");
     assert_eq!(fs::read(given.path.join("out/left.wav")).unwrap(), b"of yesterday");
+}
+
+/// What is read is not written over, whichever name it has on the way.
+#[test]
+fn recordings_that_stand_in_the_folder() {
+    let given = Given::new("within");
+    let sound = wav::write(48_000, &[5.0; 4_800]);
+    given.put("short.wav", &sound);
+    for (left, out) in [("left.wav", "."), ("left.wav.part", ""), ("../within/right.wav.sheet", "../within")] {
+        given.put(left, &sound);
+        let output = given.clean(left, "short.wav", "house.rnn", out);
+        let why = String::from_utf8(output.stderr).unwrap();
+        assert!(output.status.code() == Some(2) && why.contains("would be written over"), "{why}");
+        assert!(fs::read(given.path.join(left)).unwrap() == sound, "{left}");
+    }
+    given.put("left.wave", &sound);
+    assert!(given.clean("left.wave", "short.wav", "house.rnn", ".").status.success());
 }
 
 #[test]
@@ -335,6 +390,7 @@ fn other_words() {
     ] {
         given.fails(host(words), &["--help"]);
     }
+    given.fails(host(&["mend", "x", "--to", "y"]), &["mend: ", "--help"]);
     let help = host(&["--help"]);
     assert!(help.status.success() && String::from_utf8(help.stdout).unwrap().contains("host clean --left"));
 }

@@ -2,20 +2,36 @@
 
 use host::demo::{Rng, HOUSE};
 use host::recorder::{Recorder, Side};
-use host::side::Sheet;
+use host::side::{tail, Sheet};
 use host::{mend, wav};
+use std::io::Cursor;
 
-/// A short recording with a sheet behind it, as `host clean` writes it, in one of the forms that are read.
+/// The same in an EXTENSIBLE header, where the samples' form stands in front of fourteen fixed bytes.
+fn extended(file: &[u8]) -> Vec<u8> {
+    let mut file = file.to_vec();
+    let form = [file[20], file[21]];
+    (file[4], file[16], file[20], file[21]) = (file[4] + 24, 40, 0xFE, 0xFF);
+    let more = [&[22, 0, file[34], 0, 3, 0, 0, 0], &form[..], b"\0\0\0\0\x10\0\x80\0\0\xAA\x008\x9Bq"];
+    file.splice(36..36, more.concat());
+    file
+}
+
+/// A short recording with a sheet behind it, as `host clean` writes it, in each of the forms that are read.
 fn recordings() -> Vec<Vec<u8>> {
-    let samples: Vec<f32> = (0..24).map(|i| 100.0 * i as f32 - 1_000.0).collect();
+    // two of these, read as one f32, lie between 0 and 1
+    let samples: Vec<f32> = (0..24).map(|i| 16_000.0 + 10.0 * i as f32).collect();
     let mut forms = vec![];
-    for (tag, bits, channels) in [(1, 16, 1), (1, 24, 2), (3, 32, 1), (0xFE, 16, 2)] {
+    for (tag, bits, channels) in [(1, 16, 1), (1, 24, 2), (3, 32, 1)] {
         let mut file = wav::write(48_000, &samples);
-        (file[20], file[22], file[34]) = (tag, channels, bits);
+        (file[20], file[22], file[32], file[34]) = (tag, channels, bits / 8 * channels, bits);
         let audio = file.len();
         file.resize(audio + 8 * 3 + 16, 0);
         assert_eq!(tuppence::sheet_write(&mut file[audio..], 1, &[0, 1, 1 << 32 | 2]), 0);
         forms.push(file);
+    }
+    forms.push(extended(&forms[1]));
+    for form in &forms {
+        assert_eq!(wav::read(form).err(), None);
     }
     forms
 }
@@ -57,6 +73,7 @@ fn recordings_and_sheets() {
         for (count, ok) in read.iter_mut().zip(results) {
             *count += u32::from(ok);
         }
+        assert_eq!(Sheet::of(&tail(Cursor::new(&file)).unwrap()), Sheet::of(&file));
     }
     // some of each are read still, and some of each are not
     assert!(read.iter().all(|n| (1_000..99_000).contains(n)), "{read:?}");

@@ -71,6 +71,20 @@ fn nothing_to_keep() {
     assert!(!path.join("mended.wav").exists());
 }
 
+/// Where there is no room for the whole file, nothing of it is left.
+#[cfg(unix)]
+#[test]
+fn no_room() {
+    let path = folder("room");
+    fs::write(path.join("whole.wav"), recording(0, &[1]).0).unwrap();
+    let limited = "trap '' XFSZ; ulimit -f 1; exec \"$0\" mend whole.wav --out copy.wav";
+    let output =
+        Command::new("sh").args(["-c", limited, env!("CARGO_BIN_EXE_host")]).current_dir(&path).output().unwrap();
+    let why = String::from_utf8(output.stderr).unwrap();
+    assert!(output.status.code() == Some(2) && why.contains("copy.wav: File too large"), "{why}");
+    assert!(!path.join("copy.wav").exists());
+}
+
 #[test]
 fn the_file_itself_is_not_written() {
     let path = folder("itself");

@@ -1,7 +1,9 @@
 //! `host side`: a line for each recording, and exit status 2 where one has no good sheet.
 
+use host::side::tail;
 use host::wav;
 use std::fs;
+use std::io::Cursor;
 use std::path::Path;
 use std::process::{Command, Output};
 
@@ -100,6 +102,26 @@ fn a_file_without_a_good_sheet() {
     ] {
         assert!(why.contains(words), "{why}");
     }
+}
+
+/// Of a recording the sheet is read, and nothing in front of it.
+#[test]
+fn the_audio_is_not_read() {
+    let good = recording(1, &[7, 8 + HEARD, 9]);
+    let sheet = good.len() - 8 * 3 - 16;
+    assert!(tail(Cursor::new(&good)).unwrap() == good[sheet..]);
+    assert_eq!(tail(Cursor::new(&good[..15])).unwrap(), good[..15]);
+}
+
+/// A pipe has no end to go back from.
+#[cfg(unix)]
+#[test]
+fn a_recording_through_a_pipe() {
+    let path = Path::new(env!("CARGO_TARGET_TMPDIR")).join("piped.wav");
+    fs::write(&path, recording(0, &[0, 1 + HEARD])).unwrap();
+    let words = "cat \"$1\" | \"$0\" side /dev/stdin";
+    let output = Command::new("sh").args(["-c", words, env!("CARGO_BIN_EXE_host")]).arg(&path).output().unwrap();
+    assert_eq!(output.stdout, b"/dev/stdin: left side, 2 frames, 1 heard, no gap\n");
 }
 
 #[test]

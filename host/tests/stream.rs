@@ -46,7 +46,7 @@ fn stereo() -> Vec<u8> {
     let sides = [dictation(0).noisy, dictation(1).noisy];
     let n = sides[0].len().min(sides[1].len()) - 11;
     let mut file = wav::write(48_000, &(0..2 * n).map(|i| sides[i % 2][i / 2]).collect::<Vec<_>>());
-    file[22] = 2;
+    (file[22], file[32]) = (2, 4);
     file
 }
 
@@ -98,23 +98,31 @@ fn an_empty_stream() {
     assert!(!path.join("none").exists());
 }
 
+#[test]
+fn a_stream_with_gaps_between_its_samples() {
+    let path = folder("gaps");
+    let mut file = stereo();
+    file[32] = 8;
+    let (output, said) = deliver(clean(&path, &["-", "--out", "out"]), &file);
+    assert!(output.status.code() == Some(2) && said.contains("standard input: 4 bytes are wanted"), "{said}");
+    assert!(!path.join("out").exists());
+}
+
 /// Of a stream that breaks off what came before is kept, with its header and its sheet; the status says that it was not all.
 #[test]
 fn a_stream_with_a_broken_sample() {
     let path = folder("broken");
     let mut file = wav::write(48_000, &[0.0; 4 * 6_000]);
-    (file[20], file[22], file[34]) = (3, 2, 32);
+    (file[20], file[22], file[32], file[34]) = (3, 2, 8, 32);
     file[HEADER + 8 * 5_000..][..4].copy_from_slice(&f32::NAN.to_le_bytes());
     let (output, said) = deliver(clean(&path, &["-", "--out", "out"]), &file);
     assert_eq!(output.status.code(), Some(2));
-    assert!(
-        said.contains("sample 5000 of channel 0") && said.contains("seconds before that are cleaned and kept"),
-        "{said}"
-    );
     assert_eq!(names(&path.join("out")).len(), WRITTEN.len());
     let left = fs::read(path.join("out/left.wav")).unwrap();
-    let frames = Sheet::of(&left).unwrap().frames;
-    assert!(frames > 0 && wav::read(&left).unwrap().channels[0].len() <= 480 * frames);
+    let (frames, samples) = (Sheet::of(&left).unwrap().frames, wav::read(&left).unwrap().channels[0].len());
+    assert!(frames > 1 && samples == 480 * (frames - 1));
+    let kept = format!("the {:.2} seconds before that are cleaned and kept", samples as f64 / 48_000.0);
+    assert!(said.contains("sample 5000 of channel 0") && said.contains(&kept), "{said}");
 }
 
 /// Where the disk is full, what was written stays beside its place, and can be read.
@@ -125,7 +133,7 @@ fn a_full_disk() {
     fs::create_dir(path.join("out")).unwrap();
     std::os::unix::fs::symlink("/dev/full", path.join("out/left.wav.part")).unwrap();
     let (output, said) = deliver(clean(&path, &["-", "--raw", "--out", "out"]), &stereo()[HEADER..]);
-    assert!(output.status.code() == Some(2) && said.contains("left.wav") && said.contains(".part"), "{said}");
+    assert!(output.status.code() == Some(2) && said.contains("out/left.wav: ") && said.contains(".part"), "{said}");
     let right = wav::read(&fs::read(path.join("out/right.wav.part")).unwrap()).unwrap();
     assert!(!right.channels[0].is_empty() && !path.join("out/right.wav").exists());
 }

@@ -5,7 +5,7 @@
 use crate::ask::{Ask, Caller, OURS};
 use crate::desk::{BENCHES, RECORD, STORE};
 use crate::rng::{Mood, Rng};
-use crate::tally::{Given, Tally, Value};
+use crate::tally::{Given, Tally};
 use crate::Options;
 use std::ops::Range;
 
@@ -43,17 +43,15 @@ impl Run {
 
     /// A call of the one, whose answer buffers hold this run's own numbers beforehand: what it is answered, and of that the bits that are
     /// the one's to receive.
-    fn one(&mut self, one: usize, mut ask: Ask) -> (u32, Vec<Vec<f32>>, Vec<u32>) {
-        for held in &mut ask.held {
-            *held = self.rng.list_of(held.len(), Mood::Any);
-        }
-        let before = self.records[one].clone();
-        let (number, lent) = ask.put(&OURS, &mut self.records[one], &mut self.store);
+    fn one(&mut self, one: usize, ask: &Ask) -> (u32, Vec<Vec<f32>>, Vec<u32>) {
+        let held: Vec<_> = ask.held.iter().map(|held| self.rng.list_of(held.len(), Mood::Any)).collect();
+        let (mut lent, before) = (held.clone(), self.records[one].clone());
+        let number = ask.put_lending(&mut lent, &OURS, &mut self.records[one], &mut self.store);
         let written = match number {
             0 => ask.written(&before, &self.records[one]),
             _ => vec![0..0; lent.len()],
         };
-        let each = lent.iter().zip(&ask.held).zip(written);
+        let each = lent.iter().zip(&held).zip(written);
         let bits = each.flat_map(|((lent, held), written)| received(lent, held, written)).collect();
         (number, lent, bits)
     }
@@ -78,13 +76,14 @@ fn compare_one(tally: &mut Tally, one: usize, seed: u64, calls: u64) {
         let [a, b] = &mut runs;
         a.others(one);
         b.others(one);
-        let ((number, lent, got), (other, _, gots)) = (a.one(one, ask.clone()), b.one(one, ask.clone()));
-        let words = ask.words();
-        let mut given = vec![("call, side, lag", Value::from(&words[..])), ("model", (&ask.model).into())];
-        given.extend(ask.given.iter().map(|list| ("given", list.into())));
+        // lists of its own for each run, so that what one changes is not the other's
+        let (again, words) = (ask.clone(), ask.words());
+        let given = [ask.named(&words), again.named(&words)].concat();
+        let given = Given::new(&given);
+        let ((number, lent, got), (other, _, gots)) = (a.one(one, &ask), b.one(one, &again));
         tally.judge(
             "apart: what the one bench receives in one run, and in the other",
-            Given::new(&given),
+            given,
             &[(&number).into(), (&got).into(), (&a.records[one]).into()],
             &[(&other).into(), (&gots).into(), (&b.records[one]).into()],
         );

@@ -1,10 +1,11 @@
 //! Openings and calls as a caller makes them: mostly the one that is due with arguments that fit, now and then another.
 
-use crate::desk::{DUE, PIECE as NOTED, PROGRESS, WAITING};
+use crate::desk::{DUE, PROGRESS, UNFINISHED, WAITING};
 use crate::dictation::{completed, under_way, LONGEST};
 use crate::lent;
 use crate::models::{self, Shape};
 use crate::rng::{Mood, Rng};
+use crate::tally::Value;
 use std::ops::Range;
 
 /// The functions of a desk, and the logarithms that belong to it.
@@ -78,10 +79,23 @@ impl Ask {
         [self.call, self.side].into_iter().chain(self.lag).collect()
     }
 
+    /// What a call is given to read, by name; `words` are its numbers.
+    pub fn named<'a>(&'a self, words: &'a [u32]) -> Vec<(&'static str, Value<'a>)> {
+        let mut named = vec![("call, side, lag", words.into()), ("model", (&self.model).into())];
+        named.extend(self.given.iter().map(|list| ("given", list.into())));
+        named
+    }
+
     /// Asks a desk. The number returned, and what the answer buffers hold afterwards.
     pub fn put(&self, desk: &Surface, record: &mut [u32], store: &mut [f32]) -> (u32, Vec<Vec<f32>>) {
         let mut lent = self.held.clone();
-        let number = match (self.call, &self.given[..], &mut lent[..]) {
+        let number = self.put_lending(&mut lent, desk, record, store);
+        (number, lent)
+    }
+
+    /// The same with answer buffers that hold something else beforehand.
+    pub fn put_lending(&self, lent: &mut [Vec<f32>], desk: &Surface, record: &mut [u32], store: &mut [f32]) -> u32 {
+        match (self.call, &self.given[..], lent) {
             (0, [], []) => (desk.open)(record, store, self.side, &self.model),
             (1, [samples], [window]) => (desk.call1)(record, store, self.side, samples, window),
             (2, [spectrum], [window, sums]) => match self.lag {
@@ -109,14 +123,13 @@ impl Ask {
                 None => lent::take(desk, record, store, self.side, piece, &self.model, out, answers),
             },
             _ => unreachable!("a call of another shape"),
-        };
-        (number, lent)
+        }
     }
 
     /// The places of each answer buffer that an accepted call writes, by the record before it and after it: those of a frame that
     /// is completed, and sums where a piece pauses. What has nothing to do with a piece writes whole buffers.
     pub fn written(&self, before: &[u32], after: &[u32]) -> Vec<Range<usize>> {
-        let sums = if noted(after, NOTED) > 0 { 0..22 } else { 0..0 };
+        let sums = if noted(after, UNFINISHED) > 0 { 0..22 } else { 0..0 };
         match self.call {
             PIECE => vec![0..0, sums],
             RESUME => {
@@ -178,13 +191,10 @@ impl Caller {
         Caller { whole, ..Caller::in_pieces(side, pieces) }
     }
 
-    /// The next call, by the side's record. The plain sums that a half is held against take their time: one call in twelve is one.
-    pub fn ask(&mut self, rng: &mut Rng, record: &[u32]) -> Ask {
-        // a damaged record may note any number
-        let (due, unfinished, waiting) =
-            (noted(record, DUE).min(4), noted(record, NOTED), noted(record, WAITING).min(479));
+    /// Mostly a call that is due. The plain sums that a half is held against take their time: one call in twelve is one.
+    fn call(&self, rng: &mut Rng, due: usize, unfinished: usize, waiting: usize) -> u32 {
         let calls = if self.whole > 0 { TAKE } else { RESUME } as usize;
-        let call = match (rng.below(80), due) {
+        match (rng.below(80), due) {
             (0, _) => 0,
             (1..=3, _) => 1 + rng.below(calls) as u32,
             _ if unfinished > 0 => RESUME,
@@ -198,7 +208,15 @@ impl Caller {
             (4..=16, 3) => SECOND_HALF,
             (n, 1) if n < 17 + self.pieces => PIECE,
             (_, due) => due as u32,
-        };
+        }
+    }
+
+    /// The next call, by the side's record.
+    pub fn ask(&mut self, rng: &mut Rng, record: &[u32]) -> Ask {
+        // a damaged record may note any number
+        let (due, unfinished, waiting) =
+            (noted(record, DUE).min(4), noted(record, UNFINISHED), noted(record, WAITING).min(479));
+        let call = self.call(rng, due, unfinished, waiting);
         let mut ask = match call {
             0 => self.opening(rng),
             1 => self.samples(rng),

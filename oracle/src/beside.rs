@@ -1,6 +1,6 @@
 //! Any desk beside the desk by the text, or beside another: both are asked the same, and all that they answer and leave is compared.
 
-use crate::ask::{Ask, Surface, FRAME, PIECE, RESUME, SECOND_HALF, TAKE};
+use crate::ask::{Ask, Caller, Surface, FRAME, PIECE, RESUME, SECOND_HALF, TAKE};
 use crate::desk::{self, BENCHES, COUNTS, EX, LAG, RECORD, SHARE, STORE, WAIT, X};
 use crate::rng::{Mood, Rng};
 use crate::tally::{floats, kept, signed, By, Given, Tally, Value};
@@ -54,13 +54,13 @@ pub struct Beside<'a> {
     reference: &'a Surface,
     exact: bool,
     ours: World,
-    pub rusts: World,
+    pub theirs: World,
 }
 
 impl Beside<'_> {
     pub fn new<'a>(rng: &mut Rng, desk: &'a Surface) -> Beside<'a> {
         let ours = World::new(rng);
-        Beside { desk, reference: &TEXT, exact: false, rusts: ours.clone(), ours }
+        Beside { desk, reference: &TEXT, exact: false, theirs: ours.clone(), ours }
     }
 
     /// Bit for bit beside another desk. All damage is passing, that of the store too.
@@ -68,29 +68,50 @@ impl Beside<'_> {
         Beside { reference, exact: true, ..Beside::new(rng, desk) }
     }
 
+    /// Any side's turn, with some damage by its record: which one it was, what it asked, and what it was answered.
+    pub fn turn(
+        &mut self,
+        tally: &mut Tally,
+        rng: &mut Rng,
+        callers: &mut [Caller; BENCHES],
+        damage: fn(&mut Rng, usize, &[u32]) -> Damage,
+    ) -> (usize, Ask, Answered) {
+        let side = rng.below(BENCHES);
+        let mut record = self.theirs.records[side].clone();
+        let damage = damage(rng, side, &record);
+        // now and then what is asked fits the record as it is damaged
+        if rng.once_in(2) {
+            damage.befall(&mut record);
+        }
+        let ask = callers[side].ask(rng, &record);
+        let answered = self.put(tally, side, &ask, &damage);
+        callers[side].answered(&ask, answered.number, &answered.lent);
+        (side, ask, answered)
+    }
+
     /// Both suffer the damage, are asked, and are compared; a passing damage is mended.
     pub fn put(&mut self, tally: &mut Tally, side: usize, ask: &Ask, damage: &Damage) -> Answered {
-        let Beside { desk, reference, exact, ours, rusts } = self;
+        let Beside { desk, reference, exact, ours, theirs } = self;
         let passing = damage.passing() || (*exact && !matches!(damage, Damage::None));
-        let saved = passing.then(|| [ours.clone(), rusts.clone()]);
-        for world in [&mut *ours, rusts] {
+        let saved = passing.then(|| [ours.clone(), theirs.clone()]);
+        for world in [&mut *ours, theirs] {
             damage.apply(world, side);
         }
-        let (held, before) = (ours.clone(), rusts.clone());
+        let (held, before) = (ours.clone(), theirs.clone());
         let words = ask.words();
         let given = given(&words, ask, &held);
         let given = Given::new(&given);
         let (number, lent) = ask.put(desk, &mut ours.records[side], &mut ours.store);
-        let (want, wanted) = ask.put(reference, &mut rusts.records[side], &mut rusts.store);
+        let (want, wanted) = ask.put(reference, &mut theirs.records[side], &mut theirs.store);
         if want == 0 && !*exact {
-            let written = ask.written(&before.records[side], &rusts.records[side]);
+            let written = ask.written(&before.records[side], &theirs.records[side]);
             // a maximum, which leaves the signs of zeros open, stands in call 3 alone
             let by = if matches!(ask.call, 3 | SECOND_HALF | RESUME | FRAME | TAKE) { floats } else { signed };
             let left = all(&number, parts(&lent, &written, [floats; 2]), ours, side, [floats; 2]);
-            let right = all(&want, parts(&wanted, &written, [kept, by]), rusts, side, [kept, floats]);
+            let right = all(&want, parts(&wanted, &written, [kept, by]), theirs, side, [kept, floats]);
             tally.judge(what(ask), given, &left, &right);
         } else {
-            let (lents, world) = if want == 0 { (&wanted, &*rusts) } else { (&ask.held, &held) };
+            let (lents, world) = if want == 0 { (&wanted, &*theirs) } else { (&ask.held, &held) };
             let left = all(&number, whole(&lent, floats), ours, side, [floats; 2]);
             let right = all(&want, whole(lents, kept), world, side, [kept; 2]);
             tally.judge(what(ask), given, &left, &right);
@@ -103,7 +124,7 @@ impl Beside<'_> {
 
     /// A refused call is as if it had never been; an accepted one leaves the counts that the models of this side agree with.
     fn mend(&mut self, side: usize, ask: &Ask, want: u32, saved: [World; 2]) {
-        for (world, saved) in [&mut self.ours, &mut self.rusts].into_iter().zip(saved) {
+        for (world, saved) in [&mut self.ours, &mut self.theirs].into_iter().zip(saved) {
             if want != 0 {
                 *world = saved;
             } else if ask.call != 0 {
@@ -125,8 +146,7 @@ fn what(ask: &Ask) -> &'static str {
 
 /// All that a call is given.
 fn given<'a>(words: &'a [u32], ask: &'a Ask, world: &'a World) -> Vec<(&'static str, Value<'a>)> {
-    let mut given = vec![("call, side, lag", Value::from(words)), ("model", Value::from(&ask.model))];
-    given.extend(ask.given.iter().map(|list| ("given", list.into())));
+    let mut given = ask.named(words);
     given.extend(ask.held.iter().map(|list| ("held", list.into())));
     given.extend(world.records.iter().map(|record| ("record", record.into())));
     given.push(("store", (&world.store).into()));

@@ -1,7 +1,7 @@
 //! Request 12: the same samples with the same logarithms and models, cut in two ways, give the same output, answers, sums, record and store.
 
 use crate::ask::{piece_length, Ask, Surface, PIECE, RESUME};
-use crate::desk::{self, BENCHES, RECORD, STORE, WAITING};
+use crate::desk::{BENCHES, RECORD, STORE, UNFINISHED, WAITING};
 use crate::dictation::{completed, LONGEST};
 use crate::models::{self, Shape};
 use crate::rng::{Mood, Rng};
@@ -50,11 +50,15 @@ impl Bench<'_> {
         bench
     }
 
-    /// A call that is accepted.
+    /// A call that is accepted, and leaves what it is given to read.
     fn put(&mut self, mut ask: Ask) -> Vec<Vec<f32>> {
         ask.side = self.side;
+        let words = ask.words();
+        let given = ask.named(&words);
+        let given = Given::new(&given);
         let (number, lent) = ask.put(self.desk, &mut self.record, &mut self.store);
         assert_eq!(number, 0, "call {} of a dictation is refused with {number}", ask.call);
+        assert!(!given.changed(), "call {} of a dictation changed what it was given", ask.call);
         lent
     }
 
@@ -63,7 +67,7 @@ impl Bench<'_> {
         let places = 480 * completed(self.record[WAITING] as usize, piece.len());
         let held = vec![vec![9.0; places], vec![9.0; 22]];
         let mut lent = self.put(Ask { call: PIECE, given: vec![piece.to_vec()], held, ..Ask::default() });
-        while self.record[desk::PIECE] > 0 {
+        while self.record[UNFINISHED] > 0 {
             let Lent { logs, model } = frames.next().expect("there is no end of frames");
             given.sums.extend(&lent[1]);
             let logs = logs.unwrap_or_else(|| lent[1].iter().map(|x| x.log10()).collect());
@@ -109,19 +113,21 @@ pub fn in_two_ways(tally: &mut Tally, seed: u64, desk: &Surface) {
     let before = recorded(rng, LONGEST);
     begun.dictate(&before, &[before.len()], seed);
     let samples = recorded(rng, 2 * LONGEST);
-    let [(cut, one, a), (another, two, b)] = [(); 2].map(|_| {
-        let cuts = cuts(rng, samples.len(), begun.record[WAITING] as usize);
+    let ways = [(); 2].map(|_| cuts(rng, samples.len(), begun.record[WAITING] as usize));
+    let [way, another] = ways.each_ref().map(|cuts| cuts.iter().map(|cut| *cut as u32).collect::<Vec<u32>>());
+    let given = [("one way", Value::from(&way)), ("another", (&another).into()), ("samples", (&samples).into())];
+    let given = Given::new(&given);
+    let [(one, a), (two, b)] = ways.map(|cuts| {
         let mut bench = begun.clone();
-        let given = bench.dictate(&samples, &cuts, seed + 1);
-        (cuts.iter().map(|cut| *cut as u32).collect::<Vec<u32>>(), bench, given)
+        let dictated = bench.dictate(&samples, &cuts, seed + 1);
+        (bench, dictated)
     });
-    let given = [("one way", Value::from(&cut)), ("another", (&another).into()), ("samples", (&samples).into())];
     let floats = [(&a.output, &b.output), (&a.answers, &b.answers), (&a.sums, &b.sums), (&one.store, &two.store)];
     let mut left: Vec<Value> = floats.iter().map(|(a, _)| Value::from(*a)).collect();
     let mut right: Vec<Value> = floats.iter().map(|(_, b)| kept(b)).collect();
     left.push((&one.record).into());
     right.push((&two.record).into());
-    tally.judge("the same samples cut in two ways", Given::new(&given), &left, &right);
+    tally.judge("the same samples cut in two ways", given, &left, &right);
 }
 
 #[cfg(test)]

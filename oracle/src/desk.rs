@@ -34,10 +34,10 @@ pub const WAIT: Range<usize> = 3776..4255;
 pub const DUE: usize = 0;
 pub const INDEX: usize = 1;
 pub const COUNTS: Range<usize> = 2..5;
-pub const FRAME: usize = 5;
+pub const FRAMES: usize = 5;
 pub const HEARD: usize = 6;
 pub const WAITING: usize = 7;
-pub const PIECE: usize = 8;
+pub const UNFINISHED: usize = 8;
 pub const PROGRESS: usize = 9;
 pub const RECORD: usize = 10;
 
@@ -80,9 +80,9 @@ pub enum Due {
 impl Due {
     fn is_met_by(self, record: &[u32]) -> bool {
         match self {
-            Due::Call(call) => record[DUE] == call && record[WAITING] == 0 && record[PIECE] == 0,
+            Due::Call(call) => record[DUE] == call && record[WAITING] == 0 && record[UNFINISHED] == 0,
             Due::Piece => record[DUE] == 1,
-            Due::Resume => record[PIECE] != 0,
+            Due::Resume => record[UNFINISHED] != 0,
         }
     }
 }
@@ -96,13 +96,21 @@ pub fn gate(due: Due, record: &[u32], store: &[f32], side: u32) -> u32 {
     }
 }
 
+/// Returns a refusal; with 0 the call goes on.
+macro_rules! pass {
+    ($number:expr) => {
+        match $number {
+            0 => (),
+            refused => return refused,
+        }
+    };
+}
+pub(crate) use pass;
+
 /// Refusals 1 to 5.
 macro_rules! asked {
     ($due:expr, $record:ident, $store:ident, $side:ident, $($slice:ident $length:literal),*) => {
-        let number = $crate::desk::gate($due, $record, $store, $side);
-        if number != 0 {
-            return number;
-        }
+        $crate::desk::pass!($crate::desk::gate($due, $record, $store, $side));
         if $($slice.len() != $length)||* {
             return 5;
         }
@@ -173,10 +181,7 @@ fn save(text: &mut DenoiseFeatures, share: &mut [f32], record: &mut [u32]) {
 }
 
 pub fn open(record: &mut [u32], store: &mut [f32], side: u32, model: &[u8]) -> u32 {
-    let number = entrance(record, store, side);
-    if number != 0 {
-        return number;
-    }
+    pass!(entrance(record, store, side));
     let layers = match reader::read(model, true) {
         Ok(layers) => layers,
         Err(refusal) => return misread(refusal),
@@ -261,10 +266,7 @@ pub fn call3(
     answer: &mut [f32],
 ) -> u32 {
     let share = share!(Due::Call(3), record, store, side, spectrum 961, logs 22, out 961, answer 3);
-    let refused = unfit(model, record);
-    if refused != 0 {
-        return refused;
-    }
+    pass!(unfit(model, record));
     let mut text = loaded(share, record);
     feed::start();
     feed::spectrum(&[0.0; 961]);
@@ -310,10 +312,7 @@ fn heard(text: &mut DenoiseFeatures, share: &mut [f32], model: &RnnModel) -> f32
 pub fn first_half(record: &mut [u32], store: &mut [f32], side: u32, samples: &[f32], sums: &mut [f32]) -> u32 {
     asked!(Due::Call(1), record, store, side, samples 480, sums 22);
     let (mut window, mut spectrum) = ([0.0; 960], [0.0; 961]);
-    let refused = call1(record, store, side, samples, &mut window);
-    if refused != 0 {
-        return refused;
-    }
+    pass!(call1(record, store, side, samples, &mut window));
     plain_forward(&cosines(), &mut spectrum, &window);
     call2_own(record, store, side, &spectrum, &mut window, sums)
 }
@@ -338,10 +337,7 @@ pub fn second_half(
     feed::finish();
     let (mut spectrum, mut inverse) = ([0.0; 961], [0.0; 961]);
     plain_forward(&cosines(), &mut spectrum, &window);
-    let refused = call3(record, store, side, &spectrum, logs, model, &mut inverse, answer);
-    if refused != 0 {
-        return refused;
-    }
+    pass!(call3(record, store, side, &spectrum, logs, model, &mut inverse, answer));
     plain_inverse(&cosines(), &mut window, &inverse);
     call4(record, store, side, &window, out)
 }
@@ -355,6 +351,6 @@ pub fn call4(record: &mut [u32], store: &mut [f32], side: u32, inverse: &[f32], 
     feed::finish();
     save(&mut text, share, record);
     record[DUE] = 1;
-    record[FRAME] = record[FRAME].wrapping_add(1);
+    record[FRAMES] = record[FRAMES].wrapping_add(1);
     0
 }

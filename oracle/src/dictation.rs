@@ -1,6 +1,8 @@
 //! Request 12 by the text: a piece and a resume, over the desk's two halves.
 
-use crate::desk::{asked, broken, first_half, second_half, share_of, unfit, Due, PIECE, PROGRESS, WAIT, WAITING};
+use crate::desk::{
+    asked, broken, first_half, pass, second_half, share_of, unfit, Due, PROGRESS, UNFINISHED, WAIT, WAITING,
+};
 
 /// The most samples of a piece.
 pub const LONGEST: usize = 4_096;
@@ -16,6 +18,11 @@ pub fn under_way(progress: usize) -> (usize, usize) {
     (frame, 480 * frame - progress)
 }
 
+/// The samples that wait, and a piece behind them.
+pub fn behind_waiting(record: &[u32], store: &mut [f32], side: u32, piece: &[f32]) -> Vec<f32> {
+    [&share_of(store, side)[WAIT][..record[WAITING] as usize], piece].concat()
+}
+
 pub fn piece(
     record: &mut [u32],
     store: &mut [f32],
@@ -29,7 +36,7 @@ pub fn piece(
     if !(1..=LONGEST).contains(&piece.len()) || out.len() < 480 * completed(waiting, piece.len()) {
         return 5;
     }
-    let samples = [&share_of(store, side)[WAIT][..waiting], piece].concat();
+    let samples = behind_waiting(record, store, side, piece);
     if broken(&samples) {
         return 9;
     }
@@ -51,20 +58,17 @@ pub fn resume(
     answer: &mut [f32],
 ) -> u32 {
     asked!(Due::Resume, record, store, side, logs 22, sums 22, answer 3);
-    let [noted, progress] = [PIECE, PROGRESS].map(|at| record[at] as usize);
+    let [noted, progress] = [UNFINISHED, PROGRESS].map(|at| record[at] as usize);
     let (frame, waited) = under_way(progress);
     if piece.len() != noted || out.len() < 480 * completed(waited, noted) {
         return 5;
     }
-    let refused = unfit(model, record);
-    if refused != 0 {
-        return refused;
-    }
+    pass!(unfit(model, record));
     // nothing waits where a piece is unfinished
     if broken(piece) {
         return 9;
     }
-    record[PIECE] = 0;
+    record[UNFINISHED] = 0;
     record[PROGRESS] = 0;
     let place = &mut out[480 * (frame - 1)..480 * frame];
     assert_eq!(second_half(record, store, side, logs, model, place, answer), 0, "the second half is due and fits");
@@ -82,7 +86,7 @@ fn go_on(record: &mut [u32], store: &mut [f32], side: u32, piece: usize, rest: &
     } else {
         let (frame, left) = rest.split_at(480);
         assert_eq!(first_half(record, store, side, frame, sums), 0, "the first half is due and fits");
-        record[PIECE] = piece as u32;
+        record[UNFINISHED] = piece as u32;
         record[PROGRESS] = (piece - left.len()) as u32;
     }
 }

@@ -1,7 +1,7 @@
 //! Whole calls with every fault at its limit, and with every two at once: the lower number answers, and nothing changes.
 
 use crate::ask::{Ask, Surface, FRAME, TAKE};
-use crate::desk::{self, COUNTS, DUE, INDEX, PROGRESS, RECORD, STORE, WAIT, WAITING};
+use crate::desk::{self, COUNTS, DUE, INDEX, PROGRESS, RECORD, STORE, UNFINISHED, WAIT, WAITING};
 use crate::dictation::{completed, LONGEST};
 use crate::models::{self, Shape};
 use crate::rng::{Mood, Rng};
@@ -62,9 +62,9 @@ const ANY: &[Fault] = &[
     (2, |c| (c.record[DUE], c.record[COUNTS.start]) = (1, 0)),
     (2, |c| c.record[COUNTS.end - 1] = 128),
     (2, |c| c.record[WAITING] = 480),
-    (2, |c| (c.record[DUE], c.record[desk::PIECE], c.record[PROGRESS]) = (1, 1, 1)),
-    (2, |c| (c.record[desk::PIECE], c.record[PROGRESS]) = (0, 1)),
-    (2, |c| c.record[desk::PIECE] = LONGEST as u32 + 1),
+    (2, |c| (c.record[DUE], c.record[UNFINISHED], c.record[PROGRESS]) = (1, 1, 1)),
+    (2, |c| (c.record[UNFINISHED], c.record[PROGRESS]) = (0, 1)),
+    (2, |c| c.record[UNFINISHED] = LONGEST as u32 + 1),
     (3, |c| c.record.fill(0)),
     (4, |c| (c.record[DUE], c.record[WAITING]) = (2, 0)),
     (4, |c| (c.record[DUE], c.record[WAITING]) = (3, 0)),
@@ -151,13 +151,8 @@ fn all<'a>(numbers: &'a [u32; 2], case: &'a Case, lent: &'a [Vec<f32>], by: By) 
 fn judge(tally: &mut Tally, desk: &Surface, case: &Case, lowest: u32) {
     let ask = &case.ask;
     let words = ask.words();
-    let given = [
-        ("call, side", Value::from(&words)),
-        ("model", (&ask.model).into()),
-        ("given", (&ask.given[0]).into()),
-        ("record", (&case.record).into()),
-        ("store", (&case.store).into()),
-    ];
+    let mut given = ask.named(&words);
+    given.extend([("record", Value::from(&case.record)), ("store", (&case.store).into())]);
     let given = Given::new(&given);
     let (mut ours, mut wanted) = (case.clone(), case.clone());
     let (number, lent) = ask.put(desk, &mut ours.record, &mut ours.store);

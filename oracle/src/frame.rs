@@ -23,7 +23,7 @@ pub fn compare_with(options: &Options, desk: &Surface) -> Tally {
     // a call in eight, at least, ends a frame
     while tally.compared < calls || shadows.iter().map(|s| s.frames).sum::<u64>() < calls / 8 {
         let side = rng.below(BENCHES);
-        let ask = callers[side].ask(rng, &both.rusts.records[side]);
+        let ask = callers[side].ask(rng, &both.theirs.records[side]);
         let damage = Damage::any(rng, side);
         let answered = both.put(&mut tally, side, &ask, &damage);
         callers[side].answered(&ask, answered.number, &answered.lent);
@@ -34,7 +34,7 @@ pub fn compare_with(options: &Options, desk: &Surface) -> Tally {
             // a half's two calls are not seen one by one, nor those of a piece
             shadows[side].touched();
         } else if answered.number == 0 {
-            let [was, is] = [&answered.before, &both.rusts].map(|w| (w.share(side), w.records[side][INDEX]));
+            let [was, is] = [&answered.before, &both.theirs].map(|w| (w.share(side), w.records[side][INDEX]));
             if let Some(what) = shadows[side].follow(&ask, &answered.lent, was, is) {
                 let what = format!("the text's process_frame differs from the four calls in {what}\n");
                 tally.differs(|text| text.push_str(&what));

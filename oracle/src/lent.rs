@@ -2,8 +2,8 @@
 //! What is to be refused is worked out from the ruling, before any call is made.
 
 use crate::ask::Surface;
-use crate::desk::{self, asked, broken, gate, share_of, unfit, Due, WAIT, WAITING};
-use crate::dictation::{completed, LONGEST};
+use crate::desk::{asked, broken, gate, pass, unfit, Due, UNFINISHED, WAITING};
+use crate::dictation::{behind_waiting, completed, LONGEST};
 
 /// Refusals 7, 8 and 9, or 0.
 fn unfit_or_broken(model: &[u8], record: &[u32], samples: &[f32]) -> u32 {
@@ -11,19 +11,6 @@ fn unfit_or_broken(model: &[u8], record: &[u32], samples: &[f32]) -> u32 {
         0 if broken(samples) => 9,
         number => number,
     }
-}
-
-fn frame_refused(
-    record: &[u32],
-    store: &[f32],
-    side: u32,
-    samples: &[f32],
-    model: &[u8],
-    out: &[f32],
-    answer: &[f32],
-) -> u32 {
-    asked!(Due::Call(1), record, store, side, samples 480, out 480, answer 3);
-    unfit_or_broken(model, record, samples)
 }
 
 pub fn frame(
@@ -36,36 +23,13 @@ pub fn frame(
     out: &mut [f32],
     answer: &mut [f32],
 ) -> u32 {
-    let refused = frame_refused(record, store, side, samples, model, out, answer);
-    if refused != 0 {
-        return refused;
-    }
+    asked!(Due::Call(1), record, store, side, samples 480, out 480, answer 3);
+    pass!(unfit_or_broken(model, record, samples));
     let mut sums = [0.0; 22];
     done((desk.first_half)(record, store, side, samples, &mut sums));
     let logs = logs(desk, &sums);
     done((desk.second_half)(record, store, side, &logs, model, out, answer));
     0
-}
-
-fn take_refused(
-    record: &[u32],
-    store: &mut [f32],
-    side: u32,
-    piece: &[f32],
-    model: &[u8],
-    out: &[f32],
-    answers: &[f32],
-) -> u32 {
-    let number = gate(Due::Piece, record, store, side);
-    if number != 0 {
-        return number;
-    }
-    let waiting = record[WAITING] as usize;
-    let frames = completed(waiting, piece.len());
-    if !(1..=LONGEST).contains(&piece.len()) || out.len() < 480 * frames || answers.len() < 3 * frames {
-        return 5;
-    }
-    unfit_or_broken(model, record, &[&share_of(store, side)[WAIT][..waiting], piece].concat())
 }
 
 pub fn take(
@@ -78,14 +42,16 @@ pub fn take(
     out: &mut [f32],
     answers: &mut [f32],
 ) -> u32 {
-    let refused = take_refused(record, store, side, piece, model, out, answers);
-    if refused != 0 {
-        return refused;
+    pass!(gate(Due::Piece, record, store, side));
+    let frames = completed(record[WAITING] as usize, piece.len());
+    if !(1..=LONGEST).contains(&piece.len()) || out.len() < 480 * frames || answers.len() < 3 * frames {
+        return 5;
     }
+    pass!(unfit_or_broken(model, record, &behind_waiting(record, store, side, piece)));
     let mut sums = [0.0; 22];
     done((desk.piece)(record, store, side, piece, out, &mut sums));
     for answer in answers.chunks_exact_mut(3) {
-        if record[desk::PIECE] == 0 {
+        if record[UNFINISHED] == 0 {
             break;
         }
         let logs = logs(desk, &sums);

@@ -12,6 +12,8 @@ pub mod rng;
 pub mod tally;
 
 #[cfg(feature = "frame")]
+pub mod answers;
+#[cfg(feature = "frame")]
 pub mod apart;
 #[cfg(feature = "frame")]
 pub mod ask;

@@ -1,12 +1,12 @@
 //! Request 12: dictation in pieces of any lengths on sixteen interleaved benches, against the text's; and the same samples cut in two ways.
 
+use crate::answers::Answers;
 use crate::ask::{Caller, Surface, OURS, PIECE, RESUME};
 use crate::beside::{Beside, Damage};
-use crate::desk::{self, BENCHES, DUE, PROGRESS, SHARE, WAIT, WAITING};
+use crate::desk::{BENCHES, DUE, PROGRESS, SHARE, UNFINISHED, WAIT, WAITING};
 use crate::rng::Rng;
 use crate::tally::Tally;
 use crate::{cutting, Options};
-use std::collections::BTreeMap;
 
 pub fn compare(options: &Options) -> Tally {
     let mut tally = Tally::new("pieces");
@@ -19,33 +19,25 @@ pub fn compare(options: &Options) -> Tally {
     tally
 }
 
-/// How often pieces (0) and resumes (1) were answered with each number; and how many of these paused.
+/// How pieces and resumes were answered; and how many of these, pieces first, paused.
 #[derive(Default)]
 struct Met {
-    numbers: [BTreeMap<u32, u64>; 2],
+    answers: Answers,
     paused: [u64; 2],
 }
 
 impl Met {
     fn count(&mut self, call: u32, number: u32, paused: bool) {
-        let which = (call - PIECE) as usize;
-        // of refusal 7, not the model's own number and layer
-        *self.numbers[which].entry(number % 256).or_default() += 1;
-        self.paused[which] += u64::from(number == 0 && paused);
-    }
-
-    fn done(&self, call: u32) -> u64 {
-        self.numbers[(call - PIECE) as usize].get(&0).copied().unwrap_or(0)
+        self.answers.count(call, number);
+        self.paused[(call - PIECE) as usize] += u64::from(number == 0 && paused);
     }
 
     fn told(&self) -> String {
-        let one = |which: usize, name: &str| {
-            let refused = self.numbers[which].iter().filter(|(number, _)| **number > 0);
-            let refused: Vec<String> = refused.map(|(number, times)| format!("{times} with {number}")).collect();
-            let done = self.done(PIECE + which as u32);
-            format!("{done} {name}, {} paused; refused {}", self.paused[which], refused.join(", "))
+        let Met { answers, paused } = self;
+        let one = |call: u32, name: &str, paused: u64| {
+            format!("{} {name}, {paused} paused; refused {}", answers.done(call), answers.refused(call))
         };
-        format!("{}\n  {}", one(0, "pieces"), one(1, "resumes, a frame each"))
+        format!("{}\n  {}", one(PIECE, "pieces", paused[0]), one(RESUME, "resumes, a frame each", paused[1]))
     }
 }
 
@@ -55,19 +47,10 @@ fn compare_with(tally: &mut Tally, seed: u64, frames: u64, desk: &Surface) -> Me
     let mut both = Beside::new(rng, desk);
     let mut callers: [_; BENCHES] = std::array::from_fn(|side| Caller::in_pieces(side as u32, 45));
     let mut met = Met::default();
-    while met.done(RESUME) < frames {
-        let side = rng.below(BENCHES);
-        let damage = damage(rng, side, &both.rusts.records[side]);
-        // now and then what is asked fits the record as it is damaged
-        let mut record = both.rusts.records[side].clone();
-        if rng.once_in(2) {
-            damage.befall(&mut record);
-        }
-        let ask = callers[side].ask(rng, &record);
-        let answered = both.put(tally, side, &ask, &damage);
-        callers[side].answered(&ask, answered.number, &answered.lent);
+    while met.answers.done(RESUME) < frames {
+        let (side, ask, answered) = both.turn(tally, rng, &mut callers, damage);
         if ask.call >= PIECE {
-            met.count(ask.call, answered.number, both.rusts.records[side][desk::PIECE] > 0);
+            met.count(ask.call, answered.number, both.theirs.records[side][UNFINISHED] > 0);
         }
     }
     met
@@ -77,21 +60,19 @@ fn compare_with(tally: &mut Tally, seed: u64, frames: u64, desk: &Surface) -> Me
 /// changed from outside; or what befalls any call.
 pub fn damage(rng: &mut Rng, side: usize, record: &[u32]) -> Damage {
     let piece = rng.pick(&[1, 479, 480, 481, 1_000, 4_095, 4_096, 4_097]);
-    let noted = record[desk::PIECE];
+    let noted = record[UNFINISHED];
     let progress =
         |rng: &mut Rng, piece: u32| rng.pick(&[0, 1, 480, piece / 2, piece, piece.wrapping_add(1), u32::MAX]);
     let waiting = rng.pick(&[1, 478, 479, 480, u32::MAX]);
     let due = rng.below(6) as u32;
     match rng.below(200) {
         0..=2 => Damage::Record(vec![(WAITING, waiting)]),
-        3..=5 => Damage::Record(vec![(desk::PIECE, piece)]),
+        3..=5 => Damage::Record(vec![(UNFINISHED, piece)]),
         6..=9 => Damage::Record(vec![(PROGRESS, progress(rng, noted))]),
         10..=12 => Damage::Record(vec![(DUE, due)]),
-        13..=14 => {
-            Damage::Record(vec![(DUE, rng.pick(&[1, due])), (WAITING, waiting), (desk::PIECE, 0), (PROGRESS, 0)])
-        }
+        13..=14 => Damage::Record(vec![(DUE, rng.pick(&[1, due])), (WAITING, waiting), (UNFINISHED, 0), (PROGRESS, 0)]),
         15..=18 => {
-            let of_piece = [(desk::PIECE, piece), (PROGRESS, progress(rng, piece))];
+            let of_piece = [(UNFINISHED, piece), (PROGRESS, progress(rng, piece))];
             Damage::Record([&[(DUE, rng.pick(&[3, 3, due])), (WAITING, 0)][..], &of_piece].concat())
         }
         19..=22 => Damage::Store(side * SHARE + WAIT.start + rng.below(WAIT.len()), vec![rng.float()]),
@@ -112,10 +93,11 @@ mod tests {
     fn every_refusal_is_met() {
         let mut tally = Tally::new("pieces");
         let met = compare_with(&mut tally, 3, 400, &TEXT);
-        let numbers = |which: usize| met.numbers[which].keys().copied().collect::<Vec<u32>>();
-        assert_eq!(numbers(0), [0, 1, 2, 3, 4, 5, 9], "{}", met.told());
-        assert_eq!(numbers(1), [0, 1, 2, 3, 4, 5, 7, 8, 9], "{}", met.told());
-        assert!((0..2).all(|which| (1..met.done(PIECE + which as u32)).contains(&met.paused[which])), "{}", met.told());
+        assert_eq!(met.answers.numbers(PIECE), [0, 1, 2, 3, 4, 5, 9], "{}", met.told());
+        assert_eq!(met.answers.numbers(RESUME), [0, 1, 2, 3, 4, 5, 7, 8, 9], "{}", met.told());
+        for (call, paused) in [PIECE, RESUME].into_iter().zip(met.paused) {
+            assert!((1..met.answers.done(call)).contains(&paused), "{}", met.told());
+        }
         assert_eq!(tally.differences, 0, "{}", tally.report());
     }
 }

@@ -30,36 +30,39 @@ pub fn arrays(layer: usize, inputs: usize, neurons: usize) -> [usize; 3] {
     }
 }
 
+/// The layer that starts at `offset`, or its refusal's number.
+fn layer(file: &[u8], offset: usize, layer: usize, fifteen: bool) -> Result<Layer, u32> {
+    let left = &file[offset..];
+    let [inputs, neurons, activation, ..] = *left else { return Err(11) };
+    if inputs >= 128 {
+        return Err(12);
+    }
+    if neurons >= 128 {
+        return Err(13);
+    }
+    if activation > 2 {
+        return Err(14);
+    }
+    if neurons == 0 && fifteen {
+        return Err(15);
+    }
+    let (inputs, neurons) = (inputs as usize, neurons as usize);
+    let length = 3 + arrays(layer, inputs, neurons).iter().sum::<usize>();
+    if left.len() < length {
+        return Err(16);
+    }
+    Ok(Layer { inputs, neurons, activation, offset, length })
+}
+
 /// The six layers, or the first refusal. `fifteen`: whether no neurons at all are refused, which the Rust does not ask.
 pub fn read(file: &[u8], fifteen: bool) -> Result<[Layer; 6], Refusal> {
     let mut layers = Vec::new();
     let mut offset = 0;
-    for layer in 0..6 {
-        let refused = |number| Err(Refusal { number, layer: layer as u32 });
-        let left = &file[offset..];
-        if left.len() < 3 {
-            return refused(11);
-        }
-        let [inputs, neurons, activation] = [left[0], left[1], left[2]];
-        if inputs >= 128 {
-            return refused(12);
-        }
-        if neurons >= 128 {
-            return refused(13);
-        }
-        if activation > 2 {
-            return refused(14);
-        }
-        if neurons == 0 && fifteen {
-            return refused(15);
-        }
-        let (inputs, neurons) = (inputs as usize, neurons as usize);
-        let length = 3 + arrays(layer, inputs, neurons).iter().sum::<usize>();
-        if left.len() < length {
-            return refused(16);
-        }
-        layers.push(Layer { inputs, neurons, activation, offset, length });
-        offset += length;
+    for number in 0..6 {
+        let read = layer(file, offset, number, fifteen);
+        let layer = read.map_err(|refused| Refusal { number: refused, layer: number as u32 })?;
+        offset += layer.length;
+        layers.push(layer);
     }
     let l: [Layer; 6] = layers.try_into().unwrap();
     let number = if offset != file.len() {

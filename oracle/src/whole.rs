@@ -1,6 +1,7 @@
 //! A frame and a piece in one call, on sixteen interleaved benches and among all other calls: bit for bit beside the halves and pieces that they
 //! are by definition, on a second store. And every two faults at once, of which the lower number answers.
 
+use crate::answers::Answers;
 use crate::ask::{Ask, Caller, Surface, FRAME, OURS, TAKE};
 use crate::beside::{Beside, Damage};
 use crate::desk::{BENCHES, SHARE, WAIT, WAITING};
@@ -8,7 +9,6 @@ use crate::dictation::completed;
 use crate::rng::Rng;
 use crate::tally::Tally;
 use crate::{faults, pieces, Options};
-use std::collections::BTreeMap;
 
 /// The proved desk without its whole calls: they are made of the others.
 pub const LENT: Surface = Surface { whole: None, ..OURS };
@@ -24,18 +24,17 @@ pub fn compare(options: &Options) -> Tally {
     tally
 }
 
-/// How often frames (0) and takes (1) were answered with each number; how many frames the takes completed, and how many takes completed none.
+/// How frames and takes were answered; how many frames the takes completed, and how many takes completed none.
 #[derive(Default)]
 struct Met {
-    numbers: [BTreeMap<u32, u64>; 2],
+    answers: Answers,
     in_takes: u64,
     without: u64,
 }
 
 impl Met {
     fn count(&mut self, ask: &Ask, number: u32, before: &[u32]) {
-        // of refusal 7, not the model's own number and layer
-        *self.numbers[(ask.call - FRAME) as usize].entry(number % 256).or_default() += 1;
+        self.answers.count(ask.call, number);
         if ask.call == TAKE && number == 0 {
             let frames = completed(before[WAITING] as usize, ask.given[0].len());
             self.in_takes += frames as u64;
@@ -43,28 +42,18 @@ impl Met {
         }
     }
 
-    fn done(&self, call: u32) -> u64 {
-        self.numbers[(call - FRAME) as usize].get(&0).copied().unwrap_or(0)
-    }
-
     fn frames(&self) -> u64 {
-        self.done(FRAME) + self.in_takes
-    }
-
-    fn refused(&self, call: u32) -> String {
-        let refused = self.numbers[(call - FRAME) as usize].iter().filter(|(number, _)| **number > 0);
-        refused.map(|(number, times)| format!("{times} with {number}")).collect::<Vec<_>>().join(", ")
+        self.answers.done(FRAME) + self.in_takes
     }
 
     fn told(&self) -> String {
+        let Met { answers, in_takes, without } = self;
         format!(
-            "{} frames; refused {}\n  {} pieces of {} frames, {} of none; refused {}",
-            self.done(FRAME),
-            self.refused(FRAME),
-            self.done(TAKE),
-            self.in_takes,
-            self.without,
-            self.refused(TAKE)
+            "{} frames; refused {}\n  {} pieces of {in_takes} frames, {without} of none; refused {}",
+            answers.done(FRAME),
+            answers.refused(FRAME),
+            answers.done(TAKE),
+            answers.refused(TAKE)
         )
     }
 }
@@ -74,16 +63,7 @@ fn compare_with(tally: &mut Tally, rng: &mut Rng, frames: u64, mut both: Beside)
     let mut callers: [_; BENCHES] = std::array::from_fn(|side| Caller::with_whole(side as u32, 10, 50));
     let mut met = Met::default();
     while met.frames() < frames {
-        let side = rng.below(BENCHES);
-        let damage = damage(rng, side, &both.rusts.records[side]);
-        // now and then what is asked fits the record as it is damaged
-        let mut record = both.rusts.records[side].clone();
-        if rng.once_in(2) {
-            damage.befall(&mut record);
-        }
-        let ask = callers[side].ask(rng, &record);
-        let answered = both.put(tally, side, &ask, &damage);
-        callers[side].answered(&ask, answered.number, &answered.lent);
+        let (side, ask, answered) = both.turn(tally, rng, &mut callers, damage);
         if ask.call >= FRAME {
             met.count(&ask, answered.number, &answered.before.records[side]);
         }
@@ -124,10 +104,9 @@ mod tests {
     fn every_refusal_is_met() {
         let (met, tally) = beside(None, 1_000);
         for call in [FRAME, TAKE] {
-            let numbers: Vec<u32> = met.numbers[(call - FRAME) as usize].keys().copied().collect();
-            assert_eq!(numbers, [0, 1, 2, 3, 4, 5, 7, 8, 9], "{}", met.told());
+            assert_eq!(met.answers.numbers(call), [0, 1, 2, 3, 4, 5, 7, 8, 9], "{}", met.told());
         }
-        assert!(met.without > 0 && met.in_takes > met.done(TAKE), "{}", met.told());
+        assert!(met.without > 0 && met.in_takes > met.answers.done(TAKE), "{}", met.told());
         assert_eq!(tally.differences, 0, "{}", tally.report());
     }
 

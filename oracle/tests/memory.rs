@@ -5,7 +5,7 @@ use nnnoiseless_text::probe::{bands, rnn};
 use nnnoiseless_text::RnnModel;
 use oracle::ask::{Ask, Caller, FIRST_HALF, OURS, PIECE, RESUME, SECOND_HALF};
 use oracle::bins;
-use oracle::desk::{self, BENCHES, CEPSTRAL_MEM, DUE, INDEX, INPUT_MEM, LASTG, RECORD, SHARE, STATES, STORE};
+use oracle::desk::{BENCHES, CEPSTRAL_MEM, DUE, INDEX, INPUT_MEM, LASTG, RECORD, SHARE, STATES, STORE, UNFINISHED};
 use oracle::rng::{Mood, Rng};
 use oracle::tally::exactly;
 
@@ -227,7 +227,7 @@ fn memory_is_made_of_heard_frames() {
         let (number, answer) = ask.put(&OURS, &mut records[side], &mut store);
         bench.caller.answered(&ask, number, &answer);
         let input_mem = [&before, &store[side * SHARE..][INPUT_MEM]];
-        bench.follow(&ask, number, &answer, input_mem, records[side][desk::PIECE] > 0, &mut count);
+        bench.follow(&ask, number, &answer, input_mem, records[side][UNFINISHED] > 0, &mut count);
         // another moment to count from
         if rng.once_in(100) {
             bench.faded = bench.memory.gains;

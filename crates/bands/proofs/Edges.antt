@@ -1,5 +1,5 @@
 -- What the proofs need of the band edges: they rise, band i's is at least i, the last is 400, and no band has more than 88 bins. Assumes nothing.
-use mathlib.Core.Path.{_≡_, refl}
+use mathlib.Core.Path.{_≡_}
 use mathlib.Core.Bool.{Bool}
 use mathlib.Core.List.{List}
 use Prim.Native.Nat.{ℕ, _+_, _-_, _≤_, _<_}

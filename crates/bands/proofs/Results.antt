@@ -6,14 +6,13 @@ use native.Mathlib.Omega.{arith}
 use lib.ListN.{length, length-set, length-replicate, getD-replicate}
 use lib.Seq.{getD-set-other}
 use lib.Ieee.{Float, nan}
-use Rattle.rules.specs.Loop.{loop}
 use Rattle.rules.specs.F32.{at, f32, zeros}
 use Rattle.rules.proofs.Runs.{kept}
 use Rattle.rules.proofs.Tabs.{length-tab}
 use Rattle.bands.specs.Bands.{edge, corrStep, corrBand, bandCorr, gainStep, gainBand, bandGain}
-use Rattle.bands.specs.Dct.{dctSum, dctScaled, dctIn, dctOf}
+use Rattle.bands.specs.Dct.{dctIn, dctOf}
 use Rattle.bands.specs.Windowed.{windowedBy, windowed}
-use Rattle.bands.proofs.Edges.{Edge, edges-rule}
+use Rattle.bands.proofs.Edges.{edges-rule}
 
 abbrev Long : ℕ → List Float → Type 0
 Long n xs = length xs ≡ n

@@ -2,17 +2,17 @@
 -- Assumes nothing.
 use mathlib.Core.Path.{_≡_, refl, sym, _∙_}
 use mathlib.Core.List.{List}
-use Prim.Native.Nat.{ℕ, _+_, _-_, _≤_, _<_}
+use Prim.Native.Nat.{ℕ, _+_, _-_, _<_}
 use native.Mathlib.Omega.{arith}
 use lib.IntN.{pos}
-use lib.ListN.{length, set, length-set, length-replicate}
+use lib.ListN.{length, set, length-set}
 use lib.Seq.{getD-set-same, getD-set-other, set-getD, set-set, set-comm}
 use lib.Ieee.{Float, nan, binary32, ofInt, ofBits}
 use Rattle.rules.specs.Loop.{loop, range}
 use Rattle.rules.specs.F32.{_⊕_, _⊖_, _⊗_, _⊘_, at, f32, zeros}
 use Rattle.rules.proofs.Runs.{range-after}
 use Rattle.bands.specs.Bands.{edges, edge, added, frac, rest, binCorr, corrStep, corrBand}
-use Rattle.bands.proofs.Edges.{Edge, edges-rule}
+use Rattle.bands.proofs.Edges.{edges-rule}
 
 module _ (out : List Float) (i : ℕ) where
   abbrev pub held : Float → Float → List Float

@@ -4,7 +4,7 @@ use mathlib.Core.Path.{_≡_, refl}
 use mathlib.Core.Bool.{Bool, true, false}
 use Prim.Native.Nat.{ℕ, _+_, _-_, _^_, _<_}
 use lib.Dec.{T, leb, ltb, eqb, leb→le, ltb→lt, eqb→eq, lt→ltb}
-use lib.ListN.{length, getD}
+use lib.ListN.{length}
 use lib.Ieee.{ofBits, round}
 use Rattle.bands.specs.Window.{window, windowBits}
 use Rattle.bands.specs.WindowRule.{count, counts, entry, squares, Rule, Claim}

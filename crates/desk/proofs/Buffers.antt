@@ -19,7 +19,7 @@ use Rattle.frame.proofs.Cases.{call1-by, call2-by, call3-by, call4-by}
 use Rattle.halves.specs.Halves as halves
 use Rattle.halves.proofs.Cases.{first-half-by, second-half-by}
 use Rattle.halves.proofs.Sister.{call2-own-by}
-use Rattle.pieces.specs.Pieces.{Outcome, framePart, waitingIn, waits, frameOf, refused, ended, paused, further}
+use Rattle.pieces.specs.Pieces.{Outcome, framePart, waitingIn, waits, frameAt, refused, atEnd, paused, further}
 use Rattle.pieces.proofs.Cases.{piece-by, resume-by}
 use Rattle.pieces.proofs.Halved.{second-passes}
 use Rattle.pieces.proofs.Shares.{part-length}
@@ -54,7 +54,7 @@ further-two : (reply : Reply) (share rest : List Float) (out : Written) → pass
 unfolding further
 further-two reply share rest out p = go (ltb (length rest) 480)
   where
-    go : (t : Bool) → Writes 2 (cond t (ended reply share rest out) (paused reply share rest out))
+    go : (t : Bool) → Writes 2 (cond t (atEnd reply share rest out) (paused reply share rest out))
     go true = rw p
     go false = rw p
 
@@ -79,7 +79,7 @@ module _ (b : Record) (share : List Float) where
       (λ k.
       let h = halves.secondHalf part (b .index) (b .vad) (b .noise) (b .denoise) l m 480 in
       let p = second-passes part (b .index) (b .vad) (b .noise) (b .denoise) l m (part-length share (k .size)) (k .taken) (k .inside) (k .right) in
-      further-two (h .reply) (put framePart share (h .share)) (drop (b .progress) x) (from (480 * (frameOf (b .progress) - 1)) (halves.buffer h)) (p .passes))
+      further-two (h .reply) (put framePart share (h .share)) (drop (b .progress) x) (from (480 * (frameAt (b .progress) - 1)) (halves.buffer h)) (p .passes))
 
 pub buffers : (benches side : ℕ) (b : Record) (store : List Float) (ask : Ask)
     → length (desk benches side b store ask .written) ≡ cond (passed (desk benches side b store ask .answer .reply)) (buffersOf ask) 0

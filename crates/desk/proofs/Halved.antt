@@ -2,7 +2,7 @@
 -- nothing.
 use Prim.Native.Nat.{ℕ, _+_, _*_, _≤_, _<_}
 use native.Mathlib.Omega.{arith}
-use mathlib.Core.Bool.{Bool, true, false, cond, not}
+use mathlib.Core.Bool.{Bool, true, false, cond, false≢true}
 use mathlib.Core.List.{List, [], _∷_, map}
 use mathlib.Core.Path.{_≡_, refl, sym, ap, _∙_}
 use borrow.Author.Tests.{lt-ltb, eq-eqb, ne-eqb, eqb-true, eqb-false, not-false}
@@ -10,9 +10,10 @@ use lib.Dec.{eqb}
 use lib.ListN.{length, drop, getD}
 use lib.Ieee.{Float}
 use Rattle.rules.specs.Place.{get, put}
-use Rattle.rules.specs.Written.{Written, all, from, nothing}
+use Rattle.rules.specs.Written.{Written, all, firstIn}
 use Rattle.rules.proofs.Places.{Within, length-get, length-put, get-put, put-put}
 use Rattle.rules.proofs.Refused.{clear}
+use Rattle.rules.proofs.Truth.{both}
 use Rattle.transforms.specs.Transform.{forwardOf, inverseOf}
 use Rattle.frame.specs.Reply.{passed, oneMore}
 use Rattle.frame.specs.Share.{SHARE, PART}
@@ -22,18 +23,16 @@ use Rattle.frame.specs.declared.Reply.{Reply}
 use Rattle.frame.specs.declared.Reply.the-variants.{Done, Numbered, Refused}
 use Rattle.frame.proofs.Cases.{call1-by, call4-by}
 use Rattle.frame.proofs.Keeps.{call1-keeps, call3-keeps}
-use Rattle.frame.proofs.Truth.{false-true}
 use Rattle.halves.specs.Halves.{lookedBack}
 use Rattle.halves.specs.Halves as halves
-use Rattle.halves.proofs.Joined.{Both, first-half-is, second-half-is}
+use Rattle.halves.proofs.Joined.{first-half-is, second-half-is}
 use Rattle.halves.proofs.Sister.{call2-own-by}
 use Rattle.pieces.specs.Pieces.{Outcome, framePart, refused, inPart}
 use Rattle.desk.specs.declared.Record.{Record}
-use Rattle.desk.specs.declared.Answer.{Answer}
-use Rattle.desk.specs.Gate.{idle, inRange, isFrame, isDue, refusals, gate, shareOf}
+use Rattle.desk.specs.Gate.{idle, inRange, isDue, refusals, gate, shareOf}
 use Rattle.desk.specs.Desk.{Ask, call1, call2Own, call3, call4, firstHalf, secondHalf, callOf, nextDue, advanced, numbered, answered, onShare, Given, desk}
 use Rattle.desk.proofs.Turned.{none, through}
-use Rattle.desk.proofs.Ranged.{both, advanced-range}
+use Rattle.desk.proofs.Ranged.{advanced-range}
 
 -- a half that is two calls of the desk: both are done, it leaves the second's record and store, and this is its reply and what it writes
 pub record InTurn (one two half : Given) (reply : Reply) (written : List Written) : Type 0 where
@@ -101,7 +100,7 @@ module _ (n side : ℕ) (b : Record) (store : List Float) where
     where
       go : (t : Bool) → eqb (number ask) 0 ≡ t → passed (cond t (onShare b share ask) (refused (Refused (number ask)) share) .reply) ≡ true → number ask ≡ 0
       go true e p = eqb-true (number ask) 0 e
-      go false e p = absurd (false-true p)
+      go false e p = absurd (false≢true p)
 
   -- a call on the share as another call left it
   module _ (right : (side < n) × (length store ≡ n * SHARE)) (b₁ : Record) (left : List Float) (whole : length left ≡ SHARE) where
@@ -120,15 +119,15 @@ module _ (n side : ℕ) (b : Record) (store : List Float) where
 -- ---- what the calls that are done reply
 
 done-1 : (share samples : List Float) (window : ℕ) → passed (frame.call1 share samples window .reply) ≡ true → frame.call1 share samples window .reply ≡ Done
-done-1 share samples window = call1-by share (λ f. passed (f .reply) ≡ true → f .reply ≡ Done) (λ _ p. absurd (false-true p)) samples window (λ _ _ _. refl)
+done-1 share samples window = call1-by share (λ f. passed (f .reply) ≡ true → f .reply ≡ Done) (λ _ p. absurd (false≢true p)) samples window (λ _ _ _. refl)
 
 done-2 : (share spectrum : List Float) (window sums : ℕ) → passed (halves.call2Own share spectrum window sums .reply) ≡ true → halves.call2Own share spectrum window sums .reply ≡ Done
-done-2 share spectrum window sums = call2-own-by share (λ f. passed (f .reply) ≡ true → f .reply ≡ Done) (λ _ p. absurd (false-true p)) spectrum window sums (λ _ _. refl)
+done-2 share spectrum window sums = call2-own-by share (λ f. passed (f .reply) ≡ true → f .reply ≡ Done) (λ _ p. absurd (false≢true p)) spectrum window sums (λ _ _. refl)
 
 done-4 : (share : List Float) (n h : ℕ) (inverse : List Float) (out : ℕ) → passed (frame.call4 share n h inverse out .reply) ≡ true
     → frame.call4 share n h inverse out .reply ≡ Numbered (oneMore n) h
 done-4 share n h inverse out =
-    call4-by share (λ f. passed (f .reply) ≡ true → f .reply ≡ Numbered (oneMore n) h) (λ _ p. absurd (false-true p)) n h inverse out (λ _ _. refl)
+    call4-by share (λ f. passed (f .reply) ≡ true → f .reply ≡ Numbered (oneMore n) h) (λ _ p. absurd (false≢true p)) n h inverse out (λ _ _. refl)
 
 -- ---- the halves
 
@@ -147,16 +146,8 @@ answered-in b t d = rw d
 done-record : (b : Record) (r : Reply) → passed r ≡ true → cond (passed r) (advanced b r) b ≡ advanced b r
 done-record b r p = rw p
 
--- what a call wrote into its first answer buffer
-abbrev filled : Written → List Float
-filled (all numbers) = numbers
-filled (from at numbers) = numbers
-
-abbrev buffer : Given → List Float
-buffer o = filled (getD (o .written) 0 nothing)
-
 -- the buffers of a call of a frame
-the-first : (ws : List (List Float)) → filled (getD (map all ws) 0 nothing) ≡ getD ws 0 []
+the-first : (ws : List (List Float)) → firstIn (map all ws) ≡ getD ws 0 []
 the-first [] = refl
 the-first (w ∷ ws) = refl
 
@@ -199,7 +190,7 @@ module _ (n side : ℕ) (b : Record) (store : List Float) where
     one = desk n side b store (call1 samples 960)
 
     abbrev two : Given
-    two = desk n side (one .answer .rec) (one .store) (call2Own (forwardOf (buffer one)) 960 sums)
+    two = desk n side (one .answer .rec) (one .store) (call2Own (forwardOf (firstIn (one .written))) 960 sums)
 
     pub first-half-in-turn : let half = desk n side b store (firstHalf samples sums) in passed (half .answer .reply) ≡ true → InTurn one two half (two .answer .reply) (drop 1 (two .written))
     first-half-in-turn p =
@@ -211,7 +202,7 @@ module _ (n side : ℕ) (b : Record) (store : List Float) where
         let both = first-half-is part samples sums (ap (λ (g : Given). passed (g .answer .reply)) (sym h) ∙ p) in
         let spectrum = forwardOf (halves.buffer a) in
         let w =
-        ap (λ (g : Given). desk n side (g .answer .rec) (g .store) (call2Own (forwardOf (buffer g)) 960 sums)) o
+        ap (λ (g : Given). desk n side (g .answer .rec) (g .store) (call2Own (forwardOf (firstIn (g .written))) 960 sums)) o
         ∙ ap (λ (xs : List Float). desk n side (cond (passed (a .reply)) (advanced b (a .reply)) b) (put (shareOf side) store (put framePart mine (a .share))) (call2Own (forwardOf xs) 960 sums)) (the-first (a .written))
         ∙ ap (λ (r : Record). desk n side r (put (shareOf side) store (put framePart mine (a .share))) (call2Own spectrum 960 sums)) (done-record b (a .reply) (both .first))
         ∙ part-in right (advanced b (a .reply)) (a .share) (call1-keeps part samples 960 .size) (λ xs. halves.call2Own xs spectrum 960 sums) (call2Own spectrum 960 sums) (λ s. refl)
@@ -237,7 +228,7 @@ module _ (n side : ℕ) (b : Record) (store : List Float) where
     three = desk n side b store (call3 (forwardOf (lookedBack part)) logs model 961)
 
     abbrev four : Given
-    four = desk n side (three .answer .rec) (three .store) (call4 (inverseOf (buffer three)) out)
+    four = desk n side (three .answer .rec) (three .store) (call4 (inverseOf (firstIn (three .written))) out)
 
     pub second-half-in-turn : let half = desk n side b store (secondHalf logs model out) in passed (half .answer .reply) ≡ true → InTurn three four half (three .answer .reply) (four .written) × (four .answer .reply ≡ Numbered (half .answer .rec .frame) (half .answer .rec .heard))
     second-half-in-turn p =
@@ -253,7 +244,7 @@ module _ (n side : ℕ) (b : Record) (store : List Float) where
         (ap (λ (g : Given). passed (g .answer .reply)) (sym h) ∙ p) in
         let inverse = inverseOf (halves.buffer a) in
         let w =
-        ap (λ (g : Given). desk n side (g .answer .rec) (g .store) (call4 (inverseOf (buffer g)) out)) o
+        ap (λ (g : Given). desk n side (g .answer .rec) (g .store) (call4 (inverseOf (firstIn (g .written))) out)) o
         ∙ ap (λ (xs : List Float). desk n side (cond (passed (a .reply)) next b) (put (shareOf side) store (put framePart mine (a .share))) (call4 (inverseOf xs) out)) (the-first (a .written))
         ∙ ap (λ (r : Record). desk n side r (put (shareOf side) store (put framePart mine (a .share))) (call4 inverse out)) (done-record b (a .reply) (both .first))
         ∙ part-in right next (a .share) (call3-keeps part (b .index) (b .vad) (b .noise) (b .denoise) spectrum logs model 961 .size)

@@ -2,6 +2,7 @@ pub mod Apart
 pub mod Buffers
 mod Fills
 pub mod Halved
+pub mod Leaves
 mod Pieced
 pub mod Ranged
 pub mod Replies

@@ -4,14 +4,13 @@
 --     resume-no-out                  a resume with no place for its samples is refused
 use Prim.Native.Nat.{ℕ, _≤_}
 use native.Mathlib.Omega.{arith}
-use mathlib.Core.Bool.{true, false}
+use mathlib.Core.Bool.{true, false, false≢true}
 use mathlib.Core.List.{List}
 use mathlib.Core.Path.{_≡_, refl, sym, ap, _∙_}
 use lib.ListN.{length}
 use lib.Ieee.{Float}
 use Rattle.frame.specs.Reply.{passed}
 use Rattle.frame.specs.declared.Reply.{Reply}
-use Rattle.frame.proofs.Truth.{false-true}
 use Rattle.pieces.specs.Pieces.{piece, resume}
 use Rattle.pieces.proofs.Accepted.{Piece, Resume}
 use Rattle.pieces.proofs.Cases.{piece-by, resume-by}
@@ -20,7 +19,7 @@ module _ (share : List Float) where
   pub piece-fitted : (waiting : ℕ) (samples : List Float) (out sums : ℕ) → passed (piece share waiting samples out sums .reply) ≡ true
       → Piece share waiting samples out sums
   piece-fitted waiting samples out sums =
-      piece-by share (λ o. passed (o .reply) ≡ true → Piece share waiting samples out sums) (λ n e. absurd (false-true e)) waiting samples out sums (λ k _. k)
+      piece-by share (λ o. passed (o .reply) ≡ true → Piece share waiting samples out sums) (λ n e. absurd (false≢true e)) waiting samples out sums (λ k _. k)
 
   pub piece-told : (waiting : ℕ) (samples : List Float) (out sums : ℕ) {reply : Reply} → reply ≡ piece share waiting samples out sums .reply → passed reply ≡ true
       → (waiting ≤ 479) × (length samples ≤ 4096)
@@ -30,8 +29,8 @@ module _ (share : List Float) where
     pub resume-fitted : (out sums : ℕ) → passed (resume share index vad noise denoise noted progress samples logs model out sums .reply) ≡ true
         → Resume share index vad noise denoise noted progress samples logs model out sums
     resume-fitted out sums =
-        resume-by share (λ o. passed (o .reply) ≡ true → Resume share index vad noise denoise noted progress samples logs model out sums) (λ n e. absurd (false-true e))
-        index vad noise denoise noted progress samples logs model out sums (λ n l _ e. absurd (false-true e)) (λ k _. k)
+        resume-by share (λ o. passed (o .reply) ≡ true → Resume share index vad noise denoise noted progress samples logs model out sums) (λ n e. absurd (false≢true e))
+        index vad noise denoise noted progress samples logs model out sums (λ n l _ e. absurd (false≢true e)) (λ k _. k)
 
     pub resume-told : (out sums : ℕ) {reply : Reply} → reply ≡ resume share index vad noise denoise noted progress samples logs model out sums .reply → passed reply ≡ true
         → (progress ≤ length samples) × (length samples ≤ 4096)

@@ -12,6 +12,7 @@ use lib.Dec.{eqb, leb, ltb}
 use lib.ListN.{length}
 use lib.Ieee.{Float}
 use Rattle.rules.specs.Place.{get}
+use Rattle.rules.proofs.Truth.{both}
 use Rattle.model.specs.Model.{readOf}
 use Rattle.model.specs.declared.Reading.{Reading}
 use Rattle.model.specs.declared.Reading.the-variants.{Good, Refused as Unread}
@@ -21,14 +22,10 @@ use Rattle.frame.specs.declared.Reply.{Reply}
 use Rattle.frame.specs.declared.Reply.the-variants.{Done, Silent, Heard, Numbered, Refused, Misread}
 use Rattle.pieces.specs.Pieces.{refused}
 use Rattle.desk.specs.declared.Record.{Record}
-use Rattle.desk.specs.Gate.{idle, allZero, inCounts, resting, underWay, inPieces, inRange, isFrame, gate, shareOf}
+use Rattle.desk.specs.Gate.{idle, allZero, inCounts, resting, underWay, inPieces, inRange, notOpening, gate, shareOf}
 use Rattle.desk.specs.Desk.{Ask, opening, call1, call2, call2Own, call3, call4, firstHalf, secondHalf, piece, resume, callOf, holding, nextDue, nextIndex, advanced, numbered, carried, started, answered, onShare, opened, desk}
 use Rattle.desk.proofs.Pieced.{piece-fitted, resume-fitted}
 use Rattle.desk.proofs.Turned.{none}
-
-pub both : (a b : Bool) → (a && b) ≡ true → (a ≡ true) × (b ≡ true)
-both true b e = (refl, e)
-both false b e = absurd (let z : _≡_ {A = ℕ} 0 1 = cc in omega arith)
 
 either : (x : Bool) (a b : Bool) → (x ≡ true → a ≡ true) → (x ≡ false → b ≡ true) → cond x a b ≡ true
 either true a b f g = f refl
@@ -196,7 +193,7 @@ started-range s (Good m) b share e p =
       counted _ (w .layer3 .some) (omega (arith, w .layer3 .neurons)),
     )
 
-done-range : (b : Record) (share : List Float) (ask : Ask) → inRange b ≡ true → (isFrame (callOf ask) && eqb (b .due) 0) ≡ false
+done-range : (b : Record) (share : List Float) (ask : Ask) → inRange b ≡ true → (notOpening (callOf ask) && eqb (b .due) 0) ≡ false
     → passed (onShare b share ask .reply) ≡ true → inRange (answered b ask (onShare b share ask .reply) .rec) ≡ true
 done-range b share (opening m) r o p = rw p (started-range m (readOf m) b share refl p)
 done-range b share (call1 x w) r o p = rw p (advanced-range b (onShare b share (call1 x w) .reply) (eqb-false (b .due) 0 o) r)

@@ -26,7 +26,7 @@ use Rattle.halves.specs.Halves as halves
 use Rattle.halves.proofs.Cases.{first-half-by, second-half-by}
 use Rattle.halves.proofs.Onward.{second-half-no-out}
 use Rattle.halves.proofs.Sister.{call2-own-by}
-use Rattle.pieces.specs.Pieces.{Outcome, framePart, waitingIn, waits, frameOf, refused}
+use Rattle.pieces.specs.Pieces.{Outcome, framePart, waitingIn, waits, frameAt, refused}
 use Rattle.pieces.proofs.Cases.{piece-by, resume-by}
 use Rattle.pieces.proofs.Kept.{further-reply}
 use Rattle.desk.specs.declared.Record.{Record}
@@ -74,7 +74,7 @@ module _ (b : Record) (share : List Float) where
       resume-by share Small-after (λ _. tt) (b .index) (b .vad) (b .noise) (b .denoise) (b .piece) (b .progress) x l m o s (misread m)
       (λ _.
       let h = halves.secondHalf part (b .index) (b .vad) (b .noise) (b .denoise) l m 480 in
-      rw (further-reply (h .reply) (put framePart share (h .share)) (drop (b .progress) x) (from (480 * (frameOf (b .progress) - 1)) (halves.buffer h)))
+      rw (further-reply (h .reply) (put framePart share (h .share)) (drop (b .progress) x) (from (480 * (frameAt (b .progress) - 1)) (halves.buffer h)))
       (second-half-by part SmallOf (λ _. tt) (b .index) (b .vad) (b .noise) (b .denoise) l m 480 (misread m) (λ _. tt) (λ _ _ _ _ _. tt)))
 
 pub small : (benches side : ℕ) (b : Record) (store : List Float) (ask : Ask) → Small (desk benches side b store ask .answer .reply)

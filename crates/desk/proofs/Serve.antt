@@ -26,7 +26,7 @@ use Rattle.frame.specs.Frame as frame
 use Rattle.frame.specs.Reply.{passed}
 use Rattle.frame.specs.declared.Reply.{Reply}
 use Rattle.halves.specs.Halves as halves
-use Rattle.pieces.specs.Pieces.{framePart, inPart, Worked}
+use Rattle.pieces.specs.Pieces.{framePart, inPart, PieceWorked}
 use Rattle.desk.specs.declared.Record.{Record}
 use Rattle.desk.specs.declared.Answer.{Answer}
 use Rattle.desk.specs.Gate.{gate, shareOf}
@@ -62,7 +62,7 @@ module _ (benches side : ℕ) (b : Record) (store : List Float) (held : List (Li
 
   pub served : (n start part end : ℕ) (reply : Reply) (r : Answer) (new : List Float) (out : List (List Float))
       → n ≡ gate benches side b (length store) (callOf ask) → n ≡ 0 → (n ≡ 0 → Lies side start part end)
-      → Worked (onShare b (get (lent start end) store) ask) reply new held out → r ≡ answered b ask reply
+      → PieceWorked (onShare b (get (lent start end) store) ask) reply new held out → r ≡ answered b ask reply
       → Served (desk benches side b store ask) r (put (lent start end) store new) held out
   unfolding desk
   served n start part end reply r new out e z p w a =

@@ -5,9 +5,8 @@
 --     closed-opens  a closed side lets nothing through but an opening
 -- Assumes nothing.
 use Prim.Native.Nat.{ℕ, _*_, _<_}
-use mathlib.Core.Bool.{Bool, true, false}
+use mathlib.Core.Bool.{Bool, true, false, true≢false}
 use mathlib.Core.Path.{_≡_, refl}
-use native.Mathlib.Omega.{arith}
 use borrow.Author.Tests.{lt-ltb, eq-eqb, ltb-true, eqb-true, not-false}
 use lib.Dec.{eqb, ltb}
 use Rattle.rules.proofs.Cleared.{cleared}
@@ -37,5 +36,4 @@ module _ (benches side : ℕ) (b : Record) (len call : ℕ) where
       go : (t : Bool) → eqb call 0 ≡ t → call ≡ 0
       go true h = eqb-true call 0 h
       go false h =
-          let wrong : true ≡ false = rw (h, eq-eqb (b .due) 0 z) at (none e .1 .1 .1 .0) in
-          let one : _≡_ {A = ℕ} 0 1 = cc in absurd (omega arith)
+          let wrong : true ≡ false = rw (h, eq-eqb (b .due) 0 z) at (none e .1 .1 .1 .0) in absurd (true≢false wrong)

@@ -1,6 +1,6 @@
 -- A record that a half moves on: twice. Assumes nothing.
 use Prim.Native.Nat.{ℕ, _+_, _-_}
-use mathlib.Core.Bool.{Bool, true, false, cond}
+use mathlib.Core.Bool.{Bool, true, false}
 use mathlib.Core.Path.{_≡_, refl, ap, _∙_}
 use Rattle.frame.specs.Reply.{passed, oneMore}
 use Rattle.frame.specs.declared.Reply.{Reply}

@@ -81,7 +81,7 @@ recordOf due index vad noise denoise frame heard =
       progress = 0;
     }
 
--- and one with another call due, and these
+-- and one that is as another is, but for the call that is due, the samples that wait and the piece under way
 abbrev pub holding : ℕ → Record → ℕ → ℕ → ℕ → Record
 holding due rec waiting size progress =
     record {
@@ -206,7 +206,7 @@ desk benches side rec store ask =
     let f = admitted rec (get (shareOf side) store) ask (gate benches side rec (length store) (callOf ask)) in
     record { answer = answered rec ask (f .reply); store = put (shareOf side) store (f .share); written = f .written }
 
--- what a contract says of a call: its answer, the store, and the answer buffers, which held something
+-- what a contract says of a call: its answer, the store, and the answer buffers, by what they held
 pub record Served (o : Given) (answer : Answer) (store : List Float) (held out : List (List Float)) : Type 0 where
   pub answers : answer ≡ o .answer
   pub stores : store ≡ o .store

@@ -54,15 +54,16 @@ inPieces rec = cond (eqb (rec .piece) 0) (resting rec) (underWay rec)
 unfoldable pub inRange : Record → Bool
 inRange rec = cond (eqb (rec .due) 0) (allZero rec) (leb (rec .due) 4 && (leb (rec .index) 7 && (inCounts rec && inPieces rec)))
 
--- a call of a frame is 1 to 4, and an opening 0; a piece and a resume are
+-- an opening is call 0, and the calls of a frame are 1 to 4; behind these stand a piece and a resume
 abbrev pub PIECE : ℕ
 PIECE = 5
 
 abbrev pub RESUME : ℕ
 RESUME = 6
 
-abbrev pub isFrame : ℕ → Bool
-isFrame call = not (eqb call 0)
+-- all other calls are asked by 3 and 4 too
+abbrev pub notOpening : ℕ → Bool
+notOpening call = not (eqb call 0)
 
 -- a piece is due where call 1 is, and a resume where a piece is unfinished; a call of a frame where its number stands, and only while idle
 unfoldable pub isDue : Record → ℕ → Bool
@@ -75,8 +76,8 @@ refusals benches side rec len call =
     1 when not (ltb side benches)
     ∷ 2 when not (eqb len (benches * SHARE))
     ∷ 2 when not (inRange rec)
-    ∷ 3 when (isFrame call && eqb (rec .due) 0)
-    ∷ 4 when (isFrame call && not (isDue rec call))
+    ∷ 3 when (notOpening call && eqb (rec .due) 0)
+    ∷ 4 when (notOpening call && not (isDue rec call))
     ∷ []
 
 -- the first number that applies, or 0

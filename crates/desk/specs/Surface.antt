@@ -13,6 +13,7 @@ use Rattle.frame.specs.declared.Reply.{Reply}
 use Rattle.frame.specs.declared.Reply.the-variants.{Done, Silent, Heard, Numbered, Refused, Misread}
 use Rattle.desk.specs.Desk.{Ask, opening, call1, call2, call2Own, call3, call4, firstHalf, secondHalf, piece, resume, recordOf, holding, Given, desk}
 use Rattle.desk.specs.declared.Record.{Record}
+use Rattle.desk.specs.declared.Answer.{Answer}
 
 -- a record is so many numbers; a list of another length is out of range
 abbrev pub RECORD : ℕ
@@ -69,6 +70,10 @@ besides (resume x l m o s) reply = toldBesides reply
 abbrev pub outOf : ℕ → ℕ → ℕ
 outOf answer out = cond (eqb answer 3) out 0
 
+-- a call as a host has it that is told its answer besides
+abbrev pub telling : Given → Given
+telling o = record { answer = o .answer; store = o .store; written = o .written ++ toldBesides (o .answer .reply) }
+
 -- the desk, asked with a record that is numbers
 unfoldable pub hosted : ℕ → ℕ → List ℕ → List Float → Ask → Given
 hosted benches side ns store ask =
@@ -76,12 +81,12 @@ hosted benches side ns store ask =
     record { answer = o .answer; store = o .store; written = o .written ++ besides ask (o .answer .reply) }
 
 -- the record that comes back: a refusal leaves it
-abbrev pub handedBack : Given → List ℕ → List ℕ
-handedBack o ns = cond (passed (o .answer .reply)) (numbersOf (o .answer .rec)) ns
+abbrev pub handedBack : Answer → List ℕ → List ℕ
+handedBack answer ns = cond (passed (answer .reply)) (numbersOf (answer .rec)) ns
 
 -- what a contract says of a host's call: the number, the record, the store and the buffers afterwards
 pub record Hosted (o : Given) (number : ℕ) (ns ns′ : List ℕ) (store : List Float) (held out : List (List Float)) : Type 0 where
   pub numbers : number ≡ replyNumber (o .answer .reply)
-  pub records : ns′ ≡ handedBack o ns
+  pub records : ns′ ≡ handedBack (o .answer) ns
   pub stores : store ≡ o .store
   pub writes : out ≡ onto (o .written) held

@@ -25,7 +25,7 @@ use Rattle.desk.specs.declared.Record.{Record}
 use Rattle.desk.specs.Gate.{shareOf, gate}
 use Rattle.desk.specs.Desk.{piece, resume, holding, carried, Given, desk}
 use Rattle.dictation.specs.Dictation.{Lent, Dictated, dictate, dictated}
-use Rattle.dictation.specs.Cutting.{Led, ended, paused, Row, last, more, Cutting}
+use Rattle.dictation.specs.Cutting.{Led, ended, paused, Cut, last, more, Cutting}
 use Rattle.dictation.specs.Resuming.{handedIn, Whole}
 use Rattle.desk.proofs.Turned.{through}
 use Rattle.dictation.proofs.Joins.{first, second, shareAfter, recAfter, toldThere, framed, dictate-more, dictate-none, after-length, share-size, washed, then, again, rejoin}
@@ -202,10 +202,10 @@ fillings-whole n side rec store xs held ls d led =
     let t = whole-piece n side rec store xs held ls d led in
     rw (t .2, filled (480 * length ls) (dictated side rec store xs ls .out) held (t .1))
 
-row : {n side : ℕ} {rec : Record} {store samples : List Float} {lent : List Lent} {d : Dictated} → Row n side rec store samples lent d
+cut : {n side : ℕ} {rec : Record} {store samples : List Float} {lent : List Lent} {d : Dictated} → Cut n side rec store samples lent d
     → d ≡ dictated side rec store samples lent
-row (last {rec = rec} {store = store} {xs = xs} {held = held} {ls = ls} {d = d} led) = fillings-whole _ _ rec store xs held ls d led
-row {n = n} {side = side} (more {rec = rec} {store = store} {xs = xs} {ys = ys} {held = held} {ls = ls} {ms = ms} {d = d} {e = e} led r) =
+cut (last {rec = rec} {store = store} {xs = xs} {held = held} {ls = ls} {d = d} led) = fillings-whole _ _ rec store xs held ls d led
+cut {n = n} {side = side} (more {rec = rec} {store = store} {xs = xs} {ys = ys} {held = held} {ls = ls} {ms = ms} {d = d} {e = e} led r) =
     let t = whole-piece n side rec store xs held ls d led in
     let k = took n side rec store xs held ls d led .1 in
     let h = right n side rec store xs held ls d led in
@@ -216,11 +216,11 @@ row {n = n} {side = side} (more {rec = rec} {store = store} {xs = xs} {ys = ys} 
     let o = dictate rec its xs′ ls in
     let whole = share-size rec its xs′ ls (k .size) in
     let rest : e ≡ placed side store (again o ys ms) =
-    rw (t .2, own-back n side h store size (o .store) whole, own-own n side h store size (o .store) whole) at (row r) in
+    rw (t .2, own-back n side h store size (o .store) whole, own-own n side h store size (o .store) whole) at (cut r) in
     let joined = rejoin rec its xs′ ys ls ms (k .size) (omega (arith, t .0)) (omega (arith, t .0)) in
     let all-of : placed side store (then o (again o ys ms)) ≡ dictated side rec store (xs ++ ys) (ls ++ ms) =
     rw (← append-assoc (waitingIn (rec .waiting) its) xs ys) (ap (placed side store) (sym joined)) in
     ap (λ (x : Dictated). then x e) (fillings-whole n side rec store xs held ls d led) ∙ ap (then (placed side store o)) rest ∙ all-of
 
 pub cutting : Cutting
-cutting n side rec store samples lent d d′ r r′ = (row r, row r ∙ sym (row r′))
+cutting n side rec store samples lent d d′ r r′ = (cut r, cut r ∙ sym (cut r′))

@@ -16,7 +16,7 @@ use Rattle.rules.proofs.Places.{get-put, put-put}
 use Rattle.frame.specs.Reply.{passed}
 use Rattle.frame.specs.Share.{SHARE, PART}
 use Rattle.halves.specs.Halves.{buffer}
-use Rattle.pieces.specs.Pieces.{framePart, frameOf}
+use Rattle.pieces.specs.Pieces.{framePart, frameAt}
 use Rattle.pieces.proofs.Accepted.{Resume}
 use Rattle.pieces.proofs.Halved.{Halved}
 use Rattle.pieces.proofs.Shares.{frame-length, frame-back, frame-frame}
@@ -29,7 +29,7 @@ use Rattle.dictation.proofs.Taken.{let-through, onward, half-passes, go
 
 -- where the frame under way is written
 abbrev pub place : ℕ → ℕ
-place progress = 480 * (frameOf progress - 1)
+place progress = 480 * (frameAt progress - 1)
 
 module _ (n side : ℕ) (h : side < n) (store : List Float) (size : length store ≡ n * SHARE) where
   pub own-back : (share : List Float) → length share ≡ SHARE → get (shareOf side) (put (shareOf side) store share) ≡ share

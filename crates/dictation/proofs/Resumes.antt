@@ -1,11 +1,11 @@
 -- Laws of a record and of one piece: its numbers, and that an accepted piece comes to its end. Assumes nothing.
 use Prim.Native.Nat.{ℕ, _+_, _-_, _*_, _/_, _≤_, _<_}
 use native.Mathlib.Omega.{arith}
-use mathlib.Core.Bool.{Bool, true, false, cond, _&&_}
+use mathlib.Core.Bool.{Bool, true, false}
 use mathlib.Core.List.{List, [], _∷_, _++_}
 use mathlib.Core.Path.{_≡_, refl, sym, ap, _∙_}
-use borrow.Author.Tests.{eqb-true, eqb-false, leb-true, ltb-true, eq-eqb, ne-eqb, le-leb, lt-ltb, not-false}
-use lib.Dec.{eqb, leb, ltb}
+use borrow.Author.Tests.{eqb-true, eqb-false, leb-true, eq-eqb, ne-eqb, le-leb, lt-ltb, not-false}
+use lib.Dec.{eqb, leb}
 use lib.ListN.{length, drop, length-append, length-drop}
 use lib.Seq.{drop-drop, drop-append-add}
 use lib.Ieee.{Float}
@@ -14,18 +14,18 @@ use Rattle.rules.specs.Place.{get, put}
 use Rattle.rules.specs.Written.{Written, from, nothing, over, onto}
 use Rattle.rules.proofs.Places.{length-put}
 use Rattle.rules.proofs.Writing.{over-none}
+use Rattle.rules.proofs.Truth.{both}
 use Rattle.samples.specs.Samples.{good}
 use Rattle.frame.specs.declared.Reply.{Reply}
-use Rattle.frame.specs.declared.Reply.the-variants.{Done, Silent, Heard, Numbered as Told, Refused, Misread}
+use Rattle.frame.specs.declared.Reply.the-variants.{Done}
 use Rattle.frame.specs.Reply.{passed}
 use Rattle.frame.specs.Share.{SHARE}
 use Rattle.halves.specs.Halves.{buffer}
 use Rattle.pieces.specs.Pieces.{waitingIn, waits, waitedOf, completes}
-use Rattle.pieces.proofs.Goods.{both}
 use Rattle.pieces.proofs.Shares.{waiting-length, waits-length}
 use Rattle.desk.specs.declared.Record.{Record}
 use Rattle.desk.specs.Gate.{shareOf, idle, allZero, inCounts, underWay, inPieces, inRange, isDue, gate}
-use Rattle.desk.specs.Desk.{piece, resume, holding, nextIndex, Given, desk}
+use Rattle.desk.specs.Desk.{piece, resume, holding, Given, desk}
 use Rattle.dictation.specs.Dictation.{Lent, Dictated}
 use Rattle.dictation.specs.Cutting.{Led, ended, paused}
 use Rattle.dictation.specs.Resuming.{Numbered, Fitting, Completes}

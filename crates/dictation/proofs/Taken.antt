@@ -5,7 +5,7 @@
 --     ends, pauses       onward, the rest is too short for a frame, or begins one
 -- Assumes nothing.
 use Prim.Native.Nat.{ℕ, _+_, _-_, _*_, _≤_, _<_}
-use mathlib.Core.Bool.{Bool, true, false, cond}
+use mathlib.Core.Bool.{Bool, true, false, cond, false≢true}
 use mathlib.Core.List.{List, [], _∷_, _++_}
 use mathlib.Core.Path.{_≡_, refl, sym, ap, _∙_}
 use borrow.Author.Tests.{eqb-true, lt-ltb, le-ltb}
@@ -18,9 +18,8 @@ use Rattle.frame.specs.declared.Reply.{Reply}
 use Rattle.frame.specs.declared.Reply.the-variants.{Done, Refused}
 use Rattle.frame.specs.Frame.{Effect}
 use Rattle.frame.specs.Reply.{passed}
-use Rattle.frame.proofs.Truth.{false-true}
 use Rattle.halves.specs.Halves.{buffer, firstHalf, secondHalf}
-use Rattle.pieces.specs.Pieces.{Outcome, framePart, waitingIn, waits, refused, frameOf, further}
+use Rattle.pieces.specs.Pieces.{Outcome, framePart, waitingIn, waits, refused, frameAt, further}
 use Rattle.pieces.specs.Pieces as pieces
 use Rattle.pieces.proofs.Accepted.{Piece, piece-taken, Resume, resume-taken}
 use Rattle.pieces.proofs.Cases.{piece-by, resume-by}
@@ -55,7 +54,7 @@ module _ (n side : ℕ) (rec : Record) (store : List Float) (ask : Ask) where
       go : (t : Bool) → eqb number 0 ≡ t → passed (given t .reply) ≡ true
           → (number ≡ 0) × (on side store rec ask (given t) ≡ on side store rec ask (onShare rec share ask))
       go true e p = (eqb-true number 0 e, refl)
-      go false e p = absurd (false-true p)
+      go false e p = absurd (false≢true p)
 
   pub let-through : gate n side rec (length store) (callOf ask) ≡ 0 → desk n side rec store ask ≡ on side store rec ask (onShare rec (get (shareOf side) store) ask)
   unfolding desk
@@ -118,7 +117,7 @@ module _ (n side : ℕ) (rec : Record) (store samples : List Float) (out sums : 
   piece-passed p =
       let t = let-in n side rec store (piece samples out sums) p in
       let q : passed (pieces.piece its (rec .waiting) samples out sums .reply) ≡ true = sym (ap (λ (o : Given). passed (o .answer .reply)) (t .1)) ∙ p in
-      let k = piece-by its (λ o. passed (o .reply) ≡ true → facts) (λ m e. absurd (false-true e)) (rec .waiting) samples out sums (λ k _. k) q in
+      let k = piece-by its (λ o. passed (o .reply) ≡ true → facts) (λ m e. absurd (false≢true e)) (rec .waiting) samples out sums (λ k _. k) q in
       (t .0, k, t .1 ∙ begun-onward k)
 
 -- ---- a resume
@@ -143,7 +142,7 @@ module _ (n side : ℕ) (rec : Record) (store samples logs : List Float) (model 
   goes =
       onward side store (numbered (advanced rec (half .reply))) (half .reply) (put framePart mine (half .share))
       (drop (rec .progress) samples)
-      (length samples) (rec .progress + 480) (from (480 * (frameOf (rec .progress) - 1)) (buffer half))
+      (length samples) (rec .progress + 480) (from (480 * (frameAt (rec .progress) - 1)) (buffer half))
 
   pub resumed-onward : known
       → on side store rec (resume samples logs model out sums)
@@ -153,7 +152,7 @@ module _ (n side : ℕ) (rec : Record) (store samples logs : List Float) (model 
       let rest = drop (rec .progress) samples in
       rw (
         resume-taken mine (rec .index) (rec .vad) (rec .noise) (rec .denoise) (rec .piece) (rec .progress) samples logs model out sums k,
-        further-reply (half .reply) (put framePart mine (half .share)) rest (from (480 * (frameOf (rec .progress) - 1)) (buffer half)),
+        further-reply (half .reply) (put framePart mine (half .share)) rest (from (480 * (frameAt (rec .progress) - 1)) (buffer half)),
         half-passes k .passes,
         length-drop (rec .progress) samples,
       )
@@ -165,7 +164,7 @@ module _ (n side : ℕ) (rec : Record) (store samples logs : List Float) (model 
       let o = pieces.resume mine (rec .index) (rec .vad) (rec .noise) (rec .denoise) (rec .piece) (rec .progress) samples logs model out sums in
       let q : passed (o .reply) ≡ true = sym (ap (λ (g : Given). passed (g .answer .reply)) (t .1)) ∙ p in
       let k =
-      resume-by mine (λ o. passed (o .reply) ≡ true → known) (λ m e. absurd (false-true e))
+      resume-by mine (λ o. passed (o .reply) ≡ true → known) (λ m e. absurd (false≢true e))
       (rec .index) (rec .vad) (rec .noise) (rec .denoise) (rec .piece) (rec .progress) samples logs model out sums
-      (λ m l _ e. absurd (false-true e)) (λ k _. k) q in
+      (λ m l _ e. absurd (false≢true e)) (λ k _. k) q in
       (t .0, k, t .1 ∙ resumed-onward k)

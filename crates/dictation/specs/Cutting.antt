@@ -24,17 +24,17 @@ pub data Led (n side : ℕ) (samples : List Float) : Given → List Float → Li
       (record { rec = d .rec; store = d .store; told = (sums, next .answer .reply, holding 1 (next .answer .rec) 0 0 0) ∷ d .told; out = d .out })
 
 -- samples cut into pieces, each accepted and resumed to its end, on the record and the store that the one before left; an output is what frames filled
-pub data Row (n side : ℕ) : Record → List Float → List Float → List Lent → Dictated → Type 0 where
+pub data Cut (n side : ℕ) : Record → List Float → List Float → List Lent → Dictated → Type 0 where
   last : {rec : Record} {store xs held : List Float} {ls : List Lent} {d : Dictated}
       → Led n side xs (desk n side rec store (piece xs (length held) 22)) held ls d
-      → Row n side rec store xs ls (record { rec = d .rec; store = d .store; told = d .told; out = take (480 * length ls) (d .out) })
+      → Cut n side rec store xs ls (record { rec = d .rec; store = d .store; told = d .told; out = take (480 * length ls) (d .out) })
   more : {rec : Record} {store xs ys held : List Float} {ls ms : List Lent} {d e : Dictated}
-      → Led n side xs (desk n side rec store (piece xs (length held) 22)) held ls d → Row n side (d .rec) (d .store) ys ms e
-      → Row n side rec store (xs ++ ys) (ls ++ ms)
+      → Led n side xs (desk n side rec store (piece xs (length held) 22)) held ls d → Cut n side (d .rec) (d .store) ys ms e
+      → Cut n side rec store (xs ++ ys) (ls ++ ms)
       (record { rec = e .rec; store = e .store; told = d .told ++ e .told; out = take (480 * length ls) (d .out) ++ e .out })
 
 -- however samples are cut, with the same lent frame by frame: it is their dictation, and so the same for any two cuttings
 abbrev pub Cutting : Type 0
 Cutting =
     (n side : ℕ) (rec : Record) (store samples : List Float) (lent : List Lent) (d d′ : Dictated)
-    → Row n side rec store samples lent d → Row n side rec store samples lent d′ → (d ≡ dictated side rec store samples lent) × (d ≡ d′)
+    → Cut n side rec store samples lent d → Cut n side rec store samples lent d′ → (d ≡ dictated side rec store samples lent) × (d ≡ d′)

@@ -8,10 +8,9 @@ use lib.Ieee.{Float}
 use Rattle.rules.specs.Written.{from, over}
 use Rattle.model.specs.Model.{readOf}
 use Rattle.frame.specs.declared.Reply.the-variants.{Done}
-use Rattle.frame.specs.Frame.{counted}
-use Rattle.frame.specs.Parts.{checked}
+use Rattle.frame.specs.Frame.{counted, checked}
 use Rattle.frame.specs.Reply.{passed}
-use Rattle.pieces.specs.Pieces.{completes, frameOf, waitedOf}
+use Rattle.pieces.specs.Pieces.{completes, frameAt, waitedOf}
 use Rattle.desk.specs.declared.Record.{Record}
 use Rattle.desk.specs.Gate.{inRange}
 use Rattle.desk.specs.Desk.{piece, Given, desk}
@@ -22,7 +21,7 @@ use Rattle.dictation.specs.Cutting.{Led}
 abbrev pub Numbered : Type 0
 Numbered =
     (rec : Record) → inRange rec ≡ true → (rec .piece ≡ 0 → ⊥)
-    → let j = frameOf (rec .progress) in let w = waitedOf (rec .progress) in
+    → let j = frameAt (rec .progress) in let w = waitedOf (rec .progress) in
     (1 ≤ j) × (j ≤ completes w (rec .piece)) × (w ≤ 479) × (w + rec .progress ≡ 480 * j)
     × ((i v : ℕ) → v ≤ 479 → v + rec .progress ≡ 480 * i → (i ≡ j) × (v ≡ w))
 

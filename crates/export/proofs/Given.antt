@@ -5,7 +5,7 @@
 -- Assumes nothing.
 use Prim.Native.Nat.{ℕ, suc, _-_, _≤_}
 use native.Mathlib.Omega.{arith}
-use mathlib.Core.Bool.{Bool, true, false, cond}
+use mathlib.Core.Bool.{Bool, true, false, cond, false≢true}
 use mathlib.Core.List.{List, [], _∷_, _++_, append-nil}
 use mathlib.Core.Path.{_≡_, refl, sym, ap, ap₂, _∙_}
 use borrow.Author.Tests.{eqb-true}
@@ -14,19 +14,17 @@ use lib.ListN.{length, drop, drop-of-length-le}
 use lib.Seq.{take-all}
 use lib.Ieee.{Float}
 use Rattle.rules.specs.Place.{Place, get, put}
-use Rattle.rules.specs.Written.{Written, all, over, onto}
+use Rattle.rules.specs.Written.{Written, all, onto}
+use Rattle.rules.proofs.Writing.{onto-more, to-none}
 use Rattle.frame.specs.Reply.{passed}
 use Rattle.desk.specs.declared.Record.{Record}
 use Rattle.desk.specs.declared.Answer.{Answer}
 use Rattle.desk.specs.Gate.{inRange}
 use Rattle.desk.specs.Desk.{Given, Served}
-use Rattle.desk.specs.Surface.{RECORD, recordIn, numbersOf, replyNumber, heardOf, toldBesides, outOf, Hosted}
+use Rattle.desk.specs.Surface.{RECORD, recordIn, numbersOf, replyNumber, heardOf, outOf, telling, Hosted}
 use Rattle.desk.proofs.Ranged.{bounded}
 use Rattle.desk.proofs.Replies.{Small}
 use Rattle.export.specs.Parts.{HandsBack}
-
-differ : {A : Type 0} → false ≡ true → A
-differ h = let z : _≡_ {A = ℕ} 0 1 = cc in absurd (omega arith)
 
 -- ---- the answer as numbers
 
@@ -42,7 +40,7 @@ all-places ns e = go (eqb (length ns) RECORD) refl
   where
     go : (t : Bool) → eqb (length ns) RECORD ≡ t → length ns ≡ RECORD
     go true h = eqb-true (length ns) RECORD h
-    go false h = differ (rw h at e)
+    go false h = absurd (false≢true (rw h at e))
 
 pub hands-back : (ns : List ℕ) (b : Record) {a given : Answer} → b ≡ recordIn ns → Sound b a → given ≡ a → HandsBack ns given
 hands-back ns b {a} {given} read sound e =
@@ -56,10 +54,6 @@ hands-back ns b {a} {given} read sound e =
     })
 
 -- ---- a call with its answer as three numbers besides
-
--- as a host sees it
-abbrev pub telling : Given → Given
-telling o = record { answer = o .answer; store = o .store; written = o .written ++ toldBesides (o .answer .reply) }
 
 -- it writes to so many buffers, or is refused and writes to none; and it is refused where it is lent no place of `out`
 pub record Telling (buffers : ℕ) (give : ℕ → Given) : Type 0 where
@@ -95,22 +89,11 @@ module _ (out : List Float) where
   kept [] h = refl
   kept (x ∷ xs) h = absurd (omega arith)
 
--- a buffer more, behind those that are written to
-onto-more : (ws us : List Written) (hs gs : List (List Float)) → length ws ≡ length hs → onto (ws ++ us) (hs ++ gs) ≡ onto ws hs ++ onto us gs
-onto-more [] us [] gs l = refl
-onto-more [] us (h ∷ hs) gs l = absurd (omega arith)
-onto-more (w ∷ ws) us [] gs l = absurd (omega arith)
-onto-more (w ∷ ws) us (h ∷ hs) gs l = ap (λ (t : List (List Float)). over w h ∷ t) (onto-more ws us hs gs (omega arith))
-
 joined : (p : Bool) (ws : List Written) (held left : List (List Float)) (told t t′ : List Float) → length ws ≡ cond p (length held) 0
     → left ≡ onto ws held → t′ ≡ cond p told t → left ++ (t′ ∷ []) ≡ onto (ws ++ cond p (all told ∷ []) []) (held ++ (t ∷ []))
 joined true ws held left told t t′ l e f = ap₂ (λ (x : List (List Float)) (y : List Float). x ++ (y ∷ [])) e f ∙ sym (onto-more ws (all told ∷ []) held (t ∷ []) l)
 joined false [] held left told t t′ l e f = ap₂ (λ (x : List (List Float)) (y : List Float). x ++ (y ∷ [])) e f
 joined false (w ∷ ws) held left told t t′ l e f = absurd (omega arith)
-
-none : (ws : List Written) → length ws ≡ 0 → ws ≡ []
-none [] l = refl
-none (w ∷ ws) l = absurd (omega arith)
 
 -- `others` are the buffers between `out` and `answer`
 module _ (ns : List ℕ) (store′ : List Float) (give : ℕ → Given) (out answer new : List Float) (others others′ : List (List Float)) (given : Answer) (end : ℕ)
@@ -128,7 +111,7 @@ module _ (ns : List ℕ) (store′ : List Float) (give : ℕ → Given) (out ans
     where
       go : (t : Bool) → eqb (length answer) 3 ≡ t → length answer ≡ 3
       go true e = eqb-true (length answer) 3 e
-      go false e = differ (sym (shut e) ∙ p)
+      go false e = absurd (false≢true (sym (shut e) ∙ p))
 
   pub told-three : {number : ℕ} {ns′ : List ℕ} {answer′ : List Float} → length new ≡ length (get (upTo end) out)
       → answer′ ≡ cond (passed (given .reply)) (heardOf (given .reply)) answer
@@ -158,7 +141,7 @@ module _ (ns : List ℕ) (store′ : List Float) (give : ℕ → Given) (out ans
           let s = rw (z, empty out) at served in
           let no = shut e in
           let o = give 0 in
-          let unwritten = none (o .written) (rw (known .no-place) at (known .writes 0)) in
+          let unwritten = to-none (o .written) (rw (known .no-place) at (known .writes 0)) in
           let untouched : others′ ≡ others = ap (drop 1) (rw unwritten at (s .writes)) in
           rw (e, z, kept out new (rw (z, empty out) at same))
           (record {

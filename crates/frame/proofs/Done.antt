@@ -1,6 +1,6 @@
 -- What a call gives where it is refused nothing; and call 3, where `out` has no place. Assumes nothing.
 use Prim.Native.Nat.{ℕ, _≤_}
-use mathlib.Core.Bool.{Bool, true, false, cond, _||_}
+use mathlib.Core.Bool.{Bool, true, false, cond, _||_, true≢false, false≢true}
 use mathlib.Core.List.{List}
 use mathlib.Core.Path.{_≡_, refl, sym, ap, _∙_}
 use borrow.Author.Tests.{eq-eqb, le-ltb}
@@ -15,9 +15,7 @@ use Rattle.frame.specs.declared.Reply.{Reply}
 use Rattle.frame.specs.declared.Reply.the-variants.{Done, Refused}
 use Rattle.frame.specs.Reply.{passed}
 use Rattle.frame.specs.Share.{PART}
-use Rattle.frame.specs.Frame.{Effect, Worked, refusal, done1, call1, done2, call2, counted, modelled, done3, call3, done4, call4}
-use Rattle.frame.specs.Parts.{checked}
-use Rattle.frame.proofs.Truth.{true-false, false-true}
+use Rattle.frame.specs.Frame.{Effect, Worked, refusal, done1, call1, done2, call2, counted, modelled, done3, call3, done4, call4, checked}
 
 module _ (share : List Float) (whole : length share ≡ PART) where
   pub call1-done : (samples : List Float) (window : ℕ) → length samples ≡ 480 → window ≡ 960 → good samples ≡ true
@@ -61,16 +59,16 @@ module _ (same : Model → Bool) (share : List Float) (held : List (List Float))
   modelled-no (Good m) {reply} e p = go (same m) e
     where
       go : (t : Bool) → reply ≡ cond t Done (Refused 8) → Worked (cond t (f m) (refusal (Refused 8) share)) reply share held held
-      go true h = absurd (true-false (sym (ap passed h) ∙ p))
+      go true h = absurd (true≢false (sym (ap passed h) ∙ p))
       go false h = rw h (record { replies = refl; shares = refl; writes = refl })
 
   -- it reads, and has the counts
   pub modelled-yes : (r : Reading) {reply answer : Reply} {after : List Float} {out : List (List Float)} → reply ≡ checked same r → passed reply ≡ true
       → ((m : Model) → r ≡ Good m → Worked (f m) answer after held out) → Worked (modelled same r share f) answer after held out
   unfolding checked
-  modelled-yes (Unread n l) e p h = absurd (false-true (sym (ap passed e) ∙ p))
+  modelled-yes (Unread n l) e p h = absurd (false≢true (sym (ap passed e) ∙ p))
   modelled-yes (Good m) {reply} {answer} {after} {out} e p h = go (same m) e
     where
       go : (t : Bool) → reply ≡ cond t Done (Refused 8) → Worked (cond t (f m) (refusal (Refused 8) share)) answer after held out
       go true d = h m refl
-      go false d = absurd (false-true (sym (ap passed d) ∙ p))
+      go false d = absurd (false≢true (sym (ap passed d) ∙ p))

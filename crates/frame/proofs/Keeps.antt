@@ -1,7 +1,7 @@
 -- What every call keeps, whatever it is given: the share's length; and, refused, the share. Assumes nothing.
 use Prim.Native.Nat.{ℕ}
 use native.Mathlib.Omega.{arith}
-use mathlib.Core.Bool.{true, false}
+use mathlib.Core.Bool.{true, false, true≢false}
 use mathlib.Core.List.{List, []}
 use mathlib.Core.Logic.{inl}
 use mathlib.Core.Path.{_≡_, refl, sym, _∙_}
@@ -16,7 +16,6 @@ use Rattle.frame.specs.Heard.{spoken}
 use Rattle.frame.specs.Frame.{Effect, done1, call1, done2, call2, heard, call3, done4, call4}
 use Rattle.frame.proofs.Beside.{Beside, done1-beside, done2-beside, done3-beside, done4-beside}
 use Rattle.frame.proofs.Cases.{call1-by, call2-by, call3-by, call4-by}
-use Rattle.frame.proofs.Truth.{true-false}
 
 pub record Keeps (share : List Float) (f : Effect) : Type 0 where
   pub size : length (f .share) ≡ length share
@@ -31,7 +30,7 @@ module _ (share : List Float) where
   unmoved reply out = record { size = refl; still = λ _. refl }
 
   pub moved : (f : Effect) → passed (f .reply) ≡ true → length share ≡ PART → Beside end share (f .share) → Keeps share f
-  moved f e whole b = record { size = b .size ∙ sym whole; still = λ h. absurd (true-false (sym e ∙ h)) }
+  moved f e whole b = record { size = b .size ∙ sym whole; still = λ h. absurd (true≢false (sym e ∙ h)) }
 
   bad : (n : ℕ) → Keeps share (record { reply = Refused n; share = share; written = [] })
   bad n = unmoved (Refused n) _

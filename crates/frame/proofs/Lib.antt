@@ -6,4 +6,3 @@ pub mod Settled
 pub mod Sizes
 pub mod Sounded
 pub mod Spoken
-pub mod Truth

@@ -1,7 +1,7 @@
 -- A frame is silent or heard, as its sound says. Assumes nothing.
 use Prim.Native.Nat.{ℕ}
 use native.Mathlib.Omega.{arith}
-use mathlib.Core.Bool.{Bool, true, false, cond}
+use mathlib.Core.Bool.{Bool, true, false, cond, true≢false, false≢true}
 use mathlib.Core.List.{List, [], _∷_}
 use mathlib.Core.Path.{_≡_, refl, ap}
 use lib.Ieee.{Float, lt}
@@ -16,7 +16,6 @@ use Rattle.frame.specs.Share.{keptX, keptEx}
 use Rattle.frame.specs.Heard.{Spoken, spoken}
 use Rattle.frame.specs.Frame.{Worked, sounded, done3}
 use Rattle.frame.specs.Parts.{spokenAs, quiet, replyOf}
-use Rattle.frame.proofs.Truth.{true-false, false-true}
 
 -- an energy sum is never refused
 never : (e : Float) (n : ℕ) → sound.Refused n ≡ soundOf e → ⊥
@@ -38,8 +37,8 @@ module _ (share : List Float) (index : ℕ) (spectrum logs : List Float) (bytes 
     where
       go : (s : Sound) → quiet s ≡ true → Worked (sounded s share whole) Silent share held (out ∷ [])
       go sound.Silent h = record { replies = refl; shares = refl; writes = ap (λ (l : List Float). l ∷ []) x }
-      go (sound.Heard n) h = absurd (false-true h)
-      go (sound.Refused n) h = absurd (false-true h)
+      go (sound.Heard n) h = absurd (false≢true h)
+      go (sound.Refused n) h = absurd (false≢true h)
 
   pub is-heard : {s : Sound} {after out : List Float} {voice : Float} → s ≡ soundOf (energy (get keptEx share)) → quiet s ≡ false
       → spokenAs after voice out ≡ whole → Worked (done3 share index spectrum logs bytes m) (replyOf s voice) after held (out ∷ [])
@@ -48,6 +47,6 @@ module _ (share : List Float) (index : ℕ) (spectrum logs : List Float) (bytes 
     where
       go : (s : Sound) → s ≡ soundOf (energy (get keptEx share)) → quiet s ≡ false
           → Worked (sounded s share (spokenAs after voice out)) (replyOf s voice) after held (out ∷ [])
-      go sound.Silent e h = absurd (true-false h)
+      go sound.Silent e h = absurd (true≢false h)
       go (sound.Heard n) e h = record { replies = refl; shares = refl; writes = refl }
       go (sound.Refused n) e h = absurd (never (energy (get keptEx share)) n e)

@@ -127,6 +127,11 @@ abbrev pub counted : ℕ → ℕ → ℕ → Model → Bool
 counted vad noise denoise m =
     eqb (m .«vad_gru» .neurons) vad && (eqb (m .«noise_gru» .neurons) noise && eqb (m .«denoise_gru» .neurons) denoise)
 
+-- whether a call with this model is refused: with 7, the number and the layer, or with 8
+unfoldable pub checked : (Model → Bool) → Reading → Reply
+checked same (Unread n l) = Misread n l
+checked same (Good m) = cond (same m) Done (Refused 8)
+
 -- on with what the model makes of the frame, unless it is refused with 7, its number and its layer, or its counts are with 8
 abbrev pub modelled : (Model → Bool) → Reading → List Float → (Model → Effect) → Effect
 modelled same (Unread n l) share f = refusal (Misread n l) share

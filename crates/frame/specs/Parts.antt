@@ -1,23 +1,17 @@
 -- For the parts of the code: what a function leaves, as one value of the stage's definition.
 use Prim.Native.Nat.{ℕ}
-use mathlib.Core.Bool.{Bool, true, false, cond}
+use mathlib.Core.Bool.{Bool, true, false}
 use mathlib.Core.List.{List}
 use mathlib.Core.Path.{_≡_}
 use lib.Ieee.{Float}
 use Rattle.model.specs.Model.{readOf}
 use Rattle.model.specs.declared.Model.{Model}
-use Rattle.model.specs.declared.Reading.{Reading}
-use Rattle.model.specs.declared.Reading.the-variants.{Good, Refused as Unread}
+use Rattle.model.specs.declared.Reading.the-variants.{Good}
 use Rattle.features.specs.declared.Sound.{Sound}
 use Rattle.features.specs.declared.Sound.the-variants as sound
 use Rattle.frame.specs.Heard.{Featured, Rnn, Spoken}
 use Rattle.frame.specs.declared.Reply.{Reply}
-use Rattle.frame.specs.declared.Reply.the-variants.{Done, Silent, Heard, Refused, Misread}
-
--- refusals 7 and 8, or done
-unfoldable pub checked : (Model → Bool) → Reading → Reply
-checked same (Unread n l) = Misread n l
-checked same (Good m) = cond (same m) Done (Refused 8)
+use Rattle.frame.specs.declared.Reply.the-variants.{Silent, Heard, Refused}
 
 -- what holds of the model, where its bytes read
 abbrev pub Reads : List ℕ → (Model → Type 0) → Type 0

@@ -1,13 +1,13 @@
 -- The law of request 08 over one share: accepted, a half is its two calls, one after the other, with those spectra lent. Assumes nothing.
 use Prim.Native.Nat.{ℕ}
-use mathlib.Core.Bool.{Bool, true, false, cond}
+use mathlib.Core.Bool.{Bool, true, false, cond, false≢true}
 use mathlib.Core.List.{List, [], _∷_}
 use mathlib.Core.Path.{_≡_, refl, sym, ap, _∙_}
 use lib.Dec.{ltb}
 use lib.ListN.{length, drop}
 use lib.Ieee.{Float}
 use Rattle.rules.specs.Refusals.{_when_, wrong}
-use Rattle.rules.proofs.Refused.{Right, Clear, right, by-rows}
+use Rattle.rules.proofs.Refused.{Right, right, by-rows}
 use Rattle.transforms.specs.Transform.{forwardOf, inverseOf}
 use Rattle.frame.specs.declared.Reply.{Reply}
 use Rattle.frame.specs.declared.Reply.the-variants.{Refused}
@@ -16,7 +16,6 @@ use Rattle.frame.specs.Share.{PART}
 use Rattle.frame.specs.Frame.{Effect, refusal, call1, call3, done4, call4}
 use Rattle.frame.proofs.Done.{call4-done}
 use Rattle.frame.proofs.Keeps.{call3-keeps}
-use Rattle.frame.proofs.Truth.{false-true}
 use Rattle.halves.specs.Own.{call2Own}
 use Rattle.halves.specs.Halves.{onward, buffer, analysed, firstHalf, lookedBack, synthesised, secondHalf}
 use Rattle.halves.proofs.Onward.{length-inverse}
@@ -40,7 +39,7 @@ module _ (share : List Float) where
     pub first-half-is : passed (firstHalf share samples sums .reply) ≡ true → Both one two (firstHalf share samples sums) (two .reply) (drop 1 (two .written))
     unfolding firstHalf
     first-half-is =
-        by-rows (λ n. refusal (Refused n) share) (onward one second) Claim (5 when wrong lengths ∷ []) (λ n e. absurd (false-true e)) (λ _. go (passed (one .reply)) refl)
+        by-rows (λ n. refusal (Refused n) share) (onward one second) Claim (5 when wrong lengths ∷ []) (λ n e. absurd (false≢true e)) (λ _. go (passed (one .reply)) refl)
       where
         lengths : List (ℕ × ℕ)
         lengths = (length share, PART) ∷ (length samples, 480) ∷ (sums, 22) ∷ []
@@ -53,7 +52,7 @@ module _ (share : List Float) where
 
         go : (t : Bool) → passed (one .reply) ≡ t → Claim (cond t (second one) one)
         go true e p = record { first = e; last = p; replies = refl; shares = refl; writes = refl }
-        go false e p = absurd (false-true (sym e ∙ p))
+        go false e p = absurd (false≢true (sym e ∙ p))
 
   module _ (index vad noise denoise : ℕ) (logs : List Float) (model : List ℕ) (out : ℕ) where
     abbrev three : Effect
@@ -68,7 +67,7 @@ module _ (share : List Float) where
           → Both three four (secondHalf share index vad noise denoise logs model out) (three .reply) (four .written)
       unfolding secondHalf
       second-half-is =
-          by-rows (λ n. refusal (Refused n) share) (onward three second) Claim (5 when wrong lengths ∷ 5 when ltb 7 index ∷ []) (λ n e. absurd (false-true e))
+          by-rows (λ n. refusal (Refused n) share) (onward three second) Claim (5 when wrong lengths ∷ 5 when ltb 7 index ∷ []) (λ n e. absurd (false≢true e))
           (λ c. go (passed (three .reply)) refl (right lengths (c .0)))
         where
           lengths : List (ℕ × ℕ)
@@ -92,4 +91,4 @@ module _ (share : List Float) where
                 shares = ap (λ (f : Effect). f .share) (done 0 0) ∙ sym (ap (λ (f : Effect). f .share) (done frame heard));
                 writes = ap (λ (f : Effect). f .written) (done 0 0) ∙ sym (ap (λ (f : Effect). f .written) (done frame heard));
               }
-          go false e r p = absurd (false-true (sym e ∙ p))
+          go false e r p = absurd (false≢true (sym e ∙ p))

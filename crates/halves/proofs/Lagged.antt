@@ -5,7 +5,7 @@
 use Prim.Native.Nat.{ℕ, zero, suc, _+_, _-_, _*_, _≤_, _<_, min}
 use native.Mathlib.Nat.{mul-one, mul-right-comm, mul-lt-mul-of-pos-right}
 use native.Mathlib.Omega.{arith}
-use mathlib.Core.Bool.{Bool, true, false, cond, true≢false}
+use mathlib.Core.Bool.{Bool, true, false, cond, true≢false, false≢true}
 use mathlib.Core.List.{List, [], _∷_}
 use mathlib.Core.Logic.{inr}
 use mathlib.Core.Path.{_≡_, refl, sym, ap, _∙_}
@@ -32,10 +32,9 @@ use Rattle.frame.specs.declared.Reply.the-variants.{Refused}
 use Rattle.frame.specs.Reply.{passed}
 use Rattle.frame.specs.Share.{PART, inputMem, keptX, keptEx, keptLag}
 use Rattle.frame.specs.Heard.{scaled, energies}
-use Rattle.frame.specs.Frame.{Effect, refusal, recent, putKept, done2, call2}
+use Rattle.frame.specs.Frame.{refusal, recent, putKept, done2, call2}
 use Rattle.frame.proofs.Beside.{done2-beside}
 use Rattle.frame.proofs.Sizes.{lag-at, looked-at}
-use Rattle.frame.proofs.Truth.{false-true}
 use Rattle.halves.specs.Own.{call2Own}
 use Rattle.halves.specs.Halves.{buffer, lagStep, wholeLag, lookedBack}
 
@@ -130,7 +129,7 @@ pub same-window : (share spectrum : List Float) (lag window sums : ℕ) → let 
 unfolding call2
 same-window share spectrum lag window sums =
     by-rows (λ n. refusal (Refused n) share) (done2 share spectrum lag) (λ f. passed (f .reply) ≡ true → lookedBack (f .share) ≡ buffer f)
-    (5 when wrong lengths ∷ 6 when ltb 768 lag ∷ []) (λ n e. absurd (false-true e))
+    (5 when wrong lengths ∷ 6 when ltb 768 lag ∷ []) (λ n e. absurd (false≢true e))
     (λ c _. looks-at share spectrum lag (right lengths (c .0) .0) (ltb-false 768 lag (c .1 .0)))
   where
     lengths : List (ℕ × ℕ)

@@ -10,7 +10,7 @@ use Rattle.rules.proofs.Tabs.{length-tab}
 use Rattle.transforms.specs.Transform.{forwardOf, inverseOf}
 use Rattle.frame.specs.declared.Reply.{Reply}
 use Rattle.frame.specs.declared.Reply.the-variants.{Refused}
-use Rattle.frame.specs.Reply.{passed, left}
+use Rattle.frame.specs.Reply.{passed}
 use Rattle.frame.specs.Share.{PART}
 use Rattle.frame.specs.Frame.{Effect, Worked, refusal, call1, call3, call4}
 use Rattle.frame.proofs.Done.{call4-done, or-true}

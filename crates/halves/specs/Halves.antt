@@ -10,7 +10,7 @@ use lib.Ieee.{Float, binary32, ofInt, le}
 use Rattle.rules.specs.F32.{at}
 use Rattle.rules.specs.Loop.{range}
 use Rattle.rules.specs.Place.{get}
-use Rattle.rules.specs.Refusals.{Row, _when_, wrong}
+use Rattle.rules.specs.Refusals.{_when_, wrong}
 use Rattle.bands.specs.Windowed.{windowed}
 use Rattle.transforms.specs.Transform.{forwardOf, inverseOf}
 use Rattle.frame.specs.Share.{PART, inputMem, keptLag}

@@ -56,7 +56,7 @@ module _ (n : ℕ) {h : HostState} {st : State} (same : Same h st) (c : Call) wh
   asks = rw (same .records (c .side), same .stores, reads (st .rec (c .side)))
 
   -- a refusal leaves the record
-  back : handedBack (hostGiven n h c) (h .numbers (c .side)) ≡ numbersOf (o .answer .rec)
+  back : handedBack (hostGiven n h c .answer) (h .numbers (c .side)) ≡ numbersOf (o .answer .rec)
   back = rw (asks, same .records (c .side)) (go (passed (o .answer .reply)) refl)
     where
       go : (t : Bool) → passed (o .answer .reply) ≡ t → cond t (numbersOf (o .answer .rec)) (numbersOf (st .rec (c .side))) ≡ numbersOf (o .answer .rec)

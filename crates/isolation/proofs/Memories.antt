@@ -5,7 +5,7 @@
 -- Assumes nothing.
 use Prim.Native.Nat.{ℕ, _+_, _*_, _<_}
 use native.Mathlib.Omega.{arith}
-use mathlib.Core.Bool.{Bool, true, false, cond, _&&_}
+use mathlib.Core.Bool.{Bool, true, false, cond, _&&_, false≢true}
 use mathlib.Core.List.{List, [], _∷_, _++_}
 use mathlib.Core.Logic.{⊎-elim}
 use mathlib.Core.Path.{_≡_, refl, sym, ap, ap₂, _∙_}
@@ -20,7 +20,6 @@ use Rattle.frame.specs.Reply.{passed}
 use Rattle.frame.specs.Share.{SHARE}
 use Rattle.frame.specs.declared.Reply.{Reply}
 use Rattle.frame.specs.declared.Reply.the-variants.{Done, Silent, Heard, Numbered, Refused, Misread}
-use Rattle.frame.proofs.Truth.{false-true}
 use Rattle.desk.specs.declared.Answer.{Answer}
 use Rattle.desk.specs.Gate.{shareOf}
 use Rattle.desk.specs.Desk.{callOf, Given, desk}
@@ -215,7 +214,7 @@ unfolding faded
 heard-holds n s inside st h c e v x r i band =
     let k = since n s inside st h in
     let told : isHeard (lone n s inside st (k .1) c e .answer .reply) ≡ true = ap isHeard (sym (ap (λ (a : Answer). a .reply) (replied n s inside st (k .1) c e)) ∙ r) in
-    ⊎-elim (λ o. absurd (false-true (sym (o .unheard) ∙ told)))
+    ⊎-elim (λ o. absurd (false≢true (sym (o .unheard) ∙ told)))
     (λ t.
     let m = own-moves n s inside st (k .1) c e t in
     let single : counted n s inside st c ≡ 1 = rw (eq-eqb (c .side) s e, ap isHeard r) in

@@ -4,13 +4,13 @@
 --     numbering       what specs/Numbering.antt claims
 --     last-frame      after 4,294,967,295 comes 0
 -- Assumes nothing.
-use Prim.Native.Nat.{ℕ, _+_, _-_, _*_, _%_, _<_}
+use Prim.Native.Nat.{ℕ, _+_, _-_, _*_, _%_}
 use native.Mathlib.Nat.{zero-add}
 use native.Mathlib.Omega.{arith}
-use mathlib.Core.Bool.{Bool, true, false, cond, _&&_}
+use mathlib.Core.Bool.{Bool, true, false, cond, _&&_, false≢true}
 use mathlib.Core.List.{List, [], _∷_, _++_}
-use mathlib.Core.Path.{_≡_, refl, sym, ap, _∙_}
-use borrow.Author.Tests.{eq-eqb, ne-eqb, eqb-true, eqb-false, ltb-true, ltb-false}
+use mathlib.Core.Path.{_≡_, refl, sym, _∙_}
+use borrow.Author.Tests.{eq-eqb, eqb-true, ltb-true, ltb-false}
 use lib.Dec.{eqb, ltb}
 use lib.ListN.{length, drop}
 use lib.Ieee.{Float}
@@ -20,22 +20,21 @@ use Rattle.model.specs.Model.{readOf}
 use Rattle.model.specs.declared.Reading.{Reading}
 use Rattle.model.specs.declared.Reading.the-variants.{Good, Refused as Unread}
 use Rattle.frame.specs.Reply.{passed, oneMore}
-use Rattle.frame.specs.Share.{SHARE}
 use Rattle.frame.specs.Frame.{Effect}
 use Rattle.frame.specs.declared.Reply.{Reply}
 use Rattle.frame.specs.declared.Reply.the-variants.{Done, Refused}
 use Rattle.frame.proofs.Cases.{call1-by, call2-by, call3-by, call4-by}
-use Rattle.frame.proofs.Truth.{false-true}
 use Rattle.halves.specs.Halves.{buffer}
 use Rattle.halves.specs.Halves as halves
 use Rattle.halves.proofs.Cases.{first-half-by, second-half-by}
 use Rattle.halves.proofs.Sister.{call2-own-by}
-use Rattle.pieces.specs.Pieces.{Outcome, framePart, waitingIn, waits, frameOf, refused}
+use Rattle.pieces.specs.Pieces.{framePart, waitingIn, waits, frameAt, refused}
 use Rattle.pieces.proofs.Cases.{piece-by, resume-by}
 use Rattle.pieces.proofs.Kept.{further-reply}
 use Rattle.desk.specs.declared.Record.{Record}
 use Rattle.desk.specs.Gate.{gate, shareOf}
-use Rattle.desk.specs.Desk.{Ask, opening, call1, call2, call2Own, call3, call4, firstHalf, secondHalf, piece, resume, callOf, lastOf, holding, advanced, numbered, carried, started, answered, opened, onShare, desk}
+use Rattle.desk.specs.Desk.{Ask, opening, call1, call2, call2Own, call3, call4, firstHalf, secondHalf, piece, resume, callOf, lastOf, carried, started, answered, opened, onShare, desk}
+use Rattle.desk.proofs.Leaves.{carried-leaves}
 use Rattle.isolation.specs.Run.{Call, openingOf, State, given, after, ended}
 use Rattle.isolation.specs.Numbering.{endsFrame, hears, howMany, Unopened, Numbering}
 
@@ -65,20 +64,18 @@ uncounted b ask n = both (rw (no (eqb (lastOf ask) 4))) refl
     no false = refl
 
 -- a piece moves neither number
-carried-numbers : (r : Record) (rest size progress : ℕ) → (carried r rest size progress .frame ≡ r .frame) × (carried r rest size progress .heard ≡ r .heard)
-unfolding carried
-carried-numbers r rest size progress = go (ltb rest 480)
-  where
-    go : (t : Bool) → let c = cond t (holding 1 r rest 0 0) (holding 3 r 0 size progress) in (c .frame ≡ r .frame) × (c .heard ≡ r .heard)
-    go true = (refl, refl)
-    go false = (refl, refl)
+same-frame : (r : Record) (rest size progress : ℕ) → carried r rest size progress .frame ≡ r .frame
+same-frame r = carried-leaves (λ (x : Record). x .frame) r (λ _ _ _ _. refl)
+
+same-heard : (r : Record) (rest size progress : ℕ) → carried r rest size progress .heard ≡ r .heard
+same-heard r = carried-leaves (λ (x : Record). x .heard) r (λ _ _ _ _. refl)
 
 module _ (b : Record) (share : List Float) where
   frame-step : (ask : Ask) → (callOf ask ≡ 0 → passed (onShare b share ask .reply) ≡ false) → Counted b ask (onShare b share ask .reply)
   frame-step (opening m) shut = go (readOf m) (shut refl)
     where
       go : (r : Reading) → passed (opened share r .reply) ≡ false → Counted b (opening m) (opened share r .reply)
-      go (Good k) e = absurd (false-true (sym e))
+      go (Good k) e = absurd (false≢true (sym e))
       go (Unread n l) e = both refl refl
   frame-step (call1 x w) shut = call1-by (get framePart share) (CountedOf b (call1 x w)) (uncounted b (call1 x w)) x w (λ _ _. both refl refl)
   frame-step (call2 x l w s) shut = call2-by (get framePart share) (CountedOf b (call2 x l w s)) (uncounted b (call2 x l w s)) x l w s (λ _. both refl refl)
@@ -94,15 +91,15 @@ module _ (b : Record) (share : List Float) where
       (λ _ _ _. both refl refl) (λ _. both refl refl) (λ _ _ _ _ _. both refl refl)
   frame-step (piece x o s) shut =
       piece-by share (λ f. Counted b (piece x o s) (f .reply)) (uncounted b (piece x o s)) (b .waiting) x o s
-      (λ _. rw (further-reply Done (waits share []) (waitingIn (b .waiting) share ++ x) nothing) (both (carried-numbers b _ _ _ .0) (carried-numbers b _ _ _ .1)))
+      (λ _. rw (further-reply Done (waits share []) (waitingIn (b .waiting) share ++ x) nothing) (both (same-frame b _ _ _) (same-heard b _ _ _)))
   frame-step (resume x l m o s) shut =
       resume-by share (λ f. Counted b (resume x l m o s) (f .reply)) (uncounted b (resume x l m o s)) (b .index) (b .vad) (b .noise) (b .denoise) (b .piece) (b .progress) x l m o s
       (λ _ _ _. both refl refl)
       (λ _.
       let h = halves.secondHalf (get framePart share) (b .index) (b .vad) (b .noise) (b .denoise) l m 480 in
-      rw (further-reply (h .reply) (put framePart share (h .share)) (drop (b .progress) x) (from (480 * (frameOf (b .progress) - 1)) (buffer h)))
+      rw (further-reply (h .reply) (put framePart share (h .share)) (drop (b .progress) x) (from (480 * (frameAt (b .progress) - 1)) (buffer h)))
       (second-half-by (get framePart share) (CountedOf b (resume x l m o s)) (uncounted b (resume x l m o s)) (b .index) (b .vad) (b .noise) (b .denoise) l m 480
-      (λ _ _ _. both refl refl) (λ _. both (carried-numbers _ _ _ _ .0) (carried-numbers _ _ _ _ .1)) (λ _ _ _ _ _. both (carried-numbers _ _ _ _ .0) (carried-numbers _ _ _ _ .1))))
+      (λ _ _ _. both refl refl) (λ _. both (same-frame _ _ _ _) (same-heard _ _ _ _)) (λ _ _ _ _ _. both (same-frame _ _ _ _) (same-heard _ _ _ _))))
 
 step : (n side : ℕ) (b : Record) (store : List Float) (ask : Ask)
     → (callOf ask ≡ 0 → passed (desk n side b store ask .answer .reply) ≡ false)
@@ -192,8 +189,8 @@ from-0 n s b store m = go (eqb (gate n s b (length store) 0) 0) (readOf m)
         → let reply = cond t (opened share r) (refused (Refused (gate n s b (length store) 0)) share) .reply in
         passed reply ≡ true → (cond (passed reply) (started b r) b .frame ≡ 0) × (cond (passed reply) (started b r) b .heard ≡ 0)
     go true (Good k) p = (refl, refl)
-    go true (Unread i l) p = absurd (false-true p)
-    go false r p = absurd (false-true p)
+    go true (Unread i l) p = absurd (false≢true p)
+    go false r p = absurd (false≢true p)
 
 pub numbering : (n : ℕ) → Numbering n
 numbering n s h st l model done calls u =

@@ -34,7 +34,7 @@ pub record Returned : Type 0 where
 abbrev pub returned : ℕ → HostState → Call → Returned
 returned n h c =
     let o = hostGiven n h c in
-    record { number = replyNumber (o .answer .reply); numbers = handedBack o (h .numbers (c .side)); written = o .written }
+    record { number = replyNumber (o .answer .reply); numbers = handedBack (o .answer) (h .numbers (c .side)); written = o .written }
 
 abbrev pub hostAfter : ℕ → HostState → Call → HostState
 hostAfter n h c =

@@ -5,7 +5,7 @@ use Prim.Native.Nat.{ℕ, zero, suc, _+_, _-_, _*_, _/_, _%_, _^_, _≤_, _<_}
 use native.Mathlib.Nat.{le-trans, lt-of-le-of-lt, lt-of-lt-of-le, mul-le-mul, mul-assoc, mul-right-comm, mul-div-cancel, eq-of-mul-eq-mul-right}
 use native.Mathlib.Omega.{arith}
 use lib.Dec.{T, lit<, lit≤}
-use lib.IntN.{ℤ, pos, negsuc, natAbs, _+ℤ_, _-ℤ_, _*ℤ_}
+use lib.IntN.{ℤ, pos, natAbs, _-ℤ_, _*ℤ_}
 use lib.Pow.{pow-add, pow-pos, pow-mono, shl-lt}
 use lib.Ieee.{Float, nan, inf, fin, binary32, binary64, up, down, size, fits, ofInt, ofBits, toBits}
 use lib.Ieee.Back.{round-whole}
@@ -16,7 +16,7 @@ use lib.Ieee.Fits.{fits-widens, down-pos}
 use lib.Ieee.Positive.{positive}
 use Rattle.numbers.proofs.Held.{fits-says, place}
 use Rattle.numbers.proofs.Pattern.{pattern-value}
-use Rattle.rules.specs.F64.{f64, _*₆₄_, _-₆₄_}
+use Rattle.rules.specs.F64.{f64, _*₆₄_}
 use Rattle.logs.specs.Tables.{rowAt, twoHigh}
 use Rattle.logs.specs.Log10.{exponentOf, mantissaOf, rowOf, restOf, highOf}
 use Rattle.logs.specs.Exact.{Exactly, wholes, digitsOf, RestExact, HighExact, Exact}

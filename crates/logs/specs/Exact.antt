@@ -1,12 +1,9 @@
 -- The constants' rule, and the steps that lose nothing. An f64 is exactly z / c, for a whole number z; zero is +0.
-use mathlib.Core.Path.{_≡_}
 use Prim.Native.Nat.{ℕ, suc, _+_, _*_, _/_, _%_, _^_, _≤_}
 use mathlib.Core.Bool.{true, false}
-use lib.Dec.{T}
 use lib.IntN.{ℤ, pos, negsuc, _+ℤ_, _-ℤ_, _*ℤ_}
-use lib.Ieee.{Float, nan, inf, fin, binary32, binary64, up, down, fits, toBits}
+use lib.Ieee.{Float, nan, inf, fin, binary64, up, down, toBits}
 use lib.Ieee.Exact.{HasValue}
-use lib.Ieee.Positive.{positive}
 use Rattle.logs.specs.Tables.{rowAt, twoHigh}
 use Rattle.logs.specs.Log10.{rowOf, restOf, highOf}
 

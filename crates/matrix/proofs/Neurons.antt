@@ -1,12 +1,11 @@
 -- A multiply-add sum by sum: what its columns leave at a place, and what each of sixteen sums is. Assumes nothing.
 use mathlib.Core.Path.{_≡_, refl, sym, ap, _∙_}
 use mathlib.Core.List.{List, [], _∷_, _++_, append-nil, append-assoc}
-use mathlib.Core.Logic.{⊎-elim}
 use Prim.Native.Nat.{ℕ, zero, suc, _+_, _-_, _*_, _/_, _%_, _≤_, _<_}
-use native.Mathlib.Nat.{eq-or-lt-of-le, le-of-suc-le-suc, add-zero, add-suc}
+use native.Mathlib.Nat.{add-zero, add-suc}
 use native.Mathlib.Omega.{arith}
-use lib.ListN.{length, getD, set, take, drop, length-set, length-drop, drop-of-length-le}
-use lib.Seq.{getD-set-same, getD-set-other, getD-take, getD-drop, ext-getD, length-take-le, take-all, take-at, drop-at}
+use lib.ListN.{length, getD, take, drop, length-drop, drop-of-length-le}
+use lib.Seq.{getD-take, getD-drop, ext-getD, length-take-le, take-all, take-at, drop-at}
 use lib.Ieee.{Float, nan}
 use Rattle.rules.specs.F32.{at, part, _⊕_, _⊗_}
 use Rattle.rules.specs.Loop.{loop}
@@ -15,7 +14,7 @@ use Rattle.rules.proofs.Loops.{more}
 use Rattle.rules.proofs.Lengths.{same-length}
 use Rattle.rules.proofs.Fused.{behind}
 use Rattle.rules.proofs.Tabs.{length-tab, getD-tab, tab-same, tab-four-more}
-use Rattle.matrix.specs.Sums.{ofByte, columnStep, addColumn, mulStep, mulAdd, MulAddFits}
+use Rattle.matrix.specs.Sums.{ofByte, addColumn, mulStep, mulAdd, MulAddFits}
 use Rattle.matrix.specs.Parts.{addedAt, plusFour, plusSixteen, sixteenSums, fourAt, sixteenAt, neuron, spot, storeFour}
 use Rattle.matrix.specs.declared.lanes.Sixteen.{Sixteen}
 use Rattle.matrix.proofs.Columns.{byte-of}

@@ -8,7 +8,7 @@
 use Prim.Native.Nat.{ℕ, _+_, _-_, _*_, _≤_}
 use native.Mathlib.Nat.{zero-add}
 use native.Mathlib.Omega.{arith}
-use mathlib.Core.Bool.{Bool, true, false, cond}
+use mathlib.Core.Bool.{Bool, true, false, cond, false≢true}
 use mathlib.Core.List.{List, [], _∷_, _++_}
 use mathlib.Core.Logic.{_⊎_, inl, inr}
 use mathlib.Core.Path.{_≡_, refl, sym, ap, ap₂, subst, _∙_}
@@ -21,7 +21,7 @@ use lib.Ieee.{Float, binary32, ofInt}
 use Rattle.rules.specs.F32.{at, f32}
 use Rattle.rules.specs.Place.{Place, get, put}
 use Rattle.rules.specs.Written.{Written, from, nothing}
-use Rattle.rules.proofs.Places.{length-get, length-put, get-get, get-put, get-put-apart}
+use Rattle.rules.proofs.Places.{length-put, get-get, get-put, get-put-apart}
 use Rattle.rules.proofs.Tabs.{length-tab}
 use Rattle.bands.proofs.Results.{length-corr}
 use Rattle.model.specs.Model.{readOf}
@@ -36,29 +36,29 @@ use Rattle.frame.specs.Heard.{scaled, energies, spoken}
 use Rattle.frame.specs.Frame.{Effect, done1, putKept, done4}
 use Rattle.frame.specs.Frame as frame
 use Rattle.frame.specs.declared.Reply.{Reply}
-use Rattle.frame.specs.declared.Reply.the-variants.{Done, Silent, Heard, Refused, Misread}
+use Rattle.frame.specs.declared.Reply.the-variants.{Done, Silent, Heard, Refused}
 use Rattle.frame.proofs.Keeps.{Keeps, end, call1-keeps, call2-keeps, call3-keeps, call4-keeps}
 use Rattle.frame.proofs.Beside.{Beside, AllApart, done1-beside, done2-beside, done3-beside, done4-beside}
 use Rattle.frame.proofs.Cases.{call1-by, call2-by, call3-by, call4-by}
-use Rattle.frame.proofs.Truth.{false-true}
 use Rattle.halves.specs.Halves.{buffer, lookedBack}
 use Rattle.halves.specs.Halves as halves
 use Rattle.halves.proofs.Sister.{call2-own-by, call2-own-keeps}
 use Rattle.halves.proofs.Cases.{doneFirst, doneSecond, whole-after-1, first-half-by, second-half-by}
 use Rattle.halves.proofs.Kept.{done-first-beside, done-second-beside, first-half-keeps, second-half-keeps}
-use Rattle.pieces.specs.Pieces.{framePart, waitingIn, waits, frameOf, Outcome, refused, inPart, ended, paused, further}
+use Rattle.pieces.specs.Pieces.{framePart, waitingIn, waits, frameAt, Outcome, refused, inPart, atEnd, paused, further}
 use Rattle.pieces.specs.Pieces as pieces
 use Rattle.pieces.proofs.Cases.{piece-by, resume-by}
-use Rattle.pieces.proofs.Goods.{good-append, good-take, good-drop, good-get}
+use Rattle.pieces.proofs.Goods.{good-append, good-take, good-drop}
 use Rattle.pieces.proofs.Halved.{first-passes, second-passes}
-use Rattle.pieces.proofs.Kept.{further-length, further-reply, piece-kept, resume-kept}
+use Rattle.pieces.proofs.Kept.{further-reply, piece-kept, resume-kept}
 use Rattle.pieces.proofs.Shares.{part-length, waits-length, frame-waits, frame-length, frame-back}
 use Rattle.desk.specs.declared.Record.{Record}
 use Rattle.desk.specs.Gate.{gate}
-use Rattle.desk.specs.Desk.{Ask, opening, call1, call2, call2Own, call3, call4, firstHalf, secondHalf, piece, resume, callOf, holding, advanced, numbered, carried, answered, opened, onShare, Given, desk}
+use Rattle.desk.specs.Desk.{Ask, opening, call1, call2, call2Own, call3, call4, firstHalf, secondHalf, piece, resume, callOf, advanced, numbered, carried, answered, opened, onShare, Given, desk}
 use Rattle.desk.proofs.Apart.{givenOf, one-bench}
+use Rattle.desk.proofs.Leaves.{carried-leaves}
 use Rattle.memory.specs.Hear.{blank, HeardFrame, heardAll}
-use Rattle.memory.specs.Brought.{recalledIn, isHeard, Noted, unnoted, noting, firstNotes, secondHears, restNotes, brought}
+use Rattle.memory.specs.Brought.{recalledIn, isHeard, Noted, unnoted, noting, firstNotes, restNotes, brought}
 use Rattle.memory.proofs.Heard.{notedIn, heard-frame}
 
 -- ---- what is left alone
@@ -257,7 +257,7 @@ module _ (b : Record) (share : List Float) (whole : length share ≡ SHARE) wher
   first-notes : (index : ℕ) (q x : List Float) → passed (halves.firstHalf q x 22 .reply) ≡ true
       → let f = halves.firstHalf q x 22 in (recalledIn index (f .share) ≡ recalledIn index q) × (notedIn (f .share) ≡ firstNotes q x)
   first-notes index q x =
-      first-half-by q (λ f. passed (f .reply) ≡ true → (recalledIn index (f .share) ≡ recalledIn index q) × (notedIn (f .share) ≡ firstNotes q x)) (λ n e. absurd (false-true e)) x 22
+      first-half-by q (λ f. passed (f .reply) ≡ true → (recalledIn index (f .share) ≡ recalledIn index q) × (notedIn (f .share) ≡ firstNotes q x)) (λ n e. absurd (false≢true e)) x 22
       (λ sized l _. let a = done1 q x in (
         same-recalled index q (doneFirst q x .share)
             (λ p h. done-first-beside p q x (inl (omega arith), (inl (omega arith), (inl (omega arith), (inl (omega arith), (inl (omega arith), tt))))) sized l .same),
@@ -271,7 +271,7 @@ module _ (b : Record) (share : List Float) (whole : length share ≡ SHARE) wher
   rest-notes index reply mid rest w l g = go (ltb (length rest) 480) refl
     where
       go : (t : Bool) → ltb (length rest) 480 ≡ t
-          → let o = cond t (ended reply mid rest w) (paused reply mid rest w) in
+          → let o = cond t (atEnd reply mid rest w) (paused reply mid rest w) in
           (recalledIn index (get framePart (o .share)) ≡ recalledIn index (get framePart mid))
           × (notedIn (get framePart (o .share)) ≡ cond t (notedIn (get framePart mid)) (firstNotes (get framePart mid) (take 480 rest)))
       go true e = (ap (recalledIn index) (frame-waits mid l rest), ap notedIn (frame-waits mid l rest))
@@ -285,12 +285,7 @@ module _ (b : Record) (share : List Float) (whole : length share ≡ SHARE) wher
 
   -- a piece moves no index
   carried-index : (r : Record) (rest size progress : ℕ) → carried r rest size progress .index ≡ r .index
-  unfolding carried
-  carried-index r rest size progress = go (ltb rest 480)
-    where
-      go : (t : Bool) → cond t (holding 1 r rest 0 0) (holding 3 r 0 size progress) .index ≡ r .index
-      go true = refl
-      go false = refl
+  carried-index r = carried-leaves (λ (x : Record). x .index) r (λ _ _ _ _. refl)
 
   piece-leaves : (x : List Float) (o s : ℕ) → let f = pieces.piece share (b .waiting) x o s in Leaves (piece x o s) (f .reply) (get framePart (f .share))
   unfolding heardAll
@@ -321,7 +316,7 @@ module _ (b : Record) (share : List Float) (whole : length share ≡ SHARE) wher
       let c = second-half-leaves l m 480 in
       let mid = put framePart share (h .share) in
       let rest = drop (b .progress) x in
-      let w = from (480 * (frameOf (b .progress) - 1)) (buffer h) in
+      let w = from (480 * (frameAt (b .progress) - 1)) (buffer h) in
       let next = numbered (advanced b (h .reply)) in
       let n = rest-notes (next .index) (h .reply) mid rest w (frame-length share whole (h .share) (p .part)) (good-drop (b .progress) x (k .fine)) in
       let same = frame-back share whole (h .share) (p .part) in
@@ -340,7 +335,7 @@ module _ (b : Record) (share : List Float) (whole : length share ≡ SHARE) wher
   on-share (opening m) shut = go (readOf m) (shut refl)
     where
       go : (r : Reading) → passed (opened share r .reply) ≡ false → Remembers b share (opening m) (givenOf b (opening m) (opened share r))
-      go (Good k) e = absurd (false-true (sym e))
+      go (Good k) e = absurd (false≢true (sym e))
       go (Unread n l) e = record { recalls = refl; notes = refl; counts = refl }
   on-share (call1 x w) shut = in-part (call1 x w) _ (call1-keeps part x w) (call1-leaves x w)
   on-share (call2 x l w s) shut = in-part (call2 x l w s) _ (call2-keeps part x l w s) (call2-leaves x l w s)
@@ -398,11 +393,11 @@ module _ (b : Record) (share : List Float) (whole : length share ≡ SHARE) (ask
 pub opens : (b : Record) (share : List Float) → length share ≡ SHARE → (m : List ℕ)
     → passed (desk 1 0 b share (opening m) .answer .reply) ≡ true → Opens (desk 1 0 b share (opening m))
 opens b share whole m =
-    by-gate b share whole (opening m) (λ o. passed (o .answer .reply) ≡ true → Opens o) (λ e. absurd (false-true e)) (go (readOf m) refl)
+    by-gate b share whole (opening m) (λ o. passed (o .answer .reply) ≡ true → Opens o) (λ e. absurd (false≢true e)) (go (readOf m) refl)
   where
     go : (r : Reading) → readOf m ≡ r → passed (opened share r .reply) ≡ true → Opens (givenOf b (opening m) (opened share r))
     go (Good k) e p = let w = wiped SHARE (omega arith) in rw e (record { forgets = w .0; unnotes = w .1; unheard = refl })
-    go (Unread n l) e p = absurd (false-true p)
+    go (Unread n l) e p = absurd (false≢true p)
 
 -- there is no third way
 pub either : (b : Record) (share : List Float) → length share ≡ SHARE → (ask : Ask) → Opens (desk 1 0 b share ask) ⊎ Remembers b share ask (desk 1 0 b share ask)

@@ -6,7 +6,7 @@
 use Prim.Native.Nat.{ℕ, zero, suc, _+_, _*_, _^_, _≤_, _<_}
 use native.Mathlib.Nat.{le-of-lt, le-of-eq, eq-or-lt-of-le, eq-of-mul-eq-mul-right, mul-mul-mul-comm, mul-le-mul-left, mul-pos, zero-mul, mul-zero}
 use native.Mathlib.Omega.{arith}
-use mathlib.Core.Bool.{Bool, true, false, cond, not, _&&_, _||_, Bool·not-not}
+use mathlib.Core.Bool.{Bool, true, false, cond, not, _&&_, _||_, Bool·not-not, false≢true}
 use mathlib.Core.Logic.{_⊎_, inl, inr}
 use mathlib.Core.Path.{_≡_, refl, sym, _∙_}
 use lib.Dec.{T, eqb, ltb, eqb-refl, eqb·suc-zero, eqb→eq, ltb→lt, lt→ltb}
@@ -18,7 +18,6 @@ use lib.Ieee.Fits.{and-l, and-r, down-pos}
 use lib.Ieee.Order.{round-mono}
 use lib.Ieee.Positive.{through}
 use Rattle.features.specs.Gains.{sixTenths}
-use Rattle.frame.proofs.Truth.{false-true}
 
 -- ---- the order as one of signed fractions
 
@@ -296,7 +295,7 @@ module _ (f : Format) (k : ℕ) (w : ℤ) where
 
 T-of : (t : Bool) → t ≡ true → T t
 T-of true e = tt
-T-of false e = absurd (false-true e)
+T-of false e = absurd (false≢true e)
 
 of-T : (t : Bool) → T t → t ≡ true
 of-T true h = refl
@@ -304,7 +303,7 @@ of-T false h = absurd h
 
 pub le-refl : (x : Float) → isNan x ≡ false → le x x ≡ true
 unfolding isNan
-le-refl nan h = absurd (false-true (sym h))
+le-refl nan h = absurd (false≢true (sym h))
 le-refl (inf true) h = of-T _ (is-le (inf true) (inf true) tt)
 le-refl (inf false) h = of-T _ (is-le (inf false) (inf false) tt)
 le-refl (fin true m e) h = of-T _ (is-le (fin true m e) (fin true m e) (le-of-eq refl))

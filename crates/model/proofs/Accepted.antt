@@ -19,7 +19,7 @@ use Rattle.model.specs.declared.Kind.{Kind}
 use Rattle.model.specs.Layer.{sum, activationOf, activationNumber}
 use Rattle.model.specs.Model.{kinds, mismatches}
 use Rattle.model.specs.Writer.{arraysOf, layersGiven, fileOf, layerFaults, inLayer, rowFaults, modelGiven, writerFaults, writeModel}
-use Rattle.model.specs.Parts.{faultIn, Few, ByteSized, headerBytes, layerBytes, threeBytes, over, Put}
+use Rattle.model.specs.Parts.{faultIn, Few, ByteSized, headerBytes, layerBytes, threeBytes, overwritten, Put}
 use Rattle.model.proofs.Rows.{Some, by-fault, by-its-fault, past, no-fault, shifted-clear, clear-both}
 use Rattle.model.proofs.Inverse.{number-of}
 
@@ -192,7 +192,7 @@ module _ (s : List ℕ) (x : Arrays) where
     refused-so some = rw (eq-eqb (length s) 18 eighteen, length-file) (sym (by-its-fault (λ n. n leaving out) _ (rows (length out)) e some))
 
     pub written-so : r ≡ 0 → {next : ℕ} {after : List ℕ} → Put 0 (head ++ tail) out next after → (0 leaving after) ≡ writeModel s arrays out
-    unfolding writeModel over
+    unfolding writeModel overwritten
     written-so none put =
         let a = no-refusal s (map length arrays) (18 + sum (map length arrays)) (length out) e none in
         let c = no-fault (rows (length out)) (some-faults s (map length arrays) (18 + sum (map length arrays)) (length out)) e none in

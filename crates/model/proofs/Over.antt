@@ -6,19 +6,19 @@ use native.Mathlib.Nat.{add-assoc}
 use native.Mathlib.Omega.{arith}
 use lib.ListN.{length, take, drop, length-append, length-take, length-drop}
 use lib.Seq.{take-length, take-at, drop-append-add, drop-drop, paste}
-use Rattle.model.specs.Parts.{over, Put}
+use Rattle.model.specs.Parts.{overwritten, Put}
 
-pub pasted : (out : List ℕ) (at : ℕ) (bytes : List ℕ) → paste out at bytes (length bytes) ≡ over out at bytes
-unfolding over
+pub pasted : (out : List ℕ) (at : ℕ) (bytes : List ℕ) → paste out at bytes (length bytes) ≡ overwritten out at bytes
+unfolding overwritten
 pasted out at bytes = rw (take-length bytes) (append-assoc (take at out) bytes (drop (at + length bytes) out))
 
-pub length-over : (out : List ℕ) (at : ℕ) (bytes : List ℕ) → at + length bytes ≤ length out → length (over out at bytes) ≡ length out
-unfolding over
+pub length-over : (out : List ℕ) (at : ℕ) (bytes : List ℕ) → at + length bytes ≤ length out → length (overwritten out at bytes) ≡ length out
+unfolding overwritten
 length-over out at bytes h = simp (length-append, length-take, length-drop) (omega arith)
 
 module _ (out : List ℕ) (at : ℕ) (xs ys : List ℕ) (fits : at + length xs ≤ length out) where
-  pub over-over : over (over out at xs) (at + length xs) ys ≡ over out at (xs ++ ys)
-  unfolding over
+  pub over-over : overwritten (overwritten out at xs) (at + length xs) ys ≡ overwritten out at (xs ++ ys)
+  unfolding overwritten
   over-over =
       let p = take at out ++ xs in
       let rest = drop (at + length xs) out in

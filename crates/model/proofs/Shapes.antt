@@ -1,14 +1,14 @@
 -- What holds of each model that reads: its layers lie within the file, and their counts go together. Assumes nothing.
-use mathlib.Core.Path.{_≡_, refl, subst}
-use mathlib.Core.Bool.{Bool, true, false, _||_}
+use mathlib.Core.Path.{_≡_, subst}
+use mathlib.Core.Bool.{false}
 use mathlib.Core.List.{List}
 use Prim.Native.Nat.{ℕ, _+_}
 use native.Mathlib.Nat.{le-refl}
-use native.Mathlib.Omega.{arith}
 use borrow.Author.Tests.{eqb-true, not-false}
 use lib.Dec.{eqb}
 use lib.ListN.{length}
 use Rattle.rules.proofs.Refused.{Clear}
+use Rattle.rules.proofs.Truth.{neither}
 use Rattle.model.specs.declared.Kind.the-variants.{Dense, Gru}
 use Rattle.model.specs.declared.Model.{Model}
 use Rattle.model.specs.declared.Reading.the-variants.{Good}
@@ -36,11 +36,6 @@ pub record Shaped (size : ℕ) (m : Model) : Type 0 where
 
 pub same : (a b : ℕ) → (a ≠ b) ≡ false → a ≡ b
 same a b h = eqb-true a b (not-false (eqb a b) h)
-
-pub neither : (t u : Bool) → (t || u) ≡ false → (t ≡ false) × (u ≡ false)
-neither false false h = (refl, refl)
-neither true u h = absurd (let z : _≡_ {A = ℕ} 0 1 = cc in omega arith)
-neither false true h = absurd (let z : _≡_ {A = ℕ} 0 1 = cc in omega arith)
 
 pub shape : (s : List ℕ) (m : Model) → Written s m → Shaped (length s) m
 shape s m w =

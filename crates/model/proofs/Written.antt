@@ -3,7 +3,7 @@
 --     read-writes       what reads is written back byte for byte
 --     none-shared       two models that differ never share a file
 use mathlib.Core.Path.{_≡_, refl, sym, ap, subst, _∙_}
-use mathlib.Core.Bool.{true, false, not}
+use mathlib.Core.Bool.{false, not, true≢false}
 use mathlib.Core.List.{List, [], _∷_, _++_, map, map-append, append-nil}
 use Prim.Native.Nat.{ℕ, zero, suc, _+_, _*_, _≤_}
 use native.Mathlib.Omega.{arith}
@@ -14,6 +14,7 @@ use lib.Seq.{take-append-seam, take-at, drop-at}
 use Rattle.rules.specs.Leaf.{_leaving_}
 use Rattle.rules.specs.Refusals.{_when_}
 use Rattle.rules.proofs.Refused.{Clear, clear}
+use Rattle.rules.proofs.Truth.{neither}
 use Rattle.model.specs.declared.Kind.{Kind}
 use Rattle.model.specs.declared.Kind.the-variants.{Dense, Gru}
 use Rattle.model.specs.Layer.{lengths, Layer}
@@ -24,7 +25,7 @@ use Rattle.model.proofs.Rows.{clear-shifted, clear-joined, answered}
 use Rattle.model.proofs.Layer.{three}
 use Rattle.model.proofs.Inverse.{Sized, number-of, activation-of, number-small, FitAll, row-reads}
 use Rattle.model.proofs.File.{Holds, reads-back, same-layers, Written, writes-back}
-use Rattle.model.proofs.Shapes.{same, neither}
+use Rattle.model.proofs.Shapes.{same}
 use Rattle.model.proofs.Accepted.{EachClear, accepted, some-faults}
 
 -- ---- lengths
@@ -40,14 +41,11 @@ module _ {A B : Type 0} (f : A → B) where
   drop-map (suc n) [] = refl
   drop-map (suc n) (x ∷ xs) = drop-map n xs
 
-never : {A : Type 0} → true ≡ false → A
-never e = absurd (let z : _≡_ {A = ℕ} 0 1 = cc in omega arith)
-
 -- arrays have these lengths where theirs do not differ from them
 sized : (ns : List ℕ) (xs : List (List ℕ)) → differ (map length xs) ns ≡ false → Sized ns xs
 sized [] [] e = tt
-sized [] (x ∷ xs) e = never e
-sized (n ∷ ns) [] e = never e
+sized [] (x ∷ xs) e = absurd (true≢false e)
+sized (n ∷ ns) [] e = absurd (true≢false e)
 sized (n ∷ ns) (x ∷ xs) e = let both = neither _ _ e in (same (length x) n (both .0), sized ns xs (both .1))
 
 unsized : (ns : List ℕ) (xs : List (List ℕ)) → Sized ns xs → differ (map length xs) ns ≡ false

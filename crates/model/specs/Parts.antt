@@ -59,9 +59,9 @@ threeBytes shapes at w0 r0 b0 w1 r1 b1 w2 r2 b2 =
     layerBytes shapes at w0 r0 b0 ++ (layerBytes shapes (at + 3) w1 r1 b1 ++ layerBytes shapes (at + 6) w2 r2 b2)
 
 -- some bytes written at a place of a buffer, and where they end
-unfoldable pub over : List ℕ → ℕ → List ℕ → List ℕ
-over out at bytes = take at out ++ (bytes ++ drop (at + length bytes) out)
+unfoldable pub overwritten : List ℕ → ℕ → List ℕ → List ℕ
+overwritten out at bytes = take at out ++ (bytes ++ drop (at + length bytes) out)
 
 pub record Put (at : ℕ) (bytes out : List ℕ) (next : ℕ) (after : List ℕ) : Type 0 where
   pub ends : next ≡ at + length bytes
-  pub left : after ≡ over out at bytes
+  pub left : after ≡ overwritten out at bytes

@@ -8,7 +8,7 @@ use lib.Ieee.{Float}
 use Rattle.rules.specs.Loop.{loop}
 use Rattle.rules.specs.F32.{part, _⊗_}
 use Rattle.rules.proofs.Called.{left}
-use Rattle.matrix.specs.Sums.{mulAdd, MulAddFits, MulAdd}
+use Rattle.matrix.specs.Sums.{MulAddFits, MulAdd}
 use Rattle.network.specs.Layers.{weightsScale, copied, activated, denseOf, gateSums, updateStep, resetStep, blendStep, gruOf, DenseArrays, GruArrays}
 use Rattle.network.specs.Parts.{GateFits}
 use Rattle.network.specs.Compute.{Frame, denseAt, gruAt, frameOf, sixLayers, layersInPlace}

@@ -1,7 +1,7 @@
 -- A layer's output has a place for each neuron, and a state keeps its length. Assumes nothing.
 use mathlib.Core.Path.{_≡_, _∙_}
 use mathlib.Core.List.{List}
-use Prim.Native.Nat.{ℕ, _*_}
+use Prim.Native.Nat.{ℕ}
 use lib.ListN.{length, length-set, length-map}
 use lib.Ieee.{Float}
 use Rattle.rules.specs.Loop.{loop}

@@ -10,11 +10,10 @@ use lib.Ieee.{Float}
 use Rattle.rules.specs.F32.{part}
 use Rattle.rules.specs.Place.{Place, get}
 use Rattle.model.specs.Array.{placeOf}
-use Rattle.model.specs.declared.Kind.{Kind}
 use Rattle.model.specs.declared.Kind.the-variants.{Dense, Gru}
 use Rattle.model.specs.declared.Header.{Header}
 use Rattle.network.specs.Layers.{denseOf, gruOf, DenseArrays, GruArrays}
-use Rattle.network.specs.Compute.{array, denseAt, gruAt}
+use Rattle.network.specs.Compute.{denseAt, gruAt}
 use Rattle.network.specs.Parts.{LayerFits}
 
 cut-length : (bytes : List ℕ) (a n : ℕ) → a + n ≤ length bytes → length (part a (a + n) bytes) ≡ n

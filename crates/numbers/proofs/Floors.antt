@@ -1,23 +1,23 @@
 -- A number up to 200.5, added to 2 ^ 23 and taken from it again, is a whole number next to it; less 1 where that is above it, it is its whole part. Assumes nothing.
 use mathlib.Core.Path.{_≡_, refl, sym, ap, subst, _∙_}
-use mathlib.Core.Bool.{Bool, true, false, not, cond, _&&_, true≢false}
-use mathlib.Core.Logic.{_⊎_, inl, inr, ⊎-elim}
-use Prim.Native.Nat.{ℕ, zero, suc, _+_, _-_, _*_, _/_, _%_, _^_, _≤_, _<_, compare, suc-le-suc}
-use native.Mathlib.Nat.{le-antisymm, le-of-lt, lt-of-lt-of-le, le-trans, div-lt-iff-lt-mul, le-div-iff-mul-le, div-mul-le-self, mul-one, one-mul, add-mul, suc-mul, mul-pos, mul-assoc, mul-right-comm, mul-le-mul-right, mul-lt-mul-of-pos-right, min-eq-left, eq-or-lt-of-le, le-of-suc-le-suc, not-le-of-lt, lt-of-not-le, div-one, mod-one}
+use mathlib.Core.Bool.{Bool, true, false, cond, true≢false}
+use mathlib.Core.Logic.{⊎-elim}
+use Prim.Native.Nat.{ℕ, suc, _+_, _-_, _*_, _/_, _^_, _≤_, _<_, suc-le-suc}
+use native.Mathlib.Nat.{le-antisymm, le-of-lt, lt-of-lt-of-le, div-lt-iff-lt-mul, le-div-iff-mul-le, div-mul-le-self, mul-one, add-mul, suc-mul, mul-pos, mul-assoc, mul-right-comm, mul-le-mul-right, mul-lt-mul-of-pos-right, min-eq-left, eq-or-lt-of-le, not-le-of-lt, lt-of-not-le, div-one, mod-one}
 use native.Mathlib.Omega.{arith}
 use lib.Pow.{pow-mono}
 use borrow.Author.Tests.{lt-ltb, le-ltb}
-use lib.IntN.{ℤ, pos, negsuc, natAbs}
+use lib.IntN.{ℤ, pos, natAbs}
 use lib.Signed.{nonNeg}
 use mir.Syntax.{w32}
 use mir.Val.{toZ, ofZ}
-use lib.Dec.{T, ltb, lit<, lit≤, eqb, eqb→eq}
+use lib.Dec.{T, lit<, lit≤, eqb, eqb→eq}
 use lib.Count.{trailingZeros}
-use lib.Ieee.{Float, nan, inf, fin, binary32, prec, low, up, down, units, odd, round, nearest, size, sub, add, neg, sum, climb, span, ofBits, ofFields, ofInt, lt, toUnsigned, toSigned, inSigned, isNan}
+use lib.Ieee.{Float, nan, inf, fin, binary32, up, down, units, odd, round, size, sub, add, neg, sum, climb, span, ofBits, ofFields, ofInt, lt, toUnsigned, toSigned, inSigned, isNan}
 use lib.Ieee.Exact.{HasValue}
 use lib.Ieee.Back.{round-whole, positive-back}
-use lib.Ieee.Digits.{size-lt, size-reaches, size-le}
-use lib.Ieee.Fits.{round-is, core, up-pos, down-pos, and-l, and-r}
+use lib.Ieee.Digits.{size-lt, size-le}
+use lib.Ieee.Fits.{round-is, core, down-pos}
 use lib.Ieee.Nearest.{closest, closest-mono, closest-same}
 use Rattle.numbers.proofs.UpToEight.{Upto, in-table, half-up, within}
 use mathlib.Core.List.{List}

@@ -1,15 +1,14 @@
 -- An `f64` rounded to an `f32` where it stands: `shortened-bits` has its pattern. What an `f32` holds is narrowed to itself (`narrowed-held`). Assumes nothing.
 use mathlib.Core.Path.{_≡_, refl, sym, ap, _∙_, subst}
-use mathlib.Core.Logic.{_⊎_, inl, inr}
+use mathlib.Core.Logic.{inl, inr}
 use mathlib.Core.Bool.{Bool, true, false}
 use Prim.Native.Nat.{ℕ, zero, suc, _+_, _-_, _*_, _/_, _%_, _^_, _≤_, _<_, min}
 use native.Mathlib.Nat.{le-of-eq, lt-of-lt-of-le, lt-of-le-of-lt, lt-of-mul-lt-mul-right, mul-assoc, mul-right-comm, zero-add, zero-mul, mul-lt-mul-of-pos-right}
 use native.Mathlib.Omega.{arith}
-use lib.IntN.{ℤ}
-use lib.Dec.{T, lit<}
+use lib.Dec.{T}
 use lib.Pow.{pow-add, pow-pos, pow-mono, shl-lt}
 use lib.Ieee.{Float, nan, inf, fin, Format, binary32, binary64, low, up, down, round, fits, ofBits, toBits}
-use lib.Ieee.Fits.{fits-widens, round-fits, nan-fits, inf-fits, down-pos}
+use lib.Ieee.Fits.{fits-widens, round-fits, nan-fits, inf-fits}
 use lib.Ieee.Bits.{ofBits-toBits, ofBits-fits}
 use lib.Ieee.Exact.{HasValue, round-exact}
 use lib.Ieee.Nearest.{closest, closest-mono}
@@ -18,7 +17,7 @@ use Rattle.numbers.specs.Parts.{withSign}
 use Rattle.numbers.proofs.Closest.{closest-add}
 use Rattle.numbers.proofs.Conversion.{bits-lt, narrowed-at, finite-narrows}
 use Rattle.numbers.proofs.Held.{fits-says, place, held-units}
-use Rattle.numbers.proofs.Pattern.{below-or-not, Whole, bits-of, pattern-value}
+use Rattle.numbers.proofs.Pattern.{below-or-not, bits-of, pattern-value}
 
 -- two that a format holds are one where sign and size are
 held-same : (f : Format) (v w : Float) (s : Bool) (a : ℕ) → T (fits f v) → T (fits f w) → HasValue v s a (2 ^ low f) → HasValue w s a (2 ^ low f) → v ≡ w

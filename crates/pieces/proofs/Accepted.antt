@@ -4,26 +4,24 @@
 -- Assumes nothing.
 use Prim.Native.Nat.{ℕ, _+_, _-_, _*_, _≤_}
 use native.Mathlib.Omega.{arith}
-use mathlib.Core.Bool.{Bool, true, false, cond}
+use mathlib.Core.Bool.{true, false≢true}
 use mathlib.Core.List.{List}
-use mathlib.Core.Path.{_≡_, refl, sym, _∙_}
+use mathlib.Core.Path.{_≡_}
 use borrow.Author.Tests.{eqb-true, leb-true, eq-eqb, le-leb, not-false}
 use lib.Dec.{eqb, leb}
 use lib.ListN.{length}
 use lib.Ieee.{Float}
 use Rattle.rules.proofs.Refused.{Clear, by-rows}
+use Rattle.rules.proofs.Truth.{both}
 use Rattle.samples.specs.Samples.{good}
 use Rattle.model.specs.Model.{readOf}
-use Rattle.frame.specs.declared.Reply.{Reply}
 use Rattle.frame.specs.declared.Reply.the-variants.{Done, Refused}
 use Rattle.frame.specs.Share.{SHARE}
 use Rattle.frame.specs.Reply.{passed}
-use Rattle.frame.specs.Frame.{counted}
-use Rattle.frame.specs.Parts.{checked}
-use Rattle.frame.proofs.Truth.{false-true}
-use Rattle.pieces.specs.Pieces.{waitingIn, completes, frameOf, waitedOf, pieceFits, pieceRows, begun, piece, resumeFits, resumeRows, after, lastTest, resumeReply, resumed, resume}
+use Rattle.frame.specs.Frame.{counted, checked}
+use Rattle.pieces.specs.Pieces.{waitingIn, completes, frameAt, waitedOf, pieceFits, pieceRows, begun, piece, resumeFits, resumeRows, lastTests, resumeReply, resumed, resume}
 use Rattle.pieces.specs.Parts.{pieceReply}
-use Rattle.pieces.proofs.Goods.{both}
+use Rattle.pieces.proofs.Tested.{last-passed}
 
 -- ---- a piece
 
@@ -63,7 +61,7 @@ module _ (share : List Float) (waiting : ℕ) (samples : List Float) (out sums :
   pub piece-accepted : passed (pieceReply share waiting samples out sums) ≡ true → Piece share waiting samples out sums
   unfolding pieceReply
   piece-accepted =
-      by-rows Refused Done (λ r. passed r ≡ true → Piece share waiting samples out sums) (pieceRows share waiting samples out sums) (λ n e. absurd (false-true e))
+      by-rows Refused Done (λ r. passed r ≡ true → Piece share waiting samples out sums) (pieceRows share waiting samples out sums) (λ n e. absurd (false≢true e))
       (λ c _. piece-cleared c)
 
   fits : Piece share waiting samples out sums → pieceFits waiting (length samples) out sums ≡ true
@@ -89,14 +87,6 @@ pub record Resume (share : List Float) (index vad noise denoise noted progress :
   pub places : sums ≡ 22
   pub right : passed (checked (counted vad noise denoise) (readOf model)) ≡ true
   pub fine : good samples ≡ true
-
-last-passed : (model : Reply) (t : Bool) → passed (after model (lastTest t)) ≡ true → (passed model ≡ true) × (t ≡ true)
-last-passed model t = go (passed model) t refl
-  where
-    go : (p t : Bool) → passed model ≡ p → passed (cond p (lastTest t) model) ≡ true → (passed model ≡ true) × (t ≡ true)
-    go true true f e = (f, refl)
-    go true false f e = absurd (false-true e)
-    go false t f e = absurd (false-true (sym f ∙ e))
 
 module _ (share : List Float) (index vad noise denoise noted progress : ℕ) (samples logs : List Float) (model : List ℕ) (out sums : ℕ) where
   abbrev Taken : Type 0
@@ -132,15 +122,15 @@ module _ (share : List Float) (index vad noise denoise noted progress : ℕ) (sa
       → Resume share index vad noise denoise noted progress samples logs model out sums
   unfolding resumeReply
   resume-accepted =
-      by-rows Refused (after (checked (counted vad noise denoise) (readOf model)) (lastTest (good samples))) (λ r. passed r ≡ true → Taken)
-      (resumeRows share index noted progress samples (length logs) out sums) (λ n e. absurd (false-true e))
-      (λ c e. let p = last-passed (checked (counted vad noise denoise) (readOf model)) (good samples) e in resume-cleared c (p .0) (p .1))
+      by-rows Refused (lastTests vad noise denoise model (good samples)) (λ r. passed r ≡ true → Taken)
+      (resumeRows share index noted progress samples (length logs) out sums) (λ n e. absurd (false≢true e))
+      (λ c e. let p = last-passed vad noise denoise model (good samples) e in resume-cleared c (p .0) (p .1))
 
   -- what is left of the samples, and the place of the frame under way
   pub within-samples : Resume share index vad noise denoise noted progress samples logs model out sums → progress ≤ length samples
   within-samples k = rw (k .same) (k .within)
 
-  pub frame-fits : Resume share index vad noise denoise noted progress samples logs model out sums → 480 * (frameOf progress - 1) + 480 ≤ out
+  pub frame-fits : Resume share index vad noise denoise noted progress samples logs model out sums → 480 * (frameAt progress - 1) + 480 ≤ out
   frame-fits k = omega (arith, k .room, k .same, k .begun, k .within)
 
   suits : Taken → resumeFits index noted progress (length samples) (length logs) out sums ≡ true

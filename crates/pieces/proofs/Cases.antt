@@ -1,22 +1,20 @@
 -- What a call can give: what holds of every refusal, and of what is right where nothing is refused, holds of the call. Assumes nothing.
 use Prim.Native.Nat.{ℕ}
-use mathlib.Core.Bool.{Bool, true, false, cond}
+use mathlib.Core.Bool.{cond}
 use mathlib.Core.List.{List}
-use mathlib.Core.Path.{_≡_, refl, sym}
+use mathlib.Core.Path.{_≡_}
 use lib.ListN.{length}
 use lib.Ieee.{Float}
 use Rattle.rules.proofs.Refused.{by-rows}
 use Rattle.samples.specs.Samples.{good}
 use Rattle.model.specs.Model.{readOf}
-use Rattle.model.specs.declared.Reading.{Reading}
-use Rattle.model.specs.declared.Reading.the-variants.{Good, Refused as Unread}
+use Rattle.model.specs.declared.Reading.the-variants.{Refused as Unread}
 use Rattle.frame.specs.declared.Reply.{Reply}
-use Rattle.frame.specs.declared.Reply.the-variants.{Done, Refused, Misread}
+use Rattle.frame.specs.declared.Reply.the-variants.{Refused, Misread}
 use Rattle.frame.specs.Reply.{passed}
-use Rattle.frame.specs.Frame.{counted}
-use Rattle.frame.specs.Parts.{checked}
-use Rattle.pieces.specs.Pieces.{Outcome, refused, pieceRows, begun, piece, resumeRows, after, lastTest, resumeReply, resumed, resume}
+use Rattle.pieces.specs.Pieces.{Outcome, refused, pieceRows, begun, piece, resumeRows, lastTests, resumeReply, resumed, resume}
 use Rattle.pieces.proofs.Accepted.{Piece, piece-cleared, Resume, resume-cleared}
+use Rattle.pieces.proofs.Tested.{last-tests-by}
 
 module _ (share : List Float) (P : Outcome → Type 0) (bad : (n : ℕ) → P (refused (Refused n) share)) where
   pub piece-by : (waiting : ℕ) (samples : List Float) (out sums : ℕ) → (Piece share waiting samples out sums → P (begun share waiting samples))
@@ -37,20 +35,10 @@ module _ (share : List Float) (P : Outcome → Type 0) (bad : (n : ℕ) → P (r
     pub resume-by : ((n l : ℕ) → Unread n l ≡ readOf model → P (refused (Misread n l) share))
         → (Resume share index vad noise denoise noted progress samples logs model out sums → P (resumed share index vad noise denoise progress samples logs model))
         → P (resume share index vad noise denoise noted progress samples logs model out sums)
-    unfolding resume resumeReply checked
+    unfolding resume resumeReply
     resume-by misread h =
-        by-rows Refused (after (checked (counted vad noise denoise) (readOf model)) (lastTest (good samples))) (λ r. P (given r))
+        by-rows Refused (lastTests vad noise denoise model (good samples)) (λ r. P (given r))
         (resumeRows share index noted progress samples (length logs) out sums) bad
-        (λ c. by-reading (λ p g. h (resume-cleared share index vad noise denoise noted progress samples logs model out sums c p g)) (readOf model) refl)
-      where
-        by-samples : (t : Bool) → good samples ≡ t → (good samples ≡ true → P right) → P (given (lastTest t))
-        by-samples true e k = k e
-        by-samples false e k = bad 9
-
-        by-reading : (passed (checked (counted vad noise denoise) (readOf model)) ≡ true → good samples ≡ true → P right) → (r : Reading) → readOf model ≡ r → P (given (after (checked (counted vad noise denoise) r) (lastTest (good samples))))
-        by-reading k (Unread n l) e = misread n l (sym e)
-        by-reading k (Good m) e = by-count (counted vad noise denoise m) refl
-          where
-            by-count : (t : Bool) → counted vad noise denoise m ≡ t → P (given (after (cond t Done (Refused 8)) (lastTest (good samples))))
-            by-count true f = by-samples (good samples) refl (k (rw (e, f)))
-            by-count false f = bad 8
+        (λ c.
+        last-tests-by vad noise denoise model (good samples) (λ r. P (given r)) bad misread
+        (λ p g. h (resume-cleared share index vad noise denoise noted progress samples logs model out sums c p g)))

@@ -1,6 +1,6 @@
 -- Good samples stay good: together, in part, and with zeros behind them. Assumes nothing.
 use Prim.Native.Nat.{ℕ, zero, suc}
-use mathlib.Core.Bool.{Bool, true, false, _&&_}
+use mathlib.Core.Bool.{true}
 use mathlib.Core.List.{List, [], _∷_, _++_}
 use mathlib.Core.Path.{_≡_, refl}
 use lib.ListN.{getD, take, drop}
@@ -8,13 +8,9 @@ use lib.Ieee.{Float, le, ofBits}
 use Rattle.rules.specs.F32.{f32}
 use Rattle.rules.specs.Place.{Place, get}
 use Rattle.rules.specs.Tab.{tab}
+use Rattle.rules.proofs.Truth.{both}
 use Rattle.samples.specs.Samples.{goodSample, good}
-use Rattle.frame.proofs.Truth.{false-true}
-use Rattle.pieces.specs.Pieces.{padded}
-
-pub both : (s t : Bool) → (s && t) ≡ true → (s ≡ true) × (t ≡ true)
-both true t e = (refl, e)
-both false t e = absurd (false-true e)
+use Rattle.pieces.specs.Pieces.{paddedTo}
 
 head : (x : Float) (xs : List Float) → good (x ∷ xs) ≡ true → (goodSample x ≡ true) × (good xs ≡ true)
 unfolding good
@@ -56,8 +52,8 @@ good-at [] i e = zero-good
 good-at (x ∷ xs) zero e = head x xs e .0
 good-at (x ∷ xs) (suc i) e = good-at xs i (head x xs e .1)
 
-pub good-padded : (n : ℕ) (xs : List Float) → good xs ≡ true → good (padded n xs) ≡ true
-unfolding padded tab
+pub good-padded : (n : ℕ) (xs : List Float) → good xs ≡ true → good (paddedTo n xs) ≡ true
+unfolding paddedTo tab
 good-padded n xs e = go n
   where
     go : (n : ℕ) → good (tab n (λ i. getD xs i (f32 0))) ≡ true

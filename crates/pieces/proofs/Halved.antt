@@ -5,7 +5,7 @@
 --     second-passes, second-told      the second, which is silent or heard
 -- Assumes nothing.
 use Prim.Native.Nat.{ℕ, _≤_}
-use mathlib.Core.Bool.{Bool, true, false, cond}
+use mathlib.Core.Bool.{Bool, true, false, cond, false≢true}
 use mathlib.Core.List.{List, [], _∷_}
 use mathlib.Core.Path.{_≡_, refl, ap, _∙_}
 use lib.ListN.{length}
@@ -28,10 +28,8 @@ use Rattle.frame.specs.declared.Reply.the-variants.{Done, Silent, Heard, Refuse
 use Rattle.frame.specs.Reply.{passed}
 use Rattle.frame.specs.Share.{PART, inputMem, keptEx}
 use Rattle.frame.specs.Heard.{Spoken, spoken}
-use Rattle.frame.specs.Frame.{Effect, refusal, plusHundredth, overlapped, done1, counted, sounded, done3, modelled, call3}
-use Rattle.frame.specs.Parts.{checked}
+use Rattle.frame.specs.Frame.{Effect, refusal, plusHundredth, overlapped, done1, counted, sounded, done3, modelled, call3, checked}
 use Rattle.frame.proofs.Done.{call1-done, call2-done, call3-done}
-use Rattle.frame.proofs.Truth.{false-true}
 use Rattle.halves.specs.Own.{call2Own}
 use Rattle.halves.specs.Halves.{buffer, lookedBack, firstHalf, secondHalf}
 use Rattle.halves.proofs.Cases.{doneFirst, whole-after-1, first-half-by, second-half-by}
@@ -66,7 +64,7 @@ module _ (part samples : List Float) (sums : ℕ) where
 
   first-wrote : Writes 22 (firstHalf part samples sums)
   unfolding plusHundredth
-  first-wrote = first-half-by part (Writes 22) (λ n e. absurd (false-true e)) samples sums (λ _ _ _. record { one = refl; size = length-tab 22 _ })
+  first-wrote = first-half-by part (Writes 22) (λ n e. absurd (false≢true e)) samples sums (λ _ _ _. record { one = refl; size = length-tab 22 _ })
 
   pub sums-length : passed (firstHalf part samples sums .reply) ≡ true → length (buffer (firstHalf part samples sums)) ≡ 22
   sums-length e = first-wrote e .size
@@ -99,7 +97,7 @@ module _ (part : List Float) (index vad noise denoise : ℕ) (logs : List Float)
     second-wrote : Writes 480 (half out)
     unfolding overlapped
     second-wrote =
-        second-half-by part (Writes 480) (λ n e. absurd (false-true e)) index vad noise denoise logs model out (λ n l _ e. absurd (false-true e))
+        second-half-by part (Writes 480) (λ n e. absurd (false≢true e)) index vad noise denoise logs model out (λ n l _ e. absurd (false≢true e))
         (λ _ _. record { one = refl; size = length-tab 480 _ })
         (λ _ _ _ _ _ _. record { one = refl; size = length-tab 480 _ })
 
@@ -110,7 +108,7 @@ module _ (part : List Float) (index vad noise denoise : ℕ) (logs : List Float)
     pub second-told : passed (secondHalf part index vad noise denoise logs model out .reply) ≡ true
         → Told (secondHalf part index vad noise denoise logs model out .reply)
     second-told =
-        second-half-by part (λ f. passed (f .reply) ≡ true → Told (f .reply)) (λ n e. absurd (false-true e)) index vad noise denoise logs model out (λ n l _ e. absurd (false-true e))
+        second-half-by part (λ f. passed (f .reply) ≡ true → Told (f .reply)) (λ n e. absurd (false≢true e)) index vad noise denoise logs model out (λ n l _ e. absurd (false≢true e))
         (λ _ _. silent)
         (λ e m _ _ _ _. heard _ e)
 

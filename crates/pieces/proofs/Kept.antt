@@ -1,6 +1,6 @@
 -- What a call keeps, whatever it is given: a share's length; and, refused, the share and the answer buffers. Assumes nothing.
 use Prim.Native.Nat.{ℕ}
-use mathlib.Core.Bool.{Bool, true, false, cond}
+use mathlib.Core.Bool.{Bool, true, false, cond, true≢false}
 use mathlib.Core.List.{List, []}
 use mathlib.Core.Path.{_≡_, refl, sym, ap, _∙_}
 use lib.Dec.{ltb}
@@ -12,9 +12,8 @@ use Rattle.frame.specs.declared.Reply.{Reply}
 use Rattle.frame.specs.declared.Reply.the-variants.{Done, Refused, Misread}
 use Rattle.frame.specs.Share.{SHARE}
 use Rattle.frame.specs.Reply.{passed}
-use Rattle.frame.proofs.Truth.{true-false}
 use Rattle.halves.specs.Halves.{secondHalf}
-use Rattle.pieces.specs.Pieces.{framePart, waits, Outcome, refused, ended, paused, further, piece, resume}
+use Rattle.pieces.specs.Pieces.{framePart, waits, Outcome, refused, atEnd, paused, further, piece, resume}
 use Rattle.pieces.proofs.Cases.{piece-by, resume-by}
 use Rattle.pieces.proofs.Halved.{first-length, second-passes}
 use Rattle.pieces.proofs.Shares.{part-length, waits-length, frame-length}
@@ -31,7 +30,7 @@ module _ (reply : Reply) (share rest : List Float) (w : Written) where
   unfolding further
   further-length l = go (ltb (length rest) 480)
     where
-      go : (t : Bool) → length (cond t (ended reply share rest w) (paused reply share rest w) .share) ≡ SHARE
+      go : (t : Bool) → length (cond t (atEnd reply share rest w) (paused reply share rest w) .share) ≡ SHARE
       go true = waits-length share l rest
       go false = frame-length share l _ (first-length (get framePart share) (take 480 rest) 22 (part-length share l))
 
@@ -39,7 +38,7 @@ module _ (reply : Reply) (share rest : List Float) (w : Written) where
   unfolding further
   further-reply = go (ltb (length rest) 480)
     where
-      go : (t : Bool) → cond t (ended reply share rest w) (paused reply share rest w) .reply ≡ reply
+      go : (t : Bool) → cond t (atEnd reply share rest w) (paused reply share rest w) .reply ≡ reply
       go true = refl
       go false = refl
 
@@ -50,7 +49,7 @@ module _ (share : List Float) where
   unmoved reply = record { size = λ l. l; still = λ _. refl; mute = λ _. refl }
 
   moved : {o : Outcome} → passed (o .reply) ≡ true → length (o .share) ≡ SHARE → Keeps share o
-  moved p l = record { size = λ _. l; still = λ e. absurd (true-false (sym p ∙ e)); mute = λ e. absurd (true-false (sym p ∙ e)) }
+  moved p l = record { size = λ _. l; still = λ e. absurd (true≢false (sym p ∙ e)); mute = λ e. absurd (true≢false (sym p ∙ e)) }
 
   pub piece-kept : (waiting : ℕ) (samples : List Float) (out sums : ℕ) → Keeps share (piece share waiting samples out sums)
   piece-kept waiting samples out sums =

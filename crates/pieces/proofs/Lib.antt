@@ -5,4 +5,6 @@ pub mod Halved
 pub mod Kept
 pub mod Padding
 mod Serve
+mod Settled
 pub mod Shares
+pub mod Tested

@@ -11,7 +11,7 @@ use Rattle.rules.specs.F32.{at, f32, zeros}
 use Rattle.rules.specs.Place.{get}
 use Rattle.rules.specs.Tab.{tab}
 use Rattle.rules.proofs.Tabs.{tab-getD, length-tab, getD-tab}
-use Rattle.pieces.specs.Pieces.{padded}
+use Rattle.pieces.specs.Pieces.{paddedTo}
 
 same-at : {A : Type 0} (l : List A) (i : ℕ) (d e : A) → i < length l → getD l i d ≡ getD l i e
 same-at [] i d e h = absurd (not-suc-le-zero h)
@@ -32,20 +32,20 @@ module _ (front rest : List Float) (i : ℕ) where
   pub past : length front ≤ i → length rest ≤ i - length front → f32 0 ≡ getD (front ++ rest) i (f32 0)
   past b h = sym (List·getD-eq-default (front ++ rest) (f32 0) (simp length-append (omega arith)))
 
-pub length-padded : (n : ℕ) (xs : List Float) → length (padded n xs) ≡ n
-unfolding padded
+pub length-padded : (n : ℕ) (xs : List Float) → length (paddedTo n xs) ≡ n
+unfolding paddedTo
 length-padded n xs = length-tab n (λ i. getD xs i (f32 0))
 
 -- with enough numbers there are no zeros
-pub padded-full : (n : ℕ) (xs : List Float) → n ≤ length xs → padded n xs ≡ take n xs
-unfolding padded
+pub padded-full : (n : ℕ) (xs : List Float) → n ≤ length xs → paddedTo n xs ≡ take n xs
+unfolding paddedTo
 padded-full n xs h =
     let e = tab-getD xs 0 n (f32 0) (omega arith) in
     simp zero-add at e
 
 -- the numbers themselves stand in front
-pub padded-front : (n : ℕ) (xs : List Float) → length xs ≤ n → get (record { at = 0; size = length xs }) (padded n xs) ≡ xs
-unfolding get padded
+pub padded-front : (n : ℕ) (xs : List Float) → length xs ≤ n → get (record { at = 0; size = length xs }) (paddedTo n xs) ≡ xs
+unfolding get paddedTo
 padded-front n xs h =
     let all : ℕ → Float = λ i. getD xs i (f32 0) in
     ext-getD (f32 0) (take (length xs) (tab n all)) xs (simp (length-take, length-tab) (omega arith))
@@ -54,8 +54,8 @@ padded-front n xs h =
     getD-take (length xs) (tab n all) i (f32 0) (omega arith) ∙ getD-tab n all i (f32 0) (omega arith))
 
 -- nothing but zeros
-pub padded-none : (n : ℕ) (xs : List Float) → length xs ≡ n → zeros (length xs) ≡ padded n []
-unfolding padded
+pub padded-none : (n : ℕ) (xs : List Float) → length xs ≡ n → zeros (length xs) ≡ paddedTo n []
+unfolding paddedTo
 padded-none n xs e =
     let none : ℕ → Float = λ i. getD [] i (f32 0) in
     ext-getD (f32 0) (replicate (length xs) (f32 0)) (tab n none) (length-replicate (length xs) (f32 0) ∙ e ∙ sym (length-tab n none))
@@ -64,8 +64,8 @@ padded-none n xs e =
     getD-replicate (length xs) i (f32 0) (f32 0) c ∙ sym (getD-tab n none i (f32 0) (omega arith)))
 
 -- fewer places
-pub padded-less : (n m : ℕ) (xs : List Float) → n ≤ m → take n (padded m xs) ≡ padded n xs
-unfolding padded
+pub padded-less : (n m : ℕ) (xs : List Float) → n ≤ m → take n (paddedTo m xs) ≡ paddedTo n xs
+unfolding paddedTo
 padded-less n m xs h =
     let all : ℕ → Float = λ i. getD xs i (f32 0) in
     ext-getD (f32 0) (take n (tab m all)) (tab n all) (simp (length-take, length-tab) (omega arith))

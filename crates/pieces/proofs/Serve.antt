@@ -25,12 +25,11 @@ use Rattle.frame.specs.declared.Reply.{Reply}
 use Rattle.frame.specs.declared.Reply.the-variants.{Done, Refused}
 use Rattle.frame.specs.Share.{SHARE}
 use Rattle.frame.specs.Reply.{passed}
-use Rattle.frame.specs.Frame.{Effect, counted}
+use Rattle.frame.specs.Frame.{Effect, counted, checked}
 use Rattle.frame.specs.Frame as frame
-use Rattle.frame.specs.Parts.{checked}
 use Rattle.halves.specs.Halves.{buffer, firstHalf, secondHalf}
 use Rattle.halves.proofs.Onward.{wrote}
-use Rattle.pieces.specs.Pieces.{framePart, waitingPlace, waitingIn, padded, waits, frameOf, Outcome, Worked, refused, ended, paused, further, pieceRows, begun, piece, resumeReply, resumed, resume}
+use Rattle.pieces.specs.Pieces.{framePart, waitingPlace, waitingIn, paddedTo, waits, frameAt, Outcome, PieceWorked, refused, atEnd, paused, further, pieceRows, begun, piece, resumeReply, resumed, resume}
 use Rattle.pieces.specs.Parts.{pieceReply}
 use Rattle.pieces.proofs.Accepted.{Piece, piece-accepted}
 use Rattle.pieces.proofs.Halved.{Halved, first-passes, second-length, second-passes}
@@ -74,7 +73,7 @@ module _ (share : List Float) (l : length share ≡ SHARE) where
 -- ---- what becomes of the rest of a piece
 
 module _ (share rest out sums : List Float) {share′ : List Float} where
-  further-ends : length rest < 480 → share′ ≡ waits share rest → Worked (further Done share rest nothing) Done share′ (out ∷ sums ∷ []) (out ∷ sums ∷ [])
+  further-ends : length rest < 480 → share′ ≡ waits share rest → PieceWorked (further Done share rest nothing) Done share′ (out ∷ sums ∷ []) (out ∷ sums ∷ [])
   unfolding further
   further-ends h s =
       rw (lt-ltb (length rest) 480 h)
@@ -82,7 +81,7 @@ module _ (share rest out sums : List Float) {share′ : List Float} where
 
   further-pauses : {sums′ : List Float} → let f = firstHalf (get framePart share) (take 480 rest) 22 in
       480 ≤ length rest → share′ ≡ put framePart share (f .share) → sums′ ≡ buffer f
-      → Worked (further Done share rest nothing) Done share′ (out ∷ sums ∷ []) (out ∷ sums′ ∷ [])
+      → PieceWorked (further Done share rest nothing) Done share′ (out ∷ sums ∷ []) (out ∷ sums′ ∷ [])
   unfolding further
   further-pauses h s t =
       rw (le-ltb (length rest) 480 h) (record { replies = refl; shares = s; writes = ap₂ (λ (a b : List Float). a ∷ b ∷ []) (sym (over-none 0 out)) t })
@@ -90,25 +89,25 @@ module _ (share rest out sums : List Float) {share′ : List Float} where
 -- the samples from a place on, as the code finds them
 module _ (share samples : List Float) (at : ℕ) (sums : List Float) {share′ : List Float} where
   pub rest-waits : length samples - at < 480 → share′ ≡ waits share (drop at samples)
-      → Worked (further Done share (drop at samples) nothing) Done share′ ([] ∷ sums ∷ []) ([] ∷ sums ∷ [])
+      → PieceWorked (further Done share (drop at samples) nothing) Done share′ ([] ∷ sums ∷ []) ([] ∷ sums ∷ [])
   rest-waits h s = further-ends share (drop at samples) [] sums (rw (length-drop at samples) h) s
 
   pub rest-begins : {sums′ : List Float} → let f = firstHalf (get framePart share) (take (at + 480 - at) (drop at samples)) 22 in
       480 ≤ length samples - at → share′ ≡ put framePart share (f .share) → sums′ ≡ buffer f
-      → Worked (further Done share (drop at samples) nothing) Done share′ ([] ∷ sums ∷ []) ([] ∷ sums′ ∷ [])
+      → PieceWorked (further Done share (drop at samples) nothing) Done share′ ([] ∷ sums ∷ []) ([] ∷ sums′ ∷ [])
   rest-begins h s t =
       further-pauses share (drop at samples) [] sums (rw (length-drop at samples) h)
       (rw (add-sub-cancel-left at 480) at s) (rw (add-sub-cancel-left at 480) at t)
 
 -- whatever the reply and the output are: they are not looked at
 carried : (reply : Reply) (share rest : List Float) (w : Written) (out : List Float) {share′ out′ sums sums′ : List Float} → out′ ≡ over w out
-    → Worked (further Done share rest nothing) Done share′ ([] ∷ sums ∷ []) ([] ∷ sums′ ∷ [])
-    → Worked (further reply share rest w) reply share′ (out ∷ sums ∷ []) (out′ ∷ sums′ ∷ [])
+    → PieceWorked (further Done share rest nothing) Done share′ ([] ∷ sums ∷ []) ([] ∷ sums′ ∷ [])
+    → PieceWorked (further reply share rest w) reply share′ (out ∷ sums ∷ []) (out′ ∷ sums′ ∷ [])
 unfolding further
 carried reply share rest w out {share′} {out′} {sums} {sums′} o = go (ltb (length rest) 480)
   where
-    go : (t : Bool) → Worked (cond t (ended Done share rest nothing) (paused Done share rest nothing)) Done share′ ([] ∷ sums ∷ []) ([] ∷ sums′ ∷ [])
-        → Worked (cond t (ended reply share rest w) (paused reply share rest w)) reply share′ (out ∷ sums ∷ []) (out′ ∷ sums′ ∷ [])
+    go : (t : Bool) → PieceWorked (cond t (atEnd Done share rest nothing) (paused Done share rest nothing)) Done share′ ([] ∷ sums ∷ []) ([] ∷ sums′ ∷ [])
+        → PieceWorked (cond t (atEnd reply share rest w) (paused reply share rest w)) reply share′ (out ∷ sums ∷ []) (out′ ∷ sums′ ∷ [])
     go true v = record { replies = refl; shares = v .shares; writes = ap₂ (λ (a b : List Float). a ∷ b ∷ []) o (ap (λ (l : List (List Float)). getD l 1 []) (v .writes)) }
     go false v = record { replies = refl; shares = v .shares; writes = ap₂ (λ (a b : List Float). a ∷ b ∷ []) o (ap (λ (l : List (List Float)). getD l 1 []) (v .writes)) }
 
@@ -123,10 +122,10 @@ module _ (share : List Float) (waiting : ℕ) (samples out sums : List Float) (r
       (along (λ r. cond (passed r) (begun share waiting samples) (refused r share)) Refused Done (λ n. refused (Refused n) share) (begun share waiting samples)
       (pieceRows share waiting samples (length out) (length sums)) (λ n. refl) (λ _. refl)))
 
-  pub piece-refused : passed r ≡ false → Worked (piece share waiting samples (length out) (length sums)) r share (out ∷ sums ∷ []) (out ∷ sums ∷ [])
+  pub piece-refused : passed r ≡ false → PieceWorked (piece share waiting samples (length out) (length sums)) r share (out ∷ sums ∷ []) (out ∷ sums ∷ [])
   piece-refused p = rw (piece-is, p) (record { replies = refl; shares = refl; writes = refl })
 
-  module _ (z : passed r ≡ true) (first : List Float) (f : first ≡ padded 480 (waitingIn waiting share ++ samples)) where
+  module _ (z : passed r ≡ true) (first : List Float) (f : first ≡ paddedTo 480 (waitingIn waiting share ++ samples)) where
     abbrev all : List Float
     all = waitingIn waiting share ++ samples
 
@@ -140,13 +139,13 @@ module _ (share : List Float) (waiting : ℕ) (samples out sums : List Float) (r
     size = length-append (waitingIn waiting share) samples ∙ ap (λ (k : ℕ). k + length samples) (waiting-length share (took .size) waiting (took .waits))
 
     pub piece-ends : {share′ : List Float} → waiting + length samples < 480 → share′ ≡ put (waitingPlace 479) share (take 479 first)
-        → Worked (piece share waiting samples (length out) (length sums)) Done share′ (out ∷ sums ∷ []) (out ∷ sums ∷ [])
+        → PieceWorked (piece share waiting samples (length out) (length sums)) Done share′ (out ∷ sums ∷ []) (out ∷ sums ∷ [])
     piece-ends h s =
         rw begins (further-ends (waits share []) all out sums (omega (arith, size)) (s ∙ rw (f, padded-less 479 480 all (omega arith), waits-waits share (took .size) [] all)))
 
     pub piece-pauses : {mid share′ sums′ : List Float} → 480 ≤ waiting + length samples → mid ≡ waits share []
         → share′ ≡ put framePart mid (firstHalf (get framePart mid) first 22 .share) → sums′ ≡ buffer (firstHalf (get framePart mid) first 22)
-        → Worked (piece share waiting samples (length out) (length sums)) Done share′ (out ∷ sums ∷ []) (out ∷ sums′ ∷ [])
+        → PieceWorked (piece share waiting samples (length out) (length sums)) Done share′ (out ∷ sums ∷ []) (out ∷ sums′ ∷ [])
     piece-pauses h m s t =
         let whole : first ≡ take 480 all = f ∙ padded-full 480 all (omega (arith, size)) in
         rw begins (further-pauses (waits share []) all out sums (omega (arith, size)) (s ∙ rw (m, whole)) (t ∙ rw (m, whole)))
@@ -166,14 +165,14 @@ module _ (share : List Float) (index vad noise denoise noted progress : ℕ) (sa
   resume-is = rw e
 
   pub resume-refused : passed r ≡ false
-      → Worked (resume share index vad noise denoise noted progress samples logs model (length out) (length sums)) r share (out ∷ sums ∷ []) (out ∷ sums ∷ [])
+      → PieceWorked (resume share index vad noise denoise noted progress samples logs model (length out) (length sums)) r share (out ∷ sums ∷ []) (out ∷ sums ∷ [])
   resume-refused p = rw (resume-is, p) (record { replies = refl; shares = refl; writes = refl })
 
   pub resume-goes : passed r ≡ true → {told : Reply} {mid share′ out′ sums′ : List Float}
-      → (told ≡ half .reply) × ((mid ≡ put framePart share (half .share)) × (out′ ≡ over (from (480 * (frameOf progress - 1)) (buffer half)) out))
-      → Worked (further Done mid (drop progress samples) nothing) Done share′ ([] ∷ sums ∷ []) ([] ∷ sums′ ∷ [])
-      → Worked (resume share index vad noise denoise noted progress samples logs model (length out) (length sums)) told share′ (out ∷ sums ∷ []) (out′ ∷ sums′ ∷ [])
+      → (told ≡ half .reply) × ((mid ≡ put framePart share (half .share)) × (out′ ≡ over (from (480 * (frameAt progress - 1)) (buffer half)) out))
+      → PieceWorked (further Done mid (drop progress samples) nothing) Done share′ ([] ∷ sums ∷ []) ([] ∷ sums′ ∷ [])
+      → PieceWorked (resume share index vad noise denoise noted progress samples logs model (length out) (length sums)) told share′ (out ∷ sums ∷ []) (out′ ∷ sums′ ∷ [])
   resume-goes z {told} {mid} left w =
-      let o = from (480 * (frameOf progress - 1)) (buffer half) in
+      let o = from (480 * (frameAt progress - 1)) (buffer half) in
       let goes : whole ≡ further told mid (drop progress samples) o = resume-is ∙ rw (z, left .0, left .1 .0) in
       rw goes (carried told mid (drop progress samples) o out (left .1 .1) w)

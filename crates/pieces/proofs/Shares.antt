@@ -14,7 +14,7 @@ use lib.Ieee.{Float}
 use Rattle.rules.specs.Place.{get, put}
 use Rattle.rules.proofs.Places.{length-get, length-put, get-put, get-put-apart, get-get, put-put}
 use Rattle.frame.specs.Share.{SHARE, PART}
-use Rattle.pieces.specs.Pieces.{framePart, waitingPlace, waitingIn, padded, waits}
+use Rattle.pieces.specs.Pieces.{framePart, waitingPlace, waitingIn, paddedTo, waits}
 pub use Rattle.pieces.proofs.Padding.{length-padded}
 use Rattle.pieces.proofs.Padding.{padded-front}
 
@@ -26,18 +26,18 @@ module _ (share : List Float) (l : length share ≡ SHARE) where
   waiting-length n h = length-get (waitingPlace n) share (omega arith)
 
   pub waits-length : (xs : List Float) → length (waits share xs) ≡ SHARE
-  waits-length xs = length-put (waitingPlace 479) share (padded 479 xs) (omega arith) (length-padded 479 xs) ∙ l
+  waits-length xs = length-put (waitingPlace 479) share (paddedTo 479 xs) (omega arith) (length-padded 479 xs) ∙ l
 
   pub waits-waits : (xs ys : List Float) → waits (waits share xs) ys ≡ waits share ys
-  waits-waits xs ys = put-put (waitingPlace 479) share (padded 479 xs) (padded 479 ys) (omega arith) (length-padded 479 xs)
+  waits-waits xs ys = put-put (waitingPlace 479) share (paddedTo 479 xs) (paddedTo 479 ys) (omega arith) (length-padded 479 xs)
 
   pub frame-waits : (xs : List Float) → get framePart (waits share xs) ≡ get framePart share
-  frame-waits xs = get-put-apart (waitingPlace 479) framePart share (padded 479 xs) (omega arith) (length-padded 479 xs) (inr (omega arith))
+  frame-waits xs = get-put-apart (waitingPlace 479) framePart share (paddedTo 479 xs) (omega arith) (length-padded 479 xs) (inr (omega arith))
 
   -- what waits is read back
   pub waiting-back : (xs : List Float) → length xs ≤ 479 → waitingIn (length xs) (waits share xs) ≡ xs
   waiting-back xs h =
-      let whole = get-put (waitingPlace 479) share (padded 479 xs) (omega arith) (length-padded 479 xs) in
+      let whole = get-put (waitingPlace 479) share (paddedTo 479 xs) (omega arith) (length-padded 479 xs) in
       let inside = get-get (waitingPlace 479) (record { at = 0; size = length xs }) (waits share xs) (rw (waits-length xs) (omega arith)) (omega arith) in
       sym inside ∙ rw whole (padded-front 479 xs h)
 
@@ -57,4 +57,4 @@ module _ (share : List Float) (l : length share ≡ SHARE) where
     waits-frame xs =
         let front : length (take PART share) ≡ PART = simp length-take (omega arith) in
         let rest = drop PART share in
-        rw (drop-at (take PART share) (padded 479 xs ++ drop 479 rest) PART front, take-at p rest PART k, drop-at p rest PART k)
+        rw (drop-at (take PART share) (paddedTo 479 xs ++ drop 479 rest) PART front, take-at p rest PART k, drop-at p rest PART k)

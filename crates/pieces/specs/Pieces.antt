@@ -18,8 +18,7 @@ use Rattle.frame.specs.Share.{SHARE, PART}
 use Rattle.frame.specs.Reply.{passed}
 use Rattle.frame.specs.declared.Reply.{Reply}
 use Rattle.frame.specs.declared.Reply.the-variants.{Done, Refused}
-use Rattle.frame.specs.Frame.{Effect, counted}
-use Rattle.frame.specs.Parts.{checked}
+use Rattle.frame.specs.Frame.{Effect, counted, checked}
 use Rattle.halves.specs.Halves.{buffer, firstHalf, secondHalf}
 
 -- ---- the share
@@ -35,12 +34,12 @@ abbrev pub waitingIn : ℕ → List Float → List Float
 waitingIn n share = get (waitingPlace n) share
 
 -- the first n of xs, zeros behind them
-unfoldable pub padded : ℕ → List Float → List Float
-padded n xs = tab n (λ i. getD xs i (f32 0))
+unfoldable pub paddedTo : ℕ → List Float → List Float
+paddedTo n xs = tab n (λ i. getD xs i (f32 0))
 
 -- xs wait, and no others: the unused places are zero
 abbrev pub waits : List Float → List Float → List Float
-waits share xs = put (waitingPlace 479) share (padded 479 xs)
+waits share xs = put (waitingPlace 479) share (paddedTo 479 xs)
 
 -- ---- what a call gives
 
@@ -58,7 +57,7 @@ abbrev pub inPart : List Float → Effect → Outcome
 inPart share f = record { reply = f .reply; share = put framePart share (f .share); written = map all (f .written) }
 
 -- what a contract says of a call: its reply, the share, and the answer buffers
-pub record Worked (o : Outcome) (reply : Reply) (share : List Float) (held out : List (List Float)) : Type 0 where
+pub record PieceWorked (o : Outcome) (reply : Reply) (share : List Float) (held out : List (List Float)) : Type 0 where
   pub replies : reply ≡ o .reply
   pub shares : share ≡ o .share
   pub writes : out ≡ onto (o .written) held
@@ -66,8 +65,8 @@ pub record Worked (o : Outcome) (reply : Reply) (share : List Float) (held out :
 -- ---- what becomes of the rest of a piece, its samples that are in no frame yet; the buffers are its output and 22 sums
 
 -- the rest waits, and the piece is at its end
-abbrev pub ended : Reply → List Float → List Float → Written → Outcome
-ended reply share rest out = record { reply = reply; share = waits share rest; written = out ∷ nothing ∷ [] }
+abbrev pub atEnd : Reply → List Float → List Float → Written → Outcome
+atEnd reply share rest out = record { reply = reply; share = waits share rest; written = out ∷ nothing ∷ [] }
 
 -- 480 samples begin a frame, and the piece pauses for its logarithms
 abbrev pub paused : Reply → List Float → List Float → Written → Outcome
@@ -76,7 +75,7 @@ paused reply share rest out =
     record { reply = reply; share = put framePart share (f .share); written = out ∷ all (buffer f) ∷ [] }
 
 unfoldable pub further : Reply → List Float → List Float → Written → Outcome
-further reply share rest out = cond (ltb (length rest) 480) (ended reply share rest out) (paused reply share rest out)
+further reply share rest out = cond (ltb (length rest) 480) (atEnd reply share rest out) (paused reply share rest out)
 
 -- ---- a piece
 
@@ -107,11 +106,11 @@ piece share waiting samples out sums =
 -- ---- a resume, of the frame under way
 
 -- its number, from 1, by the samples of the piece that are in frames so far, and how many samples waited when the piece began
-abbrev pub frameOf : ℕ → ℕ
-frameOf progress = (progress + 479) / 480
+abbrev pub frameAt : ℕ → ℕ
+frameAt progress = (progress + 479) / 480
 
 abbrev pub waitedOf : ℕ → ℕ
-waitedOf progress = 480 * frameOf progress - progress
+waitedOf progress = 480 * frameAt progress - progress
 
 -- the noted size, 22 logarithms, room for all frames of the piece, and for 22 sums
 unfoldable pub resumeFits : ℕ → ℕ → ℕ → ℕ → ℕ → ℕ → ℕ → Bool
@@ -123,23 +122,21 @@ abbrev pub resumeRows : List Float → ℕ → ℕ → ℕ → List Float → �
 resumeRows share index piece progress samples logs out sums =
     5 when not (eqb (length share) SHARE) ∷ 5 when not (resumeFits index piece progress (length samples) logs out sums) ∷ []
 
--- the model is tested behind the lengths, and the samples last
-abbrev pub after : Reply → Reply → Reply
-after checked last = cond (passed checked) last checked
-
-abbrev pub lastTest : Bool → Reply
-lastTest fine = cond fine Done (Refused 9)
+-- behind the lengths the model is tested, by 7 and 8, and the samples last
+abbrev pub lastTests : ℕ → ℕ → ℕ → List ℕ → Bool → Reply
+lastTests vad noise denoise model fine =
+    let reply = checked (counted vad noise denoise) (readOf model) in cond (passed reply) (cond fine Done (Refused 9)) reply
 
 -- its refusal, or Done
 unfoldable pub resumeReply : List Float → ℕ → ℕ → ℕ → ℕ → ℕ → ℕ → List Float → List Float → List ℕ → ℕ → ℕ → Reply
 resumeReply share index vad noise denoise piece progress samples logs model out sums =
     refusing (resumeRows share index piece progress samples (length logs) out sums) Refused
-    (after (checked (counted vad noise denoise) (readOf model)) (lastTest (good samples)))
+    (lastTests vad noise denoise model (good samples))
 
 abbrev pub resumed : List Float → ℕ → ℕ → ℕ → ℕ → ℕ → List Float → List Float → List ℕ → Outcome
 resumed share index vad noise denoise progress samples logs model =
     let s = secondHalf (get framePart share) index vad noise denoise logs model 480 in
-    further (s .reply) (put framePart share (s .share)) (drop progress samples) (from (480 * (frameOf progress - 1)) (buffer s))
+    further (s .reply) (put framePart share (s .share)) (drop progress samples) (from (480 * (frameAt progress - 1)) (buffer s))
 
 unfoldable pub resume : List Float → ℕ → ℕ → ℕ → ℕ → ℕ → ℕ → List Float → List Float → List ℕ → ℕ → ℕ → Outcome
 resume share index vad noise denoise piece progress samples logs model out sums =

@@ -2,7 +2,7 @@
 ghost use mathlib.Core.Path.{_≡_};
 ghost use mathlib.Core.List.{[], _∷_};
 ghost use lib.ListN.{length};
-ghost use Rattle.pieces.specs.Pieces.{pieceFits, piece, Worked};
+ghost use Rattle.pieces.specs.Pieces.{pieceFits, piece, PieceWorked};
 ghost use Rattle.pieces.specs.Parts.{pieceReply};
 use frame::Reply;
 
@@ -52,7 +52,7 @@ pub fn piece(
     out: &mut [f32],
     sums: &mut [f32],
 ) -> Reply
-    ensures { λ r. ⌜ Worked
+    ensures { λ r. ⌜ PieceWorked
         (piece (now (share .entry)) waiting (now (samples .entry)) (length (now (out .entry))) (length (now (sums .entry))))
         r (now (share .exit)) (now (out .entry) ∷ now (sums .entry) ∷ []) (now (out .exit) ∷ now (sums .exit) ∷ []) ⌝ }
 {

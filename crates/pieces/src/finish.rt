@@ -7,7 +7,7 @@ ghost use lib.ListN.{length, drop};
 ghost use Rattle.rules.specs.Written.{nothing};
 ghost use Rattle.samples.specs.Samples.{good};
 ghost use Rattle.frame.specs.declared.Reply.the-variants.{Done};
-ghost use Rattle.pieces.specs.Pieces.{further, resumeFits, after, lastTest, resumeReply, resume, Worked};
+ghost use Rattle.pieces.specs.Pieces.{further, resumeFits, lastTests, resumeReply, resume, PieceWorked};
 use frame::Reply;
 
 // Whether a resume of the piece noted fits its buffers.
@@ -47,23 +47,18 @@ fn resume_fits(
     sums == 22
 }
 
-// The refusal of a model, or what follows.
-fn after(checked: Reply, last: Reply) -> Reply
-    ensures { λ r. ⌜ r ≡ after checked last ⌝ }
+// Refusals 7 to 9, behind the lengths, or Done.
+pub fn last_tests(vad: usize, noise: usize, denoise: usize, model: &[u8], fine: bool) -> Reply
+    ensures { λ r. ⌜ r ≡ lastTests vad noise denoise (now (model .entry)) fine ⌝ }
 {
-    if frame::passed(checked) {
-        return last;
+    let reply = frame::check(model, vad, noise, denoise);
+    if !frame::passed(reply) {
+        return reply;
     }
-    checked
-}
-
-fn last_test(fine: bool) -> Reply
-    ensures { λ r. ⌜ r ≡ lastTest fine ⌝ }
-{
-    if fine {
-        return Reply::Done;
+    if !fine {
+        return Reply::Refused(9);
     }
-    Reply::Refused(9)
+    Reply::Done
 }
 
 // Refusals 5 and 7 to 9 of a resume, or Done.
@@ -91,14 +86,13 @@ fn resume_reply(
     if !resume_fits(index, piece, progress, samples.len(), logs.len(), out, sums) {
         return Reply::Refused(5);
     }
-    let last = last_test(samples::all_good(samples));
-    after(frame::check(model, vad, noise, denoise), last)
+    last_tests(vad, noise, denoise, model, samples::all_good(samples))
 }
 
 // The samples from `from` on wait, or the first 480 of them begin a frame, and 22 sums are written.
 fn go_on(share: &mut [f32], samples: &[f32], from: usize, sums: &mut [f32])
     requires { ⌜ (length (now share) ≡ 6144) × (from ≤ length (now samples)) × (good (now samples) ≡ true) × (length (now sums) ≡ 22) ⌝ }
-    ensures { λ _. ⌜ Worked (further Done (now (share .entry)) (drop from (now (samples .entry))) nothing)
+    ensures { λ _. ⌜ PieceWorked (further Done (now (share .entry)) (drop from (now (samples .entry))) nothing)
         Done (now (share .exit)) ([] ∷ now (sums .entry) ∷ []) ([] ∷ now (sums .exit) ∷ []) ⌝ }
 {
     if samples.len() - from < 480 {
@@ -125,7 +119,7 @@ pub fn resume(
     out: &mut [f32],
     sums: &mut [f32],
 ) -> Reply
-    ensures { λ r. ⌜ Worked
+    ensures { λ r. ⌜ PieceWorked
         (resume (now (share .entry)) index vad noise denoise piece progress
         (now (samples .entry)) (now (logs .entry)) (now (model .entry)) (length (now (out .entry))) (length (now (sums .entry))))
         r (now (share .exit)) (now (out .entry) ∷ now (sums .entry) ∷ []) (now (out .exit) ∷ now (sums .exit) ∷ []) ⌝ }

@@ -7,4 +7,5 @@ mod waiting;
 
 pub use begin::piece;
 pub use begin::piece_fits;
+pub use finish::last_tests;
 pub use finish::resume;

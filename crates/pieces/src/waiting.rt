@@ -6,7 +6,7 @@ ghost use lib.ListN.{length, getD, take, drop};
 ghost use Rattle.rules.specs.F32.{f32};
 ghost use Rattle.rules.specs.Place.{put};
 ghost use Rattle.samples.specs.Samples.{good};
-ghost use Rattle.pieces.specs.Pieces.{waitingPlace, waitingIn, padded, waits};
+ghost use Rattle.pieces.specs.Pieces.{waitingPlace, waitingIn, paddedTo, waits};
 
 // From here to there samples may wait.
 const FROM: usize = frame::PART;
@@ -29,7 +29,7 @@ fn pick(front: &[f32], rest: &[f32], i: usize) -> f32
 
 // out becomes the front, and behind it the rest, as far as it goes, and zeros.
 fn join(out: &mut [f32], front: &[f32], rest: &[f32])
-    ensures { λ _. ⌜ now (out .exit) ≡ padded (length (now (out .entry))) (now (front .entry) ++ now (rest .entry)) ⌝ }
+    ensures { λ _. ⌜ now (out .exit) ≡ paddedTo (length (now (out .entry))) (now (front .entry) ++ now (rest .entry)) ⌝ }
 {
     for i in 0..out.len() {
         out[i] = pick(front, rest, i);
@@ -49,7 +49,7 @@ pub(crate) fn waiting_good(share: &[f32], waiting: usize) -> bool
 pub(crate) fn gather(first: &mut [f32], share: &[f32], waiting: usize, samples: &[f32])
     requires { ⌜ (length (now share) ≡ 6144) × (waiting ≤ 479) ⌝ }
     ensures { λ _. ⌜ now (first .exit)
-        ≡ padded (length (now (first .entry))) (waitingIn waiting (now (share .entry)) ++ now (samples .entry)) ⌝ }
+        ≡ paddedTo (length (now (first .entry))) (waitingIn waiting (now (share .entry)) ++ now (samples .entry)) ⌝ }
 {
     let end = FROM + waiting;
     join(first, &share[FROM..end], samples);

@@ -6,7 +6,7 @@ ghost use lib.ListN.{length};
 ghost use Rattle.rules.specs.Leaf.{Leaf};
 ghost use Rattle.pitch_search.specs.Best.{startNorm, considered, slid, best, bestOf, pitchesNumber, firstOf, secondOf, BestFits};
 ghost use Rattle.pitch_search.specs.Inner.{innerProd, productNumber, sumOf, InnerFits};
-ghost use Rattle.pitch_search.specs.Parts.{carried};
+ghost use Rattle.pitch_search.specs.Parts.{searchIn};
 
 // The sum of `inner_prod`, for an n that fits.
 fn inner_prod_core(xs: &[f32], ys: &[f32], n: usize) -> f32
@@ -98,7 +98,7 @@ struct Best {
 
 // The two best, with lag i among them.
 fn consider_lag(b: Best, corr: f32, i: usize) -> Best
-    ensures { λ r. ⌜ carried r ≡ considered corr i (carried b) ⌝ }
+    ensures { λ r. ⌜ searchIn r ≡ considered corr i (searchIn b) ⌝ }
 {
     if corr > 0.0 {
         let num = corr * corr;
@@ -131,7 +131,7 @@ fn consider_lag(b: Best, corr: f32, i: usize) -> Best
 // The window of the norm moves on from lag i.
 fn slide_norm(b: Best, ys: &[f32], i: usize, len: usize) -> Best
     requires { ⌜ i + len < length (now ys) ⌝ }
-    ensures { λ r. ⌜ carried r ≡ slid (now (ys .entry)) len i (carried b) ⌝ }
+    ensures { λ r. ⌜ searchIn r ≡ slid (now (ys .entry)) len i (searchIn b) ⌝ }
 {
     let mut next = b;
     next.y_sq_norm = numbers::max(
@@ -143,7 +143,7 @@ fn slide_norm(b: Best, ys: &[f32], i: usize, len: usize) -> Best
 
 fn find_best_pitch_core(xcorr: &[f32], ys: &[f32], len: usize) -> Best
     requires { ⌜ BestFits (length (now xcorr)) (length (now ys)) len ⌝ }
-    ensures { λ r. ⌜ carried r ≡ best (now (xcorr .entry)) (now (ys .entry)) len ⌝ }
+    ensures { λ r. ⌜ searchIn r ≡ best (now (xcorr .entry)) (now (ys .entry)) len ⌝ }
 {
     let mut b = Best {
         best_num: -1.0,

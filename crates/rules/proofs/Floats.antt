@@ -5,7 +5,7 @@ use Prim.Native.Nat.{_*_}
 use native.Mathlib.Nat.{mul-comm}
 use lib.Dec.{T, eqb, eqb→eq}
 use lib.IntN.{ℤ, pos, negsuc}
-use lib.Ieee.{Float, nan, inf, fin, Format, unlike, up, down, round, mul}
+use lib.Ieee.{Float, nan, inf, fin, Format, unlike, up, down, mul}
 use lib.Ieee.Fits.{and-l, and-r}
 
 abbrev same-sign : Bool → Bool → Bool

@@ -2,7 +2,7 @@
 -- the loop begins, `mapping-more` after a turn, and `mapping-ended` reads it after the last. `maps` is what a need of such a loop is searched with. Assumes nothing.
 use Prim.Native.Nat.{ℕ, zero, suc, _+_, _≤_, _<_}
 use mathlib.Core.Path.{_≡_, refl, sym, ap, _∙_}
-use mathlib.Core.List.{List, [], _∷_, map, map-append}
+use mathlib.Core.List.{List, map, map-append}
 use native.Mathlib.Omega.{arith}
 use lib.ListN.{length, getD, set}
 use Rattle.rules.specs.Loop.{loop}

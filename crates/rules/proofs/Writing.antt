@@ -2,15 +2,18 @@
 --     over-none     nothing is written
 --     over-next     two writes that meet are one
 --     lent-over     a part of a buffer as the code lends it
+--     onto-more     buffers behind those that are written to
+--     to-none       a call that writes to no buffer
 -- Assumes nothing.
 use Prim.Native.Nat.{ℕ, _+_, _-_, _≤_}
 use native.Mathlib.Nat.{add-sub-cancel-left}
-use mathlib.Core.List.{List, [], _++_}
-use mathlib.Core.Path.{_≡_}
+use native.Mathlib.Omega.{arith}
+use mathlib.Core.List.{List, [], _∷_, _++_}
+use mathlib.Core.Path.{_≡_, refl, ap}
 use lib.ListN.{length, take-append-drop}
 use lib.Ieee.{Float}
 use Rattle.rules.specs.Place.{put}
-use Rattle.rules.specs.Written.{from, over}
+use Rattle.rules.specs.Written.{Written, from, over, onto}
 use Rattle.rules.proofs.Places.{put-next}
 
 pub over-none : (k : ℕ) (held : List Float) → over (from k []) held ≡ held
@@ -24,3 +27,13 @@ over-next k n ys zs held e h = rw (← e) (put-next k held ys zs h)
 pub lent-over : (start n : ℕ) (out new numbers : List Float) → new ≡ numbers → length numbers ≡ n
     → put (record { at = start; size = start + n - start }) out new ≡ over (from start numbers) out
 lent-over start n out new numbers e l = rw (add-sub-cancel-left start n, e, l)
+
+pub onto-more : (ws us : List Written) (hs gs : List (List Float)) → length ws ≡ length hs → onto (ws ++ us) (hs ++ gs) ≡ onto ws hs ++ onto us gs
+onto-more [] us [] gs l = refl
+onto-more [] us (h ∷ hs) gs l = absurd (omega arith)
+onto-more (w ∷ ws) us [] gs l = absurd (omega arith)
+onto-more (w ∷ ws) us (h ∷ hs) gs l = ap (λ (t : List (List Float)). over w h ∷ t) (onto-more ws us hs gs (omega arith))
+
+pub to-none : (ws : List Written) → length ws ≡ 0 → ws ≡ []
+to-none [] l = refl
+to-none (w ∷ ws) l = absurd (omega arith)

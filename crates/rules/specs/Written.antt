@@ -1,7 +1,7 @@
 -- What a call writes to a lent buffer, whatever the buffer held. Laws: proofs/Writing.antt.
 use Prim.Native.Nat.{ℕ}
 use mathlib.Core.List.{List, [], _∷_}
-use lib.ListN.{length}
+use lib.ListN.{length, getD}
 use lib.Ieee.{Float}
 use Rattle.rules.specs.Place.{put}
 
@@ -12,6 +12,14 @@ pub data Written : Type 0 where
 
 abbrev pub nothing : Written
 nothing = from 0 []
+
+-- the numbers that are written, and those that a call writes to the first of its buffers
+abbrev pub numbersIn : Written → List Float
+numbersIn (all numbers) = numbers
+numbersIn (from at numbers) = numbers
+
+abbrev pub firstIn : List Written → List Float
+firstIn ws = numbersIn (getD ws 0 nothing)
 
 -- a buffer that held these, afterwards
 abbrev pub over : Written → List Float → List Float

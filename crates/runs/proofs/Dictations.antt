@@ -6,7 +6,7 @@
 -- Assumes nothing.
 use Prim.Native.Nat.{ℕ, zero, suc, _+_, _*_, _≤_}
 use native.Mathlib.Omega.{arith}
-use mathlib.Core.Bool.{Bool, true, false, cond, not}
+use mathlib.Core.Bool.{Bool, true, false, cond, false≢true}
 use mathlib.Core.List.{List, [], _∷_, _++_, map}
 use mathlib.Core.Path.{_≡_, refl, sym, ap, _∙_}
 use borrow.Author.Tests.{eqb-false, not-false, not-true}
@@ -26,17 +26,15 @@ use Rattle.model.specs.declared.Reading.{Reading}
 use Rattle.model.specs.declared.Reading.the-variants.{Good, Refused as Unread}
 use Rattle.frame.specs.declared.Reply.{Reply}
 use Rattle.frame.specs.declared.Reply.the-variants.{Done, Silent, Heard, Numbered, Refused, Misread}
-use Rattle.frame.specs.Frame.{counted}
-use Rattle.frame.specs.Parts.{checked}
+use Rattle.frame.specs.Frame.{counted, checked}
 use Rattle.frame.specs.Reply.{passed}
-use Rattle.frame.proofs.Truth.{false-true}
 use Rattle.pieces.specs.Pieces.{waitingIn, waits, completes, further}
 use Rattle.pieces.specs.Pieces as pieces
 use Rattle.pieces.proofs.Accepted.{Piece, piece-taken}
 use Rattle.pieces.proofs.Kept.{further-reply}
 use Rattle.desk.specs.declared.Record.{Record}
 use Rattle.desk.specs.Gate.{PIECE, RESUME, shareOf, isDue, gate}
-use Rattle.desk.specs.Desk.{piece, resume, holding, carried, Given, desk}
+use Rattle.desk.specs.Desk.{piece, holding, carried, Given, desk}
 use Rattle.desk.specs.Surface.{heardOf}
 use Rattle.desk.proofs.Turned.{none, through}
 use Rattle.dictation.specs.Dictation.{Lent, Dictated}
@@ -45,8 +43,7 @@ use Rattle.dictation.specs.Resuming.{handedIn, Fitting}
 use Rattle.dictation.proofs.Cuts.{is-whole}
 use Rattle.dictation.proofs.Resumes.{completed}
 use Rattle.dictation.proofs.Taken.{let-through, onward, piece-passed, resume-passed}
-use Rattle.whole.specs.Whole.{Taking, taking, takeFrames, Taken, take}
-use Rattle.whole.specs.Parts.{three}
+use Rattle.whole.specs.Whole.{Taking, taking, takeFrames, Taken, three}
 use Rattle.whole.proofs.Accepted.{good-both, logs-length, Take, take-accepted, fits-sizes}
 use Rattle.runs.specs.Runs.{standsAt, resumeFrom}
 use Rattle.runs.specs.Taking.{Told, lentTo, answersOf, Dictates, AsDictated}
@@ -99,7 +96,7 @@ unfolding further carried
 onward-sums side store rec reply share rest size progress w = go (ltb (length rest) 480)
   where
     go : (t : Bool) → (cond t (holding 1 rec (length rest) 0 0) (holding 3 rec 0 size progress) .piece ≡ 0 → ⊥) → (held a b : List Float)
-        → let ws = cond t (pieces.ended reply share rest w) (pieces.paused reply share rest w) .written in
+        → let ws = cond t (pieces.atEnd reply share rest w) (pieces.paused reply share rest w) .written in
         getD (onto ws (held ∷ a ∷ [])) 1 [] ≡ getD (onto ws (held ∷ b ∷ [])) 1 []
     go true h held a b = absurd (h refl)
     go false h held a b = refl
@@ -211,12 +208,12 @@ module _ (n side : ℕ) (rec : Record) (store samples : List Float) (model : Lis
 -- a model that passes
 is-done : (same : Model → Bool) (r : Reading) → passed (checked same r) ≡ true → checked same r ≡ Done
 unfolding checked
-is-done same (Unread m l) e = absurd (false-true e)
+is-done same (Unread m l) e = absurd (false≢true e)
 is-done same (Good m) e = go (same m) e
   where
     go : (t : Bool) → passed (cond t Done (Refused 8)) ≡ true → cond t Done (Refused 8) ≡ Done
     go true e = refl
-    go false e = absurd (false-true e)
+    go false e = absurd (false≢true e)
 
 pub dictates : Dictates
 unfolding takeFrames loop

@@ -10,14 +10,14 @@ use borrow.Author.Tests.{eqb-true, eq-eqb}
 use lib.Dec.{eqb}
 use lib.ListN.{length}
 use lib.Ieee.{Float}
+use Rattle.rules.specs.Written.{firstIn}
 use Rattle.logs.specs.Log10.{logsOf}
 use Rattle.frame.specs.declared.Reply.{Reply}
 use Rattle.frame.specs.Reply.{passed}
 use Rattle.desk.specs.declared.Record.{Record}
 use Rattle.desk.specs.Desk.{Ask, firstHalf, secondHalf, Given, desk}
 use Rattle.isolation.specs.Run.{Call, State, after, ended}
-use Rattle.whole.specs.Laws.{firstOf}
-use Rattle.whole.specs.Whole.{buffer, frameReply, frame}
+use Rattle.whole.specs.Whole.{frameBegins, frameReply, frame}
 use Rattle.whole.proofs.Halves.{two-halves, refused-is}
 use Rattle.runs.specs.Runs.{on, leaving, FrameRuns}
 
@@ -56,18 +56,18 @@ frame-runs n side st samples model out = go (passed reply) refl
     reply = frameReply n side (st .rec side) (length (st .store)) samples model out
 
     one : Given
-    one = firstOf n side (st .rec side) (st .store) samples
+    one = frameBegins n side (st .rec side) (st .store) samples
 
     o : Given
     o = frame n side (st .rec side) (st .store) samples model out
 
     calls : List Call
-    calls = on side (firstHalf samples 22) ∷ on side (secondHalf (logsOf (buffer one)) model out) ∷ []
+    calls = on side (firstHalf samples 22) ∷ on side (secondHalf (logsOf (firstIn (one .written))) model out) ∷ []
 
     go : (t : Bool) → passed reply ≡ t → leaving st side (o .answer .rec) (o .store) ≡ ended n st (cond t calls [])
     go true p =
         ap (λ (g : Given). leaving st side (g .answer .rec) (g .store)) (two-halves n side (st .rec side) (st .store) samples model out p .2)
-        ∙ sym (again n side st (one .answer .rec) (one .store) (secondHalf (logsOf (buffer one)) model out))
+        ∙ sym (again n side st (one .answer .rec) (one .store) (secondHalf (logsOf (firstIn (one .written))) model out))
     go false p =
         ap (λ (g : Given). leaving st side (g .answer .rec) (g .store)) (refused-is n side (st .rec side) (st .store) samples model out p)
         ∙ unmoved n side st

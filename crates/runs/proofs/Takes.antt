@@ -16,8 +16,7 @@ use Rattle.pieces.specs.Pieces.{completes}
 use Rattle.desk.specs.declared.Record.{Record}
 use Rattle.desk.specs.Desk.{piece}
 use Rattle.isolation.specs.Run.{Call, State, after, ended}
-use Rattle.whole.specs.Whole.{takeReply, Taking, takeFrames, takenAs, Taken, take}
-use Rattle.whole.specs.Parts.{standing}
+use Rattle.whole.specs.Whole.{takeReply, Taking, takeFrames, takenAs, Taken, take, standing}
 use Rattle.runs.specs.Runs.{on, leaving, standsAt, resumeFrom, TakeRuns}
 use Rattle.runs.proofs.Frames.{again, unmoved}
 

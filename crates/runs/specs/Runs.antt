@@ -9,14 +9,14 @@ use lib.Dec.{eqb}
 use lib.ListN.{length}
 use lib.Ieee.{Float}
 use Rattle.rules.specs.Tab.{tab}
+use Rattle.rules.specs.Written.{firstIn}
 use Rattle.logs.specs.Log10.{logsOf}
 use Rattle.frame.specs.Reply.{passed}
 use Rattle.pieces.specs.Pieces.{completes}
 use Rattle.desk.specs.declared.Record.{Record}
 use Rattle.desk.specs.Desk.{Ask, firstHalf, secondHalf, piece, resume}
 use Rattle.isolation.specs.Run.{Call, State, ended}
-use Rattle.whole.specs.Laws.{firstOf}
-use Rattle.whole.specs.Whole.{buffer, frameReply, frame, takeReply, Taking, takeFrames, takeBegins, take}
+use Rattle.whole.specs.Whole.{frameBegins, frameReply, frame, takeReply, Taking, takeFrames, takeBegins, take}
 
 abbrev pub on : ℕ → Ask → Call
 on side ask = record { side = side; ask = ask }
@@ -29,9 +29,9 @@ leaving st side rec store = record { rec = λ s. cond (eqb side s) rec (st .rec 
 
 abbrev pub frameCalls : ℕ → ℕ → State → List Float → List ℕ → ℕ → List Call
 frameCalls n side st samples model out =
-    let one = firstOf n side (st .rec side) (st .store) samples in
+    let one = frameBegins n side (st .rec side) (st .store) samples in
     cond (passed (frameReply n side (st .rec side) (length (st .store)) samples model out))
-    (on side (firstHalf samples 22) ∷ on side (secondHalf (logsOf (buffer one)) model out) ∷ []) []
+    (on side (firstHalf samples 22) ∷ on side (secondHalf (logsOf (firstIn (one .written))) model out) ∷ []) []
 
 abbrev pub FrameRuns : Type 0
 FrameRuns =

@@ -1,6 +1,6 @@
 -- What reads is written: the bytes before it, and behind them what is written for the sheet that was read. Assumes nothing.
 use mathlib.Core.Path.{_≡_, refl, sym, ap, _∙_}
-use mathlib.Core.Bool.{Bool, true, false, not, cond, _&&_}
+use mathlib.Core.Bool.{Bool, true, false, not, cond}
 use mathlib.Core.List.{List, [], _∷_, _++_}
 use Prim.Native.Nat.{ℕ, zero, suc, _+_, _*_, _-_, _%_, _≤_, _<_}
 use native.Mathlib.Nat.{add-zero}
@@ -12,20 +12,17 @@ use lib.Seq.{take-all, getD-drop, drop-drop, take-add}
 use Rattle.rules.specs.Tab.{tab}
 use Rattle.rules.proofs.Refused.{Clear, by-rows}
 use Rattle.rules.proofs.Tabs.{tab-getD}
+use Rattle.rules.proofs.Truth.{both, neither}
 use Rattle.sheet.specs.Sheet.{four, sum, kind, recordOf, recordsOf, trailerOf, bytesOf}
 use Rattle.sheet.specs.End.{fromFour, zeros, good, run, entryOf, entriesOf, trailer, distance, number, sideByte, padded, sumNoted, start, records, faults, End, sheet, refused, endOf}
 use Rattle.sheet.specs.Written.{kinds}
 use Rattle.sheet.proofs.Digits.{Bytes, four-of, above, four-mod}
 use Rattle.sheet.proofs.Fields.{zeros-at}
-use Rattle.sheet.proofs.Halves.{neither, ends-at, low-side, behind, length-entries}
+use Rattle.sheet.proofs.Halves.{ends-at, low-side, behind, length-entries}
 use Rattle.sheet.proofs.Inverse.{Fits}
 
 pub drop-bytes : (k : ℕ) (s : List ℕ) → Bytes s → Bytes (drop k s)
 drop-bytes k s b i = rw (getD-drop k s i 0) (b (k + i))
-
-both : (a b : Bool) → a && b ≡ true → (a ≡ true) × (b ≡ true)
-both true b h = (refl, h)
-both false b h = absurd (let z : _≡_ {A = ℕ} 0 1 = cc in omega arith)
 
 -- ---- four bytes
 

@@ -1,6 +1,6 @@
 -- How the reader's two halves come together: refusals 31 to 33, and 34 and 35. Assumes nothing.
 use mathlib.Core.Path.{_≡_, refl, sym, ap, _∙_}
-use mathlib.Core.Bool.{Bool, true, false, _||_}
+use mathlib.Core.Bool.{true, false}
 use mathlib.Core.List.{List, [], _∷_, _++_}
 use Prim.Native.Nat.{ℕ, zero, suc, _+_, _*_, _-_, _%_, _≤_, _<_, _^_}
 use native.Mathlib.Omega.{arith}
@@ -11,17 +11,13 @@ use Rattle.rules.specs.Leaf.{_leaving_}
 use Rattle.rules.specs.Refusals.{Row, _when_, refusing}
 use Rattle.rules.proofs.Refused.{Clear, by-rows}
 use Rattle.rules.proofs.Rows.{along}
+use Rattle.rules.proofs.Truth.{neither}
 use Rattle.sheet.specs.Sheet.{sum}
 use Rattle.sheet.specs.End.{fromFour, run, entryOf, entriesOf, distance, number, sideByte, padded, zeros, sumNoted, start, records, faults, End, sheet, refused, endOf, readingOf, readOf}
 use Rattle.sheet.specs.Asked.{entryIn}
 use Rattle.sheet.specs.Parts.{pointed, Pointed, checked}
 use Rattle.sheet.specs.declared.Reading.{Reading}
 use Rattle.sheet.specs.declared.Reading.the-variants.{Good, Refused}
-
--- of two tests of which neither holds
-pub neither : (a b : Bool) → a || b ≡ false → (a ≡ false) × (b ≡ false)
-neither false b e = (refl, e)
-neither true b e = absurd (let z : _≡_ {A = ℕ} 0 1 = cc in omega arith)
 
 -- ---- the trailer's fields, by their places in the file
 

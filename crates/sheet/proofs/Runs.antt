@@ -1,6 +1,6 @@
 -- Runs of good records, and sums of bytes, as loops go through them. Assumes nothing.
 use mathlib.Core.Path.{_≡_, refl, sym}
-use mathlib.Core.Bool.{Bool, true, false, not, _&&_}
+use mathlib.Core.Bool.{true, false, not}
 use mathlib.Core.List.{List, [], _∷_, _++_}
 use Prim.Native.Nat.{ℕ, zero, suc, _+_, _*_, _-_, _≤_, _<_}
 use native.Mathlib.Nat.{zero-add}
@@ -10,6 +10,7 @@ use borrow.Author.Tests.{lt-ltb, le-ltb, ltb-false, not-true}
 use lib.Dec.{ltb}
 use lib.ListN.{length, getD, take, drop}
 use lib.Seq.{drop-drop, drop-cons, take-suc}
+use Rattle.rules.proofs.Truth.{both}
 use Rattle.sheet.specs.Sheet.{sum, kind}
 use Rattle.sheet.specs.End.{good, run}
 use Rattle.sheet.specs.Written.{kinds}
@@ -63,11 +64,7 @@ module _ (es : List ℕ) (i : ℕ) (h : i < length es) where
 
 pub first-heard : (e : ℕ) (es : List ℕ) → kinds (e ∷ es) ≡ true → (kind e ≤ 1) × (kinds es ≡ true)
 unfolding kinds
-first-heard e es h = both (not (ltb 1 (kind e))) (kinds es) h (λ t. ltb-false 1 (kind e) (not-true _ t))
-  where
-    both : (a b : Bool) → a && b ≡ true → (a ≡ true → kind e ≤ 1) → (kind e ≤ 1) × (b ≡ true)
-    both true b h k = (k refl, h)
-    both false b h k = absurd (let z : _≡_ {A = ℕ} 0 1 = cc in omega arith)
+first-heard e es h = let b = both (not (ltb 1 (kind e))) (kinds es) h in (ltb-false 1 (kind e) (not-true _ (b .0)), b .1)
 
 pub all-heard : (es : List ℕ) → kinds es ≡ true → (i : ℕ) → kind (getD es i 0) ≤ 1
 all-heard [] h i = omega arith

@@ -5,7 +5,7 @@
 --     good-bad, good-rest, good-both   samples behind others: whether all are good; logs-length, of our logarithms
 -- Assumes nothing.
 use Prim.Native.Nat.{ℕ, _*_, _≤_}
-use mathlib.Core.Bool.{Bool, true, false, cond, _&&_}
+use mathlib.Core.Bool.{Bool, true, false, cond, _&&_, true≢false, false≢true}
 use mathlib.Core.List.{List, [], _∷_, _++_}
 use mathlib.Core.Path.{_≡_, refl, sym, ap, _∙_}
 use borrow.Author.Tests.{eqb-true, leb-true, not-false}
@@ -16,26 +16,25 @@ use Rattle.rules.specs.Place.{get}
 use Rattle.rules.specs.Refusals.{Row, _when_, refusing, wrong}
 use Rattle.rules.proofs.Refused.{Clear, by-rows, right}
 use Rattle.rules.proofs.Tabs.{length-tab}
+use Rattle.rules.proofs.Truth.{both}
 use Rattle.samples.specs.Samples.{goodSample, good}
 use Rattle.logs.specs.Log10.{logsOf}
 use Rattle.model.specs.Model.{readOf}
 use Rattle.frame.specs.declared.Reply.{Reply}
 use Rattle.frame.specs.declared.Reply.the-variants.{Refused}
 use Rattle.frame.specs.Reply.{passed}
-use Rattle.frame.specs.Frame.{counted}
-use Rattle.frame.specs.Parts.{checked}
-use Rattle.frame.proofs.Truth.{true-false, false-true}
-use Rattle.pieces.specs.Pieces.{waitingIn, completes, pieceFits, after, lastTest}
-use Rattle.pieces.proofs.Goods.{both}
+use Rattle.frame.specs.Frame.{counted, checked}
+use Rattle.pieces.specs.Pieces.{waitingIn, completes, pieceFits, lastTests}
+use Rattle.pieces.proofs.Tested.{last-passed}
 use Rattle.desk.specs.declared.Record.{Record}
 use Rattle.desk.specs.Gate.{PIECE, gate, shareOf}
-use Rattle.whole.specs.Whole.{refusal, frameReply, takeRows, takeReply}
+use Rattle.whole.specs.Whole.{tested, frameReply, takeRows, takeReply}
 
 -- ---- good samples behind others
 
 pub good-bad : (xs ys : List Float) → good xs ≡ false → good (xs ++ ys) ≡ false
 unfolding good
-good-bad [] ys e = absurd (true-false e)
+good-bad [] ys e = absurd (true≢false e)
 good-bad (x ∷ xs) ys e = go (goodSample x) e (good-bad xs ys)
   where
     go : (t : Bool) → (t && good xs) ≡ false → (good xs ≡ false → good (xs ++ ys) ≡ false) → (t && good (xs ++ ys)) ≡ false
@@ -52,7 +51,7 @@ good-both xs ys e = go (good xs) refl
   where
     go : (t : Bool) → good xs ≡ t → (good xs ≡ true) × (good ys ≡ true)
     go true h = (h, sym (good-rest xs ys h) ∙ e)
-    go false h = absurd (false-true (sym (good-bad xs ys h) ∙ e))
+    go false h = absurd (false≢true (sym (good-bad xs ys h) ∙ e))
 
 -- our logarithms are as many as a frame is lent
 pub logs-length : (sums : List Float) → length (logsOf sums) ≡ 22
@@ -60,14 +59,6 @@ unfolding logsOf
 logs-length sums = length-tab 22 _
 
 -- ---- past the tests
-
-last-passed : (model : Reply) (t : Bool) → passed (after model (lastTest t)) ≡ true → (passed model ≡ true) × (t ≡ true)
-last-passed model t = go (passed model) t refl
-  where
-    go : (p t : Bool) → passed model ≡ p → passed (cond p (lastTest t) model) ≡ true → (passed model ≡ true) × (t ≡ true)
-    go true true f e = (f, refl)
-    go true false f e = absurd (false-true e)
-    go false t f e = absurd (false-true (sym f ∙ e))
 
 pub record Past (number : ℕ) (rec : Record) (rows : List Row) (model : List ℕ) (samples : List Float) : Type 0 where
   pub gated : number ≡ 0
@@ -77,21 +68,21 @@ pub record Past (number : ℕ) (rec : Record) (rows : List Row) (model : List �
 
 module _ (number : ℕ) (rec : Record) (rows : List Row) (model : List ℕ) (samples : List Float) where
   abbrev behind : Reply
-  behind = after (checked (counted (rec .vad) (rec .noise) (rec .denoise)) (readOf model)) (lastTest (good samples))
+  behind = lastTests (rec .vad) (rec .noise) (rec .denoise) model (good samples)
 
   abbrev past : Type 0
   past = Past number rec rows model samples
 
-  pub passed-by : passed (refusal number rec rows model samples) ≡ true → Past number rec rows model samples
+  pub passed-by : passed (tested number rec rows model samples) ≡ true → Past number rec rows model samples
   passed-by = go (eqb number 0) refl
     where
       go : (t : Bool) → eqb number 0 ≡ t → passed (cond t (refusing rows Refused behind) (Refused number)) ≡ true → past
       go true e =
-          by-rows Refused behind (λ r. passed r ≡ true → past) rows (λ n q. absurd (false-true q))
+          by-rows Refused behind (λ r. passed r ≡ true → past) rows (λ n q. absurd (false≢true q))
           (λ c q.
-          let l = last-passed (checked (counted (rec .vad) (rec .noise) (rec .denoise)) (readOf model)) (good samples) q in
+          let l = last-passed (rec .vad) (rec .noise) (rec .denoise) model (good samples) q in
           record { gated = eqb-true number 0 e; clear = c; right = l .0; fine = l .1 })
-      go false e = λ p. absurd (false-true p)
+      go false e = λ p. absurd (false≢true p)
 
 -- ---- a frame
 

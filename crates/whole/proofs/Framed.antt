@@ -13,7 +13,7 @@ use borrow.Author.Tests.{eq-eqb}
 use lib.ListN.{length}
 use lib.Ieee.{Float}
 use Rattle.rules.specs.Place.{get, put}
-use Rattle.rules.specs.Written.{all}
+use Rattle.rules.specs.Written.{all, firstIn}
 use Rattle.rules.proofs.Places.{length-get}
 use Rattle.logs.specs.Log10.{logsOf}
 use Rattle.frame.specs.declared.Reply.{Reply}
@@ -27,7 +27,7 @@ use Rattle.desk.specs.declared.Answer.{Answer}
 use Rattle.desk.specs.Gate.{gate, shareOf}
 use Rattle.desk.specs.Desk.{Ask, firstHalf, secondHalf, callOf, answered, onShare, Given, desk, Served}
 use Rattle.desk.proofs.Turned.{through}
-use Rattle.whole.specs.Whole.{buffer, frameReply, frame}
+use Rattle.whole.specs.Whole.{frameReply, frame}
 use Rattle.whole.proofs.Accepted.{Frame, frame-accepted}
 
 pub let-in : (n side : ℕ) (rec : Record) (store : List Float) (ask : Ask) → gate n side rec (length store) (callOf ask) ≡ 0
@@ -51,7 +51,7 @@ module _ (n side : ℕ) (rec : Record) (store samples : List Float) (model : Lis
       let t = through n side rec (length store) 1 (k .gated) in
       first-passes (partOf side store) samples (part-length n side store (t .0) (t .1)) (k .size) (k .fine)
 
-  pub first-wrote : let one = desk n side rec store (firstHalf samples 22) in one .written ≡ all (buffer one) ∷ []
+  pub first-wrote : let one = desk n side rec store (firstHalf samples 22) in one .written ≡ all (firstIn (one .written)) ∷ []
   first-wrote =
       let f = halves.firstHalf (partOf side store) samples 22 in
       let e = ap (λ (o : Given). o .written) (let-in n side rec store (firstHalf samples 22) (k .gated)) ∙ ap (map all) (first-halved .writes) in
@@ -79,6 +79,6 @@ module _ (n side : ℕ) (rec : Record) (store samples : List Float) (model : Lis
   halved {r} {z} {sums} {logs} {s₁} {s₂} {out} {a₁} {a₂} e p first lent second =
       let q : passed (frameReply n side rec (length store) samples model (length held)) ≡ true = ap passed (sym e) ∙ p in
       let wrote = first-wrote n side rec store samples model (length held) (frame-accepted n side rec store samples model (length held) q) in
-      let all-sums : sums ∷ [] ≡ buffer one ∷ [] = first .writes ∙ rw wrote in
-      let filled : sums ≡ buffer one = cc in
+      let all-sums : sums ∷ [] ≡ firstIn (one .written) ∷ [] = first .writes ∙ rw wrote in
+      let filled : sums ≡ firstIn (one .written) = cc in
       rw q (rw (first .answers, first .stores, lent, filled) at second)

@@ -1,7 +1,7 @@
 -- A frame that is accepted is its two halves (`two-halves`); what is refused changes nothing (`refused-is`, `frame-leaves`, `take-leaves`). Assumes nothing.
 use Prim.Native.Nat.{ℕ, _*_, _<_}
 use native.Mathlib.Omega.{arith}
-use mathlib.Core.Bool.{Bool, true, false}
+use mathlib.Core.Bool.{Bool, true, false, true≢false}
 use mathlib.Core.List.{List, map}
 use mathlib.Core.Path.{_≡_, refl, sym, ap, _∙_}
 use borrow.Author.Tests.{eqb-true, lt-ltb, eq-eqb, not-false}
@@ -9,25 +9,24 @@ use lib.Dec.{eqb}
 use lib.ListN.{length}
 use lib.Ieee.{Float}
 use Rattle.rules.specs.Place.{get, put}
-use Rattle.rules.specs.Written.{all}
+use Rattle.rules.specs.Written.{all, firstIn}
 use Rattle.rules.proofs.Places.{length-get, length-put}
+use Rattle.rules.proofs.Truth.{both}
 use Rattle.logs.specs.Log10.{logsOf}
 use Rattle.frame.specs.declared.Reply.{Reply}
 use Rattle.frame.specs.Share.{SHARE}
 use Rattle.frame.specs.Frame.{Effect}
 use Rattle.frame.specs.Reply.{passed}
-use Rattle.frame.proofs.Truth.{true-false}
 use Rattle.halves.specs.Halves as halves
 use Rattle.pieces.specs.Pieces.{framePart}
-use Rattle.pieces.proofs.Goods.{both}
 use Rattle.pieces.proofs.Halved.{Halved, second-passes}
 use Rattle.desk.specs.declared.Record.{Record}
 use Rattle.desk.specs.Gate.{idle, inRange, isDue, gate, shareOf}
 use Rattle.desk.specs.Desk.{firstHalf, secondHalf, advanced, Given, desk}
 use Rattle.desk.proofs.Ranged.{bounded, range-kept}
 use Rattle.desk.proofs.Turned.{none, through}
-use Rattle.whole.specs.Whole.{buffer, turnedAway, frameReply, frame, take}
-use Rattle.whole.specs.Laws.{firstOf, secondOf, TwoHalves, FrameLeaves, TakeLeaves}
+use Rattle.whole.specs.Whole.{unchanged, frameReply, frameBegins, frameEnds, frame, take}
+use Rattle.whole.specs.Laws.{TwoHalves, FrameLeaves, TakeLeaves}
 use Rattle.whole.proofs.Accepted.{logs-length, Frame, frame-accepted}
 use Rattle.whole.proofs.Framed.{let-in, partOf, part-length, first-halved}
 
@@ -50,11 +49,11 @@ module _ (n side : ℕ) (rec : Record) (store samples : List Float) (model : Lis
   abbrev between : List Float
   between = put (shareOf side) store left
 
-  first-is : firstOf n side rec store samples
+  first-is : frameBegins n side rec store samples
       ≡ record { answer = record { reply = half .reply; rec = next }; store = between; written = map all (half .written) }
   first-is = let-in n side rec store (firstHalf samples 22) (k .gated) ∙ rw (first-halved n side rec store samples model out k .passes)
 
-  first-passes : passed (firstOf n side rec store samples .answer .reply) ≡ true
+  first-passes : passed (frameBegins n side rec store samples .answer .reply) ≡ true
   first-passes = ap (λ (o : Given). passed (o .answer .reply)) first-is ∙ first-halved n side rec store samples model out k .passes
 
   sized : length between ≡ n * SHARE
@@ -85,19 +84,19 @@ module _ (n side : ℕ) (rec : Record) (store samples : List Float) (model : Lis
       let e = third-due n side rec (half .reply) (length between) (t .0) sized due in-range in
       ap (λ (o : Given). passed (o .answer .reply)) (let-in n side next between (secondHalf (logsOf sums) model out) e) ∙ rw (k .room) (second-halved sums .passes)
 
-  second-done : passed (secondOf n side rec store samples model out .answer .reply) ≡ true
+  second-done : passed (frameEnds n side rec store samples model out .answer .reply) ≡ true
   second-done =
-      ap (λ (o : Given). passed (desk n side (o .answer .rec) (o .store) (secondHalf (logsOf (buffer o)) model out) .answer .reply)) first-is
-      ∙ second-on (buffer (record { answer = record { reply = half .reply; rec = next }; store = between; written = map all (half .written) }))
+      ap (λ (o : Given). passed (desk n side (o .answer .rec) (o .store) (secondHalf (logsOf (firstIn (o .written))) model out) .answer .reply)) first-is
+      ∙ second-on (firstIn (map all (half .written)))
 
 module _ (n side : ℕ) (rec : Record) (store samples : List Float) (model : List ℕ) (out : ℕ) where
   accepted-is : passed (frameReply n side rec (length store) samples model out) ≡ true
-      → frame n side rec store samples model out ≡ secondOf n side rec store samples model out
+      → frame n side rec store samples model out ≡ frameEnds n side rec store samples model out
   unfolding frame
   accepted-is p = rw p
 
   pub refused-is : passed (frameReply n side rec (length store) samples model out) ≡ false
-      → frame n side rec store samples model out ≡ turnedAway rec store (frameReply n side rec (length store) samples model out)
+      → frame n side rec store samples model out ≡ unchanged rec store (frameReply n side rec (length store) samples model out)
   unfolding frame
   refused-is p = rw p
 
@@ -115,13 +114,13 @@ frame-leaves n side rec store samples model out = go (passed reply) refl
     o : Given
     o = frame n side rec store samples model out
 
-    go : (t : Bool) → passed reply ≡ t → passed (o .answer .reply) ≡ false → o ≡ turnedAway rec store (o .answer .reply)
+    go : (t : Bool) → passed reply ≡ t → passed (o .answer .reply) ≡ false → o ≡ unchanged rec store (o .answer .reply)
     go true p e =
         let h = two-halves n side rec store samples model out p in
-        absurd (true-false (sym (ap (λ (g : Given). passed (g .answer .reply)) (h .2) ∙ h .1) ∙ e))
+        absurd (true≢false (sym (ap (λ (g : Given). passed (g .answer .reply)) (h .2) ∙ h .1) ∙ e))
     go false p e =
         let is = refused-is n side rec store samples model out p in
-        is ∙ ap (λ (g : Given). turnedAway rec store (g .answer .reply)) (sym is)
+        is ∙ ap (λ (g : Given). unchanged rec store (g .answer .reply)) (sym is)
 
 pub take-leaves : TakeLeaves
 unfolding take

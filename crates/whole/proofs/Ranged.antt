@@ -6,7 +6,7 @@
 -- Assumes nothing.
 use Prim.Native.Nat.{ℕ, zero, suc}
 use native.Mathlib.Omega.{arith}
-use mathlib.Core.Bool.{Bool, true, false, cond}
+use mathlib.Core.Bool.{Bool, true, false, cond, false≢true}
 use mathlib.Core.List.{List, [], _∷_, _++_}
 use mathlib.Core.Path.{_≡_, refl, sym, _∙_}
 use borrow.Author.Tests.{not-false}
@@ -16,55 +16,43 @@ use lib.Ieee.{Float}
 use Rattle.rules.specs.Loop.{loop}
 use Rattle.rules.specs.Place.{get}
 use Rattle.rules.specs.Refusals.{Row, _when_, refusing, wrong}
+use Rattle.rules.specs.Written.{firstIn}
 use Rattle.rules.proofs.Refused.{by-rows}
 use Rattle.samples.specs.Samples.{good}
 use Rattle.logs.specs.Log10.{logsOf}
-use Rattle.model.specs.Model.{readOf}
-use Rattle.model.specs.declared.Reading.{Reading}
-use Rattle.model.specs.declared.Reading.the-variants.{Good, Refused as Unread}
 use Rattle.model.proofs.Bounds.{refused-in}
 use Rattle.frame.specs.declared.Reply.{Reply}
-use Rattle.frame.specs.declared.Reply.the-variants.{Done, Refused}
+use Rattle.frame.specs.declared.Reply.the-variants.{Refused}
 use Rattle.frame.specs.Reply.{passed}
-use Rattle.frame.specs.Frame.{counted}
-use Rattle.frame.specs.Parts.{checked}
-use Rattle.frame.proofs.Truth.{false-true}
-use Rattle.pieces.specs.Pieces.{waitingIn, completes, after, lastTest}
+use Rattle.pieces.specs.Pieces.{waitingIn, completes, lastTests}
+use Rattle.pieces.proofs.Tested.{last-tests-by}
 use Rattle.desk.specs.declared.Record.{Record}
 use Rattle.desk.specs.Gate.{PIECE, inRange, gate, shareOf}
-use Rattle.desk.specs.Desk.{Ask, firstHalf, secondHalf, piece, resume, Given, desk}
+use Rattle.desk.specs.Desk.{Ask, secondHalf, piece, resume, Given, desk}
 use Rattle.desk.proofs.Buffers.{buffers}
 use Rattle.desk.proofs.Ranged.{range-kept}
 use Rattle.desk.proofs.Replies.{Small, small}
 use Rattle.desk.proofs.Settled.{refused-keeps}
 use Rattle.desk.proofs.Turned.{none}
-use Rattle.whole.specs.Whole.{buffer, turnedAway, refusal, frameReply, frame, takeRows, takeReply, Taking, takeStep, takeFrames, takeBegins, take}
+use Rattle.whole.specs.Whole.{unchanged, tested, frameReply, frameBegins, frameEnds, frame, takeRows, takeReply, Taking, takeStep, takeFrames, takeBegins, take}
 use Rattle.whole.proofs.Accepted.{frame-accepted, take-accepted}
 
 -- ---- the tests before a call
 
 module _ (number : ℕ) (rec : Record) (rows : List Row) (model : List ℕ) (samples : List Float) where
-  refusal-small : Small (refusal number rec rows model samples)
-  unfolding checked
-  refusal-small = go (eqb number 0)
+  tested-small : Small (tested number rec rows model samples)
+  tested-small = go (eqb number 0)
     where
-      by-samples : (t : Bool) → Small (lastTest t)
-      by-samples true = tt
-      by-samples false = tt
-
-      by-count : (t : Bool) → Small (after (cond t Done (Refused 8)) (lastTest (good samples)))
-      by-count true = by-samples (good samples)
-      by-count false = tt
-
-      by-reading : (r : Reading) → r ≡ readOf model → Small (after (checked (counted (rec .vad) (rec .noise) (rec .denoise)) r) (lastTest (good samples)))
-      by-reading (Unread n l) e = let r = refused-in model e in (r .1, r .2)
-      by-reading (Good m) e = by-count (counted (rec .vad) (rec .noise) (rec .denoise) m)
-
       behind : Reply
-      behind = after (checked (counted (rec .vad) (rec .noise) (rec .denoise)) (readOf model)) (lastTest (good samples))
+      behind = lastTests (rec .vad) (rec .noise) (rec .denoise) model (good samples)
+
+      behind-small : Small behind
+      behind-small =
+          last-tests-by (rec .vad) (rec .noise) (rec .denoise) model (good samples) Small (λ _. tt)
+          (λ n l e. let r = refused-in model e in (r .1, r .2)) (λ _ _. tt)
 
       go : (t : Bool) → Small (cond t (refusing rows Refused behind) (Refused number))
-      go true = by-rows Refused behind Small rows (λ _. tt) (λ _. by-reading (readOf model) refl)
+      go true = by-rows Refused behind Small rows (λ _. tt) (λ _. behind-small)
       go false = tt
 
 -- the gate lets no other record through
@@ -79,27 +67,27 @@ module _ (n side : ℕ) (rec : Record) (store samples : List Float) (model : Lis
     reply = frameReply n side rec (length store) samples model out
 
     abbrev one : Given
-    one = desk n side rec store (firstHalf samples 22)
+    one = frameBegins n side rec store samples
 
     abbrev asked : Ask
-    asked = secondHalf (logsOf (buffer one)) model out
+    asked = secondHalf (logsOf (firstIn (one .written))) model out
 
     abbrev two : Given
-    two = desk n side (one .answer .rec) (one .store) asked
+    two = frameEnds n side rec store samples model out
 
     -- what holds of its second half, where no test refuses it, and of a refusal, holds of a frame
-    frame-by : (P : Given → Type 0) → (passed reply ≡ true → P two) → (passed reply ≡ false → P (turnedAway rec store reply))
+    frame-by : (P : Given → Type 0) → (passed reply ≡ true → P two) → (passed reply ≡ false → P (unchanged rec store reply))
         → P (frame n side rec store samples model out)
     unfolding frame
     frame-by P two-halves refused = go (passed reply) refl
       where
-        go : (t : Bool) → passed reply ≡ t → P (cond t two (turnedAway rec store reply))
+        go : (t : Bool) → passed reply ≡ t → P (cond t two (unchanged rec store reply))
         go true e = two-halves e
         go false e = refused e
 
     reply-small : Small reply
     unfolding frameReply
-    reply-small = refusal-small (gate n side rec (length store) 1) rec (5 when wrong ((length samples, 480) ∷ (out, 480) ∷ []) ∷ []) model samples
+    reply-small = tested-small (gate n side rec (length store) 1) rec (5 when wrong ((length samples, 480) ∷ (out, 480) ∷ []) ∷ []) model samples
 
     pub frame-small : Small (frame n side rec store samples model out .answer .reply)
     frame-small = frame-by (λ o. Small (o .answer .reply)) (λ _. small n side (one .answer .rec) (one .store) asked) (λ _. reply-small)
@@ -111,7 +99,7 @@ module _ (n side : ℕ) (rec : Record) (store samples : List Float) (model : Lis
         (λ p q.
         let k = frame-accepted n side rec store samples model out p in
         (let-in-range n side rec (length store) 1 (k .gated), range-kept n side (one .answer .rec) (one .store) asked q .1))
-        (λ f q. absurd (false-true (sym f ∙ q)))
+        (λ f q. absurd (false≢true (sym f ∙ q)))
 
     pub frame-buffers : length (frame n side rec store samples model out .written) ≡ cond (passed (frame n side rec store samples model out .answer .reply)) 1 0
     frame-buffers =
@@ -145,7 +133,7 @@ module _ (n side : ℕ) where
       pub take-small : Small (take n side rec store samples model out answers .answer .reply)
       unfolding take takeReply
       take-small =
-          refusal-small (gate n side rec (length store) PIECE) rec (takeRows rec (length samples) (length out) (length answers)) model
+          tested-small (gate n side rec (length store) PIECE) rec (takeRows rec (length samples) (length out) (length answers)) model
           (waitingIn (rec .waiting) (get (shareOf side) store) ++ samples)
 
       pub take-range : passed (take n side rec store samples model out answers .answer .reply) ≡ true

@@ -20,8 +20,7 @@ use Rattle.desk.specs.declared.Record.{Record}
 use Rattle.desk.specs.declared.Answer.{Answer}
 use Rattle.desk.specs.Desk.{piece, resume, Given, desk, Served}
 use Rattle.desk.specs.Surface.{heardOf}
-use Rattle.whole.specs.Whole.{takeReply, Taking, taking, takeStep, takeFrames, take, Took}
-use Rattle.whole.specs.Parts.{three, standing}
+use Rattle.whole.specs.Whole.{takeReply, Taking, taking, takeStep, takeFrames, take, Took, three, standing}
 
 -- a call with two buffers
 called : {o : Given} {a : Answer} {s out sums out′ sums′ : List Float} → Served o a s (out ∷ sums ∷ []) (out′ ∷ sums′ ∷ []) → (answers : List Float)

@@ -5,36 +5,25 @@ use mathlib.Core.List.{List, []}
 use mathlib.Core.Path.{_≡_}
 use lib.ListN.{length}
 use lib.Ieee.{Float}
-use Rattle.logs.specs.Log10.{logsOf}
 use Rattle.frame.specs.Reply.{passed}
 use Rattle.desk.specs.declared.Record.{Record}
-use Rattle.desk.specs.Desk.{firstHalf, secondHalf, Given, desk}
-use Rattle.whole.specs.Whole.{buffer, turnedAway, frameReply, frame, takenAs, take}
-use Rattle.whole.specs.Parts.{standing}
-
-abbrev pub firstOf : ℕ → ℕ → Record → List Float → List Float → Given
-firstOf n side rec store samples = desk n side rec store (firstHalf samples 22)
-
-abbrev pub secondOf : ℕ → ℕ → Record → List Float → List Float → List ℕ → ℕ → Given
-secondOf n side rec store samples model out =
-    let one = firstOf n side rec store samples in
-    desk n side (one .answer .rec) (one .store) (secondHalf (logsOf (buffer one)) model out)
+use Rattle.whole.specs.Whole.{unchanged, frameReply, frameBegins, frameEnds, frame, takenAs, take, standing}
 
 -- a frame that is accepted is its two halves: neither is refused, and what the second gives is what the frame gives
 abbrev pub TwoHalves : Type 0
 TwoHalves =
     (n side : ℕ) (rec : Record) (store samples : List Float) (model : List ℕ) (out : ℕ)
     → passed (frameReply n side rec (length store) samples model out) ≡ true
-    → (passed (firstOf n side rec store samples .answer .reply) ≡ true)
-    × (passed (secondOf n side rec store samples model out .answer .reply) ≡ true)
-    × (frame n side rec store samples model out ≡ secondOf n side rec store samples model out)
+    → (passed (frameBegins n side rec store samples .answer .reply) ≡ true)
+    × (passed (frameEnds n side rec store samples model out .answer .reply) ≡ true)
+    × (frame n side rec store samples model out ≡ frameEnds n side rec store samples model out)
 
 -- refused, it leaves the record, the store and the buffers
 abbrev pub FrameLeaves : Type 0
 FrameLeaves =
     (n side : ℕ) (rec : Record) (store samples : List Float) (model : List ℕ) (out : ℕ)
     → let o = frame n side rec store samples model out in
-    passed (o .answer .reply) ≡ false → o ≡ turnedAway rec store (o .answer .reply)
+    passed (o .answer .reply) ≡ false → o ≡ unchanged rec store (o .answer .reply)
 
 -- and so does a take
 abbrev pub TakeLeaves : Type 0

@@ -1,4 +1,3 @@
 pub mod Whole
 pub mod Surface
-pub mod Parts
 pub mod Laws

@@ -9,53 +9,48 @@ use lib.ListN.{length, getD}
 use lib.Ieee.{Float}
 use Rattle.rules.specs.F32.{zeros}
 use Rattle.rules.specs.Loop.{loop}
-use Rattle.rules.specs.Place.{get, put}
+use Rattle.rules.specs.Place.{Place, get, put}
 use Rattle.rules.specs.Refusals.{Row, _when_, refusing, wrong}
-use Rattle.rules.specs.Written.{Written, all, from, nothing, onto}
+use Rattle.rules.specs.Written.{firstIn, onto}
 use Rattle.samples.specs.Samples.{good}
 use Rattle.logs.specs.Log10.{logsOf}
-use Rattle.model.specs.Model.{readOf}
 use Rattle.frame.specs.Reply.{passed}
 use Rattle.frame.specs.declared.Reply.{Reply}
-use Rattle.frame.specs.declared.Reply.the-variants.{Done, Refused}
-use Rattle.frame.specs.Frame.{counted}
-use Rattle.frame.specs.Parts.{checked}
-use Rattle.pieces.specs.Pieces.{waitingIn, completes, pieceFits, after, lastTest}
+use Rattle.frame.specs.declared.Reply.the-variants.{Refused}
+use Rattle.pieces.specs.Pieces.{waitingIn, completes, pieceFits, lastTests}
 use Rattle.desk.specs.declared.Record.{Record}
 use Rattle.desk.specs.declared.Answer.{Answer}
 use Rattle.desk.specs.Gate.{PIECE, gate, shareOf}
-use Rattle.desk.specs.Desk.{Ask, firstHalf, secondHalf, piece, resume, Given, desk}
+use Rattle.desk.specs.Desk.{firstHalf, secondHalf, piece, resume, Given, desk}
 use Rattle.desk.specs.Surface.{heardOf}
 
--- what a call wrote into its first buffer
-abbrev pub filled : Written → List Float
-filled (all numbers) = numbers
-filled (from at numbers) = numbers
+abbrev pub unchanged : Record → List Float → Reply → Given
+unchanged rec store reply = record { answer = record { reply = reply; rec = rec }; store = store; written = [] }
 
-abbrev pub buffer : Given → List Float
-buffer o = filled (getD (o .written) 0 nothing)
-
-abbrev pub turnedAway : Record → List Float → Reply → Given
-turnedAway rec store reply = record { answer = record { reply = reply; rec = rec }; store = store; written = [] }
-
--- refusals 1 to 4 by the gate, for a call of this number; 5 by these rows; 7 and 8; and 9
-abbrev pub refusal : ℕ → Record → List Row → List ℕ → List Float → Reply
-refusal number rec rows model samples =
-    cond (eqb number 0)
-    (refusing rows Refused (after (checked (counted (rec .vad) (rec .noise) (rec .denoise)) (readOf model)) (lastTest (good samples))))
-    (Refused number)
+-- the gate's number, 1 to 4; where it is 0, 5 by these rows, and behind them 7 to 9
+abbrev pub tested : ℕ → Record → List Row → List ℕ → List Float → Reply
+tested number rec rows model samples =
+    cond (eqb number 0) (refusing rows Refused (lastTests (rec .vad) (rec .noise) (rec .denoise) model (good samples))) (Refused number)
 
 -- ---- a frame is its two halves
 
 unfoldable pub frameReply : ℕ → ℕ → Record → ℕ → List Float → List ℕ → ℕ → Reply
 frameReply n side rec len samples model out =
-    refusal (gate n side rec len 1) rec (5 when wrong ((length samples, 480) ∷ (out, 480) ∷ []) ∷ []) model samples
+    tested (gate n side rec len 1) rec (5 when wrong ((length samples, 480) ∷ (out, 480) ∷ []) ∷ []) model samples
+
+abbrev pub frameBegins : ℕ → ℕ → Record → List Float → List Float → Given
+frameBegins n side rec store samples = desk n side rec store (firstHalf samples 22)
+
+-- with our logarithms of the first half's sums
+abbrev pub frameEnds : ℕ → ℕ → Record → List Float → List Float → List ℕ → ℕ → Given
+frameEnds n side rec store samples model out =
+    let one = frameBegins n side rec store samples in
+    desk n side (one .answer .rec) (one .store) (secondHalf (logsOf (firstIn (one .written))) model out)
 
 unfoldable pub frame : ℕ → ℕ → Record → List Float → List Float → List ℕ → ℕ → Given
 frame n side rec store samples model out =
     let reply = frameReply n side rec (length store) samples model out in
-    let one = desk n side rec store (firstHalf samples 22) in
-    cond (passed reply) (desk n side (one .answer .rec) (one .store) (secondHalf (logsOf (buffer one)) model out)) (turnedAway rec store reply)
+    cond (passed reply) (frameEnds n side rec store samples model out) (unchanged rec store reply)
 
 -- ---- a piece is resumed to its end
 
@@ -66,7 +61,7 @@ takeRows rec size out answers =
 
 unfoldable pub takeReply : ℕ → ℕ → Record → List Float → List Float → List ℕ → ℕ → ℕ → Reply
 takeReply n side rec store samples model out answers =
-    refusal (gate n side rec (length store) PIECE) rec (takeRows rec (length samples) out answers) model
+    tested (gate n side rec (length store) PIECE) rec (takeRows rec (length samples) out answers) model
     (waitingIn (rec .waiting) (get (shareOf side) store) ++ samples)
 
 -- where it stands between two calls: record, store and buffers; the sums are of no account to the caller
@@ -77,17 +72,23 @@ pub record Taking : Type 0 where
   pub sums : List Float
   pub answers : List Float
 
+abbrev pub standing : Record → List Float → List Float → List Float → List Float → Taking
+standing rec store out sums answers = record { rec = rec; store = store; out = out; sums = sums; answers = answers }
+
 -- after a call, which was lent the output and the sums
 abbrev pub taking : Given → List Float → List Float → List Float → Taking
 taking o out sums answers =
-    let held = onto (o .written) (out ∷ sums ∷ []) in
-    record { rec = o .answer .rec; store = o .store; out = getD held 0 []; sums = getD held 1 []; answers = answers }
+    let held = onto (o .written) (out ∷ sums ∷ []) in standing (o .answer .rec) (o .store) (getD held 0 []) (getD held 1 []) answers
 
--- frame j, from 0: a resume with our logarithms of the sums; three answers, heard or not, voice and energy
+-- where the answers of frame j stand, from 0
+abbrev pub three : ℕ → Place
+three j = record { at = 3 * j; size = 3 }
+
+-- frame j: a resume with our logarithms of the sums; three answers, heard or not, voice and energy
 abbrev pub takeStep : ℕ → ℕ → List Float → List ℕ → ℕ → Taking → Taking
 takeStep n side samples model j t =
     let o = desk n side (t .rec) (t .store) (resume samples (logsOf (t .sums)) model (length (t .out)) 22) in
-    taking o (t .out) (t .sums) (put (record { at = 3 * j; size = 3 }) (t .answers) (heardOf (o .answer .reply)))
+    taking o (t .out) (t .sums) (put (three j) (t .answers) (heardOf (o .answer .reply)))
 
 unfoldable pub takeFrames : ℕ → ℕ → ℕ → List Float → List ℕ → Taking → Taking
 takeFrames k n side samples model t = loop k (takeStep n side samples model) t
@@ -113,8 +114,7 @@ unfoldable pub take : ℕ → ℕ → Record → List Float → List Float → L
 take n side rec store samples model out answers =
     let reply = takeReply n side rec store samples model (length out) (length answers) in
     takenAs reply
-    (cond (passed reply) (takeEnds n side rec store samples model out answers)
-    (record { rec = rec; store = store; out = out; sums = []; answers = answers }))
+    (cond (passed reply) (takeEnds n side rec store samples model out answers) (standing rec store out [] answers))
 
 -- what a contract says of a take
 pub record Took (o : Taken) (answer : Answer) (store out answers : List Float) : Type 0 where

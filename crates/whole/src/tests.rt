@@ -5,31 +5,13 @@ ghost use Prim.Native.Nat.{_*_, _≤_, _<_};
 ghost use lib.ListN.{length};
 ghost use Rattle.rules.specs.Place.{get};
 ghost use Rattle.samples.specs.Samples.{good};
-ghost use Rattle.model.specs.Model.{readOf};
-ghost use Rattle.frame.specs.Frame.{counted};
-ghost use Rattle.frame.specs.Parts.{checked};
 ghost use Rattle.frame.specs.Share.{SHARE};
-ghost use Rattle.pieces.specs.Pieces.{waitingIn, after, lastTest};
+ghost use Rattle.pieces.specs.Pieces.{waitingIn};
 ghost use Rattle.desk.specs.Gate.{BENCHES, shareOf};
 ghost use Rattle.whole.specs.Whole.{frameReply, takeReply};
 use desk::Record;
 use desk::Side;
 use frame::Reply;
-
-// Refusals 7 to 9, behind the lengths, or Done.
-fn last_tests(rec: Record, model: &[u8], fine: bool) -> Reply
-    ensures { λ r. ⌜ r
-        ≡ after (checked (counted (rec .vad) (rec .noise) (rec .denoise)) (readOf (now (model .entry)))) (lastTest fine) ⌝ }
-{
-    let reply = frame::check(model, rec.vad, rec.noise, rec.denoise);
-    if !frame::passed(reply) {
-        return reply;
-    }
-    if !fine {
-        return Reply::Refused(9);
-    }
-    Reply::Done
-}
 
 // The refusal of a frame, or Done.
 pub(crate) fn frame_reply(
@@ -52,7 +34,13 @@ pub(crate) fn frame_reply(
     if out != 480 {
         return Reply::Refused(5);
     }
-    last_tests(rec, model, samples::all_good(samples))
+    pieces::last_tests(
+        rec.vad,
+        rec.noise,
+        rec.denoise,
+        model,
+        samples::all_good(samples),
+    )
 }
 
 // Whether the samples that wait on a side and those of a piece are good.
@@ -92,5 +80,5 @@ pub(crate) fn take_reply(
         return Reply::Refused(5);
     }
     let fine = both_good(side.0, rec.waiting, store, piece);
-    last_tests(rec, model, fine)
+    pieces::last_tests(rec.vad, rec.noise, rec.denoise, model, fine)
 }

@@ -110,11 +110,8 @@ fn of_bands(rng: &mut Rng) -> Vec<Row> {
     let [xs, ps] = [bins(&x), bins(&p)];
     let gains = rng.list_of(22, Mood::Unit);
     let [g1, g2, g3, g4] = std::array::from_fn(|_| gains.clone());
-    let window = rng.list_of(960, Mood::Audio);
-    let [w1, w2, w3, w4] = std::array::from_fn(|_| window.clone());
     let [mut a22, mut b22, mut c22, mut d22] = [[0.0; 22]; 4];
     let [mut a481, mut b481] = [[0.0; 481]; 2];
-    let [mut a960, mut b960, mut c960, mut d960] = [[0.0; 960]; 4];
     vec![
         row(
             "band_corr",
@@ -127,6 +124,15 @@ fn of_bands(rng: &mut Rng) -> Vec<Row> {
             move || bands::interp_band_gain(&mut b481, black_box(&g2)),
         ),
         row("dct", move || tuppence::dct(&mut c22, black_box(&g3)), move || bands::dct(&mut d22, black_box(&g4))),
+    ]
+}
+
+#[cfg(feature = "bands")]
+fn of_windows(rng: &mut Rng) -> Vec<Row> {
+    let window = rng.list_of(960, Mood::Audio);
+    let [w1, w2, w3, w4] = std::array::from_fn(|_| window.clone());
+    let [mut a960, mut b960, mut c960, mut d960] = [[0.0; 960]; 4];
+    vec![
         row(
             "window",
             move || tuppence::window(&mut a960, black_box(&w1)),
@@ -288,6 +294,28 @@ struct Frame {
     inverse: Vec<f32>,
 }
 
+/// The text's `process_frame`. What it asks for is put into the feed before the clock runs.
+#[cfg(feature = "frame")]
+fn fed_text(frames: &'static [Frame], model: &[u8]) -> Side {
+    let mut text = DenoiseState::from_model(RnnModel::from_bytes(model).unwrap());
+    let mut frames = frames.iter().cycle();
+    Box::new(move |times| {
+        let mut output = [0.0; 480];
+        let mut total = Duration::ZERO;
+        for frame in frames.by_ref().take(times) {
+            feed::start_unwatched();
+            frame.spectra.iter().for_each(|spectrum| feed::spectrum(spectrum));
+            feed::lag(frame.lag as usize);
+            feed::logs(&frame.logs);
+            feed::inverse(&frame.inverse);
+            let start = Instant::now();
+            text.process_frame(black_box(&mut output), &frame.samples);
+            total += start.elapsed();
+        }
+        total
+    })
+}
+
 #[cfg(feature = "frame")]
 fn of_frame(rng: &mut Rng) -> Vec<Row> {
     let frames: Vec<Frame> = (0..100)
@@ -301,12 +329,12 @@ fn of_frame(rng: &mut Rng) -> Vec<Row> {
         .collect();
     let frames: &'static [Frame] = Box::leak(frames.into_boxed_slice());
     let model = models::of_shape(rng, models::USUAL);
-    let mut text = DenoiseState::from_model(RnnModel::from_bytes(&model).unwrap());
+    let rusts = fed_text(frames, &model);
     let (mut record, mut store) = ([0; 10], vec![0.0; 98_304]);
     assert_eq!(tuppence::open(&mut record, &mut store, 1, &model), 0);
     let mut window = [0.0; 960];
     let (mut sums, mut spectrum, mut answer, mut out) = ([0.0; 22], [0.0; 961], [0.0; 3], [0.0; 480]);
-    let (mut i, mut j) = (0, 0);
+    let mut i = 0;
     let ours = timed(move || {
         let frame = &frames[i % frames.len()];
         let [x, p] = &frame.spectra;
@@ -317,24 +345,6 @@ fn of_frame(rng: &mut Rng) -> Vec<Row> {
         refused |= tuppence::call4(r, s, 1, &frame.inverse, &mut out);
         assert!(refused == 0 && answer[0] == 1.0, "the frame is heard");
         i += 1;
-    });
-    // what the text asks for is put into the feed before the clock runs
-    let rusts: Side = Box::new(move |times| {
-        let mut output = [0.0; 480];
-        let mut total = Duration::ZERO;
-        for _ in 0..times {
-            let frame = &frames[j % frames.len()];
-            feed::start_unwatched();
-            frame.spectra.iter().for_each(|spectrum| feed::spectrum(spectrum));
-            feed::lag(frame.lag as usize);
-            feed::logs(&frame.logs);
-            feed::inverse(&frame.inverse);
-            let start = Instant::now();
-            text.process_frame(black_box(&mut output), &frame.samples);
-            total += start.elapsed();
-            j += 1;
-        }
-        total
     });
     vec![Row { name: "a heard frame, four calls", ours, rusts }]
 }
@@ -429,7 +439,7 @@ fn main() {
     #[cfg(feature = "numbers")]
     rows.extend(of_numbers(rng));
     #[cfg(feature = "bands")]
-    rows.extend(of_bands(rng));
+    rows.extend([of_bands(rng), of_windows(rng)].into_iter().flatten());
     #[cfg(feature = "pitch")]
     rows.extend(of_pitch(rng));
     #[cfg(feature = "lag")]
@@ -443,9 +453,7 @@ fn main() {
     #[cfg(feature = "sheet")]
     rows.extend(of_sheet(rng));
     #[cfg(feature = "frame")]
-    rows.extend(of_frame(rng));
-    #[cfg(feature = "frame")]
-    rows.extend(of_whole(rng));
+    rows.extend([of_frame(rng), of_whole(rng)].into_iter().flatten());
     let words: Vec<String> = std::env::args().skip(1).collect();
     if let [name, side, times] = &words[..] {
         let row = rows.iter_mut().find(|row| row.name.starts_with(&name[..])).expect("no such row");

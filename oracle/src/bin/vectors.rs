@@ -94,6 +94,7 @@ fn of_bands(list: &mut List, rng: &mut Rng) {
     }
 }
 
+/// Lists that fit, short ones in every mood.
 fn of_pitch(list: &mut List, rng: &mut Rng) {
     for mood in MOODS {
         let sum = rng.list_of(1, Mood::Any);
@@ -129,6 +130,10 @@ fn of_pitch(list: &mut List, rng: &mut Rng) {
     }
     // an ac of 0, and its exit
     list.leaf(6, &[&[1.0; 4], &[0.0; 5]], &[], Some(|out: &mut [f32]| pitch::lpc(out, &[0.0; 5])));
+}
+
+/// Lists that don't.
+fn of_pitch_refused(list: &mut List, rng: &mut Rng) {
     let any = |rng: &mut Rng, n| rng.list_of(n, Mood::Any);
     for [sum, xs, ys, n] in [[1, 3, 4, 4], [1, 4, 3, 4], [0, 4, 4, 4], [2, 4, 4, 4], [1, 4, 4, u32::MAX as usize]] {
         list.refused(5, &[&any(rng, sum), &any(rng, xs), &any(rng, ys)], &[n as u32]);
@@ -163,6 +168,7 @@ fn main() {
     let rng = &mut Rng::new(1);
     of_bands(&mut list, rng);
     of_pitch(&mut list, rng);
+    of_pitch_refused(&mut list, rng);
     let bytes: Vec<u8> = list.0.iter().flat_map(|word| word.to_le_bytes()).collect();
     std::io::stdout().write_all(&bytes).unwrap();
 }

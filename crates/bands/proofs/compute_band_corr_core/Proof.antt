@@ -4,10 +4,10 @@ use Prim.Native.Nat.{_≤_, _-_}
 use native.Mathlib.Omega.{arith}
 use lib.ListN.{length, length-set}
 use Rattle.rules.specs.Loop.{loop}
-use Rattle.rules.proofs.Loops.{turns, begin, more, ended}
+use Rattle.rules.proofs.Loops.{turns, more, ended}
 use Rattle.rules.specs.F32.{zeros}
 use Rattle.bands.specs.Bands.{edges, corrBand, bandCorr}
-use Rattle.bands.proofs.Shares.{zeros-of, first-band, any-band}
+use Rattle.bands.proofs.Shares.{any-band}
 use Rattle.bands.proofs.compute_band_corr_core.Statement.{statement}
 use Rattle.bands.proofs.compute_band_corr_core.Tie as tie
 

@@ -1,8 +1,5 @@
 -- `bands::corr_at` meets its contract: bin k is not bin 0. Assumes nothing.
-use mathlib.Core.Path.{_≡_}
-use mathlib.Core.Bool.{false}
 use native.Mathlib.Omega.{arith}
-use lib.Dec.{eqb}
 use borrow.Author.Needs.{needs}
 use borrow.Author.Tests.{ne-eqb}
 use Rattle.bands.specs.Bands.{binCorr}

@@ -1,13 +1,11 @@
 -- `bands::dct_scaled` meets its contract: the scale is the one computed, and a NaN stays one. Assumes nothing.
-use mathlib.Core.Path.{sym, ap, _∙_, subst}
-use mathlib.Core.Bool.{not}
+use mathlib.Core.Path.{sym, subst}
 use lib.Dec.{T}
-use lib.Ieee.{binary64, nan, div, mul, ofBits, fits, isNan}
+use lib.Ieee.{div, mul, ofBits}
 use lib.Ieee.Compare.{differs-from-itself}
 use borrow.Author.Needs.{needs}
 use Rattle.numbers.specs.Narrowed.{narrowed}
 use Rattle.numbers.proofs.NoNan.{real-of}
-use Rattle.bands.specs.Scale.{dctScale}
 use Rattle.bands.specs.Dct.{dctScaled}
 use Rattle.bands.proofs.Scale.{scale-is}
 use Rattle.bands.proofs.dct_scaled.Statement.{statement}

@@ -1,5 +1,4 @@
 -- `lag::lag_core` meets its contract: the first pitch is below 294. Assumes nothing.
-use mathlib.Core.Path.{refl}
 use native.Mathlib.Omega.{arith}
 use borrow.Author.Needs.{needs}
 use Rattle.rules.proofs.Called.{left as fitted}

@@ -1,6 +1,6 @@
 -- `logs::log10` meets its contract: each way through it is a case of proofs/Special. Assumes nothing.
 use borrow.Author.Needs.{needs}
-use mathlib.Core.Path.{_≡_, sym, ap, _∙_, subst}
+use mathlib.Core.Path.{sym, ap, _∙_, subst}
 use mathlib.Core.Bool.{not}
 use lib.Dec.{T}
 use lib.Ieee.{binary32, binary64, fits, isNan, div, neg, ofBits}

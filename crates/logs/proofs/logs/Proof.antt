@@ -1,13 +1,11 @@
 -- `logs::logs` meets its contract: the first i places hold the logarithms of the first i sums. Assumes nothing.
-use mathlib.Core.Path.{_≡_, refl, _∙_}
+use mathlib.Core.Path.{_≡_, refl}
 use Prim.Native.Nat.{_≤_, _-_}
 use native.Mathlib.Omega.{arith}
-use denote.Ref.{now}
-use lib.ListN.{length, length-set}
+use lib.ListN.{length}
 use Rattle.rules.specs.F32.{at}
 use Rattle.rules.specs.Leaf.{done, refused}
-use Rattle.rules.specs.Tab.{tab}
-use Rattle.rules.proofs.Filling.{Filling, fills, filling-more, filling-ended}
+use Rattle.rules.proofs.Filling.{Filling, fills, filling-ended}
 use Rattle.rules.proofs.Leaves.{leaves}
 use Rattle.logs.specs.Log10.{log10Of, logsOf}
 use Rattle.logs.proofs.logs.Statement.{statement}

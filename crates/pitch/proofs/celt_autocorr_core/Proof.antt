@@ -6,7 +6,6 @@ use lib.ListN.{length, take}
 use lib.Seq.{length-take-le}
 use borrow.Author.Needs.{needs}
 use Rattle.pitch.specs.Autocorr.{addTails, celtAutocorr}
-use Rattle.pitch.specs.Xcorr.{pitchXcorr}
 use Rattle.pitch.proofs.celt_autocorr_core.Statement.{statement}
 use Rattle.pitch.proofs.celt_autocorr_core.Tie as tie
 

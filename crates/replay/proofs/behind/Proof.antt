@@ -1,8 +1,6 @@
 -- `replay::behind` is safe and ends. Assumes nothing.
 use Prim.Native.Nat.{_+_, _*_, _≤_, _<_, _-_}
-use lib.ListN.{length, length-set}
 use borrow.Author.Needs.{needs}
-use mathlib.Core.Path.{_≡_}
 use Rattle.replay.proofs.behind.Statement.{statement}
 use Rattle.replay.proofs.behind.Tie as tie
 

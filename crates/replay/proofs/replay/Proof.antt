@@ -1,5 +1,5 @@
 -- `replay::replay` is safe and ends: each record is longer than nothing. Assumes nothing.
-use Prim.Native.Nat.{_+_, _*_, _/_, _≤_, _<_, _-_}
+use Prim.Native.Nat.{_/_, _≤_, _-_}
 use mathlib.Core.Logic.{⊎-elim}
 use native.Mathlib.Omega.{arith}
 use lib.ListN.{length}

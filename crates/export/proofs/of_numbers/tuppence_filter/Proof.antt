@@ -1,11 +1,9 @@
 -- `tuppence_filter` meets its contract. Assumes nothing.
-use mathlib.Core.Path.{_≡_, refl}
-use mathlib.Core.List.{List, [], _∷_}
+use mathlib.Core.Path.{refl}
 use native.Mathlib.Omega.{arith}
 use borrow.Author.Needs.{needs}
 use denote.Ref.{now}
-use lib.ListN.{length, set, length-set}
-use lib.Ieee.{Float}
+use lib.ListN.{length, length-set}
 use Rattle.rules.specs.Leaf.{done, refused}
 use Rattle.rules.proofs.Stores.{all-stored}
 use Rattle.numbers.proofs.Outputs.{filters}

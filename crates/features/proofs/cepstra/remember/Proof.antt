@@ -5,7 +5,7 @@ use Prim.Native.Nat.{ℕ, _+_, _-_, _*_}
 use native.Mathlib.Omega.{arith}
 use denote.Ref.{now}
 use lib.Ieee.{Float}
-use lib.ListN.{length, take, drop, length-take, length-drop}
+use lib.ListN.{take, drop, length-take, length-drop}
 use borrow.Author.Needs.{needs}
 use Rattle.rules.specs.Place.{put}
 use Rattle.rules.proofs.Called.{left}

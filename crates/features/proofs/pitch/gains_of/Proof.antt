@@ -1,6 +1,5 @@
 -- `features::pitch::gains_of` meets its contract. Assumes nothing.
 use Prim.Native.Nat.{_≤_, _-_}
-use native.Mathlib.Omega.{arith}
 use Rattle.rules.specs.F32.{at}
 use Rattle.rules.proofs.Filling.{Filling, fills}
 use Rattle.features.specs.Pitch.{pitchGain, pitchGains}

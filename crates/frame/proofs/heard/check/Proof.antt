@@ -1,7 +1,7 @@
 -- `frame::heard::check` meets its contract: what each call leaves, in a row. Assumes nothing.
 use mathlib.Core.Path.{ap, _∙_}
 use borrow.Author.Needs.{needs}
-use Rattle.frame.specs.Parts.{checked}
+use Rattle.frame.specs.Frame.{checked}
 use Rattle.frame.proofs.heard.check.Statement.{statement}
 use Rattle.frame.proofs.heard.check.Tie as tie
 

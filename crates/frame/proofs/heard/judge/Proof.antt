@@ -1,7 +1,7 @@
 -- `frame::heard::judge` meets its contract: each answer by the tests that lead to it. Assumes nothing.
 use borrow.Author.Needs.{needs}
 use Rattle.rules.proofs.Tests.{tests}
-use Rattle.frame.specs.Parts.{checked}
+use Rattle.frame.specs.Frame.{checked}
 use Rattle.frame.proofs.heard.judge.Statement.{statement}
 use Rattle.frame.proofs.heard.judge.Tie as tie
 

@@ -1,7 +1,6 @@
 -- `halves::second::whole_lag` meets its contract. Assumes nothing.
 use mathlib.Core.Path.{_≡_}
 use Prim.Native.Nat.{_≤_, _-_}
-use native.Mathlib.Omega.{arith}
 use Rattle.rules.specs.Loop.{range}
 use Rattle.rules.proofs.Loops.{turns}
 use Rattle.halves.specs.Halves.{lagStep, wholeLag}

@@ -2,7 +2,7 @@
 -- The struct and input are Copy: what they own is had twice, and one copy is kept for the exit. output goes to the callee at its own lifetime, share and ghost name, for good: what the callee says of its last list is what is said at exit.
 -- Assumes nothing.
 use lib.Ieee.{Float}
-use Rattle.walks.proofs.Names.{_≡_, refl, ℕ, _<_, _^_, List, [], _∷_, length, Holds, URA, named, w32, w64, Val, WT, hasTy, SProp, ent, sep, emp, id⊢, via, fst∗, Heap, Model, Lfts, Shares, Running, GhostRules, givenOf, Given, Item, ‵, raw, _⊛_, ⋆, mean, _$_, _∵_, !, qed, by, move, keep, use1, use2, split, fsplit, fjoin, feqL, suffices, frame, done, agg, whole, sub, look-in, look, init, stop, hop, fld, from, addr, of-opd, and-then, no-more, returns, enter, alloc1, alloc0, params1, pass1, pass0, free0, uint-vals, uint-lawful, u8, u32, f32, RefT, now, slice-vals, ShrSlice, Room, finally, nothing, Args, Contract, Clauses, says, yes}
+use Rattle.walks.proofs.Names.{_≡_, refl, ℕ, _<_, _^_, List, [], _∷_, length, Holds, URA, named, w32, w64, Val, WT, hasTy, SProp, ent, sep, emp, id⊢, via, fst∗, Heap, Model, Lfts, Shares, Running, GhostRules, givenOf, Given, Item, ‵, raw, _⊛_, ⋆, mean, _$_, _∵_, !, qed, by, move, keep, use1, use2, split, fsplit, fjoin, feqL, suffices, frame, done, agg, whole, sub, look-in, look, init, stop, hop, fld, from, addr, of-opd, and-then, no-more, returns, enter, alloc1, alloc0, params1, pass1, pass0, free0, uint-vals, uint-lawful, u32, f32, RefT, now, slice-vals, ShrSlice, Room, finally, nothing, Args, Contract, Clauses, says, yes}
 use Rattle.walks.proofs.Walk.{shared, handed, Params, machine, owning, promise, entry, exit, ends, runsAs, meets}
 use Rattle.walks.proofs.Steps.{brings, asks, tokens, arg, part, sets, gets, counts, twice, swap, gone}
 use Rattle.matrix.specs.Sums.{MulAdd}

@@ -1,7 +1,6 @@
 -- `matrix::lanes::byte0` meets its contract. Assumes nothing.
-use Prim.Native.Nat.{_/_, _%_}
+use Prim.Native.Nat.{_%_}
 use native.Mathlib.Omega.{arith}
-use borrow.Author.Needs.{needs}
 use Rattle.matrix.proofs.Flipped.{low-real, low-signed}
 use Rattle.matrix.proofs.lanes.byte0.Statement.{statement}
 use Rattle.matrix.proofs.lanes.byte0.Tie as tie

@@ -3,11 +3,9 @@ use mathlib.Core.Path.{_≡_, refl, _∙_}
 use mathlib.Core.List.{_++_}
 use Prim.Native.Nat.{ℕ, _≤_, _<_, _+_, _-_, _%_}
 use native.Mathlib.Omega.{arith}
-use lib.Ieee.{Float}
 use lib.ListN.{length, drop}
 use Rattle.rules.specs.F32.{at}
 use Rattle.rules.specs.Tab.{tab}
-use Rattle.rules.proofs.Loops.{turns}
 use Rattle.rules.proofs.Tabs.{tab-none, tab-done}
 use Rattle.matrix.specs.Parts.{spot}
 use Rattle.matrix.proofs.Neurons.{block-ordered}

@@ -9,7 +9,7 @@ use lib.ListN.{length}
 use Rattle.rules.proofs.Tests.{answered-no, answered-yes}
 use Rattle.samples.specs.Samples.{good}
 use Rattle.frame.specs.Reply.{passed}
-use Rattle.pieces.specs.Pieces.{waitingIn, padded}
+use Rattle.pieces.specs.Pieces.{waitingIn, paddedTo}
 use Rattle.pieces.proofs.Accepted.{Piece, piece-accepted}
 use Rattle.pieces.proofs.Goods.{good-append, good-padded}
 use Rattle.pieces.proofs.Padding.{length-padded}
@@ -28,7 +28,7 @@ took c = piece-accepted _ _ _ _ _ (rw (c .before .before .piece-reply .ensures) 
 
 -- ---- the samples that wait and those of the piece
 
-filled : (c : tie.After-gather) → let a = c .before .before .before .before .before .before .before .before .before .before .before .args in c .gather .last .0 ≡ padded 480 (waitingIn (a .waiting) (now (a .share)) ++ now (a .samples))
+filled : (c : tie.After-gather) → let a = c .before .before .before .before .before .before .before .before .before .before .before .args in c .gather .last .0 ≡ paddedTo 480 (waitingIn (a .waiting) (now (a .share)) ++ now (a .samples))
 filled c = c .gather .ensures
 
 first-length : (c : tie.After-gather) → length (c .gather .last .0) ≡ 480

@@ -15,7 +15,7 @@ fits c = answered-yes (c .before .resume-fits .ensures) (c .if2 .left)
 returns-3 : tie.Need-returns-3
 unfolding resumeReply
 returns-3 c =
-    c .after .ensures ∙ rw (c .before .check .ensures, c .before .before .last-test .ensures, c .before .before .before .all-good .ensures) (search (tests, fits (c .before .before .before .before)))
+    c .last-tests .ensures ∙ rw (c .before .all-good .ensures) (search (tests, fits (c .before .before)))
 
 pub resume-reply-spec : {M : Type 1} → statement M
 unfolding resumeReply
@@ -26,7 +26,5 @@ resume-reply-spec =
     (λ c κs. search needs)  -- resume-fits-requires
     (λ c. search (tests, answered-no (c .before .resume-fits .ensures) (c .if2 .taken)))  -- returns-2
     (λ c κs. search needs)  -- all-good-requires
-    (λ c κs. search needs)  -- last-test-requires
-    (λ c κs. search needs)  -- check-requires
-    (λ c κs. search needs)  -- after-requires
+    (λ c κs. search needs)  -- last-tests-requires
     returns-3)

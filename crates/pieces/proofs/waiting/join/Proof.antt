@@ -5,7 +5,7 @@ use Prim.Native.Nat.{_≤_, _-_}
 use lib.ListN.{length, getD}
 use Rattle.rules.specs.F32.{f32}
 use Rattle.rules.proofs.Filling.{Filling, fills}
-use Rattle.pieces.specs.Pieces.{padded}
+use Rattle.pieces.specs.Pieces.{paddedTo}
 use Rattle.pieces.proofs.waiting.join.Statement.{statement}
 use Rattle.pieces.proofs.waiting.join.Tie as tie
 
@@ -16,7 +16,7 @@ abbrev μ-loop : tie.MeasureT-loop
 μ-loop out₀ front rest i₀ i-end out i = i-end - i
 
 pub join-spec : {M : Type 1} → statement M
-unfolding padded
+unfolding paddedTo
 join-spec =
     tie.close
     (tie.spec

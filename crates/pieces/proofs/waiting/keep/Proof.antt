@@ -7,7 +7,7 @@ use denote.Ref.{now}
 use lib.ListN.{length, take, drop, length-take, length-drop}
 use lib.Seq.{take-all}
 use Rattle.frame.specs.Share.{PART}
-use Rattle.pieces.specs.Pieces.{waitingPlace, padded}
+use Rattle.pieces.specs.Pieces.{waitingPlace, paddedTo}
 use Rattle.rules.specs.Place.{get, put}
 use Rattle.pieces.proofs.waiting.keep.Statement.{statement}
 use Rattle.pieces.proofs.waiting.keep.Tie as tie
@@ -33,5 +33,5 @@ keep-spec =
     let a = c .before .before .before .before .before .before .before .before .args in
     let room : length (take 479 (drop PART (now (a .share)))) ≡ 479 = simp (length-take, length-drop) (omega arith) in
     let all = take-all (length (now (a .samples)) - a .from) (drop (a .from) (now (a .samples))) (simp length-drop (omega arith)) in
-    let kept : c .before .before .join .last .0 ≡ padded 479 (drop (a .from) (now (a .samples))) = c .before .before .join .ensures ∙ rw (room, all) in
+    let kept : c .before .before .join .last .0 ≡ paddedTo 479 (drop (a .from) (now (a .samples))) = c .before .before .join .ensures ∙ rw (room, all) in
     ap (put (waitingPlace 479) (now (a .share))) kept))  -- returns

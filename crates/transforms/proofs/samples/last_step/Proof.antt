@@ -1,5 +1,4 @@
 -- `transforms::samples::last_step` meets its contract. Assumes nothing.
-use mathlib.Core.Path.{refl}
 use native.Mathlib.Omega.{arith}
 use borrow.Author.Needs.{needs}
 use Rattle.transforms.proofs.Turns.{last-stepped}

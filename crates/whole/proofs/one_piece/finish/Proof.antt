@@ -6,8 +6,7 @@ use lib.ListN.{length}
 use Rattle.rules.specs.Loop.{loop}
 use Rattle.rules.proofs.Loops.{turns, more, ended}
 use Rattle.desk.specs.Gate.{BENCHES}
-use Rattle.whole.specs.Whole.{takeStep, takeFrames}
-use Rattle.whole.specs.Parts.{standing}
+use Rattle.whole.specs.Whole.{takeStep, takeFrames, standing}
 use Rattle.whole.proofs.one_piece.finish.Statement.{statement}
 use Rattle.whole.proofs.one_piece.finish.Tie as tie
 

@@ -2,7 +2,6 @@
 use borrow.Author.Needs.{needs}
 use mathlib.Core.Path.{_∙_}
 use borrow.Author.Tests.{ne-eqb}
-use Rattle.rules.proofs.Tests.{tests}
 use Rattle.whole.specs.Whole.{frameReply}
 use Rattle.whole.proofs.tests.frame_reply.Statement.{statement}
 use Rattle.whole.proofs.tests.frame_reply.Tie as tie

@@ -1,9 +1,9 @@
--- `whole::tests::last_tests` meets its contract. Assumes nothing.
+-- `pieces::finish::last_tests` meets its contract. Assumes nothing.
 use borrow.Author.Needs.{needs}
 use borrow.Author.Tests.{not-true, not-false}
 use Rattle.rules.proofs.Tests.{answered-no, answered-yes}
-use Rattle.whole.proofs.tests.last_tests.Statement.{statement}
-use Rattle.whole.proofs.tests.last_tests.Tie as tie
+use Rattle.pieces.proofs.finish.last_tests.Statement.{statement}
+use Rattle.pieces.proofs.finish.last_tests.Tie as tie
 
 pub last-tests-spec : {M : Type 1} → statement M
 last-tests-spec =
