@@ -40,7 +40,7 @@ lt-or-ge a b = go (ltb a b) refl
     go true e = inl (ltb-true a b e)
     go false e = inr (ltb-false a b e)
 
-apart : (a b : ℕ) → (a ≡ b → ⊥) → Apart (shareOf a) (shareOf b)
+pub apart : (a b : ℕ) → (a ≡ b → ⊥) → Apart (shareOf a) (shareOf b)
 apart a b ne = ⊎-elim (λ h. inl (omega arith)) (λ h. inr (omega arith)) (lt-or-ge a b)
 
 -- ---- one call on a desk of n benches
@@ -94,7 +94,7 @@ module _ (n side : ℕ) (b : Record) (store : List Float) (ask : Ask) (l : lengt
     own-share = ap (get (shareOf side)) stored ∙ get-put (shareOf side) store (desk 1 0 b share ask .store) within whole
 
   -- no side of the desk
-  no-side : n ≤ side → after ≡ store
+  pub no-side : n ≤ side → after ≡ store
   unfolding desk
   no-side h =
       let shut : gate n side b (length store) (callOf ask) ≡ 0 → ⊥ = λ z. omega (arith, through n side b (length store) (callOf ask) z .0) in
