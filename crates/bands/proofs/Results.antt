@@ -11,6 +11,7 @@ use Rattle.rules.proofs.Runs.{kept}
 use Rattle.rules.proofs.Tabs.{length-tab}
 use Rattle.bands.specs.Bands.{edge, corrStep, corrBand, bandCorr, gainStep, gainBand, bandGain}
 use Rattle.bands.specs.Dct.{dctIn, dctOf}
+use Rattle.bands.specs.Laws.{Lengths, GainEnds}
 use Rattle.bands.specs.Windowed.{windowedBy, windowed}
 use Rattle.bands.proofs.Edges.{edges-rule}
 
@@ -49,7 +50,7 @@ gain-ends bands =
 pub length-gain : (bands : List Float) → length (bandGain bands) ≡ 481
 length-gain bands = gain-ends bands .0
 
-pub gain-end : (bands : List Float) (k : ℕ) → 400 ≤ k → k < 481 → at (bandGain bands) k ≡ f32 0
+pub gain-end : GainEnds
 gain-end bands = gain-ends bands .1
 
 pub length-dct : (x : List Float) → length (dctOf x) ≡ 22
@@ -59,3 +60,6 @@ length-dct x = length-tab 22 _
 pub length-windowed : (x : List Float) → length (windowed x) ≡ 960
 unfolding windowedBy
 length-windowed x = length-tab 960 _
+
+pub lengths : Lengths
+lengths = record { corr = length-corr; gain = length-gain; dct = length-dct; window = length-windowed }

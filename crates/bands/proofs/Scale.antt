@@ -1,9 +1,10 @@
 -- The DCT's scale, computed from the definition of the root. Assumes nothing.
-use mathlib.Core.Path.{_≡_, refl}
-use lib.Ieee.{binary64, ofBits, div}
+use mathlib.Core.Path.{refl}
+use lib.Ieee.{ofBits, div}
 use Rattle.numbers.specs.Root.{root}
+use Rattle.bands.specs.Laws.{ScaleIs}
 use Rattle.bands.specs.Scale.{dctScale}
 
-pub scale-is : dctScale ≡ ofBits binary64 0x3FD34BF63D156826
+pub scale-is : ScaleIs
 unfolding dctScale root ofBits div
 scale-is = refl

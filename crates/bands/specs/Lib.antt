@@ -1,6 +1,7 @@
 pub mod Bands
 pub mod Dct
 pub mod DctTable
+pub mod Laws
 pub mod Norm
 pub mod Scale
 pub mod Spectrum

@@ -7,6 +7,7 @@ use lib.Ieee.{Float, nan, le, isNan}
 use Rattle.rules.specs.F32.{at}
 use Rattle.rules.proofs.Tabs.{getD-tab}
 use Rattle.features.specs.Gains.{sixTenths, atLeast, gained}
+use Rattle.features.specs.Laws.{Remembered}
 use Rattle.features.proofs.Order.{held-no-nan, larger-no-nan, larger-at-least}
 
 module _ (g last : List Float) (i : ℕ) (band : i < 22) (number : isNan (at last i) ≡ false) where
@@ -19,3 +20,6 @@ module _ (g last : List Float) (i : ℕ) (band : i < 22) (number : isNan (at las
 
   pub at-least-held : le (sixTenths (at last i)) (at (gained g last) i) ≡ true
   at-least-held = rw is (larger-at-least _ _ (held-no-nan _ number))
+
+pub remembered : Remembered
+remembered g last i band number = (never-nan g last i band number, at-least-held g last i band number)

@@ -17,16 +17,9 @@ use Rattle.frame.specs.Frame.{Effect, refusal, call1, call3, done4, call4}
 use Rattle.frame.proofs.Done.{call4-done}
 use Rattle.frame.proofs.Keeps.{call3-keeps}
 use Rattle.halves.specs.Own.{call2Own}
+use Rattle.halves.specs.Laws.{Both, FirstIsCalls, SecondIsCalls}
 use Rattle.halves.specs.Halves.{onward, buffer, analysed, firstHalf, lookedBack, synthesised, secondHalf}
 use Rattle.halves.proofs.Onward.{length-inverse}
-
--- a half that is the calls a and b: both are done, it leaves b's share, and this is its reply and what it writes
-pub record Both (a b half : Effect) (reply : Reply) (written : List (List Float)) : Type 0 where
-  pub first : passed (a .reply) ≡ true
-  pub last : passed (b .reply) ≡ true
-  pub replies : half .reply ≡ reply
-  pub shares : half .share ≡ b .share
-  pub writes : half .written ≡ written
 
 module _ (share : List Float) where
   module _ (samples : List Float) (sums : ℕ) where
@@ -92,3 +85,9 @@ module _ (share : List Float) where
                 writes = ap (λ (f : Effect). f .written) (done 0 0) ∙ sym (ap (λ (f : Effect). f .written) (done frame heard));
               }
           go false e r p = absurd (false≢true (sym e ∙ p))
+
+pub first-is-calls : FirstIsCalls
+first-is-calls = first-half-is
+
+pub second-is-calls : SecondIsCalls
+second-is-calls share index vad noise denoise logs model out frame heard = second-half-is share index vad noise denoise logs model out frame heard

@@ -36,6 +36,7 @@ use Rattle.frame.specs.Frame.{refusal, recent, putKept, done2, call2}
 use Rattle.frame.proofs.Beside.{done2-beside}
 use Rattle.frame.proofs.Sizes.{lag-at, looked-at}
 use Rattle.halves.specs.Own.{call2Own}
+use Rattle.halves.specs.Laws.{SameWindow, OwnWindow}
 use Rattle.halves.specs.Halves.{buffer, lagStep, wholeLag, lookedBack}
 
 -- after n turns it is at most n
@@ -124,8 +125,7 @@ looks-at share spectrum lag whole small =
     let mem-is = done2-beside inputMem share spectrum lag (inr (omega arith), (inr (omega arith), (inr (omega arith), tt))) whole .same in
     rw (lag-is, mem-is, lag-back lag small)
 
-pub same-window : (share spectrum : List Float) (lag window sums : ℕ) → let b = call2 share spectrum lag window sums in passed (b .reply) ≡ true
-    → lookedBack (b .share) ≡ buffer b
+pub same-window : SameWindow
 unfolding call2
 same-window share spectrum lag window sums =
     by-rows (λ n. refusal (Refused n) share) (done2 share spectrum lag) (λ f. passed (f .reply) ≡ true → lookedBack (f .share) ≡ buffer f)
@@ -135,6 +135,6 @@ same-window share spectrum lag window sums =
     lengths : List (ℕ × ℕ)
     lengths = (length share, PART) ∷ (length spectrum, 961) ∷ (window, 960) ∷ (sums, 22) ∷ []
 
-pub own-window : (share spectrum : List Float) (window sums : ℕ) → let b = call2Own share spectrum window sums in passed (b .reply) ≡ true → lookedBack (b .share) ≡ buffer b
+pub own-window : OwnWindow
 unfolding call2Own
 own-window share spectrum window sums = same-window share spectrum (ownLag (get inputMem share)) window sums

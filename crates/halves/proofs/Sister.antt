@@ -20,6 +20,7 @@ use Rattle.frame.specs.declared.Reply.{Reply}
 use Rattle.frame.specs.declared.Reply.the-variants.{Refused}
 use Rattle.frame.proofs.Cases.{call2-by}
 use Rattle.frame.proofs.Keeps.{Keeps, call2-keeps}
+use Rattle.halves.specs.Laws.{SisterByFive}
 use Rattle.halves.specs.Own.{call2Own}
 
 module _ (share : List Float) where
@@ -50,3 +51,6 @@ module _ (share : List Float) where
     pub call2-own-keeps : Keeps share (call2Own share spectrum window sums)
     unfolding call2Own
     call2-own-keeps = call2-keeps share spectrum (ownLag mem) window sums
+
+pub sister-by-five : SisterByFive
+sister-by-five share spectrum window sums = by-five share spectrum window sums

@@ -1,17 +1,16 @@
 -- What our lag may be: 182 to 768, and 768 where no correlation is positive. Assumes nothing.
 use mathlib.Core.Path.{_≡_}
-use mathlib.Core.Bool.{false}
 use mathlib.Core.List.{List}
-use Prim.Native.Nat.{ℕ, _≤_, _<_}
+use Prim.Native.Nat.{_<_}
 use native.Mathlib.Omega.{arith}
-use lib.Ieee.{Float, lt}
+use lib.Ieee.{Float}
 use lib.ListN.{length}
-use Rattle.rules.specs.F32.{at, f32}
 use Rattle.rules.proofs.Tabs.{length-tab}
 use Rattle.pitch.specs.Xcorr.{pitchXcorr}
 use Rattle.pitch.specs.Downsample.{downsampled}
 use Rattle.pitch_search.proofs.Firsts.{first-below, first-none}
 use Rattle.lag.specs.Lag.{correlations, firstPitch, ownLag}
+use Rattle.lag.specs.Laws.{InRange, OfNone}
 
 pub length-correlations : (low : List Float) → length (correlations low) ≡ 294
 unfolding correlations pitchXcorr
@@ -20,11 +19,11 @@ length-correlations low = length-tab 294 _
 pub pitch-small : (low : List Float) → firstPitch low < 294
 pitch-small low = rw length-correlations at (first-below (correlations low) low 480 (rw length-correlations (omega arith)))
 
-pub in-range : (mem : List Float) → (182 ≤ ownLag mem) × (ownLag mem ≤ 768)
+pub in-range : InRange
 unfolding ownLag
 in-range mem = (omega (arith, pitch-small (downsampled mem)), omega arith)
 
-pub none-positive : (mem : List Float) → ((i : ℕ) → i < 294 → lt (f32 0) (at (correlations (downsampled mem)) i) ≡ false) → ownLag mem ≡ 768
+pub none-positive : OfNone
 unfolding ownLag
 none-positive mem none =
     let low = downsampled mem in

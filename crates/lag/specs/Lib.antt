@@ -1,1 +1,2 @@
 pub mod Lag
+pub mod Laws

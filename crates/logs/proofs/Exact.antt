@@ -19,7 +19,7 @@ use Rattle.numbers.proofs.Pattern.{pattern-value}
 use Rattle.rules.specs.F64.{f64, _*₆₄_}
 use Rattle.logs.specs.Tables.{rowAt, twoHigh}
 use Rattle.logs.specs.Log10.{exponentOf, mantissaOf, rowOf, restOf, highOf}
-use Rattle.logs.specs.Exact.{Exactly, wholes, digitsOf, RestExact, HighExact, Exact}
+use Rattle.logs.specs.Exact.{Exactly, wholes, digitsOf, RestExact, HighExact, Exact, Claim}
 use Rattle.logs.proofs.Rule.{rule, two-rule}
 use Rattle.logs.proofs.Wholes.{product-exact, sum-exact, difference-exact, abs-sum, abs-difference, abs-product}
 
@@ -137,10 +137,13 @@ zeros-behind (fin false (suc m) e) held above =
     let few : size n ≤ 24 + j = size-le n (24 + j) (subst (λ (x : ℕ). x < 2 ^ (24 + j)) (sym is) (shl-lt 24 j (says .0))) in
     ends-in-zeros k (n / 2 ^ k) (suc m * 2 ^ (j - k - 29)) (ap (λ (x : ℕ). x / 2 ^ k) is ∙ shorter (suc m) k j (omega arith))
 
-pub exact : (x : Float) → T (fits binary32 x) → T (positive x) → Exact x
+exact : (x : Float) → T (fits binary32 x) → T (positive x) → Exact x
 exact x held above =
     let bits = toBits binary64 x in
     record {
       rest = rest-exact bits (zeros-behind x held above);
       high = high-exact bits (toBits-lt binary64 x (fits-widens x held));
     }
+
+pub claim : Claim
+claim = record { ruled = rule; two = two-rule; exact = exact }

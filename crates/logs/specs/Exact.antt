@@ -1,9 +1,11 @@
 -- The constants' rule, and the steps that lose nothing. An f64 is exactly z / c, for a whole number z; zero is +0.
-use Prim.Native.Nat.{ℕ, suc, _+_, _*_, _/_, _%_, _^_, _≤_}
+use Prim.Native.Nat.{ℕ, suc, _+_, _*_, _/_, _%_, _^_, _≤_, _<_}
 use mathlib.Core.Bool.{true, false}
+use lib.Dec.{T}
 use lib.IntN.{ℤ, pos, negsuc, _+ℤ_, _-ℤ_, _*ℤ_}
-use lib.Ieee.{Float, nan, inf, fin, binary64, up, down, toBits}
+use lib.Ieee.{Float, nan, inf, fin, binary32, binary64, up, down, fits, toBits}
 use lib.Ieee.Exact.{HasValue}
+use lib.Ieee.Positive.{positive}
 use Rattle.logs.specs.Tables.{rowAt, twoHigh}
 use Rattle.logs.specs.Log10.{rowOf, restOf, highOf}
 
@@ -41,7 +43,13 @@ abbrev pub HighExact : ℕ → Type 0
 HighExact bits =
     Exactly (highOf bits) ((pos (bits / 2 ^ 52) -ℤ pos 1023) *ℤ pos (wholes 40 twoHigh) +ℤ pos (wholes 40 (rowAt (rowOf bits) .high))) (2 ^ 40)
 
--- of every f32 above zero
+-- both, of one f32
 pub record Exact (x : Float) : Type 0 where
   pub rest : RestExact (toBits binary64 x)
   pub high : HighExact (toBits binary64 x)
+
+-- ---- what is claimed: the rule holds of all 33 rows, and of log10 2; so both steps are exact at every f32 above zero
+pub record Claim : Type 0 where
+  pub ruled : (i : ℕ) → i < 33 → Rule i
+  pub two : Grained 40 1 (2 ^ 39) twoHigh
+  pub exact : (x : Float) → T (fits binary32 x) → T (positive x) → Exact x

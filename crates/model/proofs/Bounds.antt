@@ -18,6 +18,7 @@ use Rattle.model.specs.declared.Reading.the-variants.{Good, Refused}
 use Rattle.model.specs.Layer.{lengths, sizeOf, Layer}
 use Rattle.model.specs.Model.{kinds, headersAt, modelOf, mismatches, goodUnless, readOf}
 use Rattle.model.specs.Array.{foundIn, lineIn}
+use Rattle.model.specs.Laws.{Largest, RefusedIn}
 use Rattle.model.specs.Parts.{LiesIn}
 use Rattle.model.proofs.Layer.{product}
 use Rattle.model.specs.Writer.{fileOf}
@@ -69,8 +70,8 @@ largest-file size (l0 ∷ l1 ∷ l2 ∷ l3 ∷ l4 ∷ []) f q = absurd (f .1 .1 
 largest-file size (l0 ∷ l1 ∷ l2 ∷ l3 ∷ l4 ∷ l5 ∷ l6 ∷ ls) f q = absurd (f .1 .1 .1 .1 .1 .1)
 
 -- no longer file reads
-pub largest : (s : List ℕ) {m : Model} → Good m ≡ readOf s → length s ≤ 157285
-largest s {m} e = of m (rw (← e) at (writes-back s))
+pub largest : Largest
+largest s m e = of m (rw (← e) at (writes-back s))
   where
     of : (m : Model) → Written s m → length s ≤ 157285
     of m w = rw (w .holds .file) (largest-file (length s) (w .contents) (w .holds .fit) (subst (Shaped (length s)) (sym (w .model)) (shape s m w)))
@@ -80,7 +81,7 @@ found-small : (s : List ℕ) (j : ℕ) {k : Kind} {h : Header} → At k h ≡ fo
 found-small s j {k} {h} e = within s j e (of (readOf s) refl e)
   where
     of : (r : Reading) → r ≡ readOf s → At k h ≡ foundIn r j → length s ≤ 157285
-    of (Good m) good e = largest s good
+    of (Good m) good e = largest s m good
     of (Refused n l) bad e = absurd (let z : _≡_ {A = ℕ} 0 1 = cc in omega arith)
 
 -- the numbers of a line, behind its layer
@@ -134,3 +135,6 @@ reading-in s = of (row-comes 0 kinds s)
 -- a refusal is one of 11 to 22, and its layer one of 0 to 6
 pub refused-in : (s : List ℕ) {n j : ℕ} → Refused n j ≡ readOf s → (11 ≤ n) × (n ≤ 22) × (j ≤ 6)
 refused-in s e = let r = rw (← e) at (reading-in s) in (r .0 .0, r .0 .1, r .1)
+
+pub refusals : RefusedIn
+refusals s n j e = refused-in s e

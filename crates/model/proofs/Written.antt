@@ -17,15 +17,17 @@ use Rattle.rules.proofs.Refused.{Clear, clear}
 use Rattle.rules.proofs.Truth.{neither}
 use Rattle.model.specs.declared.Kind.{Kind}
 use Rattle.model.specs.declared.Kind.the-variants.{Dense, Gru}
+use Rattle.model.specs.declared.Model.{Model}
 use Rattle.model.specs.Layer.{lengths, Layer}
 use Rattle.model.specs.Model.{_≠_, kinds, headersAt, modelOf, mismatches, readOf}
 use Rattle.model.specs.Writer.{layersGiven, fileOf, differ, inLayer, rowFaults, modelGiven, writerFaults, writeModel}
-use Rattle.model.specs.Writer.{layersRead, shapesOf, arraysIn, ReadsBack, WritesBack, NoneShared}
+use Rattle.model.specs.Laws.{layersRead, shapesOf, arraysIn, layerIn, ReadsBack, WritesBack, NoneShared, ArraysAreRead}
 use Rattle.model.proofs.Rows.{clear-shifted, clear-joined, answered}
 use Rattle.model.proofs.Layer.{three}
 use Rattle.model.proofs.Inverse.{Sized, number-of, activation-of, number-small, FitAll, row-reads}
 use Rattle.model.proofs.File.{Holds, reads-back, same-layers, Written, writes-back}
 use Rattle.model.proofs.Shapes.{same}
+use Rattle.model.proofs.Arrays.{array-is}
 use Rattle.model.proofs.Accepted.{EachClear, accepted, some-faults}
 
 -- ---- lengths
@@ -170,6 +172,9 @@ writes-layers ls out fit match enough =
     (5 when (length s ≠ 18) ∷ writerFaults s ns (length file) (length out)) (none, c)
     ∙ ap (λ (ls : List Layer). 0 leaving fileOf ls ++ drop (length (fileOf ls)) out) back)
 
+contents-are-read : (s : List ℕ) {m : Model} (w : Written s m) → w .contents ≡ layersRead s
+contents-are-read s w = sym (ap layersRead (w .holds .file) ∙ layers-read (w .contents) (w .holds .fit))
+
 pub read-writes : WritesBack
 read-writes s out m e enough = of (rw (← e) at (writes-back s))
   where
@@ -177,6 +182,11 @@ read-writes s out m e enough = of (rw (← e) at (writes-back s))
     of w =
         let ls = w .contents in
         let fit = w .holds .fit in
-        let read : ls ≡ layersRead s = sym (ap layersRead (w .holds .file) ∙ layers-read ls fit) in
+        let read = contents-are-read s w in
         let long : length (fileOf ls) ≤ length out = rw (← w .holds .file) enough in
         rw (← w .holds .file, read) at (writes-layers ls out fit (w .holds .match) long)
+
+pub arrays-are-read : ArraysAreRead
+arrays-are-read s m e j h which =
+    let w : Written s m = rw (← e) at (writes-back s) in
+    rw (← e, ← contents-are-read s w) (array-is s w j h which)

@@ -1,6 +1,7 @@
 pub mod Layer
 pub mod Model
 pub mod Array
+pub mod Laws
 pub mod Parts
 pub mod Summary
 pub mod Writer

@@ -69,38 +69,3 @@ writeModel shapes arrays out =
     let file = fileOf (layersGiven kinds shapes arrays) in
     refusing (5 when (length shapes ≠ 18) ∷ writerFaults shapes (map length arrays) (length file) (length out)) (λ n. n leaving out)
     (0 leaving file ++ drop (length file) out)
-
--- ---- what is claimed of it (proofs/Written)
-
--- the layers that a file reads as; and the numbers and the arrays of layers, as they are given
-abbrev pub layersRead : List ℕ → List Layer
-layersRead s = readLayers 0 kinds s (λ n j. []) (λ ls rest. ls)
-
-abbrev pub shapesOf : List Layer → List ℕ
-shapesOf [] = []
-shapesOf (l ∷ ls) = l .inputs ∷ l .neurons ∷ activationNumber (l .activation) ∷ shapesOf ls
-
-abbrev pub arraysIn : List Layer → List (List ℕ)
-arraysIn [] = []
-arraysIn (l ∷ ls) = l .arrays ++ arraysIn ls
-
--- what is written reads back as the same layers
-abbrev pub ReadsBack : Type 0
-ReadsBack =
-    (shapes : List ℕ) (arrays : List (List ℕ)) (out after : List ℕ) → (0 leaving after) ≡ writeModel shapes arrays out
-    → let ls = layersGiven kinds shapes arrays in
-    let file = take (length (fileOf ls)) after in
-    (readOf file ≡ Good (modelOf (headersAt 0 ls))) × (layersRead file ≡ ls)
-
--- what reads is written back byte for byte
-abbrev pub WritesBack : Type 0
-WritesBack =
-    (s out : List ℕ) (m : Model) → Good m ≡ readOf s → length s ≤ length out
-    → let ls = layersRead s in (0 leaving s ++ drop (length s) out) ≡ writeModel (shapesOf ls) (arraysIn ls) out
-
--- two models that differ in a count, an activation, a weight or a bias never share a file
-abbrev pub NoneShared : Type 0
-NoneShared =
-    (shapes shapes′ : List ℕ) (arrays arrays′ : List (List ℕ)) (out out′ after after′ : List ℕ) → length arrays ≡ 18 → length arrays′ ≡ 18
-    → (0 leaving after) ≡ writeModel shapes arrays out → (0 leaving after′) ≡ writeModel shapes′ arrays′ out′
-    → fileOf (layersGiven kinds shapes arrays) ≡ fileOf (layersGiven kinds shapes′ arrays′) → (shapes ≡ shapes′) × (arrays ≡ arrays′)

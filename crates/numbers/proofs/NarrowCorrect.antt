@@ -17,38 +17,12 @@ use lib.Ieee.Exact.{HasValue, units-val}
 use lib.Ieee.Nearest.{closest-same}
 use lib.Ieee.Order.{drop, kept}
 use lib.Ieee.Scale.{overflow}
+use Rattle.numbers.specs.Laws.{KeptDigits, gap, distance, Stands, Nearest, RoundsRight, NarrowsRight}
 use Rattle.numbers.specs.Narrowed.{narrowed}
 use Rattle.numbers.proofs.Closest.{Within, closest-near}
 use Rattle.numbers.proofs.Held.{fits-says, held-units}
 use Rattle.numbers.proofs.Neighbours.{next-above, next-below, even-power}
-use Rattle.numbers.proofs.Pattern.{below-or-not, all-in-use, Whole, kept-whole, reaches}
-
--- ---- the statement
-
--- how far ±a is from ±b
-abbrev pub gap : ℕ → ℕ → ℕ
-gap a b = a - b + (b - a)
-
-abbrev pub distance : Bool → ℕ → Bool → ℕ → ℕ
-distance s a t b = cond (Bool·beq s t) (gap a b) (a + b)
-
--- y is ±Y times the format's smallest value, 2 ^ -low. An infinity stands for 2 ^ (emax + 1), which is `overflow` of them
-abbrev pub Stands : Format → Float → Bool → ℕ → Type 0
-Stands f nan s Y = ⊥
-Stands f (inf t) s Y = (t ≡ s) × (Y ≡ overflow f)
-Stands f (fin t m e) s Y = HasValue (fin t m e) s Y (2 ^ low f)
-
--- y is the value of the format f that is nearest to ±num / den. Distances are in units of 2 ^ -low / den. q is y's digits, with the last one in the unit's place
-pub record Nearest (f : Format) (s : Bool) (num den : ℕ) (y : Float) : Type 0 where
-  pub Y : ℕ
-  pub q : ℕ
-  pub k : ℕ
-  pub held : T (fits f y)
-  pub stands : Stands f y s Y
-  pub digits : (Y ≡ q * 2 ^ k) × Whole (prec f) q k
-  pub nearest : (z : Float) (t : Bool) (Z : ℕ) → T (fits f z) → Stands f z t Z → distance s (num * 2 ^ low f) s (Y * den) ≤ distance s (num * 2 ^ low f) t (Z * den)
-  pub even : (z : Float) (t : Bool) (Z : ℕ) → T (fits f z) → Stands f z t Z → distance s (num * 2 ^ low f) s (Y * den) ≡ distance s (num * 2 ^ low f) t (Z * den)
-      → (Z ≡ Y → ⊥) → q % 2 ≡ 0
+use Rattle.numbers.proofs.Pattern.{below-or-not, all-in-use, kept-whole, reaches}
 
 -- ---- three numbers: x is at most half way from y to z, and where it is just half way, q is even
 record Halves (x q y z : ℕ) : Type 0 where
@@ -129,7 +103,7 @@ module _ (f : Format) (n den : ℕ) (D : 0 < den) where
   unfolding k
   q = kept (prec f) n den
 
-  whole : Whole (prec f) q k
+  whole : KeptDigits (prec f) q k
   unfolding q k
   whole = kept-whole (prec f) n den P
 
@@ -185,7 +159,7 @@ module _ (f : Format) (s : Bool) (num den : ℕ) (D : 0 < den) where
   n = num * 2 ^ low f
 
   -- from numbers of units to values
-  from-halves : (y : Float) (Y q k : ℕ) → T (fits f y) → Stands f y s Y → (Y ≡ q * 2 ^ k) × Whole (prec f) q k → ((Z : ℕ) → Unit f Z → Halves n q (Y * den) (Z * den)) → Nearest f s num den y
+  from-halves : (y : Float) (Y q k : ℕ) → T (fits f y) → Stands f y s Y → (Y ≡ q * 2 ^ k) × KeptDigits (prec f) q k → ((Z : ℕ) → Unit f Z → Halves n q (Y * den) (Z * den)) → Nearest f s num den y
   unfolding n
   from-halves y Y q k h v d all =
       let none : Halves n q (Y * den) 0 = subst (Halves n q (Y * den)) (zero-mul den) (all 0 ((0, 0, pow-pos (prec f), refl), le-of-lt (pow-pos (low f + suc (emax f))))) in
@@ -243,13 +217,12 @@ module _ (f : Format) (s : Bool) (num den : ℕ) (D : 0 < den) where
         | inr m ↦ omega (arith, halves f n den D (overflow f) (at-overflow f (overflow f) refl .0) .below (mul-lt-mul-of-pos-right m D) .0, mul-lt-mul-of-pos-right m D)
       ]
 
-pub round-correct : (f : Format) (s : Bool) (num den : ℕ) → 0 < den → Nearest f s num den (round f s num den)
+pub round-correct : RoundsRight
 round-correct f s num den D = elim (below-or-not (Q f s num den D * 2 ^ K f s num den D) (overflow f)) [
   | inl l ↦ under f s num den D l
   | inr g ↦ over f s num den D g
 ]
 
--- what is finite, of either sign. A NaN stays one, and so does an infinity, by the definition
-pub narrowed-correct : (s : Bool) (m : ℕ) (e : ℤ) → Nearest binary32 s (m * up e) (down e) (narrowed (fin s m e))
+pub narrowed-correct : NarrowsRight
 unfolding narrowed
 narrowed-correct s m e = round-correct binary32 s (m * up e) (down e) (down-pos e)

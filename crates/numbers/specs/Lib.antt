@@ -1,6 +1,7 @@
 pub mod Activations
 pub mod Filter
 pub mod Larger
+pub mod Laws
 pub mod Narrowed
 pub mod Parts
 pub mod Root

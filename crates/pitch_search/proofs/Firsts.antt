@@ -1,13 +1,13 @@
 -- The first pitch of `find_best_pitch`: one of the lags tried, and 0 where no correlation is positive. Assumes nothing.
 use mathlib.Core.Path.{_≡_, refl, ap, _∙_}
 use mathlib.Core.Bool.{Bool, true, false}
-use mathlib.Core.List.{List}
 use Prim.Native.Nat.{ℕ, _<_}
 use lib.Ieee.{Float, neg, lt}
 use lib.ListN.{length}
 use Rattle.rules.specs.F32.{_⊗_, at, f32, one}
 use Rattle.rules.proofs.Runs.{kept}
-use Rattle.pitch_search.specs.Best.{Search, searched, startNorm, considered, slid, pitchStep, best, bestOf, firstOf}
+use Rattle.pitch_search.specs.Best.{Search, searched, startNorm, considered, slid, pitchStep, best}
+use Rattle.pitch_search.specs.Laws.{FirstIsTried, FirstOfNone}
 
 abbrev Below : ℕ → Search → Type 0
 Below n b = b .bestPitch < n
@@ -25,15 +25,14 @@ passed : (corr : Float) (i : ℕ) (b : Search) → lt (f32 0) corr ≡ false →
 unfolding considered
 passed corr i b e = rw e
 
-module _ (xcorr ys : List Float) (len : ℕ) where
-  pub first-below : 0 < length xcorr → firstOf (bestOf xcorr ys len) < length xcorr
-  unfolding best slid
-  first-below h =
-      kept (pitchStep xcorr ys len) (Below (length xcorr)) (length xcorr) (searched (neg one) (neg one) (f32 0) (f32 0) 0 1 (startNorm ys len))
-      (λ i b room p. tested (length xcorr) (at xcorr i) i b room p _ _ _ refl refl refl) h
+pub first-below : FirstIsTried
+unfolding best slid
+first-below xcorr ys len h =
+    kept (pitchStep xcorr ys len) (Below (length xcorr)) (length xcorr) (searched (neg one) (neg one) (f32 0) (f32 0) 0 1 (startNorm ys len))
+    (λ i b room p. tested (length xcorr) (at xcorr i) i b room p _ _ _ refl refl refl) h
 
-  pub first-none : ((i : ℕ) → i < length xcorr → lt (f32 0) (at xcorr i) ≡ false) → firstOf (bestOf xcorr ys len) ≡ 0
-  unfolding best slid
-  first-none none =
-      kept (pitchStep xcorr ys len) (λ b. b .bestPitch ≡ 0) (length xcorr) (searched (neg one) (neg one) (f32 0) (f32 0) 0 1 (startNorm ys len))
-      (λ i b room p. ap (λ (s : Search). s .bestPitch) (passed (at xcorr i) i b (none i room)) ∙ p) refl
+pub first-none : FirstOfNone
+unfolding best slid
+first-none xcorr ys len none =
+    kept (pitchStep xcorr ys len) (λ b. b .bestPitch ≡ 0) (length xcorr) (searched (neg one) (neg one) (f32 0) (f32 0) 0 1 (startNorm ys len))
+    (λ i b room p. ap (λ (s : Search). s .bestPitch) (passed (at xcorr i) i b (none i room)) ∙ p) refl

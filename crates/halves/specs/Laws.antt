@@ -1,0 +1,62 @@
+-- What is claimed of the calls that are made of others, over one share. The proofs are in proofs/Sister, proofs/Lagged and proofs/Joined.
+use Prim.Native.Nat.{ℕ}
+use mathlib.Core.Bool.{true}
+use mathlib.Core.List.{List, [], _∷_}
+use mathlib.Core.Path.{_≡_}
+use lib.ListN.{length, drop}
+use lib.Ieee.{Float}
+use Rattle.rules.specs.Place.{get}
+use Rattle.rules.specs.Refusals.{_when_, wrong}
+use Rattle.lag.specs.Lag.{ownLag}
+use Rattle.transforms.specs.Transform.{forwardOf, inverseOf}
+use Rattle.frame.specs.declared.Reply.{Reply}
+use Rattle.frame.specs.Reply.{passed}
+use Rattle.frame.specs.Share.{PART, inputMem}
+use Rattle.frame.specs.Frame.{Effect, unless, call1, done2, call2, call3, call4}
+use Rattle.halves.specs.Own.{call2Own}
+use Rattle.halves.specs.Halves.{buffer, firstHalf, lookedBack, secondHalf}
+
+-- the sister keeps call 2's refusals, of which 6 is never due (request 04): 5 for a wrong length, or done with our own lag
+abbrev pub SisterByFive : Type 0
+SisterByFive =
+    (share spectrum : List Float) (window sums : ℕ)
+    → call2Own share spectrum window sums
+    ≡ unless (5 when wrong ((length share, PART) ∷ (length spectrum, 961) ∷ (window, 960) ∷ (sums, 22) ∷ []) ∷ []) share
+    (done2 share spectrum (ownLag (get inputMem share)))
+
+-- behind a call 2, whoever made it, the second half looks at that call's window (request 08)
+abbrev pub SameWindow : Type 0
+SameWindow =
+    (share spectrum : List Float) (lag window sums : ℕ)
+    → let b = call2 share spectrum lag window sums in passed (b .reply) ≡ true → lookedBack (b .share) ≡ buffer b
+
+abbrev pub OwnWindow : Type 0
+OwnWindow =
+    (share spectrum : List Float) (window sums : ℕ)
+    → let b = call2Own share spectrum window sums in passed (b .reply) ≡ true → lookedBack (b .share) ≡ buffer b
+
+-- a half that is the calls a and b: both are done, it leaves b's share, and this is its reply and what it writes
+pub record Both (a b half : Effect) (reply : Reply) (written : List (List Float)) : Type 0 where
+  pub first : passed (a .reply) ≡ true
+  pub last : passed (b .reply) ≡ true
+  pub replies : half .reply ≡ reply
+  pub shares : half .share ≡ b .share
+  pub writes : half .written ≡ written
+
+-- accepted, a half is its two calls, one after the other, with those spectra lent
+abbrev pub FirstIsCalls : Type 0
+FirstIsCalls =
+    (share samples : List Float) (sums : ℕ)
+    → let one = call1 share samples 960 in
+    let two = call2Own (one .share) (forwardOf (buffer one)) 960 sums in
+    let half = firstHalf share samples sums in
+    passed (half .reply) ≡ true → Both one two half (two .reply) (drop 1 (two .written))
+
+-- whatever numbers of frames call 4 is told
+abbrev pub SecondIsCalls : Type 0
+SecondIsCalls =
+    (share : List Float) (index vad noise denoise : ℕ) (logs : List Float) (model : List ℕ) (out frame heard : ℕ)
+    → let three = call3 share index vad noise denoise (forwardOf (lookedBack share)) logs model 961 in
+    let four = call4 (three .share) frame heard (inverseOf (buffer three)) out in
+    let half = secondHalf share index vad noise denoise logs model out in
+    passed (half .reply) ≡ true → Both three four half (three .reply) (four .written)

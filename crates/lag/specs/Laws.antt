@@ -1,0 +1,19 @@
+-- What is claimed of our own lag, for any numbers. The proofs are in proofs/Ranges.
+use mathlib.Core.Path.{_≡_}
+use mathlib.Core.Bool.{false}
+use mathlib.Core.List.{List}
+use Prim.Native.Nat.{ℕ, _≤_, _<_}
+use lib.Ieee.{Float, lt}
+use Rattle.rules.specs.F32.{at, f32}
+use Rattle.pitch.specs.Downsample.{downsampled}
+use Rattle.lag.specs.Lag.{correlations, ownLag}
+
+-- its range (request 04), so that call 2 takes it
+abbrev pub InRange : Type 0
+InRange = (mem : List Float) → (182 ≤ ownLag mem) × (ownLag mem ≤ 768)
+
+-- 768 where no correlation is positive
+abbrev pub OfNone : Type 0
+OfNone =
+    (mem : List Float)
+    → ((i : ℕ) → i < 294 → lt (f32 0) (at (correlations (downsampled mem)) i) ≡ false) → ownLag mem ≡ 768

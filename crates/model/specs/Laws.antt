@@ -1,0 +1,67 @@
+-- What is claimed of the writer and the reader, each the other's inverse (proofs/Written), and of what reads (proofs/Bounds, proofs/Arrays).
+use Prim.Native.Nat.{ℕ, _≤_, _<_}
+use mathlib.Core.List.{List, [], _∷_, _++_}
+use mathlib.Core.Path.{_≡_}
+use lib.ListN.{length, getD, take, drop}
+use Rattle.rules.specs.Leaf.{_leaving_}
+use Rattle.rules.specs.Place.{get}
+use Rattle.model.specs.declared.Activation.the-variants.{Tanh}
+use Rattle.model.specs.declared.Model.{Model}
+use Rattle.model.specs.declared.Reading.the-variants.{Good, Refused}
+use Rattle.model.specs.Array.{foundIn, arrayIn}
+use Rattle.model.specs.Layer.{activationNumber, Layer}
+use Rattle.model.specs.Model.{kinds, readLayers, headersAt, modelOf, readOf}
+use Rattle.model.specs.Writer.{layersGiven, fileOf, writeModel}
+
+-- the layers that a file reads as; and the numbers and the arrays of layers, as they are given
+abbrev pub layersRead : List ℕ → List Layer
+layersRead s = readLayers 0 kinds s (λ n j. []) (λ ls rest. ls)
+
+abbrev pub shapesOf : List Layer → List ℕ
+shapesOf [] = []
+shapesOf (l ∷ ls) = l .inputs ∷ l .neurons ∷ activationNumber (l .activation) ∷ shapesOf ls
+
+abbrev pub arraysIn : List Layer → List (List ℕ)
+arraysIn [] = []
+arraysIn (l ∷ ls) = l .arrays ++ arraysIn ls
+
+-- what is written reads back as the same layers
+abbrev pub ReadsBack : Type 0
+ReadsBack =
+    (shapes : List ℕ) (arrays : List (List ℕ)) (out after : List ℕ) → (0 leaving after) ≡ writeModel shapes arrays out
+    → let ls = layersGiven kinds shapes arrays in
+    let file = take (length (fileOf ls)) after in
+    (readOf file ≡ Good (modelOf (headersAt 0 ls))) × (layersRead file ≡ ls)
+
+-- what reads is written back byte for byte
+abbrev pub WritesBack : Type 0
+WritesBack =
+    (s out : List ℕ) (m : Model) → Good m ≡ readOf s → length s ≤ length out
+    → let ls = layersRead s in (0 leaving s ++ drop (length s) out) ≡ writeModel (shapesOf ls) (arraysIn ls) out
+
+-- two models that differ in a count, an activation, a weight or a bias never share a file
+abbrev pub NoneShared : Type 0
+NoneShared =
+    (shapes shapes′ : List ℕ) (arrays arrays′ : List (List ℕ)) (out out′ after after′ : List ℕ) → length arrays ≡ 18 → length arrays′ ≡ 18
+    → (0 leaving after) ≡ writeModel shapes arrays out → (0 leaving after′) ≡ writeModel shapes′ arrays′ out′
+    → fileOf (layersGiven kinds shapes arrays) ≡ fileOf (layersGiven kinds shapes′ arrays′) → (shapes ≡ shapes′) × (arrays ≡ arrays′)
+
+-- ---- what reads
+
+-- layer j of some layers; past their end, one without arrays
+abbrev pub layerIn : List Layer → ℕ → Layer
+layerIn ls j = getD ls j (record { inputs = 0; neurons = 0; activation = Tanh; arrays = [] })
+
+-- an array that is handed out of a file is the array of the layer that the file reads as: so what is written back is what was handed out
+abbrev pub ArraysAreRead : Type 0
+ArraysAreRead =
+    (s : List ℕ) (m : Model) → Good m ≡ readOf s → (j : ℕ) → j < 6 → (which : ℕ)
+    → get (arrayIn (foundIn (readOf s) j) which) s ≡ getD (layerIn (layersRead s) j .arrays) which []
+
+-- no file is longer
+abbrev pub Largest : Type 0
+Largest = (s : List ℕ) (m : Model) → Good m ≡ readOf s → length s ≤ 157285
+
+-- a refusal is one of the table's numbers, and its layer 0 to 6
+abbrev pub RefusedIn : Type 0
+RefusedIn = (s : List ℕ) (n j : ℕ) → Refused n j ≡ readOf s → (11 ≤ n) × (n ≤ 22) × (j ≤ 6)

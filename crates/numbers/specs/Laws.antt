@@ -1,0 +1,98 @@
+-- What is claimed of the numbers. The proofs are in proofs/Larger, proofs/NarrowCorrect and proofs/RootCorrect.
+use Prim.Native.Nat.{ℕ, zero, suc, _+_, _-_, _*_, _%_, _^_, _≤_, _<_}
+use mathlib.Core.Bool.{Bool, true, false, Bool·beq, cond}
+use mathlib.Core.Path.{_≡_}
+use lib.IntN.{ℤ}
+use lib.Dec.{T}
+use lib.Ieee.{Float, nan, inf, fin, Format, binary32, prec, low, up, down, round, fits, isNan, lt, eq}
+use lib.Ieee.Exact.{HasValue}
+use lib.Ieee.Scale.{overflow}
+use Rattle.numbers.specs.Larger.{larger, smaller}
+use Rattle.numbers.specs.Narrowed.{narrowed}
+use Rattle.numbers.specs.Root.{root}
+
+-- ---- the larger and the smaller of two
+
+-- the cases of maximumNumber, IEEE 754-2019 (request 06); and either order gives what compares equal
+pub record IsMaximum : Type 0 where
+  pub of-nan : (x : Float) → (larger nan x ≡ x) × (larger x nan ≡ x)
+  pub of-less : (x y : Float) → lt x y ≡ true → larger x y ≡ y
+  pub of-more : (x y : Float) → lt y x ≡ true → larger x y ≡ x
+  pub of-zeros : (e d : ℤ)
+      → (larger (fin true zero e) (fin false zero d) ≡ fin false zero d)
+      × (larger (fin false zero e) (fin true zero d) ≡ fin false zero e)
+  pub either-order : (x y : Float) → isNan x ≡ false → isNan y ≡ false → eq (larger x y) (larger y x) ≡ true
+
+-- the smaller as Rust's `min` has it
+pub record IsMinimum : Type 0 where
+  pub of-nan : (x : Float) → (smaller nan x ≡ x) × (smaller x nan ≡ x)
+  pub of-equal : (x y : Float) → eq x y ≡ true → smaller x y ≡ x
+
+-- ---- rounding
+
+-- at most p digits, and just as many where k digits behind them were dropped
+abbrev pub KeptDigits : ℕ → ℕ → ℕ → Type 0
+KeptDigits p q k = (q ≤ 2 ^ p) × (0 < k → 2 ^ (p - 1) ≤ q)
+
+-- how far ±a is from ±b
+abbrev pub gap : ℕ → ℕ → ℕ
+gap a b = a - b + (b - a)
+
+abbrev pub distance : Bool → ℕ → Bool → ℕ → ℕ
+distance s a t b = cond (Bool·beq s t) (gap a b) (a + b)
+
+-- y is ±Y times the format's smallest value, 2 ^ -low. An infinity stands for 2 ^ (emax + 1), which is `overflow` of them
+abbrev pub Stands : Format → Float → Bool → ℕ → Type 0
+Stands f nan s Y = ⊥
+Stands f (inf t) s Y = (t ≡ s) × (Y ≡ overflow f)
+Stands f (fin t m e) s Y = HasValue (fin t m e) s Y (2 ^ low f)
+
+-- y is the value of the format f that is nearest to ±num / den, and of two that are as near the one whose last digit is even. Distances
+-- are in units of 2 ^ -low / den. q is y's digits, with the last one in the unit's place
+pub record Nearest (f : Format) (s : Bool) (num den : ℕ) (y : Float) : Type 0 where
+  pub Y : ℕ
+  pub q : ℕ
+  pub k : ℕ
+  pub held : T (fits f y)
+  pub stands : Stands f y s Y
+  pub digits : (Y ≡ q * 2 ^ k) × KeptDigits (prec f) q k
+  pub nearest : (z : Float) (t : Bool) (Z : ℕ) → T (fits f z) → Stands f z t Z
+      → distance s (num * 2 ^ low f) s (Y * den) ≤ distance s (num * 2 ^ low f) t (Z * den)
+  pub even : (z : Float) (t : Bool) (Z : ℕ) → T (fits f z) → Stands f z t Z
+      → distance s (num * 2 ^ low f) s (Y * den) ≡ distance s (num * 2 ^ low f) t (Z * den)
+      → (Z ≡ Y → ⊥) → q % 2 ≡ 0
+
+-- whatever fraction is rounded, to either format
+abbrev pub RoundsRight : Type 0
+RoundsRight = (f : Format) (s : Bool) (num den : ℕ) → 0 < den → Nearest f s num den (round f s num den)
+
+-- an f64 that is finite, of either sign, to an f32. (A NaN stays one, and so does an infinity, by the definition.)
+abbrev pub NarrowsRight : Type 0
+NarrowsRight = (s : Bool) (m : ℕ) (e : ℤ) → Nearest binary32 s (m * up e) (down e) (narrowed (fin s m e))
+
+-- ---- the root
+
+-- √n and two numbers Y and Z, in terms of squares: it is no nearer to Z, and where it is as near to both, q is even
+pub record HalfWay (n q Y Z : ℕ) : Type 0 where
+  pub above : Y < Z → (4 * n ≤ (Y + Z) * (Y + Z)) × (4 * n ≡ (Y + Z) * (Y + Z) → q % 2 ≡ 0)
+  pub below : Z < Y → ((Y + Z) * (Y + Z) ≤ 4 * n) × ((Y + Z) * (Y + Z) ≡ 4 * n → q % 2 ≡ 0)
+
+-- y is the value of the format f that is nearest to the root of x, a value above zero: x is n of 2 ^ -(2 * low), and y is Y of 2 ^ -low,
+-- with the digits q
+pub record NearestRoot (f : Format) (x y : Float) : Type 0 where
+  pub n : ℕ
+  pub Y : ℕ
+  pub q : ℕ
+  pub k : ℕ
+  pub held : T (fits f y)
+  pub x-is : HasValue x false n (2 ^ low f * 2 ^ low f)
+  pub y-is : HasValue y false Y (2 ^ low f)
+  pub digits : (Y ≡ q * 2 ^ k) × (2 ^ (prec f - 1) ≤ q) × (q ≤ 2 ^ prec f)
+  pub nearest : (z : Float) (Z : ℕ) → T (fits f z) → HasValue z false Z (2 ^ low f) → HalfWay n q Y Z
+
+-- in either format, of every value above zero. (The root of a zero is that zero, by the definition.)
+abbrev pub RootIsRight : Type 0
+RootIsRight =
+    (f : Format) (m : ℕ) (e : ℤ)
+    → let x = fin false (suc m) e in
+    T (fits f x) → NearestRoot f x (root f x)

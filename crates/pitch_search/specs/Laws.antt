@@ -1,0 +1,19 @@
+-- What is claimed of the first pitch of `find_best_pitch`. The proofs are in proofs/Firsts.
+use mathlib.Core.Path.{_≡_}
+use mathlib.Core.Bool.{false}
+use mathlib.Core.List.{List}
+use Prim.Native.Nat.{ℕ, _<_}
+use lib.Ieee.{Float, lt}
+use lib.ListN.{length}
+use Rattle.rules.specs.F32.{at, f32}
+use Rattle.pitch_search.specs.Best.{bestOf, firstOf}
+
+-- it is one of the lags tried
+abbrev pub FirstIsTried : Type 0
+FirstIsTried = (xcorr ys : List Float) (len : ℕ) → 0 < length xcorr → firstOf (bestOf xcorr ys len) < length xcorr
+
+-- and 0 where no correlation is positive
+abbrev pub FirstOfNone : Type 0
+FirstOfNone =
+    (xcorr ys : List Float) (len : ℕ)
+    → ((i : ℕ) → i < length xcorr → lt (f32 0) (at xcorr i) ≡ false) → firstOf (bestOf xcorr ys len) ≡ 0
