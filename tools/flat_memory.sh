@@ -19,6 +19,7 @@ sound() {
 # The most memory of a run over so many seconds, as it is told last.
 peak() {
     local most=0 now
+    rm -rf "$scratch/out"
     mkfifo "$scratch/fifo"
     "$host" clean - --raw -q --model "$root/host/model/house.rnn" --out "$scratch/out" <"$scratch/fifo" >"$scratch/said" &
     local pid=$!

@@ -1,9 +1,9 @@
 //! `host demo`: two short dictations over a grinder, cleaned with the house model.
 
-use crate::clean::{in_memory, Sink};
 use crate::cleaned::Cleaned;
-use crate::files::Files;
+use crate::files::{before, Files};
 use crate::recorder::Way;
+use crate::run::{in_memory, Sink};
 use crate::{wav, FRAME, RATE};
 use std::f64::consts::TAU;
 use std::path::Path;
@@ -164,13 +164,13 @@ pub fn effect(dictation: &Dictation, after: &[f32]) -> Effect {
 /// Both dictations, cleaned with the house model.
 pub fn cleaned(dictations: &[Dictation; 2], way: Way) -> Result<[Cleaned; 2], String> {
     let [left, right] = dictations;
-    in_memory([&left.noisy, &right.noisy], HOUSE, way).map_err(|trouble| trouble.to_string())
+    in_memory([&left.noisy, &right.noisy], HOUSE, way)
 }
 
 /// Writes both recordings, before and after, and all that `host clean` writes.
-fn store([left, right]: &[Cleaned; 2], out: &Path) -> Result<(), String> {
-    let mut files = Files::new(out)?;
-    let names = [left, right].map(|bench| format!("{}-before.wav", bench.side.name()));
+fn store([left, right]: &[Cleaned; 2], out: &Path, force: bool) -> Result<(), String> {
+    let names = [left, right].map(|bench| before(bench.side));
+    let mut files = Files::new(out, &names, force, false)?;
     for (bench, name) in [left, right].into_iter().zip(&names) {
         files.add(name, &wav::write(RATE, &bench.before))?;
         files.before(bench.side, &bench.before)?;
@@ -181,10 +181,10 @@ fn store([left, right]: &[Cleaned; 2], out: &Path) -> Result<(), String> {
 }
 
 /// Makes the dictations, cleans them, and writes both into the folder.
-pub fn demo(out: &Path, way: Way) -> Result<(), String> {
+pub fn demo(out: &Path, way: Way, force: bool) -> Result<(), String> {
     let dictations = [dictation(0), dictation(1)];
     let benches = cleaned(&dictations, way)?;
-    store(&benches, out)?;
+    store(&benches, out, force)?;
     for (bench, dictation) in benches.iter().zip(&dictations) {
         let e = effect(dictation, &bench.after);
         crate::say!(

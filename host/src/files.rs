@@ -1,63 +1,107 @@
 //! What `host clean` writes, as it goes: for each bench the recording with its side sheet, and of both the table, the picture and the page.
+//! All that has come out of a bench is in its files before the next block is read, and on the disk a second later.
 
-use crate::clean::Sink;
 use crate::cleaned::Summary;
 use crate::folder::{told, Folder};
+use crate::place::write_through;
 use crate::recorder::{Frame, Side};
 use crate::records::Records;
+use crate::run::Sink;
+use crate::through::Through;
 use crate::wav::Writer;
-use crate::{page, picture, table, RATE};
+use crate::{page, picture, table, unfinished, RATE};
 use std::fs::File;
-use std::io::{BufWriter, Write};
+use std::io::{self, BufWriter, Write};
 use std::path::{Path, PathBuf};
 
-const TABLE: &str = "frames.csv";
+pub const TABLE: &str = "frames.csv";
+pub const PICTURE: &str = "benches.svg";
+pub const PAGE: &str = "index.html";
+
+/// The name of a bench's recording.
+pub fn recording(side: Side) -> String {
+    format!("{}.wav", side.name())
+}
+
+/// The name of the recording as it was, where that is written too.
+pub fn before(side: Side) -> String {
+    format!("{}-before.wav", side.name())
+}
+
+/// All that is written of every dictation, by name.
+pub fn names() -> Vec<String> {
+    Side::BOTH.map(recording).into_iter().chain([TABLE, PICTURE, PAGE].map(String::from)).collect()
+}
 
 struct Bench {
     place: PathBuf,
-    audio: Writer<BufWriter<File>>,
+    audio: Writer<File>,
     records: Records,
     summary: Summary,
 }
 
 impl Bench {
     fn new(side: Side, folder: &mut Folder) -> Result<Bench, String> {
-        let name = format!("{}.wav", side.name());
-        let place = folder.place(&name);
-        let audio = Writer::new(BufWriter::new(folder.create(&name)?), RATE).map_err(|why| told(&place, why))?;
-        let records = Records::new(folder.beside(&name, ".sheet"), side)?;
-        Ok(Bench { place, audio, records, summary: Summary::of(side) })
+        let (name, place) = (recording(side), folder.place(recording(side)));
+        let audio = Writer::new(folder.create(&name)?, RATE).map_err(|why| told(&place, why))?;
+        let (path, sheet) = folder.scratch(&name, unfinished::SHEET)?;
+        Ok(Bench { place, audio, records: Records::new(path, sheet, side)?, summary: Summary::of(side) })
     }
 
-    /// Closes the recording: its header, and its sheet.
+    fn is_empty(&self) -> bool {
+        self.summary.samples == 0
+    }
+
+    /// Closes the recording: its header, which says from then on where the audio ends, and then its sheet.
     fn finish(self) -> Result<Summary, String> {
-        let mut file = self.audio.finish().map_err(|why| told(&self.place, why))?;
+        let why = |why: io::Error| told(&self.place, why);
+        let mut file = self.audio.finish().map_err(why)?;
+        file.sync_data().map_err(why)?;
         self.records.finish(&mut file)?;
-        file.flush().map_err(|why| told(&self.place, why))?;
+        file.sync_all().map_err(why)?;
         Ok(self.summary)
     }
+}
+
+/// The recordings and the records of both benches are written through to the disk as they grow.
+fn written_through(benches: &[Bench; 2]) -> io::Result<Through> {
+    let mut files = Vec::new();
+    for bench in benches {
+        files.extend([bench.audio.inner().try_clone()?, bench.records.inner().try_clone()?]);
+    }
+    Ok(Through::new(files))
 }
 
 /// A folder on its way. (It is the last to go, once nothing lies in it any more.)
 pub struct Files {
     benches: [Bench; 2],
     table: BufWriter<File>,
+    through: Through,
     folder: Folder,
+    once: bool,
 }
 
 impl Files {
-    pub fn new(out: &Path) -> Result<Files, String> {
-        let mut folder = Folder::new(out)?;
+    /// `more` are the names of what will be added. What comes `once` can't be read again: where its files can't be
+    /// finished, they stay beside their places. No other run may be writing into the folder, and none may have left
+    /// such files there.
+    pub fn new(out: &Path, more: &[String], force: bool, once: bool) -> Result<Files, String> {
+        let mut folder = Folder::new(out, force)?;
+        folder.lock()?;
+        unfinished::refuse(out)?;
+        folder.claim(names().iter().chain(more))?;
         let [left, right] = Side::BOTH;
         let benches = [Bench::new(left, &mut folder)?, Bench::new(right, &mut folder)?];
+        let through = written_through(&benches).map_err(|why| told(out, why))?;
         let mut table = BufWriter::new(folder.create(TABLE)?);
         table::head(&mut table).map_err(|why| told(&folder.place(TABLE), why))?;
-        Ok(Files { benches, table, folder })
+        write_through(out);
+        Ok(Files { benches, table, through, folder, once })
     }
 
-    /// Whether there is anything to keep.
+    /// Whether there is nothing to keep.
     pub fn is_empty(&self) -> bool {
-        self.benches.iter().all(|bench| bench.summary.samples == 0)
+        self.benches.iter().all(Bench::is_empty)
     }
 
     /// Another file, beside those that are always there.
@@ -65,25 +109,28 @@ impl Files {
         self.folder.write(name, bytes)
     }
 
-    /// Closes all files and puts them into their places. `before` are the names of the recordings as they were, where these were added.
+    /// Closes all files and puts them into their places; of a bench without a sample there is no recording. `before`
+    /// are the names of the recordings as they were, where these were added.
     pub fn keep(self, before: Option<[&str; 2]>) -> Result<[Summary; 2], String> {
-        let Files { benches, table, mut folder } = self;
-        let summaries = close(benches, table, &mut folder, before)?;
-        folder.keep()?;
-        Ok(summaries)
+        let Files { benches, table, through, mut folder, once } = self;
+        drop(through);
+        let kept = close(benches, table, &mut folder, before).and_then(|summaries| folder.keep().map(|()| summaries));
+        kept.map_err(|why| given_up(folder, why, once))
     }
 
-    /// The same; but where the files can't be closed they stay as they are, beside their places.
-    pub fn keep_or_leave(self) -> Result<[Summary; 2], String> {
-        let Files { benches, table, mut folder } = self;
-        match close(benches, table, &mut folder, None) {
-            Ok(summaries) => folder.keep().map(|()| summaries),
-            Err(why) => {
-                folder.leave();
-                Err(format!("{why}; what was cleaned is left in the files that end in .part"))
-            }
-        }
+    /// Tells why the files can't be finished, and what became of them.
+    pub fn give_up(self, why: String) -> String {
+        let once = self.once && !self.is_empty();
+        given_up(self.folder, why, once)
     }
+}
+
+fn given_up(mut folder: Folder, why: String, once: bool) -> String {
+    if !once {
+        return why;
+    }
+    folder.leave();
+    format!("{why}; what was cleaned is left unfinished, and {} closes it", unfinished::command(folder.path()))
 }
 
 fn close(
@@ -92,11 +139,14 @@ fn close(
     folder: &mut Folder,
     before: Option<[&str; 2]>,
 ) -> Result<[Summary; 2], String> {
-    table.flush().map_err(|why| told(&folder.place(TABLE), why))?;
+    table.flush().and_then(|()| table.get_ref().sync_all()).map_err(|why| told(&folder.place(TABLE), why))?;
+    for bench in benches.iter().filter(|bench| bench.is_empty()) {
+        folder.forget(&recording(bench.summary.side));
+    }
     let [left, right] = benches;
     let summaries = [left.finish()?, right.finish()?];
-    folder.write("benches.svg", picture::svg(&summaries).as_bytes())?;
-    folder.write("index.html", page::html(&summaries, before).as_bytes())?;
+    folder.write(PICTURE, picture::svg(&summaries).as_bytes())?;
+    folder.write(PAGE, page::html(&summaries, before).as_bytes())?;
     Ok(summaries)
 }
 
@@ -118,7 +168,10 @@ impl Sink for Files {
                 bench.summary.frame(frame);
                 bench.records.push(frame)?;
             }
+            bench.records.put()?;
         }
-        table::rows(&mut self.table, frames).map_err(|why| told(&self.folder.place(TABLE), why))
+        let rows = table::rows(&mut self.table, frames).and_then(|()| self.table.flush());
+        rows.map_err(|why| told(&self.folder.place(TABLE), why))?;
+        self.through.look().map_err(|why| told(self.folder.path(), why))
     }
 }

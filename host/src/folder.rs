@@ -1,7 +1,8 @@
 //! Files that come to stand in a folder all together, or not at all.
 
-use std::fs;
-use std::io::Write;
+use crate::place::{beside, free, is_taken, new_file, put, write_through};
+use std::fs::{self, TryLockError};
+use std::io::{self, ErrorKind, Write};
 use std::path::{Path, PathBuf};
 
 /// What went wrong, and with which file.
@@ -9,18 +10,16 @@ pub fn told(path: &Path, why: impl std::fmt::Display) -> String {
     format!("{}: {why}", path.display())
 }
 
-/// A name beside a file's own.
-fn beside(place: &Path, ending: &str) -> PathBuf {
-    let mut name = place.as_os_str().to_owned();
-    name.push(ending);
-    name.into()
+/// Why nothing is written there.
+fn taken(place: &Path) -> String {
+    told(place, "it stands there already; name another place, or write over it with --force")
 }
 
 /// A file on its way to its place.
 struct File {
     place: PathBuf,
-    /// Whether what stood there before was set aside.
-    aside: bool,
+    /// Where what stood there before was set aside.
+    aside: Option<PathBuf>,
     put: bool,
 }
 
@@ -29,16 +28,18 @@ impl File {
         beside(&self.place, ".part")
     }
 
+    /// A name that nobody has, for what stands in the place.
     fn old(&self) -> PathBuf {
-        beside(&self.place, ".old")
+        free(|number| beside(&self.place, &number.map_or(".old".into(), |n| format!(".old-{n}"))))
     }
 
-    fn put(&mut self) -> std::io::Result<()> {
-        if self.place.is_file() {
-            fs::rename(&self.place, self.old())?;
-            self.aside = true;
+    fn put(&mut self, force: bool) -> io::Result<()> {
+        if force && is_taken(&self.place) && !self.place.is_dir() {
+            let old = self.old();
+            put(&self.place, &old)?;
+            self.aside = Some(old);
         }
-        fs::rename(self.part(), &self.place)?;
+        put(&self.part(), &self.place)?;
         self.put = true;
         Ok(())
     }
@@ -46,26 +47,59 @@ impl File {
     /// As if it had never been written.
     fn undo(&self) {
         let _ = fs::remove_file(if self.put { self.place.clone() } else { self.part() });
-        if self.aside {
-            let _ = fs::rename(self.old(), &self.place);
+        if let Some(old) = &self.aside {
+            let _ = put(old, &self.place);
         }
     }
 }
 
-/// Dropped before its files are kept, it leaves the folder as it was.
+/// Dropped before its files are kept or left, it leaves the folder as it was.
 pub struct Folder {
     path: PathBuf,
     /// The folders that were not there, the innermost first.
     made: Vec<PathBuf>,
     files: Vec<File>,
+    /// What lies beside the files until they are kept.
+    scratch: Vec<PathBuf>,
+    force: bool,
+    /// Held for as long as this is here; it goes with the process, however that ends.
+    lock: Option<fs::File>,
 }
 
 impl Folder {
-    pub fn new(path: &Path) -> Result<Folder, String> {
-        let made = path.ancestors().take_while(|path| !path.exists()).map(Path::to_owned).collect();
-        let folder = Folder { path: path.to_owned(), made, files: Vec::new() };
+    /// Opens a folder, and makes it where there is none. With `force` files may take the place of others.
+    pub fn new(path: &Path, force: bool) -> Result<Folder, String> {
+        let made: Vec<_> = path.ancestors().take_while(|path| !path.exists()).map(Path::to_owned).collect();
+        let folder = Folder { path: path.to_owned(), made, files: Vec::new(), scratch: Vec::new(), force, lock: None };
         fs::create_dir_all(path).map_err(|why| told(path, why))?;
+        folder.made.iter().filter_map(|made| made.parent()).for_each(write_through);
         Ok(folder)
+    }
+
+    pub fn path(&self) -> &Path {
+        &self.path
+    }
+
+    /// Refuses the folder while another run writes into it. A run that is dead holds no lock.
+    pub fn lock(&mut self) -> Result<(), String> {
+        let folder = fs::File::open(&self.path).map_err(|why| told(&self.path, why))?;
+        match folder.try_lock() {
+            Ok(()) => self.lock = Some(folder),
+            Err(TryLockError::WouldBlock) => return Err(told(&self.path, "another run is writing into this folder")),
+            Err(TryLockError::Error(why)) => {
+                crate::warn!("{}", told(&self.path, format!("no second run would be noticed here: {why}")));
+            }
+        }
+        Ok(())
+    }
+
+    /// Refuses the folder where one of these names is taken.
+    pub fn claim(&self, names: impl IntoIterator<Item = impl AsRef<Path>>) -> Result<(), String> {
+        let places = names.into_iter().map(|name| self.place(name));
+        match places.into_iter().find(|place| !self.force && is_taken(place)) {
+            Some(place) => Err(taken(&place)),
+            None => Ok(()),
+        }
     }
 
     /// Where a file comes to stand.
@@ -73,46 +107,66 @@ impl Folder {
         self.path.join(name)
     }
 
-    /// A file that is written beside its place, as `NAME.part`.
+    /// A new file that is written beside its place, as `NAME.part`.
     pub fn create(&mut self, name: impl AsRef<Path>) -> Result<fs::File, String> {
-        let file = File { place: self.place(name), aside: false, put: false };
-        let part = file.part();
+        let file = File { place: self.place(name), aside: None, put: false };
+        let part = new_file(&file.part()).map_err(|why| told(&file.part(), why))?;
         self.files.push(file);
-        fs::File::create(&part).map_err(|why| told(&part, why))
+        Ok(part)
     }
 
-    /// Writes a file beside its place.
+    /// Writes a file beside its place, and through to the disk.
     pub fn write(&mut self, name: impl AsRef<Path>, bytes: &[u8]) -> Result<(), String> {
-        self.create(&name)?.write_all(bytes).map_err(|why| told(&self.place(name), why))
+        let mut file = self.create(&name)?;
+        file.write_all(bytes).and_then(|()| file.sync_all()).map_err(|why| told(&self.place(name), why))
     }
 
-    /// Where something may be laid down for a while.
-    pub fn beside(&self, name: &str, ending: &str) -> PathBuf {
-        beside(&self.place(name), ending)
+    /// A new file that lies beside another's place until the files are kept.
+    pub fn scratch(&mut self, name: &str, ending: &str) -> Result<(PathBuf, fs::File), String> {
+        let path = beside(&self.place(name), ending);
+        let file = new_file(&path).map_err(|why| told(&path, why))?;
+        self.scratch.push(path.clone());
+        Ok((path, file))
     }
 
-    /// Puts all files into their places.
-    pub fn keep(mut self) -> Result<(), String> {
+    /// Forgets a file that was on its way to this name.
+    pub fn forget(&mut self, name: &str) {
+        let place = self.place(name);
+        self.files.extract_if(.., |file| file.place == place).for_each(|file| file.undo());
+    }
+
+    /// Puts all files into their places. Where that fails, some may stand there already.
+    pub fn keep(&mut self) -> Result<(), String> {
         for file in &mut self.files {
-            file.put().map_err(|why| told(&file.place, why))?;
+            file.put(self.force).map_err(|why| match why.kind() {
+                ErrorKind::AlreadyExists => taken(&file.place),
+                _ => told(&file.place, why),
+            })?;
         }
-        for file in self.files.drain(..).filter(|file| file.aside) {
-            let _ = fs::remove_file(file.old());
+        write_through(&self.path);
+        for path in self.files.drain(..).filter_map(|file| file.aside).chain(self.scratch.drain(..)) {
+            let _ = fs::remove_file(path);
         }
         self.made.clear();
         Ok(())
     }
 
-    /// Leaves the files as they were written, beside their places.
-    pub fn leave(mut self) {
+    /// Leaves the files where they are: in their places, or beside them.
+    pub fn leave(&mut self) {
         self.files.clear();
+        self.scratch.clear();
         self.made.clear();
     }
 }
 
 impl Drop for Folder {
     fn drop(&mut self) {
+        // what a fault of this program leaves may be all that there is of a dictation
+        if std::thread::panicking() {
+            return;
+        }
         self.files.iter().rev().for_each(File::undo);
+        self.scratch.iter().for_each(|path| _ = fs::remove_file(path));
         self.made.iter().for_each(|path| _ = fs::remove_dir(path));
     }
 }

@@ -1,30 +1,27 @@
 //! The recorder box: it runs both benches over one lent store through the proved library, and does itself what the library
 //! leaves to its host: files; and where nnnoiseless's very numbers are wanted, transforms, lag and logarithms.
 
-/// A line to standard output. Where nobody reads it any more, as behind `| head -1`, it is lost, and the work goes on.
+/// A line to standard output.
 #[macro_export]
 macro_rules! say {
-    ($($words:tt)*) => {{
-        use std::io::Write;
-        let _ = writeln!(std::io::stdout(), $($words)*);
-    }};
+    ($($words:tt)*) => { $crate::answer::say(format_args!($($words)*)) };
 }
 
-/// The same to standard error.
+/// A line to standard error.
 #[macro_export]
 macro_rules! warn {
-    ($($words:tt)*) => {{
-        use std::io::Write;
-        let _ = writeln!(std::io::stderr(), $($words)*);
-    }};
+    ($($words:tt)*) => { $crate::answer::warn(format_args!($($words)*)) };
 }
 
+pub mod answer;
 pub mod bench;
 pub mod clean;
 pub mod cleaned;
 pub mod demo;
 pub mod files;
 pub mod folder;
+pub mod form;
+pub mod kept;
 pub mod lags;
 pub mod logs;
 pub mod mend;
@@ -32,14 +29,23 @@ pub mod overview;
 pub mod pack;
 pub mod page;
 pub mod picture;
+pub mod place;
+pub mod progress;
 pub mod recorder;
 pub mod records;
 pub mod reference;
 pub mod refusal;
+pub mod rescue;
+pub mod run;
+pub mod seal;
 pub mod side;
 pub mod source;
+pub mod status;
+pub mod stop;
 pub mod table;
+pub mod through;
 pub mod transform;
+pub mod unfinished;
 pub mod wav;
 
 /// Samples of a frame.

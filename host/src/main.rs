@@ -1,15 +1,16 @@
 use host::clean::{clean, Inputs, Job};
 use host::recorder::Way;
+use host::status::{Failure, UNDONE};
 use std::ffi::OsString;
-use std::path::PathBuf;
+use std::path::{Path, PathBuf};
 use std::process::ExitCode;
 
 const HELP: &str = "\
 host: cleans two dictations, one for each bench
 
-  host clean --left L.wav --right R.wav --model M.rnn --out DIR
-  host clean --both STEREO.wav --model M.rnn --out DIR
-  host clean - [--raw] --model M.rnn --out DIR
+  host clean --left L.wav --right R.wav --model M.rnn --out DIR [--force]
+  host clean --both STEREO.wav --model M.rnn --out DIR [--force]
+  host clean - [--raw] --model M.rnn --out DIR [--force]
       Recordings of 48 kHz, 16-bit or 24-bit PCM or 32-bit float; of a stereo file
       the left channel is the left bench. Writes left.wav, right.wav, frames.csv,
       benches.svg and index.html, a page with all of it, into DIR. Each recording
@@ -19,31 +20,36 @@ host: cleans two dictations, one for each bench
       length up to 12 hours and 25 minutes, which is what a WAV file can hold.
       All recordings are cleaned as they are read, and written as they are cleaned:
       it takes no more memory for ten hours than for a minute. On their way the files
-      are called left.wav.part and so on, their header says that the audio goes on to
-      the end, and the records of the side sheets lie in left.wav.sheet and
-      right.wav.sheet; at the end the headers are mended, the sheets written behind
-      the audio, and the files put in their places. Where a stream can't be read to
-      its end, that is done with what came before, and told with exit status 2. (End a
-      stream by stopping what records it: this program then closes its files.) Where
-      the files of a stream can't be written, as on a full disk, what was cleaned stays
-      in those that end in .part.
+      are called left.wav.part and so on, and the records of the side sheets lie in
+      left.wav.sheet and right.wav.sheet; at the end all is closed and put in its place.
+      Ctrl-C, TERM or HUP is the end of what is read: what came is closed and kept. A
+      second one ends the program at once.
+      What is wrong with one bench ends that bench there and leaves the other as it is.
+      A recording that breaks off is cleaned as far as it goes. Both are told.
+      Nothing that stands in DIR is written over, but with --force. Where the files of
+      a stream can't be written, as on a full disk, or the power fails, they stay as
+      they are, and host mend DIR closes them.
       All that is done to a sample is done by the library. With --lag crate the lag
       is that of the Rust text's own finder, and the transforms and logarithms are
       this program's: that gives nnnoiseless's very numbers. (--lag own is the same
       as none.)
       A long recording's progress is told, unless -q stands there.
-  host demo DIR [--lag crate]
+  host demo DIR [--lag crate] [--force]
       The same with two dictations over a grinder and the house model, which come
       with the program; the recordings before cleaning are written too.
   host side FILE..
       The side sheet behind each recording's audio: its side, how many frames it has
       and how many of them were heard, and where a frame is missing.
-  host pack --layers FOLDER --out M.rnn
+  host pack --layers FOLDER --out M.rnn [--force]
       A model from loose arrays: FOLDER has layers.txt, a line for each layer with its
       name, inputs, neurons and activation, and a file of signed bytes for each array
       (input_dense.weights, input_dense.bias, vad_gru.recurrent ...).
-  host unpack M.rnn --out FOLDER
+  host unpack M.rnn --out FOLDER [--force]
       The other way.
+  host mend DIR
+      What a run left unfinished in DIR, since the power failed or the disk was full:
+      each recording is closed as far as its audio and its records both go, and put in
+      its place, or where that is taken under the next free name.
   host mend FILE --out FILE2
       A recording whose side sheet was torn: what follows the audio in whole records
       is kept, and the sheet closed again. FILE2 must not exist.
@@ -63,17 +69,18 @@ Examples:
   host clean --left l.wav --right r.wav --model house.rnn --out monday
   arecord -f S16_LE -c 2 -r 48000 -t raw | host clean - --raw --model house.rnn --out monday
   host side monday/left.wav monday/right.wav
+  host mend monday
   host mend monday/left.wav --out left.wav
   host unpack house.rnn --out layers
   host pack --layers layers --out mine.rnn
 
-Exit status: 0 done, 2 something was not right; then nothing is written, but of a
-stream what came before.
+Exit status: 0 done as asked; 1 it could not be done; 2 what was given is not right: the
+command line, or a recording that is not all there, of which the rest is cleaned.
 ";
 
-/// The values of the named options, each once; `None` where another word, or half an option, stands.
+/// The values of the named options, each once; `None` where another word, half an option, or an empty value stands.
 fn options(words: &[OsString], names: &[&str]) -> Option<Vec<PathBuf>> {
-    if words.len() != 2 * names.len() {
+    if words.len() != 2 * names.len() || words.iter().any(|word| word.is_empty()) {
         return None;
     }
     let value = |name: &&str| words.chunks_exact(2).find(|pair| pair[0] == **name).map(|pair| PathBuf::from(&pair[1]));
@@ -96,17 +103,27 @@ fn way(words: &mut Vec<OsString>) -> Option<Way> {
     }
 }
 
-fn demo(words: &[OsString]) -> Option<(PathBuf, Way)> {
+fn demo(words: &[OsString]) -> Option<(PathBuf, Way, bool)> {
     let mut words = words.to_vec();
-    let way = way(&mut words)?;
-    let [dir] = &words[..] else { return None };
-    Some((dir.into(), way))
+    let (way, force) = (way(&mut words)?, flag(&mut words, "--force"));
+    match &words[..] {
+        [dir] if !dir.is_empty() => Some((dir.into(), way, force)),
+        _ => None,
+    }
+}
+
+/// The values of options beside which `--force` may stand, and whether it does.
+fn forced(words: &[OsString], names: &[&str]) -> Option<(Vec<PathBuf>, bool)> {
+    let mut words = words.to_vec();
+    let force = flag(&mut words, "--force");
+    Some((options(&words, names)?, force))
 }
 
 fn job(words: &[OsString]) -> Option<Job> {
     let mut words = words.to_vec();
     let way = way(&mut words)?;
     let (quiet, stream, raw) = (flag(&mut words, "-q"), flag(&mut words, "-"), flag(&mut words, "--raw"));
+    let force = flag(&mut words, "--force");
     let named = |names: &[&str]| options(&words, &[names, &["--model", "--out"]].concat());
     let (inputs, mut rest) = if stream {
         (Inputs::Stream { raw }, named(&[])?)
@@ -120,14 +137,26 @@ fn job(words: &[OsString]) -> Option<Job> {
         let rest = paths.split_off(1);
         (Inputs::Stereo(paths.pop()?), rest)
     };
-    Some(Job { inputs, way, quiet, out: rest.pop()?, model: rest.pop()? })
+    Some(Job { inputs, way, quiet, force, out: rest.pop()?, model: rest.pop()? })
 }
 
-fn wrong(command: &str) -> String {
-    format!("{command}: the options are not right; see host --help")
+fn wrong(command: &str) -> Failure {
+    Failure::wrong(format!("{command}: the options are not right; see host --help"))
 }
 
-fn run(words: &[OsString]) -> Result<(), String> {
+/// Cleans, and tells what of it is missing.
+fn run_job(job: &Job) -> Result<(), Failure> {
+    let report = clean(job)?;
+    for bench in report.benches.iter().filter(|bench| bench.samples > 0) {
+        host::say!("{}: {} frames", bench.side.name(), bench.frames);
+    }
+    match &report.lost[..] {
+        [] => Ok(()),
+        lost => Err(Failure::wrong(lost.join("\nhost: "))),
+    }
+}
+
+fn run(words: &[OsString]) -> Result<(), Failure> {
     match words {
         [help] if help == "--help" || help == "-h" => host::say!("{}", HELP.trim_end()),
         [version] if version == "--version" => host::say!("host {}", env!("CARGO_PKG_VERSION")),
@@ -135,45 +164,49 @@ fn run(words: &[OsString]) -> Result<(), String> {
         [lags] if lags == "lags" => host::lags::lags()?,
         [logs] if logs == "logs" => host::logs::logs(),
         [word, rest @ ..] if word == "demo" => {
-            let (dir, way) = demo(rest).ok_or_else(|| wrong("demo"))?;
-            host::demo::demo(&dir, way)?;
+            let (dir, way, force) = demo(rest).ok_or_else(|| wrong("demo"))?;
+            host::demo::demo(&dir, way, force)?;
             let dir = dir.display();
             host::say!("Look at {dir}/index.html, and listen to {dir}/left-before.wav and {dir}/left.wav.");
         }
         [word, files @ ..] if word == "side" && !files.is_empty() => {
-            host::side::side(&files.iter().map(PathBuf::from).collect::<Vec<_>>())?;
+            host::side::side(&files.iter().map(PathBuf::from).collect::<Vec<_>>()).map_err(Failure::wrong)?;
         }
         [word, rest @ ..] if word == "pack" => {
-            let paths = options(rest, &["--layers", "--out"]).ok_or_else(|| wrong("pack"))?;
-            host::say!("{}: {} bytes", paths[1].display(), host::pack::pack(&paths[0], &paths[1])?);
+            let (paths, force) = forced(rest, &["--layers", "--out"]).ok_or_else(|| wrong("pack"))?;
+            host::say!("{}: {} bytes", paths[1].display(), host::pack::pack(&paths[0], &paths[1], force)?);
         }
         [word, model, rest @ ..] if word == "unpack" => {
-            let paths = options(rest, &["--out"]).ok_or_else(|| wrong("unpack"))?;
-            host::pack::unpack(model.as_ref(), &paths[0])?;
+            let (paths, force) = forced(rest, &["--out"]).ok_or_else(|| wrong("unpack"))?;
+            host::pack::unpack(model.as_ref(), &paths[0], force)?;
             host::say!("{}: sixteen files", paths[0].display());
         }
+        [word, folder] if word == "mend" && Path::new(folder).is_dir() => host::rescue::mend(folder.as_ref())?,
         [word, file, rest @ ..] if word == "mend" => {
             let paths = options(rest, &["--out"]).ok_or_else(|| wrong("mend"))?;
             host::mend::mend(file.as_ref(), &paths[0])?;
         }
         [word, rest @ ..] if word == "clean" => {
-            let job = job(rest).ok_or_else(|| wrong("clean"))?;
-            for bench in clean(&job)? {
-                host::say!("{}: {} frames", bench.side.name(), bench.frames);
-            }
+            run_job(&job(rest).ok_or_else(|| wrong("clean"))?)?;
         }
-        _ => return Err("what shall be done? See host --help".into()),
+        _ => return Err(Failure::wrong("what shall be done? See host --help")),
     }
     Ok(())
 }
 
 fn main() -> ExitCode {
     let words: Vec<OsString> = std::env::args_os().skip(1).collect();
-    match run(&words) {
-        Ok(()) => ExitCode::SUCCESS,
-        Err(why) => {
+    let mut status = match run(&words) {
+        Ok(()) => 0,
+        Err(Failure { status, why }) => {
             host::warn!("host: {why}");
-            ExitCode::from(2)
+            status
         }
+    };
+    // what was told, but could not be written, is lost too
+    if let Some(why) = host::answer::untold() {
+        host::warn!("host: {why}");
+        status = status.max(UNDONE);
     }
+    ExitCode::from(status)
 }

@@ -90,7 +90,7 @@ fn written(shapes: &[u32], arrays: &[Vec<u8>; 15]) -> Result<Vec<u8>, String> {
 }
 
 /// Reads the folder, and writes the model whole or not at all.
-pub fn pack(folder: &Path, out: &Path) -> Result<usize, String> {
+pub fn pack(folder: &Path, out: &Path, force: bool) -> Result<usize, String> {
     let list = folder.join("layers.txt");
     let text = fs::read_to_string(&list).map_err(|why| told(&list, why))?;
     let shapes = shapes(&text).map_err(|why| told(&list, why))?;
@@ -101,7 +101,9 @@ pub fn pack(folder: &Path, out: &Path) -> Result<usize, String> {
     }
     let file = written(&shapes, &arrays).map_err(|why| told(folder, why))?;
     let name = out.file_name().ok_or_else(|| told(out, "this is no name of a file"))?;
-    let mut folder = Folder::new(out.parent().filter(|path| *path != Path::new("")).unwrap_or(Path::new(".")))?;
+    let within = out.parent().filter(|path| *path != Path::new("")).unwrap_or(Path::new("."));
+    let mut folder = Folder::new(within, force)?;
+    folder.claim([name])?;
     folder.write(name, &file)?;
     folder.keep()?;
     Ok(file.len())
@@ -131,10 +133,11 @@ fn loose(model: &[u8]) -> Result<Vec<(String, Vec<u8>)>, Refusal> {
 }
 
 /// Takes a model apart into a folder.
-pub fn unpack(model: &Path, out: &Path) -> Result<(), String> {
+pub fn unpack(model: &Path, out: &Path, force: bool) -> Result<(), String> {
     let bytes = fs::read(model).map_err(|why| told(model, why))?;
     let files = loose(&bytes).map_err(|refusal| told(model, refusal))?;
-    let mut folder = Folder::new(out)?;
+    let mut folder = Folder::new(out, force)?;
+    folder.claim(files.iter().map(|(name, _)| name))?;
     for (name, bytes) in &files {
         folder.write(name, bytes)?;
     }

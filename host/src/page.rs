@@ -31,7 +31,8 @@ pub fn html(benches: &[Summary; 2], before: Option<[&str; 2]>) -> String {
         ];
         let [seconds, frames, heard, gaps] = &numbers;
         let before = before.map(|names| player(names[bench.side as usize]));
-        row(&mut text, [name, seconds, frames, heard, gaps], before.as_deref(), &player(&format!("{name}.wav")));
+        let after = if bench.samples == 0 { "no recording".into() } else { player(&format!("{name}.wav")) };
+        row(&mut text, [name, seconds, frames, heard, gaps], before.as_deref(), &after);
     }
     writeln!(
         text,

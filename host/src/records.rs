@@ -3,14 +3,16 @@
 use crate::folder::told;
 use crate::recorder::{Frame, Side};
 use crate::refusal::Refusal;
-use std::fs::{self, File};
-use std::io::{self, Read, Seek, Write};
+use crate::seal;
+use std::fs::File;
+use std::io::{self, Read, Seek, SeekFrom, Write};
 use std::path::PathBuf;
 
 /// So many entries are written at a time.
 const ENTRIES: usize = 1_024;
 
 /// The library writes each part, as a sheet of its own. The records of these sheets in a row, and a trailer with the sum of their sums, are the whole sheet.
+/// In front of them stand the seal's first words, so that the file says by itself which side it is.
 pub struct Records {
     path: PathBuf,
     file: File,
@@ -22,10 +24,15 @@ pub struct Records {
 }
 
 impl Records {
-    pub fn new(path: PathBuf, side: Side) -> Result<Records, String> {
-        let file = File::options().read(true).write(true).create(true).truncate(true).open(&path);
-        let file = file.map_err(|why| told(&path, why))?;
-        Ok(Records { path, file, side: tuppence::side_of(side as u32), entries: Vec::new(), count: 0, sum: 0 })
+    /// In a new file.
+    pub fn new(path: PathBuf, mut file: File, side: Side) -> Result<Records, String> {
+        file.write_all(&seal::under_way(side)).map_err(|why| told(&path, why))?;
+        Ok(Records::of(path, file, side, 0, 0))
+    }
+
+    /// Those that lie in a file already, so many with this sum.
+    pub fn of(path: PathBuf, file: File, side: Side, count: u32, sum: u32) -> Records {
+        Records { path, file, side: tuppence::side_of(side as u32), entries: Vec::new(), count, sum }
     }
 
     pub fn push(&mut self, frame: &Frame) -> Result<(), String> {
@@ -37,7 +44,10 @@ impl Records {
     }
 
     /// Lays down what there is.
-    fn put(&mut self) -> Result<(), String> {
+    pub fn put(&mut self) -> Result<(), String> {
+        if self.entries.is_empty() {
+            return Ok(());
+        }
         let mut sheet = vec![0; 8 * self.entries.len() + 16];
         match tuppence::sheet_write(&mut sheet, self.side, &self.entries) {
             0 => (),
@@ -52,25 +62,25 @@ impl Records {
         Ok(())
     }
 
+    pub fn inner(&self) -> &File {
+        &self.file
+    }
+
     /// Writes the sheet behind the audio.
     pub fn finish(mut self, to: &mut impl Write) -> Result<(), String> {
         self.put()?;
         let mut copy = || -> io::Result<()> {
-            self.file.rewind()?;
-            io::copy(&mut Read::by_ref(&mut self.file), to)?;
-            let side = [self.side as u8, 0, 0, 0];
-            to.write_all(
-                &[(8 * self.count).to_le_bytes(), self.count.to_le_bytes(), side, self.sum.to_le_bytes()].concat(),
-            )
+            self.file.seek(SeekFrom::Start(seal::LENGTH as u64))?;
+            io::copy(&mut Read::by_ref(&mut self.file).take(8 * u64::from(self.count)), to)?;
+            to.write_all(&trailer(self.side, self.count, self.sum))
         };
         copy().map_err(|why| told(&self.path, why))
     }
 }
 
-impl Drop for Records {
-    fn drop(&mut self) {
-        let _ = fs::remove_file(&self.path);
-    }
+/// The end of a sheet with so many records, whose bytes have this sum.
+pub fn trailer(side: u32, count: u32, sum: u32) -> Vec<u8> {
+    [count.wrapping_mul(8), count, side, sum].map(u32::to_le_bytes).concat()
 }
 
 #[cfg(test)]
@@ -84,7 +94,7 @@ mod tests {
         for (count, side) in [(0, Side::Left), (1, Side::Right), (ENTRIES, Side::Left), (3 * ENTRIES + 5, Side::Right)]
         {
             let path = std::env::temp_dir().join(format!("records-{}-{count}", std::process::id()));
-            let mut records = Records::new(path.clone(), side).unwrap();
+            let mut records = Records::new(path.clone(), crate::place::new_file(&path).unwrap(), side).unwrap();
             let mut entries = vec![];
             for i in 0..count as u32 {
                 let (number, voice) = (i.wrapping_mul(0x9e37_79b9), i % 3 == 0);
@@ -96,7 +106,10 @@ mod tests {
             records.finish(&mut parts).unwrap();
             assert_eq!(tuppence::sheet_write(&mut whole, side as u32, &entries), 0);
             assert!(parts == whole, "{count} records");
-            assert!(!path.exists());
+            let bytes = std::fs::read(&path).unwrap();
+            assert_eq!(seal::side(&bytes[..seal::LENGTH]), Some(side));
+            assert!(bytes[seal::LENGTH..] == whole[..8 * count], "{count} records");
+            std::fs::remove_file(path).unwrap();
         }
     }
 }

@@ -1,29 +1,66 @@
 //! Where the samples of both benches come from, block by block.
 
 use crate::folder::told;
+use crate::form;
 use crate::recorder::{Side, PIECE};
-use crate::wav::{Fault, Reader};
+use crate::status::Failure;
+use crate::stop::{self, Until};
+use crate::wav::{self, Fault, Reader};
 use crate::RATE;
 use std::fs::File;
-use std::io::Read;
+use std::io::{self, Cursor, Read};
+use std::os::fd::AsFd;
 use std::path::{Path, PathBuf};
 
 /// Samples as they come.
 pub trait Source {
-    /// The next samples of a side, which are asked for in turn; none at its end.
-    fn next(&mut self, side: Side) -> Result<Vec<f32>, String>;
+    /// The next samples of each bench; none of one that is at its end, or was broken.
+    fn next(&mut self) -> [Vec<f32>; 2];
 }
 
 /// Samples in memory.
 pub struct Memory<'a>(pub [&'a [f32]; 2]);
 
 impl Source for Memory<'_> {
-    fn next(&mut self, side: Side) -> Result<Vec<f32>, String> {
-        let left = &mut self.0[side as usize];
-        let (block, rest) = left.split_at(left.len().min(PIECE));
-        *left = rest;
-        Ok(block.to_vec())
+    fn next(&mut self) -> [Vec<f32>; 2] {
+        self.0.each_mut().map(|left| {
+            let (block, rest) = left.split_at(left.len().min(PIECE));
+            *left = rest;
+            block.to_vec()
+        })
     }
+}
+
+/// No more than so many samples of each bench, as many as a file can hold.
+pub struct Limited<'a, S> {
+    source: &'a mut S,
+    room: [u64; 2],
+    /// Which of them had more.
+    pub cut: [bool; 2],
+}
+
+impl<S> Limited<'_, S> {
+    pub fn new(source: &mut S, most: u64) -> Limited<'_, S> {
+        Limited { source, room: [most; 2], cut: [false; 2] }
+    }
+}
+
+impl<S: Source> Source for Limited<'_, S> {
+    fn next(&mut self) -> [Vec<f32>; 2] {
+        let mut blocks = self.source.next();
+        for ((block, room), cut) in blocks.iter_mut().zip(&mut self.room).zip(&mut self.cut) {
+            *cut |= block.len() as u64 > *room;
+            block.truncate(usize::try_from(*room).unwrap_or(usize::MAX));
+            *room -= block.len() as u64;
+        }
+        blocks
+    }
+}
+
+/// Seconds, of which both are told so that they can be told apart.
+fn seconds(samples: u64, of: u64) -> [String; 2] {
+    let told = |digits: usize| [samples, of].map(|n| format!("{:.digits$}", n as f64 / f64::from(RATE)));
+    [1, 3].map(told).into_iter().find(|[a, b]| a != b).unwrap_or_else(|| told(5))
 }
 
 /// A WAV file, or a stream.
@@ -32,6 +69,10 @@ pub struct Recording {
     reader: Reader<Box<dyn Read>>,
     /// How many samples each channel has, where that is known.
     length: Option<u64>,
+    /// Whether its header says, wrongly, that there is no audio.
+    unsaid: bool,
+    /// Why it can't be read on.
+    fault: Option<io::Error>,
 }
 
 impl Recording {
@@ -44,28 +85,42 @@ impl Recording {
             let wanted = if channels == 1 { "one channel is" } else { "two channels are" };
             return Err(told(name, format!("{wanted} wanted; this has {}", reader.channels)));
         }
-        Ok(Recording { name: name.to_owned(), reader, length: None })
+        Ok(Recording { name: name.to_owned(), reader, length: None, unsaid: false, fault: None })
     }
 
     fn file(path: &Path, channels: usize) -> Result<Recording, String> {
         let file = File::open(path).map_err(|why| told(path, why))?;
-        let size = file.metadata().map_err(|why| told(path, why))?.len();
-        let mut recording = Recording::of(path, Reader::new(Box::new(file)), channels)?;
-        let (length, behind) = (recording.reader.length(size), size.saturating_sub(recording.reader.end()));
-        // a stream's header means by this that the length is not known; that of a file is believed
-        if length == 0 && behind > 0 {
-            let unread = format!("its header says that there is no audio: {behind} bytes are not read");
-            crate::warn!("{}", told(path, unread));
+        let about = file.metadata().map_err(|why| told(path, why))?;
+        let mut recording = Recording::of(path, Reader::new(Box::new(Until::file(file))), channels)?;
+        if about.is_file() {
+            recording.measure(about.len()).map_err(|why| told(path, why))?;
         }
-        recording.length = Some(length);
         Ok(recording)
     }
 
-    fn block(&mut self) -> Result<Vec<Vec<f32>>, String> {
-        self.reader.block(PIECE).map_err(|fault| told(&self.name, fault))
+    /// How long a file of so many bytes is. A stream's header means by 0 that its length is not known; where a file's
+    /// says so, and what stands behind it is no other chunk, its recorder did not come to mend it.
+    fn measure(&mut self, bytes: u64) -> io::Result<()> {
+        let (empty, end) = (self.reader.length(bytes) == 0, self.reader.end());
+        if empty && bytes > end && !wav::are_chunks(File::open(&self.name)?, end)? {
+            self.reader.to_the_end();
+            self.unsaid = true;
+        }
+        self.length = Some(self.reader.length(bytes));
+        Ok(())
     }
 
-    /// Tells what was not as it should be.
+    fn block(&mut self) -> Vec<Vec<f32>> {
+        let block = if self.fault.is_some() { Ok(vec![]) } else { self.reader.block(PIECE) };
+        let mut channels = block.unwrap_or_else(|why| {
+            self.fault = Some(why);
+            vec![]
+        });
+        channels.resize(self.reader.channels, vec![]);
+        channels
+    }
+
+    /// Tells what was not as it should be, where nothing is lost by it.
     fn tell(&self) {
         let clipped = match self.reader.clipped {
             0 => return,
@@ -74,12 +129,57 @@ impl Recording {
         };
         crate::warn!("{}", told(&self.name, clipped));
     }
+
+    /// Why a channel ends before its recording does.
+    fn broken(&self, side: Side, channel: usize) -> Option<String> {
+        let at = self.reader.broken[channel]? as f64 / f64::from(RATE);
+        Some(told(&self.name, format!("{}, at {at:.2} s: not a finite number", side.name())))
+    }
+
+    /// Why a recording ends before all of it was read.
+    fn cut(&self) -> Option<String> {
+        let (read, promised) = (self.reader.given, self.reader.promised());
+        let after = |of: u64| seconds(read, of);
+        let why = match (&self.fault, self.length) {
+            (Some(why), _) => format!("at {} s: it can't be read on: {why}", after(0)[0]),
+            (None, Some(length)) if stop::asked() && read < length => {
+                let [read, length] = after(length);
+                format!("stopped after {read} of {length} s")
+            }
+            _ if !self.reader.ended || stop::asked() => return None,
+            _ if read == 0 => return self.reader.has_head().then(|| told(&self.name, "no audio follows its header")),
+            _ if self.unsaid => {
+                format!("its header says that there is no audio; the {} s behind it are cleaned", after(0)[0])
+            }
+            _ => {
+                let promised = promised.filter(|promised| read < *promised)?;
+                let [read, promised] = after(promised);
+                format!("ends after {read} of {promised} s, as its header has it")
+            }
+        };
+        Some(told(&self.name, why))
+    }
 }
 
-/// A file for each bench, or both benches as the channels of one recording, of which the right one may wait until it is asked for.
+/// A file for each bench, or both benches as the channels of one recording.
 pub enum Recordings {
     Two([Recording; 2]),
-    Stereo(Recording, Vec<f32>),
+    Stereo(Recording),
+}
+
+/// Standard input as it is, so that it can be waited for.
+fn standard_input() -> io::Result<File> {
+    Ok(io::stdin().as_fd().try_clone_to_owned()?.into())
+}
+
+/// Samples without a header, from the start on. What begins as another file does is none.
+fn raw(mut from: Until, name: &Path) -> Result<Reader<Box<dyn Read>>, Failure> {
+    let mut head = Vec::new();
+    from.by_ref().take(form::HEAD as u64).read_to_end(&mut head).map_err(|why| told(name, why))?;
+    match form::known(&head) {
+        Some(form) => Err(Failure::wrong(told(name, format!("this is {form}, and not samples alone as --raw says")))),
+        None => Ok(Reader::raw(Box::new(Cursor::new(head).chain(from)), RATE, 2)),
+    }
 }
 
 impl Recordings {
@@ -88,20 +188,22 @@ impl Recordings {
     }
 
     pub fn stereo(path: &Path) -> Result<Recordings, String> {
-        Ok(Recordings::Stereo(Recording::file(path, 2)?, Vec::new()))
+        Ok(Recordings::Stereo(Recording::file(path, 2)?))
     }
 
-    /// A WAV stream, or with `raw` samples of 16 bits, little end first, left and right in turn, without a header.
-    pub fn stream(from: impl Read + 'static, raw: bool) -> Result<Recordings, String> {
-        let from: Box<dyn Read> = Box::new(from);
-        let reader = if raw { Ok(Reader::raw(from, RATE, 2)) } else { Reader::stream(from) };
-        Ok(Recordings::Stereo(Recording::of("standard input".as_ref(), reader, 2)?, Vec::new()))
+    /// A WAV stream on standard input, or with `is_raw` samples of 16 bits, little end first, left and right in turn,
+    /// without a header.
+    pub fn stream(is_raw: bool) -> Result<Recordings, Failure> {
+        let name = Path::new("standard input");
+        let from = Until::stream(standard_input().map_err(|why| told(name, why))?);
+        let reader = if is_raw { Ok(raw(from, name)?) } else { Reader::stream(Box::new(from) as Box<dyn Read>) };
+        Ok(Recordings::Stereo(Recording::of(name, reader, 2)?))
     }
 
     fn all(&self) -> &[Recording] {
         match self {
             Recordings::Two(both) => both,
-            Recordings::Stereo(one, _) => std::slice::from_ref(one),
+            Recordings::Stereo(one) => std::slice::from_ref(one),
         }
     }
 
@@ -110,22 +212,29 @@ impl Recordings {
         self.all().iter().map(|recording| recording.length).max().flatten()
     }
 
-    /// Tells what was not as it should be.
+    /// Tells what was not as it should be, where nothing is lost by it.
     pub fn tell(&self) {
         self.all().iter().for_each(Recording::tell);
+    }
+
+    /// What is missing of what should have been read, a line each.
+    pub fn lost(&self) -> Vec<String> {
+        let broken = |side: Side| match self {
+            Recordings::Two(both) => both[side as usize].broken(side, 0),
+            Recordings::Stereo(one) => one.broken(side, side as usize),
+        };
+        Side::BOTH.into_iter().filter_map(broken).chain(self.all().iter().filter_map(Recording::cut)).collect()
     }
 }
 
 impl Source for Recordings {
-    fn next(&mut self, side: Side) -> Result<Vec<f32>, String> {
-        match (self, side) {
-            (Recordings::Two(both), _) => Ok(both[side as usize].block()?.remove(0)),
-            (Recordings::Stereo(one, right), Side::Left) => {
-                let mut channels = one.block()?;
-                *right = channels.remove(1);
-                Ok(channels.remove(0))
+    fn next(&mut self) -> [Vec<f32>; 2] {
+        match self {
+            Recordings::Two(both) => both.each_mut().map(|one| one.block().remove(0)),
+            Recordings::Stereo(one) => {
+                let mut channels = one.block().into_iter();
+                Side::BOTH.map(|_| channels.next().unwrap_or_default())
             }
-            (Recordings::Stereo(_, right), Side::Right) => Ok(std::mem::take(right)),
         }
     }
 }

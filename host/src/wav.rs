@@ -10,8 +10,12 @@ const HIGHEST: f32 = 32_767.0;
 
 /// What a header says of a length that is not known yet.
 const UNKNOWN: u32 = u32::MAX;
-/// From here on, or with 0, programs that write a stream mean that they don't know its length: they put 2 GiB or 4 GiB there, or a little less.
-const OPEN: u64 = 0x7FFF_F000;
+/// Programs that write a stream don't know its length: they say 0, or 2 GiB or 4 GiB, or a little less.
+const OPEN: [std::ops::RangeInclusive<u64>; 3] = [0..=0, 0x7FFF_F000..=0x8000_0000, 0xFFFF_F000..=0xFFFF_FFFF];
+/// The most samples that a file can hold: its sizes have 32 bits, and that of the whole counts 36 bytes more.
+pub const MOST: u64 = (UNKNOWN as u64 - 37) / 2;
+/// The bytes of the header that is written.
+pub const HEAD: usize = 44;
 
 /// Why a file is not taken.
 #[derive(Debug, PartialEq)]
@@ -112,8 +116,13 @@ pub struct Reader<R> {
     place: [u64; 2],
     /// Bytes that are not yet a sample of each channel.
     carried: Vec<u8>,
-    /// How many samples of a channel were given.
-    given: u64,
+    /// How many samples of a channel were read.
+    pub given: u64,
+    /// Where a channel has a sample that is NaN or infinite, the first of them, counted from 0. It gives none from
+    /// there on.
+    pub broken: Vec<Option<u64>>,
+    /// Whether the end has come.
+    pub ended: bool,
     /// How many samples lay beyond the two ends.
     pub clipped: u64,
 }
@@ -196,10 +205,22 @@ impl<R: Read> Reader<R> {
     /// The same, where the length may not have been known when the header was written.
     pub fn stream(from: R) -> Result<Reader<R>, Fault> {
         let mut reader = Reader::new(from)?;
-        if reader.place[1] == 0 || reader.place[1] >= OPEN {
-            reader.from.set_limit(u64::MAX);
+        if reader.promised().is_none() {
+            reader.to_the_end();
         }
         Ok(reader)
+    }
+
+    /// Reads on to the end, whatever the header says.
+    pub fn to_the_end(&mut self) {
+        self.from.set_limit(u64::MAX);
+    }
+
+    /// How many samples of each channel the header says there are, where it knows.
+    pub fn promised(&self) -> Option<u64> {
+        let size = self.place[1];
+        let is_open = OPEN.iter().any(|open| open.contains(&size));
+        (!is_open).then(|| size / (self.sample.size() * self.channels) as u64)
     }
 
     /// Samples of 16 bits, little end first, without a header, up to the end.
@@ -210,13 +231,19 @@ impl<R: Read> Reader<R> {
     fn of(from: R, Format { rate, channels, sample }: Format, place: [u64; 2]) -> Self {
         // A stream that does not know its length says so, and a recorder that lost power leaves a size that is too large: what is there counts.
         let most = if place[1] == UNKNOWN.into() { u64::MAX } else { place[1] };
-        Reader { from: from.take(most), rate, channels, sample, place, carried: Vec::new(), given: 0, clipped: 0 }
+        let broken = vec![None; channels];
+        let (carried, given, ended, clipped) = (Vec::new(), 0, false, 0);
+        Reader { from: from.take(most), rate, channels, sample, place, carried, given, broken, ended, clipped }
     }
 
-    /// How many samples each channel has, in a file of so many bytes.
+    /// How many samples each channel has, in a file of so many bytes of which none of these was read yet.
     pub fn length(&self, bytes: u64) -> u64 {
-        let [start, size] = self.place;
-        size.min(bytes.saturating_sub(start)) / (self.sample.size() * self.channels) as u64
+        self.from.limit().min(bytes.saturating_sub(self.place[0])) / (self.sample.size() * self.channels) as u64
+    }
+
+    /// Whether there is a header.
+    pub fn has_head(&self) -> bool {
+        self.place[0] > 0
     }
 
     /// Where the audio ends, as the header says: behind the samples, and the byte that an odd number of them is filled up with.
@@ -235,11 +262,13 @@ impl<R: Read> Reader<R> {
             }
         };
         bytes.truncate(had + more);
+        self.ended |= more == 0;
         Ok(more)
     }
 
-    /// What comes next, at most so many samples of each channel, as soon as there is any; none at the end.
-    pub fn block(&mut self, most: usize) -> Result<Vec<Vec<f32>>, Fault> {
+    /// What comes next, at most so many samples of each channel, as soon as there is any; none at the end, and none
+    /// of a channel from a broken sample on.
+    pub fn block(&mut self, most: usize) -> io::Result<Vec<Vec<f32>>> {
         let one = self.sample.size() * self.channels;
         let mut bytes = std::mem::take(&mut self.carried);
         while bytes.len() < one && self.more(&mut bytes, most * one)? > 0 {}
@@ -248,13 +277,14 @@ impl<R: Read> Reader<R> {
         for (i, b) in bytes.chunks_exact(self.sample.size()).enumerate() {
             let (channel, number) = (i % self.channels, self.sample.number(b));
             if !number.is_finite() {
-                let sample = self.given + (i / self.channels) as u64;
-                return Err(Fault::NotFinite { channel, sample });
+                self.broken[channel].get_or_insert(self.given + (i / self.channels) as u64);
             }
-            self.clipped += u64::from(!(LOWEST..=HIGHEST).contains(&number));
-            channels[channel].push(number.clamp(LOWEST, HIGHEST));
+            if self.broken[channel].is_none() {
+                self.clipped += u64::from(!(LOWEST..=HIGHEST).contains(&number));
+                channels[channel].push(number.clamp(LOWEST, HIGHEST));
+            }
         }
-        self.given += channels[0].len() as u64;
+        self.given += (bytes.len() / one) as u64;
         Ok(channels)
     }
 }
@@ -268,22 +298,36 @@ pub struct Wav {
     pub clipped: u64,
 }
 
-/// Where the audio ends, as the header says, of a file that is read.
-pub fn audio_end(bytes: &[u8]) -> Result<usize, Fault> {
-    read(bytes)?;
-    Ok(Reader::new(bytes)?.end() as usize)
+/// Whether nothing but chunks stands from here to the end of the file.
+pub fn are_chunks(mut from: impl Read + Seek, mut at: u64) -> io::Result<bool> {
+    let end = from.seek(SeekFrom::End(0))?;
+    while at < end {
+        from.seek(SeekFrom::Start(at))?;
+        let Ok((name, size)) = chunk(&mut from) else { return Ok(false) };
+        if !name.iter().all(|byte| (b' '..=b'~').contains(byte)) {
+            return Ok(false);
+        }
+        at += 8 + u64::from(size) + u64::from(size % 2);
+    }
+    Ok(at == end)
 }
 
-/// A whole file.
+/// Where the audio ends, as the header says.
+pub fn audio_end(from: impl Read) -> Result<u64, Fault> {
+    Ok(Reader::new(from)?.end())
+}
+
+/// A whole file, where no sample is broken.
 pub fn read(bytes: &[u8]) -> Result<Wav, Fault> {
     let mut reader = Reader::new(bytes)?;
     let mut channels = vec![Vec::new(); reader.channels];
-    loop {
+    while !reader.ended {
         let block = reader.block(BLOCK)?;
-        if block[0].is_empty() {
-            return Ok(Wav { rate: reader.rate, channels, clipped: reader.clipped });
-        }
         channels.iter_mut().zip(block).for_each(|(all, more)| all.extend(more));
+    }
+    match (0..).zip(&reader.broken).find_map(|(channel, broken)| broken.map(|sample| (channel, sample))) {
+        Some((channel, sample)) => Err(Fault::NotFinite { channel, sample }),
+        None => Ok(Wav { rate: reader.rate, channels, clipped: reader.clipped }),
     }
 }
 
@@ -306,6 +350,17 @@ fn header(rate: u32, size: u32) -> Vec<u8> {
     bytes
 }
 
+/// The header of a recording that is under way.
+pub fn open_head(rate: u32) -> Vec<u8> {
+    header(rate, UNKNOWN)
+}
+
+/// How many bytes of audio the header of a file of ours says, where it was known when that was written.
+pub fn said(head: &[u8; HEAD], rate: u32) -> Option<u32> {
+    let size = u32::from_le_bytes([head[40], head[41], head[42], head[43]]);
+    (size != UNKNOWN && head[..] == header(rate, size)).then_some(size)
+}
+
 /// One channel as 16-bit PCM, written as it comes: rounded, and kept within its ends; a NaN is 0. Until its end is known the header says that the
 /// audio goes on to the end of the file.
 pub struct Writer<W: Write + Seek> {
@@ -326,6 +381,9 @@ impl<W: Write + Seek> Writer<W> {
         let Some(size) = more.filter(|size| *size < UNKNOWN - 36) else {
             return Err(io::Error::other("a WAV file can't hold more than 12 hours and 25 minutes"));
         };
+        if samples.is_empty() {
+            return Ok(());
+        }
         let bytes: Vec<u8> =
             samples.iter().flat_map(|x| (x.round().clamp(LOWEST, HIGHEST) as i16).to_le_bytes()).collect();
         self.to.write_all(&bytes)?;
@@ -333,11 +391,20 @@ impl<W: Write + Seek> Writer<W> {
         Ok(())
     }
 
+    pub fn inner(&self) -> &W {
+        &self.to
+    }
+
+    /// A file that was left with so many bytes of audio.
+    pub fn resume(to: W, rate: u32, size: u32) -> Writer<W> {
+        Writer { to, rate, size }
+    }
+
     /// Mends the header. What follows is written behind the audio.
     pub fn finish(mut self) -> io::Result<W> {
         self.to.seek(SeekFrom::Start(0))?;
         self.to.write_all(&header(self.rate, self.size))?;
-        self.to.seek(SeekFrom::End(0))?;
+        self.to.seek(SeekFrom::Start(HEAD as u64 + u64::from(self.size)))?;
         Ok(self.to)
     }
 }

@@ -1,4 +1,4 @@
-//! The command line: what it writes, and each error with exit status 2 and nothing left behind.
+//! The command line: what it writes, and each error with its exit status and nothing left behind.
 
 use host::demo::{dictation, HOUSE};
 use host::wav;
@@ -45,10 +45,19 @@ impl Given {
         host(&["clean", "--left", &l, "--right", &r, "--model", &m, "--out", &o])
     }
 
-    /// The run ends with 2, says this, and leaves no folder.
+    /// What was asked could not be done: the run says this, and leaves no folder.
     fn fails(&self, output: Output, words: &[&str]) {
+        self.ends(output, 1, words);
+    }
+
+    /// The same of words that are no command.
+    fn is_wrong(&self, output: Output, words: &[&str]) {
+        self.ends(output, 2, words);
+    }
+
+    fn ends(&self, output: Output, status: i32, words: &[&str]) {
         let said = String::from_utf8(output.stderr).unwrap();
-        assert_eq!(output.status.code(), Some(2), "{said}");
+        assert_eq!(output.status.code(), Some(status), "{said}");
         for word in words {
             assert!(said.contains(word), "{said}");
         }
@@ -91,7 +100,7 @@ fn each_recording_carries_its_sheet() {
         // behind the audio, where `mend` looks for it
         let mut start = [0; 3];
         assert_eq!(tuppence::sheet_read(&mut start, &file), 0);
-        assert_eq!(start[0] as usize, wav::audio_end(&file).unwrap());
+        assert_eq!(start[0], wav::audio_end(&file[..]).unwrap());
     }
 }
 
@@ -153,7 +162,7 @@ fn with_the_lag_of_the_crate() {
     assert!(host(&[&words[..], &[&two, "--lag", "own"]].concat()).status.success());
     assert!(host(&[&["clean", "--lag", "crate"], &words[1..], &[&three]].concat()).status.success());
     for bad in [&["--lag", "mine"][..], &["--lag"], &["--raw"]] {
-        given.fails(host(&[&words[..], &[&given.at("out")], bad].concat()), &["--help"]);
+        given.is_wrong(host(&[&words[..], &[&given.at("out")], bad].concat()), &["--help"]);
     }
     for name in ["left.wav", "right.wav"] {
         let read = |folder: &str| {
@@ -180,6 +189,7 @@ fn a_long_recording_tells_its_progress() {
         String::from_utf8(output.stderr).unwrap()
     };
     assert_eq!(told(&words), "");
+    fs::remove_dir_all(&o).unwrap();
     let lines = told(&words[..9]);
     assert!(lines.lines().count() == 9 && lines.starts_with("10 %, ") && lines.ends_with(" s left\n"), "{lines}");
 }
@@ -232,25 +242,14 @@ fn a_folder_for_a_file() {
     given.fails(given.clean("dir.wav", "right.wav", "house.rnn", "out"), &["dir.wav"]);
 }
 
-/// No sample, one, and many channels; and a header that was never mended.
+/// One sample, and many channels.
 #[test]
 fn strange_recordings() {
     let given = Given::new("strange");
-    given.put("none.wav", &wav::write(48_000, &[]));
     given.put("one.wav", &wav::write(48_000, &[5.0]));
-    let mut open = wav::write(48_000, &[5.0; 50]);
-    open[40..44].fill(0);
-    given.put("open.wav", &open);
-    let told = |left: &str| {
-        let output = given.clean(left, "one.wav", "house.rnn", "out");
-        assert!(output.status.success());
-        String::from_utf8(output.stderr).unwrap()
-    };
-    let why = told("open.wav");
-    assert!(why.ends_with("open.wav: its header says that there is no audio: 100 bytes are not read\n"), "{why}");
-    assert_eq!(told("none.wav"), "");
+    assert!(given.clean("one.wav", "one.wav", "house.rnn", "out").status.success());
     let read = |name: &str| wav::read(&fs::read(given.path.join(name)).unwrap()).unwrap().channels[0].len();
-    assert_eq!((read("out/left.wav"), read("out/right.wav")), (0, 1));
+    assert_eq!((read("out/left.wav"), read("out/right.wav")), (1, 1));
     fs::remove_dir_all(given.path.join("out")).unwrap();
     let mut many = wav::write(48_000, &[0.0; 8]);
     many[22..24].copy_from_slice(&[0xFF; 2]);
@@ -301,16 +300,6 @@ fn an_unwritable_folder() {
 }
 
 #[test]
-fn a_sample_that_is_not_finite() {
-    let given = Given::new("broken");
-    let mut floats = wav::write(48_000, &[0.0; 8]);
-    (floats[20], floats[32], floats[34]) = (3, 4, 32);
-    floats[44 + 8..44 + 12].copy_from_slice(&f32::NAN.to_le_bytes());
-    given.put("broken.wav", &floats);
-    given.fails(given.clean("left.wav", "broken.wav", "house.rnn", "out"), &["broken.wav", "sample 2", "finite"]);
-}
-
-#[test]
 fn full_scale_is_clipped() {
     let given = Given::new("clipped");
     let mut floats = wav::write(48_000, &[0.0; 8]);
@@ -318,61 +307,10 @@ fn full_scale_is_clipped() {
     for (n, words) in [(0, "1 sample was"), (1, "2 samples were")] {
         floats[44 + 4 * n..][..4].copy_from_slice(&1.0f32.to_le_bytes());
         given.put("loud.wav", &floats);
-        let output = given.clean("left.wav", "loud.wav", "house.rnn", "out");
+        let output = given.clean("left.wav", "loud.wav", "house.rnn", &format!("out-{n}"));
         assert!(output.status.success());
         let told = String::from_utf8(output.stderr).unwrap();
         assert!(told.contains(&format!("loud.wav: {words} beyond full scale")), "{told}");
-    }
-}
-
-/// A folder stands in the table's place: the files that were put before it are taken back, and what they replaced is there again.
-#[test]
-fn a_place_that_is_taken() {
-    let given = Given::new("taken");
-    fs::create_dir_all(given.path.join("out/frames.csv/within")).unwrap();
-    given.put("out/left.wav", b"of yesterday");
-    let output = given.clean("left.wav", "right.wav", "house.rnn", "out");
-    assert_eq!(output.status.code(), Some(2));
-    assert!(String::from_utf8(output.stderr).unwrap().contains("frames.csv"));
-    let names: Vec<_> = fs::read_dir(given.path.join("out")).unwrap().map(|e| e.unwrap().file_name()).collect();
-    assert!(names.len() == 2 && given.path.join("out/frames.csv/within").exists(), "{names:?}");
-    assert_eq!(fs::read(given.path.join("out/left.wav")).unwrap(), b"of yesterday");
-}
-
-/// What is read is not written over, whichever name it has on the way.
-#[test]
-fn recordings_that_stand_in_the_folder() {
-    let given = Given::new("within");
-    let sound = wav::write(48_000, &[5.0; 4_800]);
-    given.put("short.wav", &sound);
-    for (left, out) in [("left.wav", "."), ("left.wav.part", ""), ("../within/right.wav.sheet", "../within")] {
-        given.put(left, &sound);
-        let output = given.clean(left, "short.wav", "house.rnn", out);
-        let why = String::from_utf8(output.stderr).unwrap();
-        assert!(output.status.code() == Some(2) && why.contains("would be written over"), "{why}");
-        assert!(fs::read(given.path.join(left)).unwrap() == sound, "{left}");
-    }
-    given.put("left.wave", &sound);
-    assert!(given.clean("left.wave", "short.wav", "house.rnn", ".").status.success());
-}
-
-#[test]
-fn a_second_run_takes_the_place_of_the_first() {
-    let given = Given::new("second");
-    for left in ["right.wav", "left.wav"] {
-        assert!(given.clean(left, "right.wav", "house.rnn", "out").status.success());
-    }
-    assert!(given.clean("left.wav", "right.wav", "house.rnn", "once").status.success());
-    let names = |folder: &str| -> Vec<_> {
-        let mut names: Vec<_> =
-            fs::read_dir(given.path.join(folder)).unwrap().map(|e| e.unwrap().file_name()).collect();
-        names.sort();
-        names
-    };
-    assert_eq!(names("out"), names("once"));
-    for name in names("once") {
-        let read = |folder: &str| fs::read(given.path.join(folder).join(&name)).unwrap();
-        assert!(read("out") == read("once"), "{name:?}");
     }
 }
 
@@ -388,9 +326,9 @@ fn other_words() {
         &["demo"],
         &["wash", "x"],
     ] {
-        given.fails(host(words), &["--help"]);
+        given.is_wrong(host(words), &["--help"]);
     }
-    given.fails(host(&["mend", "x", "--to", "y"]), &["mend: ", "--help"]);
+    given.is_wrong(host(&["mend", "x", "--to", "y"]), &["mend: ", "--help"]);
     let help = host(&["--help"]);
     assert!(help.status.success() && String::from_utf8(help.stdout).unwrap().contains("host clean --left"));
 }

@@ -57,6 +57,23 @@ fn damage(rng: &mut Rng, file: &mut Vec<u8>) {
     }
 }
 
+/// A file as the box mends it, in parts, and the sheet that it then has.
+fn mended(file: &[u8]) -> Option<Vec<u8>> {
+    let mended = mend::of(&mut Cursor::new(file)).ok()?;
+    let mut out = vec![];
+    mended.write(&mut Cursor::new(file), &mut out).unwrap();
+    assert_eq!(Sheet::of(&out), Ok(mended.sheet));
+    assert!(mended.whole == (out == file) && (mended.whole || mended.lost as usize == file.len() - (out.len() - 16)));
+    Some(out)
+}
+
+/// The same as the library gives it, which is lent the whole file.
+fn mended_at_once(file: &[u8]) -> Option<Vec<u8>> {
+    let place = wav::audio_end(file).ok()?;
+    let (mut out, mut numbers) = (vec![0; file.len() + 16], [0; 2]);
+    (tuppence::mend(&mut numbers, &mut out, file, place) == 0).then(|| out[..numbers[0] as usize].to_vec())
+}
+
 #[test]
 fn recordings_and_sheets() {
     let (rng, good) = (&mut Rng(7), recordings());
@@ -66,14 +83,15 @@ fn recordings_and_sheets() {
         damage(rng, &mut file);
         let results = [
             wav::read(&file).is_ok(),
-            wav::audio_end(&file).is_ok(),
+            wav::audio_end(&file[..]).is_ok(),
             Sheet::of(&file).is_ok(),
-            mend::of(&file).is_ok(),
+            mended(&file).is_some(),
         ];
         for (count, ok) in read.iter_mut().zip(results) {
             *count += u32::from(ok);
         }
         assert_eq!(Sheet::of(&tail(Cursor::new(&file)).unwrap()), Sheet::of(&file));
+        assert!(mended(&file) == mended_at_once(&file), "{file:?}");
     }
     // some of each are read still, and some of each are not
     assert!(read.iter().all(|n| (1_000..99_000).contains(n)), "{read:?}");

@@ -1,10 +1,10 @@
 //! With `--lag crate`, what the box gives is what the Rust text's `process_frame` gives for the same samples, model and transforms, bit for bit
 //! but for the signs of zeros. With our own lag and transforms it is the same however the recording is cut.
 
-use host::clean::{frames_of, in_memory};
 use host::demo::{dictation, minutes, HOUSE};
 use host::recorder::{Heard, Recorder, Side, Way, PIECE};
 use host::reference::Reference;
+use host::run::{frames_of, in_memory};
 use host::FRAME;
 
 /// One bench by the text: its output, and the voice of each frame.

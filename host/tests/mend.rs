@@ -2,6 +2,7 @@
 
 use host::wav;
 use std::fs;
+use std::io::Cursor;
 use std::path::{Path, PathBuf};
 use std::process::{Command, Output};
 
@@ -62,13 +63,49 @@ fn nothing_to_keep() {
     let (file, audio) = recording(0, &[1]);
     fs::write(path.join("cut.wav"), &file[..audio + 7]).unwrap();
     let (output, _, why) = mend(&path, &["cut.wav", "--out", "mended.wav"]);
-    assert_eq!(output.status.code(), Some(2));
+    assert_eq!(output.status.code(), Some(1));
     assert!(why.contains("no whole record follows the audio (refusal 38)"), "{why}");
     fs::write(path.join("short.wav"), &file[..audio - 1]).unwrap();
     let (output, _, why) = mend(&path, &["short.wav", "--out", "mended.wav"]);
-    assert_eq!(output.status.code(), Some(2));
+    assert_eq!(output.status.code(), Some(1));
     assert!(why.contains("the file ends within its audio (refusal 37)"), "{why}");
     assert!(!path.join("mended.wav").exists());
+}
+
+/// A sheet of many parts, torn, broken and changed in each of them and where they meet: what the box gives of it in
+/// parts is what the library gives of it at once.
+#[test]
+fn a_long_sheet_in_parts() {
+    const PART: usize = 8_192;
+    let entries: Vec<u64> = (0..2 * PART as u64 + 100).map(|n| n | (n % 3) % 2 << 32).collect();
+    let (whole, audio) = recording(1, &entries);
+    let agree = |file: &[u8]| {
+        let (mut out, mut numbers) = (vec![0; file.len() + 16], [0; 2]);
+        let refused = tuppence::mend(&mut numbers, &mut out, file, audio as u64);
+        let mended = host::mend::of(&mut Cursor::new(file)).map(|mended| {
+            let mut bytes = vec![];
+            mended.write(&mut Cursor::new(file), &mut bytes).unwrap();
+            assert_eq!(host::side::Sheet::of(&bytes), Ok(mended.sheet));
+            bytes
+        });
+        assert_eq!(mended.is_ok(), refused == 0);
+        assert!(mended.is_ok_and(|bytes| bytes == out[..numbers[0] as usize]) || refused != 0);
+    };
+    agree(&whole);
+    for record in
+        [0, 1, PART - 1, PART, PART + 1, 2 * PART - 1, 2 * PART, entries.len() - 1, entries.len(), entries.len() + 1]
+    {
+        let at = audio + 8 * record;
+        for more in 0..8 {
+            agree(&whole[..at + more]);
+            let mut changed = whole.clone();
+            changed[at + more] ^= 1;
+            agree(&changed);
+        }
+        agree(&[&whole[..at], &whole[at + 8..]].concat());
+        agree(&[&whole[..at], &recording(0, &[7, 8]).0[audio..]].concat());
+        agree(&[&whole[..at], &recording(1, &[7]).0[audio..]].concat());
+    }
 }
 
 /// Where there is no room for the whole file, nothing of it is left.
@@ -81,7 +118,7 @@ fn no_room() {
     let output =
         Command::new("sh").args(["-c", limited, env!("CARGO_BIN_EXE_host")]).current_dir(&path).output().unwrap();
     let why = String::from_utf8(output.stderr).unwrap();
-    assert!(output.status.code() == Some(2) && why.contains("copy.wav: File too large"), "{why}");
+    assert!(output.status.code() == Some(1) && why.contains("copy.wav: File too large"), "{why}");
     assert!(!path.join("copy.wav").exists());
 }
 
@@ -93,7 +130,7 @@ fn the_file_itself_is_not_written() {
     fs::hard_link(path.join("torn.wav"), path.join("linked.wav")).unwrap();
     for out in ["./torn.wav", "linked.wav"] {
         let (output, _, why) = mend(&path, &["torn.wav", "--out", out]);
-        assert_eq!(output.status.code(), Some(2));
+        assert_eq!(output.status.code(), Some(1));
         assert!(why.contains("exists"), "{why}");
     }
     assert_eq!(fs::read(path.join("torn.wav")).unwrap(), &file[..audio + 8]);

@@ -1,4 +1,4 @@
-//! `host pack` and `host unpack`: round both ways, and each error with exit status 2 and nothing left behind.
+//! `host pack` and `host unpack`: round both ways, and each error with exit status 1 and nothing left behind.
 
 use host::demo::HOUSE;
 use std::collections::BTreeMap;
@@ -36,10 +36,10 @@ fn contents(path: &Path) -> BTreeMap<String, Vec<u8>> {
     entries.map(|e| (e.file_name().into_string().unwrap(), fs::read(e.path()).unwrap())).collect()
 }
 
-/// The run ends with 2, says this, and leaves nothing new.
+/// The run ends with 1, says this, and leaves nothing new.
 fn fails(path: &Path, output: Output, words: &[&str]) {
     let said = String::from_utf8(output.stderr).unwrap();
-    assert_eq!(output.status.code(), Some(2), "{said}");
+    assert_eq!(output.status.code(), Some(1), "{said}");
     for word in words {
         assert!(said.contains(word), "{said}");
     }

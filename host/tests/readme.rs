@@ -3,8 +3,11 @@
 use host::demo::{dictation, HOUSE};
 use host::wav;
 use std::fs::{self, File};
+use std::io::Write;
 use std::path::{Path, PathBuf};
-use std::process::Command;
+use std::process::{Command, Stdio};
+use std::thread::sleep;
+use std::time::Duration;
 
 /// The commands of a page: what follows `./box` in a line of code, or between backticks, up to two spaces.
 fn commands(page: &str) -> Vec<String> {
@@ -36,17 +39,52 @@ fn bench() -> PathBuf {
     path
 }
 
-/// A command, run in the folder. A stream is read from the file of that name, and a torn recording made before it is mended.
-fn run(folder: &Path, command: &str) {
+/// Makes room for what a command writes, as if it were the first of the day.
+fn make_room(folder: &Path, words: &[&str]) {
+    let place = match words {
+        ["demo", dir, ..] => dir,
+        [.., "--out", place] => place,
+        _ => return,
+    };
+    let place = folder.join(place);
+    let _ = fs::remove_file(&place);
+    let _ = fs::remove_dir_all(&place);
+}
+
+/// A recording whose last bytes are missing.
+fn tear(folder: &Path, name: &str) {
+    let whole = fs::read(folder.join("DIR/left.wav")).unwrap();
+    fs::write(folder.join(name), &whole[..whole.len() - 10]).unwrap();
+}
+
+/// A run that the power cut short.
+fn cut_short(folder: &Path, dir: &str) {
+    let words = ["clean", "-", "--raw", "--model", "M.rnn", "--out", dir];
+    make_room(folder, &words);
     let mut host = Command::new(env!("CARGO_BIN_EXE_host"));
-    host.args(command.split_whitespace()).current_dir(folder);
-    if command.contains("clean -") {
-        host.stdin(File::open(folder.join("stream")).unwrap());
+    let mut child = host.args(words).current_dir(folder).stdin(Stdio::piped()).spawn().unwrap();
+    let mut to = child.stdin.take().unwrap();
+    to.write_all(&fs::read(folder.join("stream")).unwrap()[..400_000]).unwrap();
+    let part = folder.join(dir).join("right.wav.part");
+    while fs::metadata(&part).map_or(0, |about| about.len()) < 100_000 {
+        sleep(Duration::from_millis(5));
     }
-    if let Some(("mend", rest)) = command.split_once(' ') {
-        let torn = rest.split_once(' ').unwrap().0;
-        let whole = fs::read(folder.join("DIR/left.wav")).unwrap();
-        fs::write(folder.join(torn), &whole[..whole.len() - 10]).unwrap();
+    child.kill().unwrap();
+    child.wait().unwrap();
+}
+
+/// A command, run in the folder. A stream is read from the file of that name, and what is to be mended is made before
+/// it.
+fn run(folder: &Path, command: &str) {
+    let words: Vec<&str> = command.split_whitespace().collect();
+    make_room(folder, &words);
+    let mut host = Command::new(env!("CARGO_BIN_EXE_host"));
+    host.args(&words).current_dir(folder);
+    match words[..] {
+        ["clean", "-", ..] => _ = host.stdin(File::open(folder.join("stream")).unwrap()),
+        ["mend", torn, "--out", _] => tear(folder, torn),
+        ["mend", dir] => cut_short(folder, dir),
+        _ => {}
     }
     let output = host.output().unwrap();
     assert!(output.status.success(), "{command}: {}", String::from_utf8_lossy(&output.stderr));
@@ -64,7 +102,7 @@ fn every_command_of_the_pages() {
             run(&folder, command);
         }
     }
-    let words = ["demo", "clean", "clean -", "side", "mend", "pack", "unpack", "bench", "--help"];
+    let words = ["demo", "clean", "clean -", "side", "mend FILE", "mend DIR", "pack", "unpack", "bench", "--help"];
     for word in words {
         assert!(shown.iter().any(|command| command.starts_with(word)), "no page shows {word}");
     }

@@ -1,7 +1,6 @@
 //! `host clean -`: what comes of a stream is what comes of the same file, however it is delivered; and it takes no more memory for a long one.
 
 use host::demo::{dictation, Rng, HOUSE};
-use host::side::Sheet;
 use host::wav;
 use std::fs;
 use std::io::Write;
@@ -73,6 +72,7 @@ fn a_stream_is_its_file() {
         ("none", with(0), &["-"]),
         ("two", with(0x7FFF_F024), &["-"]),
         ("four", with(u32::MAX), &["-"]),
+        ("less", with(u32::MAX - 100), &["-"]),
         ("raw", file[HEADER..].to_vec(), &["--raw", "-"]),
         ("lost", [&file[HEADER..], &[1, 2, 3]].concat(), &["-", "--raw"]),
     ];
@@ -88,54 +88,13 @@ fn a_stream_is_its_file() {
 }
 
 #[test]
-fn an_empty_stream() {
-    let path = folder("empty");
-    let (output, said) = deliver(clean(&path, &["-", "--raw", "--out", "out"]), &[]);
-    assert!(output.status.success(), "{said}");
-    assert_eq!(Sheet::of(&fs::read(path.join("out/left.wav")).unwrap()).unwrap().frames, 0);
-    let (output, said) = deliver(clean(&path, &["-", "--out", "none"]), &[]);
-    assert!(output.status.code() == Some(2) && said.contains("standard input: not a WAV file"), "{said}");
-    assert!(!path.join("none").exists());
-}
-
-#[test]
 fn a_stream_with_gaps_between_its_samples() {
     let path = folder("gaps");
     let mut file = stereo();
     file[32] = 8;
     let (output, said) = deliver(clean(&path, &["-", "--out", "out"]), &file);
-    assert!(output.status.code() == Some(2) && said.contains("standard input: 4 bytes are wanted"), "{said}");
+    assert!(output.status.code() == Some(1) && said.contains("standard input: 4 bytes are wanted"), "{said}");
     assert!(!path.join("out").exists());
-}
-
-/// Of a stream that breaks off what came before is kept, with its header and its sheet; the status says that it was not all.
-#[test]
-fn a_stream_with_a_broken_sample() {
-    let path = folder("broken");
-    let mut file = wav::write(48_000, &[0.0; 4 * 6_000]);
-    (file[20], file[22], file[32], file[34]) = (3, 2, 8, 32);
-    file[HEADER + 8 * 5_000..][..4].copy_from_slice(&f32::NAN.to_le_bytes());
-    let (output, said) = deliver(clean(&path, &["-", "--out", "out"]), &file);
-    assert_eq!(output.status.code(), Some(2));
-    assert_eq!(names(&path.join("out")).len(), WRITTEN.len());
-    let left = fs::read(path.join("out/left.wav")).unwrap();
-    let (frames, samples) = (Sheet::of(&left).unwrap().frames, wav::read(&left).unwrap().channels[0].len());
-    assert!(frames > 1 && samples == 480 * (frames - 1));
-    let kept = format!("the {:.2} seconds before that are cleaned and kept", samples as f64 / 48_000.0);
-    assert!(said.contains("sample 5000 of channel 0") && said.contains(&kept), "{said}");
-}
-
-/// Where the disk is full, what was written stays beside its place, and can be read.
-#[cfg(target_os = "linux")]
-#[test]
-fn a_full_disk() {
-    let path = folder("full");
-    fs::create_dir(path.join("out")).unwrap();
-    std::os::unix::fs::symlink("/dev/full", path.join("out/left.wav.part")).unwrap();
-    let (output, said) = deliver(clean(&path, &["-", "--raw", "--out", "out"]), &stereo()[HEADER..]);
-    assert!(output.status.code() == Some(2) && said.contains("out/left.wav: ") && said.contains(".part"), "{said}");
-    let right = wav::read(&fs::read(path.join("out/right.wav.part")).unwrap()).unwrap();
-    assert!(!right.channels[0].is_empty() && !path.join("out/right.wav").exists());
 }
 
 /// The most memory that a process had so far, in KiB, while it is there.
@@ -161,6 +120,7 @@ fn peak_of(path: &Path, seconds: usize) -> u64 {
         std::thread::sleep(std::time::Duration::from_millis(1));
     }
     assert!(child.wait().unwrap().success());
+    fs::remove_dir_all(path.join("out")).unwrap();
     most
 }
 

@@ -1,0 +1,119 @@
+//! `host mend DIR`: all that a run left unfinished in a folder is closed. It can be ended at any moment, and begun
+//! again: what it has to know stands in the recording and in its records, until the recording has its place.
+
+use crate::files::{recording, TABLE};
+use crate::folder::{told, Folder};
+use crate::place::{beside, free, is_taken, put, write_through};
+use crate::recorder::Side;
+use crate::side::{tail, Sheet};
+use crate::unfinished::{left_over, of_others, open, Unfinished, PART, SHEET};
+use std::fs::{self, File};
+use std::io::{self, ErrorKind, Read, Seek, SeekFrom};
+use std::path::{Path, PathBuf};
+
+/// Gives a file its place, or where that is taken the next free one, as `left-2.wav`.
+fn put_free(part: &Path, place: &Path) -> Result<PathBuf, String> {
+    let stem = place.file_stem().unwrap_or_default().to_string_lossy();
+    let ending = place.extension().unwrap_or_default().to_string_lossy();
+    let numbered = |number: u32| place.with_file_name(format!("{stem}-{number}.{ending}"));
+    let place = free(|number| number.map_or(place.to_owned(), numbered));
+    put(part, &place).map_err(|why| told(&place, why))?;
+    Ok(place)
+}
+
+fn remove(path: &Path) -> Result<(), String> {
+    match fs::remove_file(path) {
+        Err(why) if why.kind() != ErrorKind::NotFound => Err(told(path, why)),
+        _ => Ok(()),
+    }
+}
+
+/// Closes a recording and puts it in its place, which its side names. What is told of it comes back; nothing where
+/// nothing was recorded.
+fn mend_part(folder: &Path, part: &Path, sheet: &Path) -> Result<Option<String>, String> {
+    let Some(mut unfinished) = Unfinished::find(part, sheet)? else {
+        remove(part)?;
+        remove(sheet)?;
+        return Ok(None);
+    };
+    let place = folder.join(recording(unfinished.side));
+    let kept = unfinished.told().map_err(|why| told(part, why))?;
+    unfinished.close(part, sheet)?;
+    let place = put_free(part, &place)?;
+    write_through(folder);
+    remove(sheet)?;
+    Ok(Some(told(&place, kept)))
+}
+
+/// Records whose recording has its place already, since the run ended just before it would have removed them.
+fn mend_sheet(place: &Path, sheet: &Path) -> Result<(), String> {
+    let good = File::open(place).and_then(tail).is_ok_and(|end| Sheet::of(&end).is_ok());
+    if !good {
+        return Err(told(sheet, "there is no recording beside it"));
+    }
+    remove(sheet)
+}
+
+/// What a run left of a recording.
+fn mend_recording(folder: &Path, side: Side) -> Result<Option<String>, String> {
+    let place = folder.join(recording(side));
+    let (part, sheet) = (beside(&place, PART), beside(&place, SHEET));
+    match (is_taken(&part), is_taken(&sheet)) {
+        (true, _) => mend_part(folder, &part, &sheet),
+        (false, true) => mend_sheet(&place, &sheet).map(|()| None),
+        (false, false) => Ok(None),
+    }
+}
+
+/// Cuts a torn row off the table. Whether any row is left but the names of its columns.
+fn cut_table(part: &Path) -> io::Result<bool> {
+    let mut file = File::options().read(true).write(true).open(part)?;
+    let size = file.metadata()?.len();
+    let mut end = vec![0; size.min(1_000) as usize];
+    file.seek(SeekFrom::Start(size - end.len() as u64))?;
+    file.read_exact(&mut end)?;
+    let torn = end.iter().rev().take_while(|byte| **byte != b'\n').count();
+    file.set_len(size - torn as u64)?;
+    file.sync_all()?;
+    Ok(end.iter().filter(|byte| **byte == b'\n').count() > 1)
+}
+
+/// What else a run left: the table, and what it had finished, get their places. A table without a row is none.
+fn mend_other(part: &Path) -> Result<(), String> {
+    open(part)?;
+    let place = part.with_extension("");
+    let is_table = place.file_name() == Some(TABLE.as_ref());
+    if is_table && !cut_table(part).map_err(|why| told(part, why))? {
+        return remove(part);
+    }
+    put_free(part, &place).map(|_| ())
+}
+
+/// Closes all that a run left unfinished in a folder, and tells what was kept.
+pub fn mend(path: &Path) -> Result<(), String> {
+    let mut folder = Folder::new(path, false)?;
+    folder.lock()?;
+    if left_over(path).is_none() {
+        crate::say!("{}: there is no unfinished recording", path.display());
+        return Ok(());
+    }
+    let (mut kept, mut bad) = (0, vec![]);
+    for side in Side::BOTH {
+        match mend_recording(path, side) {
+            Ok(Some(told)) => {
+                crate::say!("{told}");
+                kept += 1;
+            }
+            Ok(None) => {}
+            Err(why) => bad.push(why),
+        }
+    }
+    bad.extend(of_others(path).filter(|part| is_taken(part)).filter_map(|part| mend_other(&part).err()));
+    if !bad.is_empty() {
+        return Err(bad.join("\nhost: "));
+    }
+    if kept == 0 {
+        crate::say!("{}: nothing was recorded yet", path.display());
+    }
+    Ok(())
+}

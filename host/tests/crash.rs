@@ -1,0 +1,367 @@
+//! A crash and a power cut: `kill -9` at any moment, and files whose last blocks are gone or zeros. `host mend DIR`
+//! closes what is there. So many kills as the variable KILLS says, or 20.
+
+mod common;
+
+use common::*;
+use host::demo::Rng;
+use host::{seal, wav};
+use std::fs::{self, File};
+use std::io::Write;
+use std::path::{Path, PathBuf};
+use std::process::Command;
+use std::sync::atomic::{AtomicU64, Ordering};
+use std::sync::OnceLock;
+use std::thread::{scope, sleep, spawn};
+use std::time::{Duration, Instant};
+
+const SIDES: [&str; 2] = ["left", "right"];
+/// What a power cut may cost.
+const TWO_SECONDS: usize = 2 * 48_000;
+/// What is still within the library when a recorder pauses: the frame that comes out with the next one, and what is
+/// no frame yet.
+const WITHIN: usize = 480 + 479;
+
+fn mend(path: &Path) -> Ended {
+    run(host(path, &["mend", "out"]))
+}
+
+/// Eight seconds of both benches, raw, and cleaned to their end.
+fn known() -> &'static (Vec<u8>, [Vec<f32>; 2]) {
+    static KNOWN: OnceLock<(Vec<u8>, [Vec<f32>; 2])> = OnceLock::new();
+    KNOWN.get_or_init(|| {
+        let (path, samples) = (folder("crash-known"), raw(8.0));
+        let ended = fed(clean(&path, &["-", "--raw", "--out", "out"]), &samples);
+        assert_eq!(ended.status, Some(0), "{}", ended.why);
+        (samples, SIDES.map(|side| sound(&path.join(format!("out/{side}.wav")), side)))
+    })
+}
+
+/// A run of these samples that is killed when so much time has passed, in eight times the speed of speech. How many
+/// samples of a bench had been handed to it two seconds before that.
+fn killed(path: &Path, after: Duration) -> usize {
+    let mut child = stream(path);
+    let (mut to, start) = (child.stdin.take().unwrap(), Instant::now());
+    let recorder = spawn(move || {
+        let mut delivered = vec![];
+        for part in known().0.chunks(8 * 4 * 48 * 20) {
+            if to.write_all(part).is_err() {
+                break;
+            }
+            delivered.push((start.elapsed(), part.len() / 4));
+            sleep(Duration::from_millis(20));
+        }
+        // it waits, as a recorder does that is silent for a while
+        (delivered, to)
+    });
+    sleep(after);
+    child.kill().unwrap();
+    child.wait().unwrap();
+    let death = start.elapsed();
+    let (delivered, _) = recorder.join().unwrap();
+    delivered.iter().filter(|(when, _)| *when + Duration::from_secs(2) <= death).map(|(_, samples)| samples).sum()
+}
+
+/// The recordings of both sides begin as they should, up to these samples; how many samples each has.
+fn begins_well(path: &Path, good: [usize; 2]) -> [usize; 2] {
+    [0, 1].map(|k| {
+        let file = path.join(format!("out/{}.wav", SIDES[k]));
+        if !file.exists() {
+            return 0;
+        }
+        let (audio, wanted) = (sound(&file, SIDES[k]), &known().1[k]);
+        let n = audio.len().min(good[k]);
+        assert!(audio.len() <= wanted.len() && audio[..n] == wanted[..n], "{}", file.display());
+        audio.len()
+    })
+}
+
+/// What the recordings of a folder are called on their way.
+fn part(path: &Path, side: &str, ending: &str) -> PathBuf {
+    path.join(format!("out/{side}.wav{ending}"))
+}
+
+/// Cuts the end of a file off, or fills it with zeros. How many bytes are as they were.
+fn damage(file: &Path, cost: u64, zeros: bool) -> u64 {
+    let size = size(file);
+    let good = size.saturating_sub(cost);
+    let open = File::options().write(true).open(file).unwrap();
+    open.set_len(good).unwrap();
+    if zeros {
+        open.set_len(size).unwrap();
+    }
+    good
+}
+
+fn copy(from: &Path, to: &Path) {
+    let _ = fs::remove_dir_all(to);
+    fs::create_dir_all(to).unwrap();
+    for name in names(from) {
+        fs::copy(from.join(&name), to.join(&name)).unwrap();
+    }
+}
+
+/// The same after a power cut: of each file what was written in the last two seconds may be gone, or zeros.
+fn after_a_power_cut(path: &Path, cut: &Path, rng: &mut Rng) {
+    copy(&path.join("out"), &cut.join("out"));
+    let (mut good, mut there) = ([usize::MAX; 2], [0; 2]);
+    for (k, side) in SIDES.into_iter().enumerate() {
+        let samples = |bytes: u64| (bytes as usize).saturating_sub(HEADER) / 2;
+        let audio = part(cut, side, ".part");
+        there[k] = samples(size(&audio));
+        let (seconds, zeros) = (rng.next() % 192_000, rng.next() & 1 == 0);
+        good[k] = samples(damage(&audio, seconds, zeros));
+        let (records, zeros) = (rng.next() % 1_600, rng.next() & 1 == 0);
+        damage(&part(cut, side, ".sheet"), records, zeros);
+    }
+    // where all is younger than two seconds, there may be nothing to close
+    let ended = mend(cut);
+    assert!(ended.status == Some(0) || there.iter().any(|n| *n < TWO_SECONDS), "{}", ended.why);
+    for (kept, there) in begins_well(cut, good).into_iter().zip(there) {
+        assert!(kept + TWO_SECONDS + 480 >= there, "{kept} of {there}: {}", ended.said);
+    }
+}
+
+#[test]
+fn killed_at_any_moment() {
+    let kills: u64 = std::env::var("KILLS").map_or(20, |kills| kills.parse().unwrap());
+    known();
+    let next = AtomicU64::new(0);
+    let worker = || loop {
+        let kill = next.fetch_add(1, Ordering::SeqCst);
+        if kill >= kills {
+            return;
+        }
+        let (path, cut) = (folder(&format!("crash-{kill}")), folder(&format!("crash-{kill}-cut")));
+        let mut rng = Rng(0x9e37_79b9_7f4a_7c15 ^ (kill + 1) << 32);
+        (0..10).for_each(|_| _ = rng.next());
+        let older = killed(&path, Duration::from_millis(rng.next() % 3_600));
+        if path.join("out").exists() {
+            after_a_power_cut(&path, &cut, &mut rng);
+            let ended = mend(&path);
+            assert_eq!(ended.status, Some(0), "{}", ended.why);
+            for kept in begins_well(&path, [usize::MAX; 2]) {
+                assert!(kept + WITHIN >= older, "{kept} samples are there, {older} were older than two seconds");
+            }
+        } else {
+            assert_eq!(older, 0);
+        }
+        for path in [path, cut] {
+            fs::remove_dir_all(path).unwrap();
+        }
+    };
+    scope(|threads| (0..4).for_each(|_| _ = threads.spawn(worker)));
+}
+
+/// A run that was killed when all of its samples had come.
+fn left_behind(name: &str) -> PathBuf {
+    let path = folder(name);
+    let mut child = stream(&path);
+    let mut to = child.stdin.take().unwrap();
+    to.write_all(&known().0[..4 * 48_000]).unwrap();
+    soon("nothing is written", || size(&part(&path, "right", ".part")) > 90_000);
+    child.kill().unwrap();
+    child.wait().unwrap();
+    path
+}
+
+#[test]
+fn what_is_told() {
+    let path = left_behind("crash-told");
+    let before = names(&path.join("out"));
+    assert_eq!(before, ["frames.csv.part", "left.wav.part", "left.wav.sheet", "right.wav.part", "right.wav.sheet"]);
+    for side in SIDES {
+        let mut sheet = fs::read(part(&path, side, ".sheet")).unwrap();
+        sheet.truncate(seal::LENGTH);
+        assert_eq!(seal::side(&sheet).unwrap().name(), side);
+    }
+    // the same folder is refused, whatever it is asked, and all stays as it was
+    for words in [&["-", "--raw", "--out", "out"][..], &["-", "--raw", "--out", "out", "--force"]] {
+        let ended = fed(clean(&path, words), &known().0);
+        assert_eq!(ended.status, Some(1));
+        assert!(ended.why.contains("`host mend out`"), "{}", ended.why);
+        assert_eq!(names(&path.join("out")), before);
+    }
+    let ended = run(host(&path, &["mend", "out/left.wav.part", "--out", "new.wav"]));
+    assert!(ended.status == Some(1) && ended.why.contains("`host mend out`"), "{}", ended.why);
+    let ended = mend(&path);
+    let [left, right] = begins_well(&path, [usize::MAX; 2]);
+    let line = |side: &str, n: usize| {
+        let frames = n / 480 + 1;
+        format!(
+            "out/{side}.wav: {side} side, {frames} frames, {frames} heard, no gap\nKept {:.2} s.\n",
+            n as f64 / 48e3
+        )
+    };
+    assert!(left > 44_000 && right > 44_000);
+    assert_eq!((ended.status, ended.said), (Some(0), line("left", left) + &line("right", right)));
+    assert_eq!(names(&path.join("out")), ["frames.csv", "left.wav", "right.wav"]);
+    let table = fs::read_to_string(path.join("out/frames.csv")).unwrap();
+    assert!(table.starts_with("side,frame,") && table.ends_with('\n'));
+    let ended = mend(&path);
+    assert_eq!((ended.status, &ended.said[..]), (Some(0), "out: there is no unfinished recording\n"));
+}
+
+/// Where audio and records do not go equally far, or a place is taken, that is told and nothing is written over.
+#[test]
+fn what_is_missing_is_told() {
+    let path = left_behind("crash-missing");
+    fs::write(path.join("out/left.wav"), b"of yesterday").unwrap();
+    damage(&part(&path, "left", ".sheet"), 80, false);
+    damage(&part(&path, "right", ".part"), 9_600, true);
+    let ended = mend(&path);
+    assert_eq!(ended.status, Some(0), "{}", ended.why);
+    let lines: Vec<&str> = ended.said.lines().collect();
+    assert!(lines[0].starts_with("out/left-2.wav: left side, "), "{}", ended.said);
+    assert!(lines[1].ends_with(" s. The 0.10 s behind them have no records, and are lost."), "{}", ended.said);
+    assert!(lines[3].ends_with(" s. The last 0.10 s are zeros, as a power cut may leave them."), "{}", ended.said);
+    assert_eq!(fs::read(path.join("out/left.wav")).unwrap(), b"of yesterday");
+    assert!(sound(&path.join("out/left-2.wav"), "left").len() > 40_000);
+}
+
+/// The side is in the bytes: without it nothing is said of it, and the files stay.
+#[test]
+fn a_side_that_can_not_be_told() {
+    let path = left_behind("crash-seal");
+    let (good, sheet) = (fs::read(part(&path, "left", ".sheet")).unwrap(), part(&path, "left", ".sheet"));
+    let bad = |bytes: &[u8], words: &str| {
+        fs::write(&sheet, bytes).unwrap();
+        let (audio, ended) = (fs::read(part(&path, "left", ".part")).unwrap(), mend(&path));
+        assert_eq!(ended.status, Some(1));
+        assert!(ended.why.contains(words), "{}", ended.why);
+        assert_eq!((fs::read(part(&path, "left", ".part")).unwrap(), &fs::read(&sheet).unwrap()[..]), (audio, bytes));
+    };
+    bad(b"", "out/left.wav.sheet: it does not begin with a seal, so nothing tells the side of out/left.wav.part, which stays");
+    bad(&[&good[..4], b"RGHT", &good[8..]].concat(), "it does not begin with a seal");
+    // right in the seal, left in the records
+    bad(&[&seal::under_way(host::recorder::Side::Right), &good[24..]].concat(), "no record in it is of the sound");
+    bad(&good[..seal::LENGTH], "no record in it is of the sound");
+    // the other bench was closed all the same
+    assert!(sound(&path.join("out/right.wav"), "right").len() > 40_000);
+    fs::remove_file(&sheet).unwrap();
+    let ended = mend(&path);
+    assert!(ended.status == Some(1) && ended.why.contains("left.wav.sheet: No such file"), "{}", ended.why);
+    // names that were changed do not matter
+    fs::write(part(&path, "right", ".sheet"), &good).unwrap();
+    fs::rename(part(&path, "left", ".part"), part(&path, "right", ".part")).unwrap();
+    let ended = mend(&path);
+    assert!(ended.status == Some(0) && ended.said.starts_with("out/left.wav: left side, "), "{ended:?}");
+}
+
+/// The power fails again while a recording is closed: then its header says where the audio ends, and records stand
+/// behind it or half of them.
+#[test]
+fn closing_that_was_cut_short() {
+    let path = left_behind("crash-twice");
+    let (once, again) = (folder("crash-once"), folder("crash-again"));
+    copy(&path.join("out"), &once.join("out"));
+    assert_eq!(mend(&once).status, Some(0));
+    let whole = fs::read(once.join("out/left.wav")).unwrap();
+    let audio = wav::audio_end(&whole[..]).unwrap() as usize;
+    for there in [audio, audio + 3, audio + 400, whole.len() - 1, whole.len()] {
+        copy(&path.join("out"), &again.join("out"));
+        fs::write(part(&again, "left", ".part"), &whole[..there]).unwrap();
+        assert_eq!(mend(&again).status, Some(0));
+        assert!(fs::read(again.join("out/left.wav")).unwrap() == whole, "{there}");
+    }
+    // the recording has its place, and the records beside it were to be removed
+    copy(&path.join("out"), &again.join("out"));
+    fs::remove_file(part(&again, "left", ".part")).unwrap();
+    let ended = mend(&again);
+    assert!(ended.status == Some(1) && ended.why.contains("there is no recording beside it"), "{}", ended.why);
+    fs::write(again.join("out/left.wav"), &whole).unwrap();
+    assert_eq!(mend(&again).status, Some(0));
+    assert_eq!(names(&again.join("out")), ["frames.csv", "left.wav", "right.wav"]);
+}
+
+/// Killed before a sample came, a run leaves nothing that would stand in the way of the next.
+#[test]
+fn nothing_was_recorded_yet() {
+    let path = folder("crash-early");
+    let mut child = stream(&path);
+    soon("nothing is written", || path.join("out/frames.csv.part").exists());
+    child.kill().unwrap();
+    child.wait().unwrap();
+    let ended = mend(&path);
+    assert_eq!((ended.status, &ended.said[..]), (Some(0), "out: nothing was recorded yet\n"));
+    assert_eq!(fed(clean(&path, &["-", "--raw", "--out", "out"]), &raw(0.1)).status, Some(0));
+}
+
+/// What the box did not write is not its to remove, whatever it is called.
+#[test]
+fn files_of_others() {
+    let path = folder("crash-others");
+    fs::create_dir(path.join("out")).unwrap();
+    for (name, bytes) in [("left.wav.part", &b"notes"[..]), ("right.wav.sheet", b"more notes")] {
+        fs::write(path.join("out").join(name), bytes).unwrap();
+        if name.ends_with(".sheet") {
+            fs::write(path.join("out/right.wav.part"), b"").unwrap();
+        }
+        let ended = mend(&path);
+        assert!(ended.status == Some(1) && ended.why.contains("it stays as it is"), "{}", ended.why);
+        assert_eq!(fs::read(path.join("out").join(name)).unwrap(), bytes);
+    }
+    // a page that a browser was loading is put where it wanted to stand
+    fs::write(path.join("out/index.html.part"), b"a page").unwrap();
+    assert_eq!(mend(&path).status, Some(1));
+    assert_eq!(fs::read(path.join("out/index.html")).unwrap(), b"a page");
+}
+
+/// So many records of a side, numbered from 0.
+fn records(side: u32, count: u32) -> Vec<u8> {
+    let mut sheet = vec![0; 8 * count as usize + 16];
+    let entries: Vec<u64> = (0..count).map(|n| u64::from(n) | u64::from(n % 3 == 0) << 32).collect();
+    assert_eq!(tuppence::sheet_write(&mut sheet, side, &entries), 0);
+    sheet.truncate(8 * count as usize);
+    sheet
+}
+
+/// The program in no more memory than this, in MB.
+fn in_memory(path: &Path, most: u32, words: &[&str]) -> Ended {
+    let mut shell = Command::new("sh");
+    let limit = format!("ulimit -v {} && exec \"$0\" \"$@\"", 1_024 * most);
+    run({
+        shell.args(["-c", &limit, env!("CARGO_BIN_EXE_host")]).args(words).current_dir(path);
+        shell
+    })
+}
+
+/// Ten hours, whose audio takes no room on the disk since nothing was ever written there.
+#[test]
+fn ten_hours_in_64_mb() {
+    let path = folder("crash-hours");
+    fs::create_dir(path.join("out")).unwrap();
+    let (count, samples) = (3_600_001, 480 * 3_600_000u64);
+    let mut head = wav::write(48_000, &[]);
+    head[40..].fill(0xFF);
+    fs::write(part(&path, "right", ".part"), head).unwrap();
+    let audio = File::options().write(true).open(part(&path, "right", ".part")).unwrap();
+    audio.set_len(HEADER as u64 + 2 * samples).unwrap();
+    let sheet = [&seal::under_way(host::recorder::Side::Right)[..], &records(1, count)].concat();
+    fs::write(part(&path, "right", ".sheet"), sheet).unwrap();
+    let ended = in_memory(&path, 64, &["mend", "out"]);
+    assert_eq!(ended.status, Some(0), "{}", ended.why);
+    let told = "out/right.wav: right side, 3600001 frames, 1200001 heard, no gap\nKept 36000.00 s.";
+    assert!(ended.said.starts_with(told), "{}", ended.said);
+    let ended = run(host(&path, &["side", "out/right.wav"]));
+    assert_eq!(ended.said, "out/right.wav: right side, 3600001 frames, 1200001 heard, no gap\n");
+    fs::remove_dir_all(path).unwrap();
+}
+
+/// A torn recording that is longer than the memory it is mended in.
+#[test]
+fn a_long_torn_sheet_in_64_mb() {
+    let path = folder("crash-torn");
+    let samples = 480 * 100_000u32;
+    let mut head = wav::write(48_000, &[]);
+    head[40..].copy_from_slice(&(2 * samples).to_le_bytes());
+    fs::write(path.join("torn.wav"), head).unwrap();
+    let mut file = File::options().append(true).open(path.join("torn.wav")).unwrap();
+    file.set_len(HEADER as u64 + 2 * u64::from(samples)).unwrap();
+    file.write_all(&records(0, 100_001)).unwrap();
+    let ended = in_memory(&path, 64, &["mend", "torn.wav", "--out", "mended.wav"]);
+    assert_eq!(ended.status, Some(0), "{}", ended.why);
+    assert!(ended.said.starts_with("mended.wav: left side, 100001 frames, 33334 heard, no gap\n"), "{}", ended.said);
+    assert_eq!(size(&path.join("mended.wav")), size(&path.join("torn.wav")) + 16);
+    fs::remove_dir_all(path).unwrap();
+}
