@@ -21,7 +21,7 @@ pub enum Reading {
     Refused(u32),
 }
 
-fn joined(a: u8, b: u8, c: u8, d: u8) -> usize
+pub fn joined(a: u8, b: u8, c: u8, d: u8) -> usize
     ensures { λ r. ⌜ (r ≡ a + 256 * b + 65536 * c + 16777216 * d) × (r < 2 ^ 32) ⌝ }
 {
     (a as usize) + 256 * (b as usize) + 65536 * (c as usize) + 16777216 * (d as usize)
@@ -219,7 +219,7 @@ fn kinds_good(entries: &[u64]) -> bool
     true
 }
 
-fn low(number: u64) -> u8
+pub fn low(number: u64) -> u8
     ensures { λ r. ⌜ r ≡ number % 256 ⌝ }
 {
     (number % 256) as u8

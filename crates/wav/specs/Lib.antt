@@ -1,0 +1,3 @@
+pub mod Seal
+pub mod Chunks
+pub mod Head
