@@ -22,7 +22,7 @@ digit (suc zero) (suc zero) h k = (omega arith, refl)
 digit (suc zero) (suc (suc y)) h k = absurd (omega arith)
 digit (suc (suc x)) y h k = absurd (omega arith)
 
-xor-twice : (a b : ℕ) → bitXor (bitXor a b) b ≡ a
+pub xor-twice : (a b : ℕ) → bitXor (bitXor a b) b ≡ a
 xor-twice = bin-ind (λ (n : ℕ). (b : ℕ) → bitXor (bitXor n b) b ≡ n) xor-self turn
   where
     turn : (n : ℕ) → ((b : ℕ) → bitXor (bitXor (n / 2) b) b ≡ n / 2) → (b : ℕ) → bitXor (bitXor n b) b ≡ n
@@ -36,7 +36,7 @@ xor-twice = bin-ind (λ (n : ℕ). (b : ℕ) → bitXor (bitXor n b) b ≡ n) xo
 
 -- ---- the register goes on
 
-crc-append : (c : ℕ) (xs ys : List ℕ) → crc c (xs ++ ys) ≡ crc (crc c xs) ys
+pub crc-append : (c : ℕ) (xs ys : List ℕ) → crc c (xs ++ ys) ≡ crc (crc c xs) ys
 unfolding crc
 crc-append c [] ys = refl
 crc-append c (x ∷ xs) ys = crc-append _ xs ys

@@ -1,5 +1,6 @@
 // CRC-32 as zip and PNG have it, over bytes handed in one after another.
 pub mod table;
+
 ghost use mathlib.Core.Path.{_≡_};
 ghost use Rattle.checksum.specs.Checksum.{table, crc, crc32};
 

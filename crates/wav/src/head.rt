@@ -8,7 +8,10 @@ use crate::bytes;
 fn riff_size(size: u32, behind: u32) -> u64
     ensures { λ r. ⌜ r ≡ riffSize size behind ⌝ }
 {
-    bytes::lesser(36 + size as u64 + (size % 2) as u64 + behind as u64, 4294967295)
+    bytes::lesser(
+        36 + size as u64 + (size % 2) as u64 + behind as u64,
+        4294967295,
+    )
 }
 
 fn head_of(rate: u32, size: u32, behind: u32) -> [u8; 44]
