@@ -1,5 +1,7 @@
 // A side sheet behind the audio (request 02): records of 8 bytes and a trailer of 16 that points back to them. What
 // precedes the records is not read.
+pub mod parts;
+
 ghost use mathlib.Core.Path.{_≡_};
 ghost use Prim.Native.Nat.{_+_, _*_, _/_, _%_, _≤_, _<_, _^_};
 ghost use lib.ListN.{length, drop};
