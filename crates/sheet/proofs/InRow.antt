@@ -10,8 +10,8 @@ use Rattle.rules.specs.Leaf.{_leaving_}
 use Rattle.rules.proofs.Leaves.{leave-both}
 use Rattle.rules.proofs.Stores.{all-stored}
 use Rattle.sheet.specs.Sheet.{four, sum, recordsOf, trailerOf, bytesOf}
-use Rattle.sheet.specs.Rows.{Tally, further, recordsLaid}
-use Rattle.sheet.specs.Laws.{inRow, joined, PartsAreWhole}
+use Rattle.sheet.specs.Rows.{Tally, withRecords, recordsLaid}
+use Rattle.sheet.specs.Laws.{inRow, together, PartsAreWhole}
 use Rattle.sheet.specs.Written.{kinds}
 use Rattle.sheet.proofs.Digits.{four-mod}
 use Rattle.sheet.proofs.Laying.{records-append}
@@ -23,24 +23,24 @@ unfolding trailerOf
 noted n side s t e = let same : four s ≡ four t = sym (four-mod s) ∙ ap four e ∙ four-mod t in rw same
 
 -- a row that goes on with a count and a sum ends in the trailer of all records
-on : (side : ℕ) (t : Tally) (parts : List (List ℕ)) → let rs = recordsOf side (joined parts) in
-    inRow side t parts ≡ rs ++ trailerOf (t .count + length (joined parts)) side (t .total + sum rs)
+on : (side : ℕ) (t : Tally) (parts : List (List ℕ)) → let rs = recordsOf side (together parts) in
+    inRow side t parts ≡ rs ++ trailerOf (t .count + length (together parts)) side (t .total + sum rs)
 on side t [] =
     let n : t .count + 0 ≡ t .count = omega arith in
     let s : t .total + 0 ≡ t .total = omega arith in
     rw (n, s)
 on side t (es ∷ parts) =
     let rs = recordsOf side es in
-    let more = recordsOf side (joined parts) in
-    let n : t .count + length es + length (joined parts) ≡ t .count + length (es ++ joined parts) = simp length-append (omega arith) in
+    let more = recordsOf side (together parts) in
+    let n : t .count + length es + length (together parts) ≡ t .count + length (es ++ together parts) = simp length-append (omega arith) in
     let s : ((t .total + sum rs) % 4294967296 + sum more) % 4294967296 ≡ (t .total + sum (rs ++ more)) % 4294967296 = rw (sum-append rs more) (omega arith) in
-    rw (on side (further side es t) parts, n, noted (t .count + length (es ++ joined parts)) side _ _ s, records-append side es (joined parts))
-    (sym (append-assoc rs more (trailerOf (t .count + length (es ++ joined parts)) side (t .total + sum (rs ++ more)))))
+    rw (on side (withRecords side es t) parts, n, noted (t .count + length (es ++ together parts)) side _ _ s, records-append side es (together parts))
+    (sym (append-assoc rs more (trailerOf (t .count + length (es ++ together parts)) side (t .total + sum (rs ++ more)))))
 
 pub parts-are-whole : PartsAreWhole
 parts-are-whole side parts =
-    let n : 0 + length (joined parts) ≡ length (joined parts) = omega arith in
-    let s : 0 + sum (recordsOf side (joined parts)) ≡ sum (recordsOf side (joined parts)) = omega arith in
+    let n : 0 + length (together parts) ≡ length (together parts) = omega arith in
+    let s : 0 + sum (recordsOf side (together parts)) ≡ sum (recordsOf side (together parts)) = omega arith in
     on side (record { count = 0; total = 0 }) parts ∙ rw (n, s)
 
 -- ---- each answer

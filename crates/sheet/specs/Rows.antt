@@ -15,8 +15,8 @@ pub record Tally : Type 0 where
   pub total : ℕ
 
 -- with the records of these entries
-abbrev pub further : ℕ → List ℕ → Tally → Tally
-further side es t = record { count = t .count + length es; total = (t .total + sum (recordsOf side es)) % 4294967296 }
+abbrev pub withRecords : ℕ → List ℕ → Tally → Tally
+withRecords side es t = record { count = t .count + length es; total = (t .total + sum (recordsOf side es)) % 4294967296 }
 
 -- the refusals of the records, and of the trailer, in order
 abbrev pub recordsFaults : ℕ → List ℕ → List ℕ → ℕ → List Row
@@ -30,7 +30,7 @@ recordsFaults side es numbers room =
 
 unfoldable pub recordsLaid : ℕ → List ℕ → List ℕ → List ℕ → ℕ × (List ℕ × List ℕ)
 recordsLaid side es numbers out =
-    let t = further side es (record { count = getD numbers 0 0; total = getD numbers 1 0 }) in
+    let t = withRecords side es (record { count = getD numbers 0 0; total = getD numbers 1 0 }) in
     refusing (recordsFaults side es numbers (length out)) (λ r. r leaving numbers leaving out)
     (0 leaving t .count ∷ t .total ∷ [] leaving recordsOf side es ++ drop (8 * length es) out)
 

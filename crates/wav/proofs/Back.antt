@@ -8,7 +8,7 @@ use lib.ListN.{length, drop, length-append, length-drop}
 use Rattle.sheet.specs.Sheet.{four}
 use Rattle.sheet.specs.End.{fromFour}
 use Rattle.sheet.proofs.Digits.{digits}
-use Rattle.wav.specs.Chunks.{fromTwo, start, frontOf, tagIn, formatOf, formatFaults, formatted, chunkOf, stepOf}
+use Rattle.wav.specs.Chunks.{fromTwo, unread, frontOf, tagIn, formatOf, formatFaults, formatted, chunkOf, stepOf}
 use Rattle.wav.specs.Head.{headOf}
 use Rattle.wav.specs.Laws.{follow, HeadBack}
 use Rattle.wav.specs.declared.chunks.Head.{Head}
@@ -36,7 +36,7 @@ module _ (rate size behind : ℕ) (rest : List ℕ) (hr : rate < 2 ^ 32) (hs : s
   abbrev described : Head
   described = record { place = 36; format = 16; channels = 1; rate = rate; size = 0 }
 
-  front-read : stepOf file start ≡ On named
+  front-read : stepOf file unread ≡ On named
   unfolding stepOf frontOf fromFour headOf four
   front-read = rw (le-ltb (length file) 12 (simp (length-append, head-long) (omega arith)))
 

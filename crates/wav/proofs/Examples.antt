@@ -8,8 +8,8 @@ use Rattle.rules.specs.Tab.{tab}
 use Rattle.checksum.specs.Checksum.{table, crc, crc32}
 use Rattle.sheet.specs.Sheet.{four}
 use Rattle.sheet.specs.End.{fromFour}
-use Rattle.wav.specs.Seal.{said, sealOf, faults, sealIn, readOf}
-use Rattle.wav.specs.Chunks.{fromTwo, frontOf, tagIn, formatOf, formatFaults, formatted, chunkOf, stepOf, start}
+use Rattle.wav.specs.Seal.{said, sealOf, sealFaults, sealIn, sealRead}
+use Rattle.wav.specs.Chunks.{fromTwo, frontOf, tagIn, formatOf, formatFaults, formatted, chunkOf, stepOf, unread}
 use Rattle.wav.specs.Head.{headOf}
 use Rattle.wav.specs.Laws.{follow}
 use Rattle.wav.specs.declared.seal.Seal.{Seal}
@@ -25,9 +25,9 @@ unfolding sealOf said four crc32 crc table tab loop
 contents = refl
 
 -- the seal; without its last byte; with another letter, another length and another checksum
-seals : map readOf (sealOf right ∷ take 23 (sealOf right) ∷ set (sealOf right) 0 83 ∷ set (sealOf right) 4 76 ∷ set (sealOf right) 8 0 ∷ set (sealOf right) 23 0 ∷ [])
+seals : map sealRead (sealOf right ∷ take 23 (sealOf right) ∷ set (sealOf right) 0 83 ∷ set (sealOf right) 4 76 ∷ set (sealOf right) 8 0 ∷ set (sealOf right) 23 0 ∷ [])
     ≡ reading.Whole right ∷ reading.Refused 51 ∷ reading.Refused 51 ∷ reading.Refused 52 ∷ reading.Refused 52 ∷ reading.Refused 52 ∷ []
-unfolding readOf faults sealIn fromFour sealOf said four crc32 crc table tab loop
+unfolding sealRead sealFaults sealIn fromFour sealOf said four crc32 crc table tab loop
 seals = refl
 
 -- the head of three bytes of audio at 48 kHz, with 56 bytes of chunks behind them
@@ -36,7 +36,7 @@ unfolding headOf four
 head = refl
 
 -- the head; another first letter; the file cut within the format; no format; a format of 14 bytes; of 8 bits; of no channel, and of 65; of two channels with one's bytes
-heads : map (λ (file : List ℕ). follow 3 file start)
+heads : map (λ (file : List ℕ). follow 3 file unread)
     (headOf 48000 3 56 ∷ set (headOf 48000 3 56) 3 88 ∷ take 30 (headOf 48000 3 56) ∷ (take 12 (headOf 48000 3 56) ++ drop 36 (headOf 48000 3 56)) ∷ set (headOf 48000 3 56) 16 14
     ∷ set (headOf 48000 3 56) 34 8 ∷ set (headOf 48000 3 56) 22 0 ∷ set (headOf 48000 3 56) 22 65 ∷ set (headOf 48000 3 56) 22 2 ∷ [])
     ≡ Audio (record { place = 44; format = 16; channels = 1; rate = 48000; size = 3 })

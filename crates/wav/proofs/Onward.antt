@@ -9,7 +9,7 @@ use lib.Dec.{eqb, ltb}
 use lib.ListN.{length, drop}
 use Rattle.rules.proofs.Rows.{by-each}
 use Rattle.sheet.specs.End.{fromFour}
-use Rattle.wav.specs.Chunks.{RIFF, WAVE, FMT, DATA, frontOf, passed, formatFaults, formatted, chunkOf, stepOf}
+use Rattle.wav.specs.Chunks.{RIFF, WAVE, FMT, DATA, frontOf, pastChunk, formatFaults, formatted, chunkOf, stepOf}
 use Rattle.wav.specs.Laws.{Onward}
 use Rattle.wav.specs.declared.chunks.Head.{Head}
 use Rattle.wav.specs.declared.chunks.Step.{Step}

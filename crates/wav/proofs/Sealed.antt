@@ -17,7 +17,7 @@ use Rattle.checksum.proofs.Apart.{small, same-end}
 use Rattle.sheet.specs.Sheet.{four}
 use Rattle.sheet.specs.End.{fromFour}
 use Rattle.sheet.proofs.Digits.{digits, four-read}
-use Rattle.wav.specs.Seal.{TUPP, LEFT, RGHT, nameOf, said, sealOf, name, faults, sealIn, readOf}
+use Rattle.wav.specs.Seal.{TUPP, LEFT, RGHT, nameOf, said, sealOf, name, sealFaults, sealIn, sealRead}
 use Rattle.wav.specs.Laws.{Holds, SealBack, OneSeal, renamed, OtherName}
 use Rattle.wav.specs.declared.seal.Seal.{Seal}
 use Rattle.wav.specs.declared.seal.Reading.the-variants.{Whole, Refused}
@@ -103,13 +103,13 @@ module _ (x : Seal) (rest : List ℕ) (holds : Holds x) where
   unfolding own
   noted = last (said x) own rest (length-said x) room ∙ ap (crc32 0) (sym (first (said x) own rest (length-said x) room))
 
-  read-left : x .side ≡ 0 → readOf written ≡ Whole x
+  read-left : x .side ≡ 0 → sealRead written ≡ Whole x
   read-left e =
       sym (at-left written enough refl (named x own rest (holds .long) (holds .sum)) refl refl noted refl refl refl refl
       (name-read x own rest (holds .long) (holds .sum) ∙ name-left e))
       ∙ rw (size-read x own rest (holds .long) (holds .sum), sum-read x own rest (holds .long) (holds .sum), ← e)
 
-  read-right : x .side ≡ 1 → readOf written ≡ Whole x
+  read-right : x .side ≡ 1 → sealRead written ≡ Whole x
   read-right e =
       let right = name-read x own rest (holds .long) (holds .sum) ∙ name-right e in
       sym (at-right written enough refl (named x own rest (holds .long) (holds .sum)) refl refl noted refl refl refl refl
@@ -123,7 +123,7 @@ seal-back x rest holds =
 
 pub one-seal : OneSeal
 one-seal x y rest rest′ hx hy e =
-    let same : Whole x ≡ Whole y = sym (seal-back x rest hx) ∙ ap readOf e ∙ seal-back y rest′ hy in
+    let same : Whole x ≡ Whole y = sym (seal-back x rest hx) ∙ ap sealRead e ∙ seal-back y rest′ hy in
     cc
 
 -- ---- the other side's name
@@ -185,9 +185,9 @@ module _ (x : Seal) (rest : List ℕ) (holds : Holds x) where
       unlike x (holds .known)
       (sym (last (said (other x)) (own x rest holds) rest (length-said (other x)) (room x rest holds)) ∙ e ∙ ap (crc32 0) (first (said (other x)) (own x rest holds) rest (length-said (other x)) (room x rest holds)))
 
-  refused : readOf exchanged ≡ Refused 52
+  refused : sealRead exchanged ≡ Refused 52
   refused =
       sym (at-52 exchanged (long (said (other x)) (own x rest holds) rest (length-said (other x)) (room x rest holds)) refl (named (other x) (own x rest holds) rest (holds .long) (holds .sum)) refl refl not-noted)
 
 pub other-name : OtherName
-other-name x rest holds = ap readOf (is-exchanged x rest holds) ∙ refused x rest holds
+other-name x rest holds = ap sealRead (is-exchanged x rest holds) ∙ refused x rest holds

@@ -9,37 +9,37 @@ use lib.Seq.{take-at, drop-at}
 use Rattle.checksum.specs.Checksum.{crc32}
 use Rattle.sheet.specs.Sheet.{four}
 use Rattle.sheet.specs.End.{fromFour}
-use Rattle.wav.specs.Seal.{TUPP, LEFT, RGHT, name, faults, said, sealOf, sealIn, readOf}
+use Rattle.wav.specs.Seal.{TUPP, LEFT, RGHT, name, sealFaults, said, sealOf, sealIn, sealRead}
 use Rattle.wav.specs.declared.seal.Seal.{Seal}
 use Rattle.wav.specs.declared.seal.Reading.the-variants.{Whole, Refused}
 
 module _ (s : List ℕ) where
-  pub at-51 : length s < 24 → Refused 51 ≡ readOf s
-  unfolding readOf faults
+  pub at-51 : length s < 24 → Refused 51 ≡ sealRead s
+  unfolding sealRead sealFaults
   at-51 h = rw (lt-ltb (length s) 24 h)
 
   module _ (long : 24 ≤ length s) where
-    pub at-51′ : {r : ℕ} → r ≡ fromFour s → (r ≡ TUPP → ⊥) → Refused 51 ≡ readOf s
-    unfolding readOf faults
+    pub at-51′ : {r : ℕ} → r ≡ fromFour s → (r ≡ TUPP → ⊥) → Refused 51 ≡ sealRead s
+    unfolding sealRead sealFaults
     at-51′ {r} rs h = rw (le-ltb (length s) 24 long, ← rs, ne-eqb r TUPP h)
 
     module _ {r noted own : ℕ} (rs : r ≡ fromFour s) (named : r ≡ TUPP) (ns : noted ≡ fromFour (drop 20 s)) (os : own ≡ crc32 0 (take 20 s)) where
-      pub at-52 : (noted ≡ own → ⊥) → Refused 52 ≡ readOf s
-      unfolding readOf faults
+      pub at-52 : (noted ≡ own → ⊥) → Refused 52 ≡ sealRead s
+      unfolding sealRead sealFaults
       at-52 h = rw (le-ltb (length s) 24 long, ← rs, eq-eqb r TUPP named, ← ns, ← os, ne-eqb noted own h)
 
       module _ {n : ℕ} (whole : noted ≡ own) (names : n ≡ name s) where
-        pub at-53 : (n ≡ LEFT → ⊥) → (n ≡ RGHT → ⊥) → Refused 53 ≡ readOf s
-        unfolding readOf faults
+        pub at-53 : (n ≡ LEFT → ⊥) → (n ≡ RGHT → ⊥) → Refused 53 ≡ sealRead s
+        unfolding sealRead sealFaults
         at-53 l g = rw (le-ltb (length s) 24 long, ← rs, eq-eqb r TUPP named, ← ns, ← os, eq-eqb noted own whole, ← names, ne-eqb n LEFT l, ne-eqb n RGHT g)
 
         module _ {low high sum : ℕ} (ls : low ≡ fromFour (drop 8 s)) (hs : high ≡ fromFour (drop 12 s)) (ss : sum ≡ fromFour (drop 16 s)) where
-          pub at-left : n ≡ LEFT → Whole (record { side = 0; size = low + 4294967296 * high; checksum = sum }) ≡ readOf s
-          unfolding readOf faults sealIn
+          pub at-left : n ≡ LEFT → Whole (record { side = 0; size = low + 4294967296 * high; checksum = sum }) ≡ sealRead s
+          unfolding sealRead sealFaults sealIn
           at-left l = rw (le-ltb (length s) 24 long, ← rs, eq-eqb r TUPP named, ← ns, ← os, eq-eqb noted own whole, ← names, eq-eqb n LEFT l, ls, hs, ss)
 
-          pub at-right : (n ≡ LEFT → ⊥) → n ≡ RGHT → Whole (record { side = 1; size = low + 4294967296 * high; checksum = sum }) ≡ readOf s
-          unfolding readOf faults sealIn
+          pub at-right : (n ≡ LEFT → ⊥) → n ≡ RGHT → Whole (record { side = 1; size = low + 4294967296 * high; checksum = sum }) ≡ sealRead s
+          unfolding sealRead sealFaults sealIn
           at-right l g = rw (le-ltb (length s) 24 long, ← rs, eq-eqb r TUPP named, ← ns, ← os, eq-eqb noted own whole, ← names, ne-eqb n LEFT l, eq-eqb n RGHT g, ls, hs, ss)
 
 -- ---- written

@@ -5,7 +5,7 @@ use Prim.Native.Nat.{ℕ, _+_, _*_, _/_, _≤_, _<_, min}
 use borrow.Author.Tests.{lt-ltb, le-ltb, eq-eqb, ne-eqb}
 use lib.ListN.{length, drop}
 use Rattle.sheet.specs.End.{fromFour}
-use Rattle.wav.specs.Chunks.{RIFF, WAVE, FMT, DATA, fromTwo, frontOf, passed, tagIn, formatOf, formatIn, channelsIn, formatFaults, formatted, chunkOf}
+use Rattle.wav.specs.Chunks.{RIFF, WAVE, FMT, DATA, fromTwo, frontOf, pastChunk, tagIn, formatOf, formatIn, channelsIn, formatFaults, formatted, chunkOf}
 use Rattle.wav.specs.declared.chunks.Head.{Head}
 use Rattle.wav.specs.declared.chunks.Step.the-variants.{Audio, On, Refused}
 
@@ -64,7 +64,7 @@ module _ (s : List ℕ) (size : ℕ) (h : Head) {w : ℕ} (ws : w ≡ min size 2
                 rw (← ws, le-ltb (length s) (8 + w) long, le-ltb size 16 many, ← fs, ne-eqb f 0 known, ← ns, ne-eqb n 0 some, le-ltb 64 n few, ← bs, ne-eqb b (n * (f / 8)) other)
 
             pub format-on : b ≡ n * (f / 8) → {rate : ℕ} {p : Head} → rate ≡ fromFour (drop 12 s)
-                → p ≡ passed size (record { place = h .place; format = f; channels = n; rate = rate; size = 0 }) → On p ≡ formatted s size h
+                → p ≡ pastChunk size (record { place = h .place; format = f; channels = n; rate = rate; size = 0 }) → On p ≡ formatted s size h
             unfolding formatted formatFaults
             format-on whole rs ps =
                 rw (← ws, le-ltb (length s) (8 + w) long, le-ltb size 16 many, ← fs, ne-eqb f 0 known, ← ns, ne-eqb n 0 some, le-ltb 64 n few, ← bs, eq-eqb b (n * (f / 8)) whole, ps, rs)
@@ -93,12 +93,12 @@ module _ (s : List ℕ) (h : Head) where
         chunk-audio known = rw (le-ltb (length s) 8 long, le-ltb 9223372036854775807 (h .place) near, ← ns, eq-eqb n DATA data′, ne-eqb (h .format) 0 known, ss)
 
       module _ (other : n ≡ DATA → ⊥) where
-        pub chunk-on : (n ≡ FMT → ⊥) → {p : Head} → p ≡ passed size h → On p ≡ chunkOf s h
+        pub chunk-on : (n ≡ FMT → ⊥) → {p : Head} → p ≡ pastChunk size h → On p ≡ chunkOf s h
         unfolding chunkOf
         chunk-on no-format ps = rw (le-ltb (length s) 8 long, le-ltb 9223372036854775807 (h .place) near, ← ns, ne-eqb n DATA other, ne-eqb n FMT no-format, ps, ss)
 
         module _ (named : n ≡ FMT) where
-          pub chunk-again : (h .format ≡ 0 → ⊥) → {p : Head} → p ≡ passed size h → On p ≡ chunkOf s h
+          pub chunk-again : (h .format ≡ 0 → ⊥) → {p : Head} → p ≡ pastChunk size h → On p ≡ chunkOf s h
           unfolding chunkOf
           chunk-again known ps =
               rw (le-ltb (length s) 8 long, le-ltb 9223372036854775807 (h .place) near, ← ns, ne-eqb n DATA other, eq-eqb n FMT named, ne-eqb (h .format) 0 known, ps, ss)

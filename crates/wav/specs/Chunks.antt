@@ -30,8 +30,8 @@ fromTwo s = getD s 0 0 + 256 * getD s 1 0
 
 -- ---- the file's first bytes
 
-abbrev pub start : Head
-start = record { place = 0; format = 0; channels = 0; rate = 0; size = 0 }
+abbrev pub unread : Head
+unread = record { place = 0; format = 0; channels = 0; rate = 0; size = 0 }
 
 unfoldable pub frontOf : List ℕ → Step
 frontOf s =
@@ -40,8 +40,8 @@ frontOf s =
 
 -- ---- a chunk: its name, its size, its contents, and a byte more where these are odd
 
-abbrev pub passed : ℕ → Head → Head
-passed size h = record { place = h .place + 8 + size + size % 2; format = h .format; channels = h .channels; rate = h .rate; size = h .size }
+abbrev pub pastChunk : ℕ → Head → Head
+pastChunk size h = record { place = h .place + 8 + size + size % 2; format = h .format; channels = h .channels; rate = h .rate; size = h .size }
 
 -- an extensible format, 65534, has its tag further behind
 unfoldable pub tagIn : ℕ → List ℕ → ℕ
@@ -70,7 +70,7 @@ formatFaults s size =
 unfoldable pub formatted : List ℕ → ℕ → Head → Step
 formatted s size h =
     refusing (formatFaults s size) Refused
-    (On (passed size (record { place = h .place; format = formatIn size s; channels = channelsIn s; rate = fromFour (drop 12 s); size = 0 })))
+    (On (pastChunk size (record { place = h .place; format = formatIn size s; channels = channelsIn s; rate = fromFour (drop 12 s); size = 0 })))
 
 -- the audio; a first chunk of the format; or another, which is passed over
 unfoldable pub chunkOf : List ℕ → Head → Step
@@ -81,7 +81,7 @@ chunkOf s h =
     (cond (eqb name DATA)
     (refusing (43 when eqb (h .format) 0 ∷ []) Refused
     (Audio (record { place = h .place + 8; format = h .format; channels = h .channels; rate = h .rate; size = size })))
-    (cond (eqb name FMT && eqb (h .format) 0) (formatted s size h) (On (passed size h))))
+    (cond (eqb name FMT && eqb (h .format) 0) (formatted s size h) (On (pastChunk size h))))
 
 -- ---- a step of a reading
 
@@ -89,17 +89,17 @@ unfoldable pub stepOf : List ℕ → Head → Step
 stepOf s h = cond (eqb (h .place) 0) (frontOf s) (chunkOf s h)
 
 -- in numbers, as a host has them
-abbrev pub headOf : List ℕ → Head
-headOf ns = record { place = getD ns 0 0; format = getD ns 1 0; channels = getD ns 2 0; rate = getD ns 3 0; size = getD ns 4 0 }
+abbrev pub headFrom : List ℕ → Head
+headFrom ns = record { place = getD ns 0 0; format = getD ns 1 0; channels = getD ns 2 0; rate = getD ns 3 0; size = getD ns 4 0 }
 
-abbrev pub numbersOf : Head → List ℕ
-numbersOf h = h .place ∷ h .format ∷ h .channels ∷ h .rate ∷ h .size ∷ []
+abbrev pub headNumbers : Head → List ℕ
+headNumbers h = h .place ∷ h .format ∷ h .channels ∷ h .rate ∷ h .size ∷ []
 
 -- 0 where the audio was found, 40 where more bytes are wanted
-abbrev pub told : Step → List ℕ → ℕ × List ℕ
-told (Audio h) ns = 0 leaving numbersOf h
-told (On h) ns = 40 leaving numbersOf h
-told (Refused n) ns = n leaving ns
+abbrev pub stepNumbers : Step → List ℕ → ℕ × List ℕ
+stepNumbers (Audio h) ns = 0 leaving headNumbers h
+stepNumbers (On h) ns = 40 leaving headNumbers h
+stepNumbers (Refused n) ns = n leaving ns
 
-unfoldable pub readOf : List ℕ → List ℕ → ℕ × List ℕ
-readOf s ns = refusing (5 when not (eqb (length ns) 5) ∷ []) (λ n. n leaving ns) (told (stepOf s (headOf ns)) ns)
+unfoldable pub stepTold : List ℕ → List ℕ → ℕ × List ℕ
+stepTold s ns = refusing (5 when not (eqb (length ns) 5) ∷ []) (λ n. n leaving ns) (stepNumbers (stepOf s (headFrom ns)) ns)

@@ -4,8 +4,8 @@ use mathlib.Core.List.{List, _++_}
 use mathlib.Core.Path.{_≡_}
 use lib.ListN.{take, drop}
 use Rattle.sheet.specs.Sheet.{four}
-use Rattle.wav.specs.Seal.{nameOf, sealOf, readOf}
-use Rattle.wav.specs.Chunks.{start, stepOf}
+use Rattle.wav.specs.Seal.{nameOf, sealOf, sealRead}
+use Rattle.wav.specs.Chunks.{unread, stepOf}
 use Rattle.wav.specs.Head.{headOf}
 use Rattle.wav.specs.declared.seal.Seal.{Seal}
 use Rattle.wav.specs.declared.seal.Reading.the-variants as reading
@@ -23,7 +23,7 @@ pub record Holds (x : Seal) : Type 0 where
 
 -- what is written reads back, whatever stands behind it
 abbrev pub SealBack : Type 0
-SealBack = (x : Seal) (rest : List ℕ) → Holds x → readOf (sealOf x ++ rest) ≡ reading.Whole x
+SealBack = (x : Seal) (rest : List ℕ) → Holds x → sealRead (sealOf x ++ rest) ≡ reading.Whole x
 
 -- so a seal is none of another side, of other audio
 abbrev pub OneSeal : Type 0
@@ -34,7 +34,7 @@ abbrev pub renamed : Seal → List ℕ → List ℕ
 renamed x s = take 4 s ++ (four (nameOf (1 - x .side)) ++ drop 8 s)
 
 abbrev pub OtherName : Type 0
-OtherName = (x : Seal) (rest : List ℕ) → Holds x → readOf (renamed x (sealOf x ++ rest)) ≡ reading.Refused 52
+OtherName = (x : Seal) (rest : List ℕ) → Holds x → sealRead (renamed x (sealOf x ++ rest)) ≡ reading.Refused 52
 
 -- ---- heads
 
@@ -60,4 +60,4 @@ follow (suc n) file h = andOn (stepOf (drop (h .place) file) h) (follow n file)
 abbrev pub HeadBack : Type 0
 HeadBack =
     (rate size behind : ℕ) (rest : List ℕ) → rate < 2 ^ 32 → size < 2 ^ 32
-    → follow 3 (headOf rate size behind ++ rest) start ≡ Audio (record { place = 44; format = 16; channels = 1; rate = rate; size = size })
+    → follow 3 (headOf rate size behind ++ rest) unread ≡ Audio (record { place = 44; format = 16; channels = 1; rate = rate; size = size })

@@ -35,8 +35,8 @@ sealOf s = said s ++ four (crc32 0 (said s))
 
 -- ---- written: what is returned, and what the buffer then holds
 
-unfoldable pub writtenOf : Seal → List ℕ → ℕ × List ℕ
-writtenOf s out = refusing (5 when not (eqb (length out) 24) ∷ 53 when ltb 1 (s .side) ∷ []) (λ n. n leaving out) (0 leaving sealOf s)
+unfoldable pub sealWritten : Seal → List ℕ → ℕ × List ℕ
+sealWritten s out = refusing (5 when not (eqb (length out) 24) ∷ 53 when ltb 1 (s .side) ∷ []) (λ n. n leaving out) (0 leaving sealOf s)
 
 -- ---- read, in front of some bytes
 
@@ -44,8 +44,8 @@ abbrev pub name : List ℕ → ℕ
 name s = fromFour (drop 4 s)
 
 -- the refusals, in order
-unfoldable pub faults : List ℕ → List Row
-faults s =
+unfoldable pub sealFaults : List ℕ → List Row
+sealFaults s =
     51 when (ltb (length s) 24 || not (eqb (fromFour s) TUPP))
     ∷ 52 when not (eqb (fromFour (drop 20 s)) (crc32 0 (take 20 s)))
     ∷ 53 when (not (eqb (name s) LEFT) && not (eqb (name s) RGHT))
@@ -58,13 +58,13 @@ sealIn s = record {
   checksum = fromFour (drop 16 s);
 }
 
-unfoldable pub readOf : List ℕ → Reading
-readOf s = refusing (faults s) Refused (Whole (sealIn s))
+unfoldable pub sealRead : List ℕ → Reading
+sealRead s = refusing (sealFaults s) Refused (Whole (sealIn s))
 
 -- what a host is told: the side, how many bytes of audio, and their checksum
-abbrev pub told : Reading → List ℕ → ℕ × List ℕ
-told (Whole s) out = 0 leaving s .side ∷ s .size ∷ s .checksum ∷ []
-told (Refused n) out = n leaving out
+abbrev pub sealTold : Reading → List ℕ → ℕ × List ℕ
+sealTold (Whole s) out = 0 leaving s .side ∷ s .size ∷ s .checksum ∷ []
+sealTold (Refused n) out = n leaving out
 
-unfoldable pub summaryOf : List ℕ → List ℕ → ℕ × List ℕ
-summaryOf s out = refusing (5 when not (eqb (length out) 3) ∷ []) (λ n. n leaving out) (told (readOf s) out)
+unfoldable pub sealSummary : List ℕ → List ℕ → ℕ × List ℕ
+sealSummary s out = refusing (5 when not (eqb (length out) 3) ∷ []) (λ n. n leaving out) (sealTold (sealRead s) out)

@@ -3,7 +3,7 @@ ghost use mathlib.Core.Path.{_≡_};
 ghost use Prim.Native.Nat.{_+_, _≤_, _<_, _^_};
 ghost use lib.ListN.{length};
 ghost use Rattle.rules.specs.Leaf.{_leaving_};
-ghost use Rattle.wav.specs.Chunks.{tagIn, formatOf, frontOf, passed, formatted, chunkOf, stepOf, numbersOf, readOf};
+ghost use Rattle.wav.specs.Chunks.{tagIn, formatOf, frontOf, pastChunk, formatted, chunkOf, stepOf, headNumbers, stepTold};
 use crate::bytes;
 
 // Four letters each, little end first.
@@ -93,7 +93,7 @@ fn format_of(tag: u64, bits: u64) -> u64
 // The head past a chunk of this size, at a place below 2^63.
 fn pass(size: u64, head: Head) -> Head
     requires { ⌜ (size < 2 ^ 32) × (head .place < 2 ^ 63) ⌝ }
-    ensures { λ r. ⌜ r ≡ passed size head ⌝ }
+    ensures { λ r. ⌜ r ≡ pastChunk size head ⌝ }
 {
     Head {
         place: head.place + 8 + size + size % 2,
@@ -187,7 +187,7 @@ pub fn go_on(file: &[u8], head: Head) -> Step
 
 fn tell(numbers: &mut [u64], head: Head)
     requires { ⌜ length (now numbers) ≡ 5 ⌝ }
-    ensures { λ _. ⌜ now (numbers .exit) ≡ numbersOf head ⌝ }
+    ensures { λ _. ⌜ now (numbers .exit) ≡ headNumbers head ⌝ }
 {
     numbers[0] = head.place;
     numbers[1] = head.format;
@@ -199,7 +199,7 @@ fn tell(numbers: &mut [u64], head: Head)
 // For a host: a reading's next step, in numbers: place, format, channels, rate and size, all 0 at first. 0 where the
 // audio was found, 40 where bytes from the place on are wanted. Another length than five is refused with 5.
 pub fn read(numbers: &mut [u64], file: &[u8]) -> u32
-    ensures { λ r. ⌜ (r leaving now (numbers .exit)) ≡ readOf (now (file .entry)) (now (numbers .entry)) ⌝ }
+    ensures { λ r. ⌜ (r leaving now (numbers .exit)) ≡ stepTold (now (file .entry)) (now (numbers .entry)) ⌝ }
 {
     if numbers.len() != 5 {
         return 5;

@@ -1,7 +1,7 @@
 // The head of the WAV files that the box writes: one channel of 16 bits.
 ghost use mathlib.Core.Path.{_≡_};
 ghost use Rattle.rules.specs.Leaf.{_leaving_};
-ghost use Rattle.wav.specs.Head.{riffSize, headOf, writtenOf};
+ghost use Rattle.wav.specs.Head.{riffSize, headOf, headWritten};
 use crate::bytes;
 
 // What RIFF's own size says: how much stands behind it, or the most that it can say.
@@ -72,7 +72,7 @@ fn head_of(rate: u32, size: u32, behind: u32) -> [u8; 44]
 // The head of so many bytes of audio at a rate, with so many bytes of chunks behind them. 4,294,967,295 bytes of audio: to
 // the end of the file. Another length than 44 is refused with 5.
 pub fn write(out: &mut [u8], rate: u32, size: u32, behind: u32) -> u32
-    ensures { λ r. ⌜ (r leaving now (out .exit)) ≡ writtenOf rate size behind (now (out .entry)) ⌝ }
+    ensures { λ r. ⌜ (r leaving now (out .exit)) ≡ headWritten rate size behind (now (out .entry)) ⌝ }
 {
     if out.len() != 44 {
         return 5;

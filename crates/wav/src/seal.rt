@@ -2,7 +2,7 @@
 ghost use mathlib.Core.Path.{_≡_};
 ghost use Prim.Native.Nat.{_≤_};
 ghost use Rattle.rules.specs.Leaf.{_leaving_};
-ghost use Rattle.wav.specs.Seal.{nameOf, said, writtenOf, readOf, summaryOf};
+ghost use Rattle.wav.specs.Seal.{nameOf, said, sealWritten, sealRead, sealSummary};
 use crate::bytes;
 
 // Four letters each, little end first.
@@ -64,7 +64,7 @@ fn said_by(seal: Seal) -> [u8; 20]
 
 // Another length than 24 is refused with 5, and a side above 1 with 53.
 pub fn write(out: &mut [u8], seal: Seal) -> u32
-    ensures { λ r. ⌜ (r leaving now (out .exit)) ≡ writtenOf seal (now (out .entry)) ⌝ }
+    ensures { λ r. ⌜ (r leaving now (out .exit)) ≡ sealWritten seal (now (out .entry)) ⌝ }
 {
     if out.len() != 24 {
         return 5;
@@ -81,7 +81,7 @@ pub fn write(out: &mut [u8], seal: Seal) -> u32
 
 // The seal in front of some bytes.
 pub fn read(file: &[u8]) -> Reading
-    ensures { λ r. ⌜ r ≡ readOf (now (file .entry)) ⌝ }
+    ensures { λ r. ⌜ r ≡ sealRead (now (file .entry)) ⌝ }
 {
     if file.len() < 24 {
         return Reading::Refused(51);
@@ -114,7 +114,7 @@ pub fn read(file: &[u8]) -> Reading
 
 // For a host: the side, how many bytes of audio, and their checksum. Another length than three is refused with 5.
 pub fn summary(numbers: &mut [u64], file: &[u8]) -> u32
-    ensures { λ r. ⌜ (r leaving now (numbers .exit)) ≡ summaryOf (now (file .entry)) (now (numbers .entry)) ⌝ }
+    ensures { λ r. ⌜ (r leaving now (numbers .exit)) ≡ sealSummary (now (file .entry)) (now (numbers .entry)) ⌝ }
 {
     if numbers.len() != 3 {
         return 5;

@@ -3,25 +3,25 @@ use borrow.Author.Tests.{eq-eqb}
 use denote.Ref.{now}
 use Rattle.rules.proofs.Tests.{tests}
 use Rattle.rules.proofs.Leaves.{leaves}
-use Rattle.wav.specs.Chunks.{readOf}
+use Rattle.wav.specs.Chunks.{stepTold}
 use borrow.Author.Needs.{needs}
 use Rattle.wav.proofs.chunks.read.Statement.{statement}
 use Rattle.wav.proofs.chunks.read.Tie as tie
 
 returns : tie.Need-returns
-unfolding readOf
+unfolding stepTold
 returns c = search tests
 
 returns-2 : tie.Need-returns-2
-unfolding readOf
+unfolding stepTold
 returns-2 c = rw (eq-eqb _ 5 (c .before .before .before .before .before .before .before .before .before .before .before .before .before .if1 .left), ← sym (c .before .before .before .before .before .found .given .1) ∙ c .before .before .before .before .before .before .before .go-on .ensures) (leaves (c .before .before .tell .ensures))
 
 returns-3 : tie.Need-returns-3
-unfolding readOf
+unfolding stepTold
 returns-3 c = rw (eq-eqb _ 5 (c .before .before .before .before .before .before .before .before .before .before .before .before .before .if1 .left), ← sym (c .before .before .before .before .before .next .given .1) ∙ c .before .before .before .before .before .before .before .go-on .ensures) (leaves (c .before .before .tell2 .ensures))
 
 returns-4 : tie.Need-returns-4
-unfolding readOf
+unfolding stepTold
 returns-4 c = rw (eq-eqb _ 5 (c .before .before .before .before .before .before .before .before .before .if1 .left), ← sym (c .before .number .given .1) ∙ c .before .before .before .go-on .ensures)
 
 pub read-spec : {M : Type 1} → statement M

@@ -2,17 +2,17 @@ use mathlib.Core.Path.{_∙_}
 use borrow.Author.Tests.{eq-eqb}
 use Rattle.rules.proofs.Tests.{tests}
 use Rattle.rules.proofs.Leaves.{leaves}
-use Rattle.wav.specs.Head.{writtenOf}
+use Rattle.wav.specs.Head.{headWritten}
 use borrow.Author.Needs.{needs}
 use Rattle.wav.proofs.head.write.Statement.{statement}
 use Rattle.wav.proofs.head.write.Tie as tie
 
 returns : tie.Need-returns
-unfolding writtenOf
+unfolding headWritten
 returns c = search tests
 
 returns-2 : tie.Need-returns-2
-unfolding writtenOf
+unfolding headWritten
 returns-2 c = rw (eq-eqb _ 44 (c .before .before .before .before .before .before .if1 .left)) (leaves (c .before .before .copy .ensures ∙ c .before .before .before .before .before .head-of .ensures))
 
 pub write-spec : {M : Type 1} → statement M

@@ -6,18 +6,18 @@ use lib.ListN.{length, length-take}
 use Rattle.checksum.specs.Checksum.{crc32}
 use Rattle.rules.proofs.Tests.{tests}
 use Rattle.rules.proofs.Leaves.{leaves}
-use Rattle.wav.specs.Seal.{writtenOf}
+use Rattle.wav.specs.Seal.{sealWritten}
 use Rattle.wav.proofs.Seals.{length-said, laid}
 use borrow.Author.Needs.{needs}
 use Rattle.wav.proofs.seal.write.Statement.{statement}
 use Rattle.wav.proofs.seal.write.Tie as tie
 
 returns : tie.Need-returns
-unfolding writtenOf
+unfolding sealWritten
 returns c = search tests
 
 returns-2 : tie.Need-returns-2
-unfolding writtenOf
+unfolding sealWritten
 returns-2 c = rw (eq-eqb _ 24 (c .before .before .if1 .left), lt-ltb 1 _ (c .if2 .taken))
 
 slice-aggregate-copy : tie.Need-slice-aggregate-copy
@@ -27,7 +27,7 @@ copy-requires : tie.Need-copy-requires
 copy-requires c κs = let size = ap length (c .before .before .before .before .before .said-by .ensures) ∙ length-said _ in simp length-take (omega arith)
 
 returns-3 : tie.Need-returns-3
-unfolding writtenOf
+unfolding sealWritten
 returns-3 c =
     rw (eq-eqb _ 24 (c .before .before .before .before .before .before .before .before .before .before .before .before .before .before .before .before .if1 .left), le-ltb 1 _ (c .before .before .before .before .before .before .before .before .before .before .before .before .before .before .if2 .left))
     (leaves (laid (c .before .before .before .before .before .before .before .before .before .before .before .before .before .before .before .before .before .before .args .seal) (now (c .before .before .before .before .before .before .before .before .before .before .before .before .before .before .before .before .before .before .args .out)) (c .before .before .before .before .before .before .before .before .before .before .before .before .before .before .before .before .if1 .left) (c .before .before .before .before .before .before .before .copy .ensures ∙ c .before .before .before .before .before .before .before .before .before .before .before .before .before .said-by .ensures) (c .before .before .copy2 .ensures ∙ c .before .before .before .before .before .before .before .before .before .before .four-of .ensures) (c .before .before .before .before .before .before .before .before .before .before .before .crc32 .ensures ∙ ap (crc32 0) (c .before .before .before .before .before .before .before .before .before .before .before .before .before .said-by .ensures))))
