@@ -7,6 +7,7 @@
 
 pub mod models;
 pub mod plain_sheet;
+pub mod plain_wav;
 pub mod reader;
 pub mod rng;
 pub mod tally;
@@ -55,6 +56,8 @@ pub mod shadow;
 pub mod sheet;
 #[cfg(feature = "transforms")]
 pub mod transforms;
+#[cfg(feature = "wav")]
+pub mod wav;
 #[cfg(feature = "frame")]
 pub mod whole;
 #[cfg(feature = "model")]
@@ -108,6 +111,8 @@ pub const GROUPS: &[Group] = &[
     ("writer", writer::compare),
     #[cfg(feature = "sheet")]
     ("mend", mend::compare),
+    #[cfg(feature = "wav")]
+    ("wav", wav::compare),
     #[cfg(feature = "network")]
     ("network", network::compare),
     #[cfg(feature = "frame")]

@@ -68,11 +68,46 @@ pub fn write(out: &mut [u8], side: u32, entries: &[u64]) -> u32 {
         return 36;
     }
     let (records, rest) = out.split_at_mut(end);
+    lay(records, side, entries);
+    trailer(rest, records, side as u8);
+    0
+}
+
+fn lay(records: &mut [u8], side: u32, entries: &[u64]) {
     for (record, entry) in records.chunks_exact_mut(8).zip(entries) {
         record[..4].copy_from_slice(&(*entry as u32).to_le_bytes());
         record[4..].copy_from_slice(&[(entry >> 32) as u8, side as u8, 0, 0]);
     }
-    trailer(rest, records, side as u8);
+}
+
+/// Records alone: so many there are with these, and the sum of their bytes.
+pub fn records(out: &mut [u8], side: u32, entries: &[u64], count: u64, passed: u64) -> Result<[u64; 2], u32> {
+    let count = u128::from(count) + entries.len() as u128;
+    if count >= 536_870_912 {
+        return Err(32);
+    }
+    if side > 1 {
+        return Err(33);
+    }
+    if entries.iter().any(|entry| entry >> 32 > 1) {
+        return Err(34);
+    }
+    let records = out.get_mut(..8 * entries.len()).ok_or(36u32)?;
+    lay(records, side, entries);
+    Ok([count as u64, (passed as u32).wrapping_add(sum(records)).into()])
+}
+
+/// A trailer alone.
+pub fn trailer_of(out: &mut [u8], side: u32, count: u64, sum: u64) -> u32 {
+    if count >= 536_870_912 {
+        return 32;
+    }
+    if side > 1 {
+        return 33;
+    }
+    let Some(out) = out.first_chunk_mut::<16>() else { return 36 };
+    let words = [8 * count as u32, count as u32, side, sum as u32];
+    out.iter_mut().zip(words.iter().flat_map(|word| word.to_le_bytes())).for_each(|(to, byte)| *to = byte);
     0
 }
 

@@ -20,6 +20,7 @@ pub fn compare(options: &Options) -> Tally {
         let file = any_file(rng);
         reading(t, rng, &file);
         writing(t, rng);
+        parts(t, rng);
     }
     if options.all {
         most(t);
@@ -171,6 +172,71 @@ fn writing(t: &mut Tally, rng: &mut Rng) {
     let number = tuppence::sheet_write(&mut ours, side, &entries);
     let want = plain::write(&mut theirs, side, &entries);
     t.judge("sheet_write", given, values![number, ours], values![want, theirs]);
+}
+
+/// A sheet in parts of any length, some of them refused, and its trailer: in a row they are the sheet written at once.
+fn parts(t: &mut Tally, rng: &mut Rng) {
+    let side = rng.below(2) as u32;
+    let (mut numbers, mut row, mut all) = ([0; 2], vec![], vec![]);
+    for _ in 0..rng.below(4) {
+        let entries: Vec<u64> = (0..rng.below(6)).map(|_| entry(rng)).collect();
+        let mut records = vec![0; 8 * entries.len()];
+        if one_part(t, rng, &mut numbers, &mut records, side, &entries) == 0 {
+            row.extend(records);
+            all.extend(entries);
+        }
+        let (wrong, few) = ([entry(rng) | 1 << 33], [entry(rng)]);
+        let other = rng.pick(&[2, 256, u32::MAX]);
+        let mut many = [rng.pick(&[536_870_910, 536_870_911, 1 << 32, u64::MAX]), rng.bits()];
+        match rng.below(6) {
+            0 => one_part(t, rng, &mut numbers, &mut [1; 8], side, &wrong),
+            1 => one_part(t, rng, &mut numbers, &mut [1; 7], side, &few),
+            2 => one_part(t, rng, &mut numbers, &mut [1; 8], other, &few),
+            3 => one_part(t, rng, &mut numbers.repeat(2), &mut [1; 8], side, &few),
+            4 => one_part(t, rng, &mut many, &mut [1; 9], side, &few),
+            _ => 0,
+        };
+    }
+    let mut trailer = [0; 16];
+    one_trailer(t, rng, &mut trailer, side, numbers[0], numbers[1]);
+    row.extend(trailer);
+    let mut whole = vec![0; 8 * all.len() + 16];
+    let want = plain::write(&mut whole, side, &all);
+    t.judge("sheet in parts", Given::new(named![side, all]), values![0u32, row], values![want, whole]);
+    let count = rng.pick(&[0, 536_870_911, 536_870_912, u64::MAX]);
+    let room = rng.near(16);
+    let (sum, mut out, side) = (rng.bits(), rng.bytes(room), rng.pick(&[0, 1, 2, u32::MAX]));
+    one_trailer(t, rng, &mut out, side, count, sum);
+}
+
+/// One call, with the numbers and the records that it leaves.
+fn one_part(t: &mut Tally, rng: &mut Rng, numbers: &mut [u64], out: &mut [u8], side: u32, entries: &[u64]) -> u32 {
+    let out_before = rng.bytes(out.len());
+    out.copy_from_slice(&out_before);
+    let (list, before) = (entries.to_vec(), numbers.to_vec());
+    let given = named![before, out_before, side, list];
+    let given = Given::new(given);
+    let number = tuppence::sheet_records(numbers, out, side, &list);
+    let (mut want, mut wanted, mut theirs) = (5, before.clone(), out_before.clone());
+    if let [count, passed] = before[..] {
+        match plain::records(&mut theirs, side, entries, count, passed) {
+            Ok(told) => (want, wanted) = (0, told.to_vec()),
+            Err(refused) => want = refused,
+        }
+    }
+    t.judge("sheet_records", given, values![number, numbers.to_vec(), out.to_vec()], values![want, wanted, theirs]);
+    number
+}
+
+fn one_trailer(t: &mut Tally, rng: &mut Rng, out: &mut [u8], side: u32, count: u64, sum: u64) {
+    let out_before = rng.bytes(out.len());
+    out.copy_from_slice(&out_before);
+    let given = named![out_before, side, count, sum];
+    let given = Given::new(given);
+    let number = tuppence::sheet_trailer(out, side, count, sum);
+    let mut theirs = out_before.clone();
+    let want = plain::trailer_of(&mut theirs, side, count, sum);
+    t.judge("sheet_trailer", given, values![number, out.to_vec()], values![want, theirs]);
 }
 
 /// The largest number of records, and one more: neither slice is written, and the longer one is not even read.

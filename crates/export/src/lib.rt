@@ -9,5 +9,6 @@ pub mod of_numbers;
 pub mod of_pitch;
 pub mod of_sheet;
 pub mod of_transforms;
+pub mod of_wav;
 pub mod of_whole;
 pub mod of_writer;

@@ -21,7 +21,7 @@ pub length-records : (side : ℕ) (es : List ℕ) → length (recordsOf side es)
 length-records side [] = refl
 length-records side (e ∷ es) = simp (length-append, length-record, length-records side es) (omega arith)
 
-records-append : (side : ℕ) (xs ys : List ℕ) → recordsOf side (xs ++ ys) ≡ recordsOf side xs ++ recordsOf side ys
+pub records-append : (side : ℕ) (xs ys : List ℕ) → recordsOf side (xs ++ ys) ≡ recordsOf side xs ++ recordsOf side ys
 records-append side [] ys = refl
 records-append side (x ∷ xs) ys = rw (records-append side xs ys) (sym (append-assoc (recordOf side x) (recordsOf side xs) (recordsOf side ys)))
 

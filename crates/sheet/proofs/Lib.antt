@@ -3,6 +3,7 @@ pub mod Fields
 pub mod Runs
 pub mod Halves
 pub mod Laying
+pub mod InRow
 pub mod Inverse
 pub mod Back
 pub mod Kept

@@ -1,5 +1,7 @@
 // A side sheet behind the audio (request 02): records of 8 bytes and a trailer of 16 that points back to them. What
 // precedes the records is not read.
+pub mod parts;
+
 ghost use mathlib.Core.Path.{_≡_};
 ghost use Prim.Native.Nat.{_+_, _*_, _/_, _%_, _≤_, _<_, _^_};
 ghost use lib.ListN.{length, drop};
@@ -21,7 +23,7 @@ pub enum Reading {
     Refused(u32),
 }
 
-fn joined(a: u8, b: u8, c: u8, d: u8) -> usize
+pub fn joined(a: u8, b: u8, c: u8, d: u8) -> usize
     ensures { λ r. ⌜ (r ≡ a + 256 * b + 65536 * c + 16777216 * d) × (r < 2 ^ 32) ⌝ }
 {
     (a as usize) + 256 * (b as usize) + 65536 * (c as usize) + 16777216 * (d as usize)
@@ -219,7 +221,7 @@ fn kinds_good(entries: &[u64]) -> bool
     true
 }
 
-fn low(number: u64) -> u8
+pub fn low(number: u64) -> u8
     ensures { λ r. ⌜ r ≡ number % 256 ⌝ }
 {
     (number % 256) as u8

@@ -284,6 +284,20 @@ fn of_sheet(rng: &mut Rng) -> Vec<Row> {
     ]
 }
 
+/// Beside a lookup for each byte in plain Rust.
+#[cfg(feature = "wav")]
+fn of_wav(rng: &mut Rng) -> Vec<Row> {
+    let step = |c: u32, _| if c & 1 == 1 { 0xEDB8_8320 ^ (c >> 1) } else { c >> 1 };
+    let table: [u32; 256] = std::array::from_fn(|byte| (0..8).fold(byte as u32, step));
+    let audio = rng.bytes(65_536);
+    let again = audio.clone();
+    vec![row(
+        "a checksum of 65,536 bytes",
+        move || tuppence::checksum(0, black_box(&audio)),
+        move || !black_box(&again).iter().fold(!0u32, |c, byte| table[usize::from(c as u8 ^ byte)] ^ (c >> 8)),
+    )]
+}
+
 /// What a frame is given.
 #[cfg(feature = "frame")]
 struct Frame {
@@ -452,6 +466,8 @@ fn main() {
     rows.extend(of_network(rng));
     #[cfg(feature = "sheet")]
     rows.extend(of_sheet(rng));
+    #[cfg(feature = "wav")]
+    rows.extend(of_wav(rng));
     #[cfg(feature = "frame")]
     rows.extend([of_frame(rng), of_whole(rng)].into_iter().flatten());
     let words: Vec<String> = std::env::args().skip(1).collect();

@@ -146,11 +146,27 @@ surface! {
 }
 
 // Start, number of records and side of a good sheet; an entry is its frame's number, and 2^32 more where it was heard;
-// of a mended file, how many bytes and records it has.
+// of a sheet in parts, how many records there are so far and the sum of their bytes; of a mended file, how many bytes and
+// records it has.
 #[cfg(feature = "sheet")]
 surface! {
     tuppence_sheet_write as sheet_write(out: &mut [u8], side: u32, entries: &[u64]) -> u32;
+    tuppence_sheet_records as sheet_records(numbers: &mut [u64], out: &mut [u8], side: u32, entries: &[u64]) -> u32;
+    tuppence_sheet_trailer as sheet_trailer(out: &mut [u8], side: u32, count: u64, sum: u64) -> u32;
     tuppence_sheet_read as sheet_read(numbers: &mut [u64], file: &[u8]) -> u32;
     tuppence_sheet_entry as sheet_entry(entry: &mut [u64], file: &[u8], index: u64) -> u32;
     tuppence_mend as mend(numbers: &mut [u64], out: &mut [u8], file: &[u8], place: u64) -> u32;
+}
+
+// The checksum of what was handed in before, 0 of nothing, and of these bytes behind it; side, bytes of audio and their
+// checksum of a seal; place, format, channels, rate and size of a WAV's head, all 0 at first: the bytes lent are the file's
+// from the place on, 34 or as many as there are, 0 is told where the audio starts at the place, and 40 where the next bytes
+// are wanted.
+#[cfg(feature = "wav")]
+surface! {
+    tuppence_checksum as checksum(before: u32, bytes: &[u8]) -> u32;
+    tuppence_seal_write as seal_write(out: &mut [u8], side: u32, size: u64, checksum: u32) -> u32;
+    tuppence_seal_read as seal_read(numbers: &mut [u64], file: &[u8]) -> u32;
+    tuppence_wav_head as wav_head(out: &mut [u8], rate: u32, size: u32, behind: u32) -> u32;
+    tuppence_wav_read as wav_read(numbers: &mut [u64], file: &[u8]) -> u32;
 }

@@ -1,0 +1,32 @@
+// CRC-32 as zip and PNG have it, over bytes handed in one after another.
+pub mod table;
+
+ghost use mathlib.Core.Path.{_≡_};
+ghost use Rattle.checksum.specs.Checksum.{table, crc, crc32};
+
+fn wide(byte: u8) -> u32
+    ensures { λ r. ⌜ r ≡ byte ⌝ }
+{
+    byte as u32
+}
+
+// The register after these bytes, by the table's entries.
+fn update(entries: &[u32; 256], start: u32, bytes: &[u8]) -> u32
+    requires { ⌜ now entries ≡ table ⌝ }
+    ensures { λ r. ⌜ r ≡ crc start (now (bytes .entry)) ⌝ }
+{
+    let mut register = start;
+    for i in 0..bytes.len() {
+        let place = (register ^ wide(bytes[i])) % 256;
+        register = entries[place as usize] ^ (register / 256);
+    }
+    register
+}
+
+// The checksum of what was handed in before, 0 of nothing, and of these bytes behind it.
+pub fn crc32(before: u32, bytes: &[u8]) -> u32
+    ensures { λ r. ⌜ r ≡ crc32 before (now (bytes .entry)) ⌝ }
+{
+    let entries = table::all();
+    update(&entries, before ^ 0xffff_ffff, bytes) ^ 0xffff_ffff
+}

@@ -1,0 +1,63 @@
+-- What is claimed of seals and of heads. The proofs are in proofs/: Sealed, Onward, Enough, Back.
+use Prim.Native.Nat.{ℕ, zero, suc, _+_, _-_, _≤_, _<_, _^_}
+use mathlib.Core.List.{List, _++_}
+use mathlib.Core.Path.{_≡_}
+use lib.ListN.{take, drop}
+use Rattle.sheet.specs.Sheet.{four}
+use Rattle.wav.specs.Seal.{nameOf, sealOf, sealRead}
+use Rattle.wav.specs.Chunks.{unread, stepOf}
+use Rattle.wav.specs.Head.{headOf}
+use Rattle.wav.specs.declared.seal.Seal.{Seal}
+use Rattle.wav.specs.declared.seal.Reading.the-variants as reading
+use Rattle.wav.specs.declared.chunks.Head.{Head}
+use Rattle.wav.specs.declared.chunks.Step.{Step}
+use Rattle.wav.specs.declared.chunks.Step.the-variants.{Audio, On, Refused}
+
+-- ---- seals
+
+-- a seal that 24 bytes can hold
+pub record Holds (x : Seal) : Type 0 where
+  pub known : x .side ≤ 1
+  pub long : x .size < 2 ^ 64
+  pub sum : x .checksum < 2 ^ 32
+
+-- what is written reads back, whatever stands behind it
+abbrev pub SealBack : Type 0
+SealBack = (x : Seal) (rest : List ℕ) → Holds x → sealRead (sealOf x ++ rest) ≡ reading.Whole x
+
+-- so a seal is none of another side, of other audio
+abbrev pub OneSeal : Type 0
+OneSeal = (x y : Seal) (rest rest′ : List ℕ) → Holds x → Holds y → sealOf x ++ rest ≡ sealOf y ++ rest′ → x ≡ y
+
+-- and with the other side's name in its place it is none at all
+abbrev pub renamed : Seal → List ℕ → List ℕ
+renamed x s = take 4 s ++ (four (nameOf (1 - x .side)) ++ drop 8 s)
+
+abbrev pub OtherName : Type 0
+OtherName = (x : Seal) (rest : List ℕ) → Holds x → sealRead (renamed x (sealOf x ++ rest)) ≡ reading.Refused 52
+
+-- ---- heads
+
+-- a reading that goes on is at least 8 bytes further: so it ends, however a file is made
+abbrev pub Onward : Type 0
+Onward = (s : List ℕ) (h h′ : Head) → stepOf s h ≡ On h′ → h .place + 8 ≤ h′ .place
+
+-- of the bytes from a place on, the first 34 are enough
+abbrev pub Enough : Type 0
+Enough = (s : List ℕ) (h : Head) → stepOf (take 34 s) h ≡ stepOf s h
+
+-- at most n steps of a reading, each lent the file from the place on that the one before wants
+abbrev pub andOn : Step → (Head → Step) → Step
+andOn (Audio h) more = Audio h
+andOn (On h) more = more h
+andOn (Refused n) more = Refused n
+
+unfoldable pub follow : ℕ → List ℕ → Head → Step
+follow zero file h = On h
+follow (suc n) file h = andOn (stepOf (drop (h .place) file) h) (follow n file)
+
+-- what is written reads back, in three steps, whatever stands behind it
+abbrev pub HeadBack : Type 0
+HeadBack =
+    (rate size behind : ℕ) (rest : List ℕ) → rate < 2 ^ 32 → size < 2 ^ 32
+    → follow 3 (headOf rate size behind ++ rest) unread ≡ Audio (record { place = 44; format = 16; channels = 1; rate = rate; size = size })

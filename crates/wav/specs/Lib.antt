@@ -1,0 +1,4 @@
+pub mod Seal
+pub mod Chunks
+pub mod Head
+pub mod Laws
