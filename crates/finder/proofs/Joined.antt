@@ -23,7 +23,7 @@ use Rattle.pitch_search.specs.declared.Product.{Product}
 use Rattle.finder.specs.declared.Pitch.{Pitch}
 use Rattle.finder.specs.declared.doubling.Asked.{Asked}
 use Rattle.finder.specs.declared.doubling.Chosen.{Chosen}
-use Rattle.finder.specs.Doubling.{pitchGain, productAt, yyLookup, secondPlace, threshold, considered, shorter, gainOf, periodAt, removed, removeDoubling}
+use Rattle.finder.specs.Doubling.{pitchGain, productAt, yyLookup, secondPlace, threshold, preferred, shorter, gainOf, periodAt, removed, removeDoubling}
 use Rattle.finder.specs.Finder.{process}
 use Rattle.finder.specs.Search.{everySecond, coarse, fine, interpolated, pitchSearch}
 use Rattle.finder.proofs.Ranges.{coarse-small, length-fine, best-small, search-small}
@@ -53,8 +53,8 @@ pub better : (x lookup : List Float) (a : Asked) (t1 k : ℕ) (best : Chosen) {t
     → g1 ≡ pitchGain ((p ⊕ q) ⊘ f32 0x40000000) (a .xx) ((at lookup t1 ⊕ at lookup t1b) ⊘ f32 0x40000000)
     → thresh ≡ threshold a t1 k → lt thresh g1 ≡ s
     → cond s (record { xy = (p ⊕ q) ⊘ f32 0x40000000; yy = (at lookup t1 ⊕ at lookup t1b) ⊘ f32 0x40000000; t = t1; g = g1 }) best
-    ≡ considered x lookup a t1 k best
-unfolding considered
+    ≡ preferred x lookup a t1 k best
+unfolding preferred
 better x lookup a t1 k best place first second gain asked test = rw (← test, gain, asked, first, second, place)
 
 -- all of it

@@ -20,7 +20,7 @@ use Rattle.pitch_search.proofs.Firsts.{first-below}
 use Rattle.finder.specs.declared.doubling.Asked.{Asked}
 use Rattle.finder.specs.declared.doubling.Chosen.{Chosen}
 use Rattle.finder.specs.Search.{leaning, everySecond, coarse, fine, interpolated, pitchSearch}
-use Rattle.finder.specs.Doubling.{shortened, secondCheck, secondPlace, pitchGain, productAt, threshold, considered, shorterStep, shorter, periodAt, removed}
+use Rattle.finder.specs.Doubling.{shortened, secondCheck, secondPlace, pitchGain, productAt, threshold, preferred, shorterStep, shorter, periodAt, removed}
 use Rattle.finder.specs.Finder.{process}
 use Rattle.finder.specs.Laws.{PeriodInRange}
 use Rattle.finder.proofs.Two.{both-below}
@@ -121,9 +121,9 @@ walk-kept {S} body P turn (suc n) s h = on (walk n body s) (walk-kept body P tur
     on (go t) p = turn n t p
     on (stop t) p = p
 
-considered-inner : (x lookup : List Float) (a : Asked) (t1 k : ℕ) (best : Chosen) → Inner t1 → Inner (best .t) → Inner (considered x lookup a t1 k best .t)
-unfolding considered
-considered-inner x lookup a t1 k best p q =
+preferred-inner : (x lookup : List Float) (a : Asked) (t1 k : ℕ) (best : Chosen) → Inner t1 → Inner (best .t) → Inner (preferred x lookup a t1 k best .t)
+unfolding preferred
+preferred-inner x lookup a t1 k best p q =
     let t1b = secondPlace (a .t0) t1 k in
     let xy = (productAt x t1 ⊕ productAt x t1b) ⊘ f32 0x40000000 in
     let yy = (at lookup t1 ⊕ at lookup t1b) ⊘ f32 0x40000000 in
@@ -142,10 +142,10 @@ shorter-inner x lookup a start h = walk-kept (shorterStep x lookup a) (λ best. 
     turn i best p = by (ltb (shortened (a .t0) (i + 2)) 30) refl
       where
         by : (s : Bool) → ltb (shortened (a .t0) (i + 2)) 30 ≡ s
-            → Inner (value (cond s (stop best) (go (considered x lookup a (shortened (a .t0) (i + 2)) (i + 2) best))) .t)
+            → Inner (value (cond s (stop best) (go (preferred x lookup a (shortened (a .t0) (i + 2)) (i + 2) best))) .t)
         by true e = p
         by false e =
-            considered-inner x lookup a (shortened (a .t0) (i + 2)) (i + 2) best
+            preferred-inner x lookup a (shortened (a .t0) (i + 2)) (i + 2) best
             (record { least = ltb-false (shortened (a .t0) (i + 2)) 30 e; most = shortened-small (a .t0) (i + 2) h (omega arith) }) p
 
 pub best-inner : (x lookup : List Float) (a : Asked) (start : Chosen) {best : Chosen} → best ≡ shorter x lookup a start → a .t0 ≤ 383 → Inner (start .t) → Inner (best .t)

@@ -50,27 +50,28 @@ shortened t0 k = (2 * t0 + k) / (2 * k)
 unfoldable pub secondCheck : List ℕ
 secondCheck = 0 ∷ 0 ∷ 3 ∷ 2 ∷ 3 ∷ 2 ∷ 5 ∷ 2 ∷ 3 ∷ 2 ∷ 3 ∷ 2 ∷ 5 ∷ 2 ∷ 3 ∷ 2 ∷ []
 
--- t1b
+-- t1b = if k == 2 { if t1 + t0 > max_period { t0 } else { t0 + t1 } } else { (2 * SECOND_CHECK[k] * t0 + k) / (2 * k) }
 unfoldable pub secondPlace : ℕ → ℕ → ℕ → ℕ
 secondPlace t0 t1 k = cond (eqb k 2) (cond (ltb 384 (t1 + t0)) t0 (t0 + t1)) ((2 * natAt secondCheck k * t0 + k) / (2 * k))
 
--- cont
-abbrev pub carried : Asked → ℕ → ℕ → Float
-carried a t1 k =
+-- cont = if (t1 - prev_period).abs() <= 1 { last_gain } else if (t1 - prev_period).abs() <= 2 && 5 * k * k < t0 { last_gain / 2.0 } else { 0.0 }
+abbrev pub continuity : Asked → ℕ → ℕ → Float
+continuity a t1 k =
     let far = apart t1 (a .prev) in
     cond (leb far 1) (a .last) (cond (leb far 2 && ltb (5 * k * k) (a .t0)) (a .last ⊘ two) (f32 0))
 
--- thresh. The second case is the text's, and is never reached
+-- thresh: (0.85 * g0 - cont).max(0.4) below 3 * min_period, (0.9 * g0 - cont).max(0.5) below 2 * min_period, which the text asks behind
+-- the first and never reaches, and else (0.7 * g0 - cont).max(0.3)
 abbrev pub threshold : Asked → ℕ → ℕ → Float
 threshold a t1 k =
-    let cont = carried a t1 k in
+    let cont = continuity a t1 k in
     cond (ltb t1 90) (larger (f32 0x3F59999A ⊗ a .g0 ⊖ cont) (f32 0x3ECCCCCD))
     (cond (ltb t1 60) (larger (f32 0x3F666666 ⊗ a .g0 ⊖ cont) (f32 0x3F000000))
     (larger (f32 0x3F333333 ⊗ a .g0 ⊖ cont) (f32 0x3E99999A)))
 
--- the better of t1 and the best so far
-unfoldable pub considered : List Float → List Float → Asked → ℕ → ℕ → Chosen → Chosen
-considered x lookup a t1 k best =
+-- the better of t1 and the best so far: xy = (xy + xy2) / 2.0; yy = (yy_lookup[t1] + yy_lookup[t1b]) / 2.0; if g1 > thresh { .. }
+unfoldable pub preferred : List Float → List Float → Asked → ℕ → ℕ → Chosen → Chosen
+preferred x lookup a t1 k best =
     let t1b = secondPlace (a .t0) t1 k in
     let xy = (productAt x t1 ⊕ productAt x t1b) ⊘ two in
     let yy = (at lookup t1 ⊕ at lookup t1b) ⊘ two in
@@ -82,18 +83,18 @@ abbrev pub shorterStep : List Float → List Float → Asked → ℕ → Chosen 
 shorterStep x lookup a i best =
     let k = i + 2 in
     let t1 = shortened (a .t0) k in
-    cond (ltb t1 30) (stop best) (go (considered x lookup a t1 k best))
+    cond (ltb t1 30) (stop best) (go (preferred x lookup a t1 k best))
 
 unfoldable pub shorter : List Float → List Float → Asked → Chosen → Chosen
 shorter x lookup a start = value (walk 14 (shorterStep x lookup a) start)
 
 -- pg = if best_yy <= best_xy { 1.0 } else { best_xy / (best_yy + 1.0) }
-abbrev pub shareOf : Float → Float → Float
-shareOf bestXy bestYy = cond (le bestYy bestXy) one (bestXy ⊘ (bestYy ⊕ one))
+abbrev pub explained : Float → Float → Float
+explained bestXy bestYy = cond (le bestYy bestXy) one (bestXy ⊘ (bestYy ⊕ one))
 
 -- pg.min(g), for best_xy.max(0.0)
 abbrev pub gainOf : Chosen → Float
-gainOf best = smaller (shareOf (larger (best .xy) (f32 0)) (best .yy)) (best .g)
+gainOf best = smaller (explained (larger (best .xy) (f32 0)) (best .yy)) (best .g)
 
 -- (2 * t + offset).max(PITCH_MIN_PERIOD)
 abbrev pub periodAt : List Float → ℕ → ℕ

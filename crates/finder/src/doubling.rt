@@ -2,23 +2,8 @@
 ghost use mathlib.Core.Path.{_≡_};
 ghost use Prim.Native.Nat.{_/_, _≤_, min};
 ghost use lib.ListN.{length};
-ghost use Rattle.finder.specs.Doubling.{
-  pitchGain,
-  productAt,
-  yyLookup,
-  shortened,
-  secondCheck,
-  secondPlace,
-  carried,
-  threshold,
-  considered,
-  shorter,
-  shareOf,
-  gainOf,
-  periodAt,
-  removed,
-  removeDoubling,
-};
+ghost use Rattle.finder.specs.Doubling.{pitchGain, productAt, yyLookup, shortened, secondCheck, secondPlace, continuity, threshold};
+ghost use Rattle.finder.specs.Doubling.{preferred, shorter, explained, gainOf, periodAt, removed, removeDoubling};
 use crate::Pitch;
 use crate::search;
 
@@ -103,7 +88,7 @@ fn second_place(t0: usize, t1: usize, k: usize) -> usize
 // What the last gain is worth to a period near the last one.
 fn carry(a: Asked, t1: usize, k: usize) -> f32
     requires { ⌜ k ≤ 15 ⌝ }
-    ensures { λ r. ⌜ r ≡ carried a t1 k ⌝ }
+    ensures { λ r. ⌜ r ≡ continuity a t1 k ⌝ }
 {
     let far = search::distance(t1, a.prev);
     if far <= 1 {
@@ -135,7 +120,7 @@ fn threshold_at(a: Asked, t1: usize, k: usize) -> f32
 // The better of a period of t1 and the best so far.
 fn consider(x: &[f32], lookup: &[f32], a: Asked, t1: usize, k: usize, best: Chosen) -> Chosen
     requires { ⌜ (length (now x) ≡ 864) × (length (now lookup) ≡ 385) × (a .t0 ≤ 383) × (t1 ≤ 383) × (2 ≤ k) × (k ≤ 15) ⌝ }
-    ensures { λ r. ⌜ r ≡ considered (now (x .entry)) (now (lookup .entry)) a t1 k best ⌝ }
+    ensures { λ r. ⌜ r ≡ preferred (now (x .entry)) (now (lookup .entry)) a t1 k best ⌝ }
 {
     let t1b = second_place(a.t0, t1, k);
     let xy = (product_at(x, t1) + product_at(x, t1b)) / 2.0;
@@ -169,8 +154,8 @@ fn try_shorter(x: &[f32], lookup: &[f32], a: Asked, start: Chosen) -> Chosen
 }
 
 // The share of the energy that the correlation explains.
-fn share_of(best_xy: f32, best_yy: f32) -> f32
-    ensures { λ r. ⌜ r ≡ shareOf «best_xy» «best_yy» ⌝ }
+fn explain(best_xy: f32, best_yy: f32) -> f32
+    ensures { λ r. ⌜ r ≡ explained «best_xy» «best_yy» ⌝ }
 {
     if best_yy <= best_xy {
         return 1.0;
@@ -182,7 +167,7 @@ fn gain_of(best: Chosen) -> f32
     ensures { λ r. ⌜ r ≡ gainOf best ⌝ }
 {
     let best_xy = numbers::max(best.xy, 0.0);
-    numbers::min(share_of(best_xy, best.yy), best.g)
+    numbers::min(explain(best_xy, best.yy), best.g)
 }
 
 // Twice the period t, one more or less where the products beside it lean, and 60 at the least.

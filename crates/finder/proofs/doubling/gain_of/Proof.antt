@@ -8,6 +8,6 @@ gain-of-spec =
     tie.close
     (tie.spec
     (λ c κs. search needs)  -- max-requires
-    (λ c κs. search needs)  -- share-of-requires
+    (λ c κs. search needs)  -- explain-requires
     (λ c κs. search needs)  -- min-requires
-    (λ c. rw (c .min .ensures, c .before .share-of .ensures, c .before .before .max .ensures)))  -- returns
+    (λ c. rw (c .min .ensures, c .before .explain .ensures, c .before .before .max .ensures)))  -- returns
