@@ -31,7 +31,7 @@ pub fn compare(options: &Options) -> Tally {
 }
 
 /// A tone of some period and its overtones, over noise; now and then with a special number in it.
-fn voice(rng: &mut Rng, len: usize) -> Vec<f32> {
+pub(crate) fn voice(rng: &mut Rng, len: usize) -> Vec<f32> {
     let period = 40.0 + 800.0 * rng.unit();
     let (loud, noise) = (30.0 + 8000.0 * rng.unit(), rng.pick(&[0.0, 0.01, 0.1, 1.0]));
     let tone =

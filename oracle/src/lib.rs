@@ -30,6 +30,8 @@ pub mod desk;
 pub mod dictation;
 #[cfg(feature = "frame")]
 pub mod faults;
+#[cfg(feature = "finder")]
+pub mod finder;
 #[cfg(feature = "frame")]
 pub mod frame;
 #[cfg(feature = "lag")]
@@ -99,6 +101,8 @@ pub const GROUPS: &[Group] = &[
     ("pitch", pitch::compare),
     #[cfg(feature = "lag")]
     ("lag", lag::compare),
+    #[cfg(feature = "finder")]
+    ("finder", finder::compare),
     #[cfg(feature = "transforms")]
     ("transforms", transforms::compare),
     #[cfg(feature = "logs")]

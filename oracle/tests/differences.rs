@@ -110,6 +110,33 @@ fn a_downsampling_of_other_lengths() {
 }
 
 #[test]
+fn a_finder_on_other_lengths() {
+    refused(2, |numbers| {
+        let mut lag = [7];
+        let number = tuppence::find(numbers, &mut lag, &[1.0; 2]);
+        assert_eq!(lag, [7]);
+        number
+    });
+    let text = |n: usize| panics(|| pitch::PitchFinder::new().process(&vec![1.0; n]));
+    assert_eq!([1, 2, 1729, 1730].map(text), [true, false, false, true]);
+}
+
+#[test]
+fn a_last_period_that_is_no_whole_number_of_0_to_768() {
+    // pulses, 100 apart
+    let sound: Vec<f32> = (0..1728).map(|i| if i % 100 == 0 { 1000.0 } else { 0.0 }).collect();
+    let find = |last: f32| {
+        let (mut numbers, mut lag) = ([last, 1.0], [7]);
+        assert_eq!(tuppence::find(&mut numbers, &mut lag, &sound), 0);
+        (lag[0] as usize, numbers[1])
+    };
+    for (last, read) in [(f32::NAN, 0), (-1.0, 0), (99.9, 99), (1e9, 768), (f32::INFINITY, 768)] {
+        assert_eq!(find(last), pitch::PitchFinder::after(read, 1.0).process(&sound));
+    }
+    assert!(!panics(|| pitch::PitchFinder::after(usize::MAX, f32::NAN).process(&sound)));
+}
+
+#[test]
 fn a_layer_of_more_than_127() {
     refused(128, |out| tuppence::dense(out, &[1; 128], &[2; 128], 2, &[3.0]));
     let layer = rnn::dense_layer(&[1; 128], &[2; 128], rnn::Activation::Relu);

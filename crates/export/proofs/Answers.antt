@@ -1,4 +1,4 @@
--- What the number of an answer says of a leaf whose answer is an enum, and an answer that goes into one place. Assumes nothing.
+-- What the number of an answer says of a leaf whose answer is an enum, and an answer that goes into one place, or into two. Assumes nothing.
 use mathlib.Core.Path.{_≡_, ap, _∙_, sym}
 use mathlib.Core.List.{List, [], _∷_}
 use Prim.Native.Nat.{ℕ}
@@ -25,3 +25,9 @@ pub stored : {A : Type 0} (xs : List A) {v w : A} → length xs ≡ 1 → v ≡ 
 stored [] h e = absurd (omega arith)
 stored {A} (x ∷ []) h e = ap (λ (v : A). v ∷ []) e
 stored (x ∷ y ∷ xs) h e = absurd (omega arith)
+
+pub stored-two : {A : Type 0} (xs : List A) {v w p q : A} → length xs ≡ 2 → v ≡ p → w ≡ q → set (set xs 0 v) 1 w ≡ (p ∷ q ∷ [])
+stored-two [] h e d = absurd (omega arith)
+stored-two (x ∷ []) h e d = absurd (omega arith)
+stored-two (x ∷ y ∷ []) h e d = rw (e, d)
+stored-two (x ∷ y ∷ z ∷ xs) h e d = absurd (omega arith)

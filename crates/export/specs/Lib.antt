@@ -1,3 +1,4 @@
+pub mod OfFinder
 pub mod OfLag
 pub mod OfNetwork
 pub mod OfNumbers

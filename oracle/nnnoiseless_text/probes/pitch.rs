@@ -11,6 +11,11 @@ pub mod probe {
             PitchFinder(super::PitchFinder::new())
         }
 
+        /// One that remembers this period and this gain.
+        pub fn after(last_period: usize, last_gain: f32) -> PitchFinder {
+            PitchFinder(super::PitchFinder { last_period, last_gain, ..super::PitchFinder::new() })
+        }
+
         /// The period and the gain of 1,728 numbers.
         pub fn process(&mut self, input: &[f32]) -> (usize, f32) {
             self.0.process(input)

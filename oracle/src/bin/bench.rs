@@ -194,6 +194,28 @@ fn of_lag(rng: &mut Rng) -> Vec<Row> {
     )]
 }
 
+/// A voice of 200 Hz over noise, frame after frame with what both sides remember.
+#[cfg(feature = "finder")]
+fn of_finder(rng: &mut Rng) -> Vec<Row> {
+    let tone =
+        |i: usize| (1..6).map(|k| (std::f32::consts::TAU * (k * i) as f32 / 240.0).sin() / k as f32).sum::<f32>();
+    let x: Vec<f32> = (0..1728 + 480 * 99).map(|i| 8000.0 * (tone(i) + 0.1 * rng.of(Mood::Small))).collect();
+    let y = x.clone();
+    let (mut numbers, mut i) = ([0.0; 2], 0);
+    let (mut finder, mut j) = (pitch::PitchFinder::new(), 0);
+    vec![row(
+        "find, beside PitchFinder::process",
+        move || {
+            tuppence::find(black_box(&mut numbers), &mut [0], &x[480 * (i % 100)..][..1728]);
+            i += 1;
+        },
+        move || {
+            black_box(finder.process(black_box(&y[480 * (j % 100)..][..1728])));
+            j += 1;
+        },
+    )]
+}
+
 #[cfg(feature = "transforms")]
 fn of_transforms(rng: &mut Rng) -> Vec<Row> {
     use oracle::transforms::{cosines, plain_forward, plain_inverse};
@@ -458,6 +480,8 @@ fn main() {
     rows.extend(of_pitch(rng));
     #[cfg(feature = "lag")]
     rows.extend(of_lag(rng));
+    #[cfg(feature = "finder")]
+    rows.extend(of_finder(rng));
     #[cfg(feature = "transforms")]
     rows.extend(of_transforms(rng));
     #[cfg(feature = "logs")]

@@ -66,6 +66,11 @@ surface! {
     tuppence_lag as lag(lag: &mut [u32], input_mem: &[f32]) -> u32;
 }
 
+#[cfg(feature = "finder")]
+surface! {
+    tuppence_find as find(numbers: &mut [f32], lag: &mut [u32], input_mem: &[f32]) -> u32;
+}
+
 #[cfg(feature = "transforms")]
 surface! {
     tuppence_forward as forward(spectrum: &mut [f32], samples: &[f32]) -> u32;

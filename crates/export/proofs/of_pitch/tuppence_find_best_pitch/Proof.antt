@@ -1,23 +1,15 @@
 -- `tuppence_find_best_pitch` meets its contract. Assumes nothing.
 use mathlib.Core.Path.{_≡_, refl, sym, ap, _∙_}
-use mathlib.Core.List.{List, [], _∷_}
-use Prim.Native.Nat.{ℕ}
 use native.Mathlib.Omega.{arith}
 use borrow.Author.Needs.{needs}
 use denote.Ref.{now}
-use lib.ListN.{length, set, length-set}
+use lib.ListN.{length, length-set}
 use Rattle.rules.specs.Leaf.{done, refused}
 use Rattle.rules.proofs.Leaves.{leaves}
 use Rattle.pitch_search.specs.Best.{pitchesNumber, firstOf, secondOf}
-use Rattle.export.proofs.Answers.{turned-down, taken-up}
+use Rattle.export.proofs.Answers.{turned-down, taken-up, stored-two}
 use Rattle.export.proofs.of_pitch.tuppence_find_best_pitch.Statement.{statement}
 use Rattle.export.proofs.of_pitch.tuppence_find_best_pitch.Tie as tie
-
-stored : (xs : List ℕ) {v w p q : ℕ} → length xs ≡ 2 → v ≡ p → w ≡ q → set (set xs 0 v) 1 w ≡ (p ∷ q ∷ [])
-stored [] h e d = absurd (omega arith)
-stored (x ∷ []) h e d = absurd (omega arith)
-stored (x ∷ y ∷ []) h e d = rw (e, d)
-stored (x ∷ y ∷ z ∷ xs) h e d = absurd (omega arith)
 
 returns-2 : tie.Need-returns-2
 returns-2 c =
@@ -32,7 +24,7 @@ returns-3 c =
     let pitches = now (asked .before .before .before .before .before .before .args .pitches) in
     let two : length pitches ≡ 2 = omega arith in
     done (record { two = two; enough = t .0 })
-    (leaves (stored pitches two (c .before .first .ensures ∙ ap firstOf (t .1)) (c .second .ensures ∙ ap secondOf (t .1))))
+    (leaves (stored-two pitches two (c .before .first .ensures ∙ ap firstOf (t .1)) (c .second .ensures ∙ ap secondOf (t .1))))
 
 pub tuppence-find-best-pitch-spec : {M : Type 1} → statement M
 tuppence-find-best-pitch-spec =

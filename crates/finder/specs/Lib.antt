@@ -1,0 +1,5 @@
+pub mod Doubling
+pub mod Finder
+pub mod Kept
+pub mod Laws
+pub mod Search
