@@ -29,6 +29,8 @@ pub mod desk;
 pub mod dictation;
 #[cfg(feature = "frame")]
 pub mod faults;
+#[cfg(feature = "fft")]
+pub mod fft;
 #[cfg(feature = "frame")]
 pub mod frame;
 #[cfg(feature = "lag")]
@@ -98,6 +100,8 @@ pub const GROUPS: &[Group] = &[
     ("lag", lag::compare),
     #[cfg(feature = "transforms")]
     ("transforms", transforms::compare),
+    #[cfg(feature = "fft")]
+    ("fft", fft::compare),
     #[cfg(feature = "logs")]
     ("logs", logs::compare),
     #[cfg(feature = "model")]

@@ -217,6 +217,30 @@ fn of_transforms(rng: &mut Rng) -> Vec<Row> {
     ]
 }
 
+#[cfg(feature = "fft")]
+fn of_fft(rng: &mut Rng) -> Vec<Row> {
+    use oracle::fft::{fast_forward, fast_inverse};
+    use oracle::transforms::cosines;
+    let (x, spectrum) = (rng.list_of(960, Mood::Audio), rng.list_of(961, Mood::Audio));
+    let [x1, x2] = std::array::from_fn(|_| x.clone());
+    let [s1, s2] = std::array::from_fn(|_| spectrum.clone());
+    let (c, d) = (cosines(), cosines());
+    let [mut a961, mut b961] = [[0.0; 961]; 2];
+    let [mut a960, mut b960] = [[0.0; 960]; 2];
+    vec![
+        row(
+            "fft forward, beside the same in Rust",
+            move || tuppence::fft_forward(black_box(&mut a961), &x1),
+            move || fast_forward(black_box(&c), black_box(&mut b961), &x2),
+        ),
+        row(
+            "fft inverse, beside the same in Rust",
+            move || tuppence::fft_inverse(black_box(&mut a960), &s1),
+            move || fast_inverse(black_box(&d), black_box(&mut b960), &s2),
+        ),
+    ]
+}
+
 #[cfg(feature = "logs")]
 fn of_logs(rng: &mut Rng) -> Vec<Row> {
     // energies of a band, and 0.01, as call 2 gives them
@@ -446,6 +470,8 @@ fn main() {
     rows.extend(of_lag(rng));
     #[cfg(feature = "transforms")]
     rows.extend(of_transforms(rng));
+    #[cfg(feature = "fft")]
+    rows.extend(of_fft(rng));
     #[cfg(feature = "logs")]
     rows.extend(of_logs(rng));
     #[cfg(feature = "network")]
