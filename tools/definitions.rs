@@ -100,13 +100,13 @@ fn defined(line: &str) -> Option<&str> {
 
 fn blocks(text: &str) -> Vec<Block> {
     let mut blocks: Vec<Block> = Vec::new();
-    // what stands in a module is indented, as are the fields of a record and the cases of a data type
-    let (mut in_module, mut in_type, mut in_data) = (false, true, false);
-    for line in text.lines() {
-        if !line.starts_with(' ') && !line.is_empty() {
-            in_module = line.starts_with("module ");
-        }
-        let line = if in_module { line.strip_prefix("  ").unwrap_or(line) } else { line };
+    // what stands in a module, and in a module in it, is indented, as are the fields of a record and the cases of a data type
+    let (mut modules, mut in_type, mut in_data) = (0, true, false);
+    for line in text.lines().filter(|line| !line.is_empty()) {
+        let indent = line.len() - line.trim_start().len();
+        modules = modules.min(indent / 2);
+        let line = &line[2 * modules..];
+        modules += usize::from(line.starts_with("module "));
         if ["unfolding ", "infix", "module ", "pub mod "].iter().any(|word| line.starts_with(word)) {
             continue;
         }

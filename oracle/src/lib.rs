@@ -30,6 +30,8 @@ pub mod desk;
 pub mod dictation;
 #[cfg(feature = "frame")]
 pub mod faults;
+#[cfg(feature = "fft")]
+pub mod fft;
 #[cfg(feature = "finder")]
 pub mod finder;
 #[cfg(feature = "frame")]
@@ -105,6 +107,8 @@ pub const GROUPS: &[Group] = &[
     ("finder", finder::compare),
     #[cfg(feature = "transforms")]
     ("transforms", transforms::compare),
+    #[cfg(feature = "fft")]
+    ("fft", fft::compare),
     #[cfg(feature = "logs")]
     ("logs", logs::compare),
     #[cfg(feature = "model")]

@@ -73,16 +73,14 @@ fn units(ours: &[f32], wide: &[f64]) -> f64 {
     ours.iter().zip(wide).fold(0.0, |worst: f64, (a, b)| worst.max((*a as f64 - b).abs())) / unit
 }
 
-/// More would be a wrong sum and not its rounding.
-const MOST: f64 = 64.0;
-
-/// One transform: how ours is called, the plain loop, and the sums in f64.
+/// One transform: how ours is called, the same in plain Rust, and the sums in f64.
 struct Side<'a> {
     name: &'static str,
     lengths: [usize; 2],
-    ours: fn(&mut [f32], &[f32]) -> u32,
-    plain: fn(&[f32; 960], &mut [f32], &[f32]),
+    ours: Ours,
+    plain: Plain,
     wide: &'a dyn Fn(&[f32]) -> Vec<f64>,
+    most: f64,
     worst: f64,
 }
 
@@ -113,35 +111,34 @@ impl Side<'_> {
         if fits && ordinary {
             let off = units(&ours, &(self.wide)(&x));
             self.worst = self.worst.max(off);
-            if off > MOST {
+            if off > self.most {
                 tally.differs(|text| *text += &format!("{}: {off:.1} units from the sums in f64\n", self.name));
             }
         }
     }
 }
 
-pub fn compare(options: &Options) -> Tally {
-    let mut tally = Tally::new("transforms");
+type Ours = fn(&mut [f32], &[f32]) -> u32;
+type Plain = fn(&[f32; 960], &mut [f32], &[f32]);
+
+/// Both transforms of a group, and the most units by which rounding may move their numbers.
+pub(crate) struct Pair {
+    pub ours: [Ours; 2],
+    pub plain: [Plain; 2],
+    pub most: f64,
+}
+
+pub(crate) fn held_against(group: &'static str, options: &Options, pair: Pair) -> Tally {
+    let mut tally = Tally::new(group);
     let rng = &mut Rng::new(options.seed);
     let (c, wide) = (cosines(), Wide::new());
     let (forward, inverse) = (|x: &[f32]| wide.forward(x), |x: &[f32]| wide.inverse(x));
+    let Pair { ours, plain, most } = pair;
+    let side =
+        |i: usize, name, lengths, wide| Side { name, lengths, ours: ours[i], plain: plain[i], wide, most, worst: 0.0 };
     let mut sides = [
-        Side {
-            name: "forward",
-            lengths: [961, 960],
-            ours: tuppence::forward,
-            plain: plain_forward,
-            wide: &forward,
-            worst: 0.0,
-        },
-        Side {
-            name: "inverse",
-            lengths: [960, 961],
-            ours: tuppence::inverse,
-            plain: plain_inverse,
-            wide: &inverse,
-            worst: 0.0,
-        },
+        side(0, "forward", [961, 960], &forward as &dyn Fn(&[f32]) -> Vec<f64>),
+        side(1, "inverse", [960, 961], &inverse),
     ];
     let calls = options.calls(2000);
     for _ in 0..calls {
@@ -156,4 +153,14 @@ pub fn compare(options: &Options) -> Tally {
         ));
     }
     tally
+}
+
+pub fn compare(options: &Options) -> Tally {
+    let pair = Pair {
+        ours: [tuppence::forward, tuppence::inverse],
+        plain: [plain_forward, plain_inverse],
+        // more would be a wrong sum and not its rounding
+        most: 64.0,
+    };
+    held_against("transforms", options, pair)
 }

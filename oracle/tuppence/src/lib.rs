@@ -77,6 +77,12 @@ surface! {
     tuppence_inverse as inverse(samples: &mut [f32], spectrum: &[f32]) -> u32;
 }
 
+#[cfg(feature = "fft")]
+surface! {
+    tuppence_fft_forward as fft_forward(spectrum: &mut [f32], samples: &[f32]) -> u32;
+    tuppence_fft_inverse as fft_inverse(samples: &mut [f32], spectrum: &[f32]) -> u32;
+}
+
 #[cfg(feature = "logs")]
 surface! {
     tuppence_log10 as log10(x: f32) -> f32;

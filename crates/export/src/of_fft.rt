@@ -1,0 +1,25 @@
+// fft: each leaf as it stands there.
+ghost use lib.ListN.{length};
+ghost use Rattle.rules.specs.Leaf.{Leaf, _leaving_};
+ghost use Rattle.transforms.specs.Transform.{ForwardFits, InverseFits};
+ghost use Rattle.fft.specs.Single.{fastForward, fastInverse};
+
+#[no_mangle]
+pub extern "C" fn tuppence_fft_forward(spectrum: &mut [f32], samples: &[f32]) -> u32
+    ensures { λ r. ⌜ Leaf (ForwardFits (length (now (spectrum .entry))) (length (now (samples .entry))))
+        (r leaving now (spectrum .exit))
+        (0 leaving fastForward (now (samples .entry)))
+        (5 leaving now (spectrum .entry)) ⌝ }
+{
+    fft::forward(spectrum, samples)
+}
+
+#[no_mangle]
+pub extern "C" fn tuppence_fft_inverse(samples: &mut [f32], spectrum: &[f32]) -> u32
+    ensures { λ r. ⌜ Leaf (InverseFits (length (now (samples .entry))) (length (now (spectrum .entry))))
+        (r leaving now (samples .exit))
+        (0 leaving fastInverse (now (spectrum .entry)))
+        (5 leaving now (samples .entry)) ⌝ }
+{
+    fft::inverse(samples, spectrum)
+}

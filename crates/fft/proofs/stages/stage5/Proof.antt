@@ -1,0 +1,43 @@
+-- `fft::stages::stage5` meets its contract. Assumes nothing.
+use mathlib.Core.Path.{_≡_, refl}
+use Prim.Native.Nat.{_+_, _*_, _-_, _≤_}
+use borrow.Author.Needs.{needs}
+use native.Mathlib.Omega.{arith}
+use Rattle.fft.specs.Fast.{row5}
+use Rattle.fft.specs.Single.{single, of}
+use Rattle.fft.specs.Parts.{Laid}
+use Rattle.fft.proofs.Laying.{begun, laid-all}
+use Rattle.fft.proofs.stages.stage5.Statement.{statement}
+use Rattle.fft.proofs.stages.stage5.Tie as tie
+
+abbrev Inv-loop : tie.InvT-loop
+Inv-loop out₀ c z b₀ out b = (b ≤ 12) × Laid 5 96 (row5 single (of c) z) (8 * b) out
+
+abbrev μ-loop : tie.MeasureT-loop
+μ-loop out₀ c z b₀ out b = 12 - b
+
+loop-again : tie.Need-loop-again Inv-loop μ-loop
+loop-again c =
+    let l = c .before .before .before .before .before .before .before .before .before .loop in
+    let e : 8 * (l .b + 1) ≡ 8 * l .b + 4 + 4 = omega arith in
+    (omega arith, rw e (c .before .before .block52 .ensures))
+
+returns : tie.Need-returns Inv-loop μ-loop
+returns c = let l = c .before .loop in laid-all 5 96 _ refl (omega arith) (8 * l .b) (omega arith) (omega arith) (l .inv .1)
+
+pub stage5-spec : {M : Type 1} → statement M
+stage5-spec =
+    tie.close
+    (tie.spec
+    Inv-loop
+    μ-loop
+    (λ c. (omega arith, begun 5 96 _ refl _ (c .before .pre)))  -- loop-holds
+    (λ c. search needs)  -- mul-i
+    (λ c κs. ((c .before .before .loop .inv .1), omega arith))  -- block5-requires
+    (λ c. search needs)  -- add-block5
+    (λ c κs. ((c .before .before .before .block5 .ensures), omega arith))  -- block5-requires-2
+    (λ c. search needs)  -- add-b
+    (λ c. search needs)  -- loop-less
+    loop-again
+    (λ c. search needs)  -- same-length
+    returns)

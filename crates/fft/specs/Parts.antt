@@ -1,0 +1,68 @@
+-- For the parts of the code: its structs, and a list of complex numbers that is filled four lanes at a time.
+use mathlib.Core.Path.{_≡_}
+use mathlib.Core.List.{List}
+use Prim.Native.Nat.{ℕ, _+_, _*_, _<_}
+use lib.Ieee.{Float}
+use lib.ListN.{length, set}
+use Rattle.rules.specs.F32.{at}
+use Rattle.fft.specs.Ops.{Complex}
+use Rattle.fft.specs.Fast.{complexAt}
+use Rattle.fft.specs.Single.{single}
+use Rattle.fft.specs.declared.complex.Cx.{Cx}
+use Rattle.fft.specs.declared.bins.Twos.{Twos}
+use Rattle.fft.specs.declared.bins.Threes.{Threes}
+use Rattle.fft.specs.declared.bins.Fours.{Fours}
+use Rattle.fft.specs.declared.bins.Fives.{Fives}
+
+abbrev pub cx : Complex Float → Cx
+cx z = record { re = z .re; im = z .im }
+
+abbrev pub complexOf : Cx → Complex Float
+complexOf z = record { re = z .re; im = z .im }
+
+abbrev pub twos : (ℕ → Complex Float) → Twos
+twos f = record { a = cx (f 0); b = cx (f 1) }
+
+abbrev pub threes : (ℕ → Complex Float) → Threes
+threes f = record { a = cx (f 0); b = cx (f 1); d = cx (f 2) }
+
+abbrev pub fours : (ℕ → Complex Float) → Fours
+fours f = record { a = cx (f 0); b = cx (f 1); d = cx (f 2); e = cx (f 3) }
+
+abbrev pub fives : (ℕ → Complex Float) → Fives
+fives f = record { a = cx (f 0); b = cx (f 1); d = cx (f 2); e = cx (f 3); f = cx (f 4) }
+
+-- four numbers, and four complex ones, from a place on
+unfoldable pub putFour : List Float → ℕ → Float → Float → Float → Float → List Float
+putFour xs at a b c d = set (set (set (set xs at a) (at + 1) b) (at + 2) c) (at + 3) d
+
+unfoldable pub putComplex : List Float → ℕ → Cx → Cx → Cx → Cx → List Float
+putComplex xs at w x y v = putFour (putFour xs at (w .re) (x .re) (y .re) (v .re)) (480 + at) (w .im) (x .im) (y .im) (v .im)
+
+-- of r bins of n lanes, those of the first i lanes are in their places
+pub record Laid (r n : ℕ) (g : ℕ → ℕ → Complex Float) (i : ℕ) (held : List Float) : Type 0 where
+  pub long : length held ≡ 960
+  pub behind : (a b : ℕ) → a < r → b < i → complexAt single held (n * a + b) ≡ g b a
+
+-- the bins of four lanes from i on
+unfoldable pub putTwos : List Float → ℕ → Twos → Twos → Twos → Twos → List Float
+putTwos xs i w x y v = putComplex (putComplex xs i (w .a) (x .a) (y .a) (v .a)) (240 + i) (w .b) (x .b) (y .b) (v .b)
+
+unfoldable pub putThrees : List Float → ℕ → Threes → Threes → Threes → Threes → List Float
+putThrees xs i w x y v =
+    putComplex (putComplex (putComplex xs i (w .a) (x .a) (y .a) (v .a)) (160 + i) (w .b) (x .b) (y .b) (v .b)) (320 + i) (w .d) (x .d) (y .d) (v .d)
+
+unfoldable pub putFours : List Float → ℕ → Fours → Fours → Fours → Fours → List Float
+putFours xs i w x y v =
+    putComplex (putComplex (putComplex (putComplex xs i (w .a) (x .a) (y .a) (v .a)) (120 + i) (w .b) (x .b) (y .b) (v .b)) (240 + i) (w .d) (x .d) (y .d) (v .d))
+    (360 + i) (w .e) (x .e) (y .e) (v .e)
+
+unfoldable pub putFives : List Float → ℕ → Fives → Fives → Fives → Fives → List Float
+putFives xs i w x y v =
+    putComplex (putComplex (putComplex (putComplex (putComplex xs i (w .a) (x .a) (y .a) (v .a)) (96 + i) (w .b) (x .b) (y .b) (v .b)) (192 + i) (w .d) (x .d) (y .d) (v .d))
+    (288 + i) (w .e) (x .e) (y .e) (v .e)) (384 + i) (w .f) (x .f) (y .f) (v .f)
+
+-- the first i of n numbers are in their places
+pub record Filled (n : ℕ) (f : ℕ → Float) (i : ℕ) (held : List Float) : Type 0 where
+  pub long : length held ≡ n
+  pub behind : (j : ℕ) → j < i → at held j ≡ f j

@@ -1,0 +1,34 @@
+-- The plain sums of `transforms`, over any operations and cosines. With the operations of f32 and its table they are the definitions of `transforms` (specs/Laws).
+use mathlib.Core.List.{List}
+use Prim.Native.Nat.{ℕ, _+_, _-_, _*_, _%_}
+use Rattle.rules.specs.Loop.{loop, range}
+use Rattle.rules.specs.Tab.{tab}
+use Rattle.transforms.specs.Transform.{binOf, partOf}
+use Rattle.fft.specs.Ops.{Ops, numberAt}
+
+module _ {A : Type 0} (o : Ops A) (c : ℕ → A) where
+  infixl 65 _⊕_
+  infixl 70 _⊗_
+  abbrev _⊕_ : A → A → A
+  x ⊕ y = o .plus x y
+
+  abbrev _⊗_ : A → A → A
+  x ⊗ y = o .times x y
+
+  abbrev cosineAt : ℕ → ℕ → ℕ → A
+  cosineAt k n r = c ((k * n + r) % 960)
+
+  abbrev pub plainBin : List A → ℕ → ℕ → A
+  plainBin x k r = loop 960 (λ n sum. sum ⊕ numberAt o x n ⊗ cosineAt k n r) (o .nought)
+
+  unfoldable pub plainForward : List A → List A
+  plainForward x = tab 961 (λ j. plainBin x (binOf j) (partOf j))
+
+  abbrev pub plainStep : List A → ℕ → ℕ → A → A
+  plainStep x n k sum = sum ⊕ o .two ⊗ numberAt o x (2 * k - 1) ⊗ cosineAt n k 0 ⊕ o .two ⊗ numberAt o x (2 * k) ⊗ cosineAt n k 240
+
+  abbrev pub plainSample : List A → ℕ → A
+  plainSample x n = range 1 480 (plainStep x n) (o .nought ⊕ numberAt o x 0) ⊕ numberAt o x (2 * 480 - 1) ⊗ cosineAt n 480 0
+
+  unfoldable pub plainInverse : List A → List A
+  plainInverse x = tab 960 (plainSample x)
