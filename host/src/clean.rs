@@ -1,5 +1,6 @@
 //! `host clean`: two recordings, one for each bench, cleaned as they come over one store. What is kept in memory is the same for any length.
 
+use crate::about::About;
 use crate::cleaned::{Cleaned, Summary};
 use crate::files::Files;
 use crate::folder::told;
@@ -170,6 +171,16 @@ impl Inputs {
         }
     }
 
+    /// What the page says of a bench's recording.
+    fn about(&self, side: Side, model: &Path) -> About {
+        match (self, side) {
+            (Inputs::Two { left, .. }, Side::Left) => About::file(left, model),
+            (Inputs::Two { right, .. }, Side::Right) => About::file(right, model),
+            (Inputs::Stereo(both), _) => About::file(both, model),
+            (Inputs::Stream { .. }, _) => About::stream("standard input", model),
+        }
+    }
+
     fn files(&self) -> Vec<&Path> {
         match self {
             Inputs::Two { left, right } => vec![left, right],
@@ -221,6 +232,7 @@ pub fn clean(job: &Job) -> Result<[Summary; 2], String> {
     }
     let mut recordings = job.inputs.recordings()?;
     let mut files = Files::new(&job.out)?;
+    Side::BOTH.into_iter().for_each(|side| files.about(side, job.inputs.about(side, &job.model)));
     let progress = progress_of(recordings.length(), job.quiet);
     let outcome = run(&mut recordings, &model, job.way, &mut files, progress);
     recordings.tell();
@@ -237,7 +249,8 @@ pub fn clean(job: &Job) -> Result<[Summary; 2], String> {
 }
 
 /// Of a stream that has no good end, what came before is closed and kept.
-fn cut_short(files: Files, why: String) -> String {
+fn cut_short(mut files: Files, why: String) -> String {
+    Side::BOTH.into_iter().for_each(|side| files.fault(side, &why));
     match files.keep_or_leave() {
         Ok(summaries) => {
             let seconds = summaries.iter().map(Summary::seconds).fold(0.0, f64::max);

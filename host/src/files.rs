@@ -1,5 +1,6 @@
 //! What `host clean` writes, as it goes: for each bench the recording with its side sheet, and of both the table, the picture and the page.
 
+use crate::about::About;
 use crate::clean::Sink;
 use crate::cleaned::Summary;
 use crate::folder::{told, Folder};
@@ -58,6 +59,16 @@ impl Files {
     /// Whether there is anything to keep.
     pub fn is_empty(&self) -> bool {
         self.benches.iter().all(|bench| bench.summary.samples == 0)
+    }
+
+    /// What the page says of a recording.
+    pub fn about(&mut self, side: Side, about: About) {
+        self.benches[side as usize].summary.about = about;
+    }
+
+    /// Why a recording is not whole, for its page.
+    pub fn fault(&mut self, side: Side, why: &str) {
+        self.benches[side as usize].summary.about.fault = Some(why.into());
     }
 
     /// Another file, beside those that are always there.

@@ -19,9 +19,11 @@ macro_rules! warn {
     }};
 }
 
+pub mod about;
 pub mod bench;
 pub mod clean;
 pub mod cleaned;
+pub mod colours;
 pub mod demo;
 pub mod files;
 pub mod folder;
@@ -31,6 +33,7 @@ pub mod mend;
 pub mod overview;
 pub mod pack;
 pub mod page;
+pub mod pauses;
 pub mod picture;
 pub mod recorder;
 pub mod records;
