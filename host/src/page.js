@@ -29,8 +29,9 @@ for (const slider of document.querySelectorAll('.strip input')) {
   audio.addEventListener('timeupdate', () => { slider.value = audio.currentTime; tell(); });
 }
 
+// from a little before the first voice, so that its first sound is not lost
 for (const button of document.querySelectorAll('button[data-at]'))
-  button.addEventListener('click', () => play(player(button), Number(button.dataset.at)));
+  button.addEventListener('click', () => play(player(button), Math.max(0, Number(button.dataset.at) - 0.3)));
 
 for (const time of document.querySelectorAll('time'))
   time.textContent = new Date(time.dateTime).toLocaleString([], { dateStyle: 'medium', timeStyle: 'short' });

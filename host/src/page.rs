@@ -182,6 +182,14 @@ fn sound(text: &mut String, bench: &Summary, before: Option<&str>) {
     *text += "</figure>\n";
 }
 
+fn noise_taken(bench: &Summary) -> String {
+    match bench.pauses.taken() {
+        Some(db) if db.is_finite() => format!("{} dB", signed(db)),
+        Some(_) => "all of it".into(),
+        None => "there was none".into(),
+    }
+}
+
 /// What a clerk wants to know, row by row; a number that should be 0 stands out where it is not.
 fn facts(text: &mut String, bench: &Summary) {
     let about = &bench.about;
@@ -194,19 +202,18 @@ fn facts(text: &mut String, bench: &Summary) {
     });
     let id = player_id(bench, Strip::After);
     let voice = bench.voice_at().map_or("no voice was found".into(), |at| {
-        format!("<button type=\"button\" data-player=\"{id}\" data-at=\"{at:.2}\">{}</button>", tenths(at))
+        let (told, side) = (tenths(at), bench.side.name());
+        let name = format!("{told}: listen to the {side} bench from there");
+        format!(
+            "<button type=\"button\" aria-label=\"{name}\" data-player=\"{id}\" data-at=\"{at:.2}\">{told}</button>"
+        )
     });
-    let noise = match bench.pauses.taken() {
-        Some(db) if db.is_finite() => format!("{} dB", signed(db)),
-        Some(_) => "all of it".into(),
-        None => "there was none".into(),
-    };
     let of_sound = [
         ("length", length(bench.seconds())),
         ("first voice at", voice),
         ("voice", share(bench.voices, bench.frames)),
         ("heard", share(bench.heard, bench.frames)),
-        ("noise taken away", noise),
+        ("noise taken away", noise_taken(bench)),
         ("peak", below_full_scale(bench.peak)),
         ("clipped samples", unless_0(bench.clipped)),
         ("gaps", unless_0(bench.gaps)),

@@ -172,7 +172,9 @@ fn everything_has_a_name() {
         assert!(tag.has("aria-labelledby"));
     }
     for tag in all(&tags, "button") {
-        assert!(tag.get("type") == "button" && tag.text.starts_with("0:0"), "{tag:?}");
+        // what is read out begins with what is seen
+        assert!(tag.get("type") == "button" && tag.text == "0:01.0", "{tag:?}");
+        assert!(tag.get("aria-label").starts_with(&tag.text) && tag.get("aria-label").contains("bench"), "{tag:?}");
     }
 }
 
