@@ -1,12 +1,13 @@
 //! `host clean`: two recordings, one for each bench, cleaned as they come.
 
+use crate::about::About;
 use crate::cleaned::Summary;
 use crate::files::{recording, Files};
 use crate::folder::told;
 use crate::progress::progress_of;
 use crate::recorder::{Recorder, Side, Way};
 use crate::run::{run, Refused};
-use crate::source::{Limited, Recordings};
+use crate::source::{Limited, Lost, Recordings};
 use crate::status::Failure;
 use crate::{stop, wav, RATE};
 use std::fs;
@@ -39,6 +40,16 @@ impl Inputs {
             Inputs::Two { left, right } => Ok(Recordings::two(left, right)?),
             Inputs::Stereo(both) => Ok(Recordings::stereo(both)?),
             Inputs::Stream { raw } => Recordings::stream(*raw),
+        }
+    }
+
+    /// What the page says of a bench's recording.
+    fn about(&self, side: Side, model: &Path) -> About {
+        match (self, side) {
+            (Inputs::Two { left, .. }, Side::Left) => About::file(left, model),
+            (Inputs::Two { right, .. }, Side::Right) => About::file(right, model),
+            (Inputs::Stereo(both), _) => About::file(both, model),
+            (Inputs::Stream { .. }, _) => About::stream("standard input", model),
         }
     }
 
@@ -76,18 +87,18 @@ fn model(path: &Path, way: Way) -> Result<Vec<u8>, String> {
 }
 
 /// A bench that had to end, and when.
-fn ended(side: Side, sample: u64, why: impl std::fmt::Display) -> String {
-    format!("{}, at {:.2} s: {why}", side.name(), sample as f64 / f64::from(RATE))
+fn ended(side: Side, sample: u64, why: impl std::fmt::Display) -> Lost {
+    Lost::of(side, format!("{}, at {:.2} s: {why}", side.name(), sample as f64 / f64::from(RATE)))
 }
 
 /// The benches that the library refused.
-fn refused(benches: [Option<Refused>; 2]) -> impl Iterator<Item = String> {
+fn refused(benches: [Option<Refused>; 2]) -> impl Iterator<Item = Lost> {
     let told = |(side, bench): (Side, Option<Refused>)| bench.map(|at| ended(side, at.sample, at.refusal));
     Side::BOTH.into_iter().zip(benches).filter_map(told)
 }
 
 /// The benches that had more to say than a file can hold.
-fn too_long(cut: [bool; 2]) -> impl Iterator<Item = String> {
+fn too_long(cut: [bool; 2]) -> impl Iterator<Item = Lost> {
     let why = "a WAV file can't hold more than 12 hours and 25 minutes";
     Side::BOTH.into_iter().zip(cut).filter(|(_, cut)| *cut).map(move |(side, _)| ended(side, wav::MOST, why))
 }
@@ -102,6 +113,7 @@ pub fn clean(job: &Job) -> Result<Report, Failure> {
     }
     let mut files = Files::new(&job.out, &[], job.force, job.inputs.come_once())?;
     let mut recordings = job.inputs.recordings()?;
+    Side::BOTH.into_iter().for_each(|side| files.about(side, job.inputs.about(side, &job.model)));
     let progress = progress_of(recordings.length(), job.quiet);
     let mut limited = Limited::new(&mut recordings, wav::MOST);
     let outcome = run(&mut limited, [&model; 2], job.way, &mut files, progress);
@@ -111,7 +123,9 @@ pub fn clean(job: &Job) -> Result<Report, Failure> {
         Ok(benches) => benches,
         Err(why) => return Err(files.give_up(why).into()),
     };
-    let lost: Vec<String> = recordings.lost().into_iter().chain(refused(benches)).chain(too_long(cut)).collect();
+    let lost: Vec<Lost> = recordings.lost().into_iter().chain(refused(benches)).chain(too_long(cut)).collect();
+    lost.iter().for_each(|lost| lost.sides.iter().for_each(|side| files.fault(*side, &lost.why)));
+    let lost = lost.into_iter().map(|lost| lost.why).collect();
     if files.is_empty() {
         return Err(nothing(lost));
     }

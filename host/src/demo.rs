@@ -1,7 +1,9 @@
 //! `host demo`: two short dictations over a grinder, cleaned with the house model.
 
+use crate::about::About;
 use crate::cleaned::Cleaned;
 use crate::files::{before, Files};
+use crate::pauses::HIGH_PASS;
 use crate::recorder::Way;
 use crate::run::{in_memory, Sink};
 use crate::{wav, FRAME, RATE};
@@ -136,7 +138,7 @@ pub struct Effect {
 /// The samples through the library's high-pass filter, which the box puts in front of everything.
 pub fn filtered(samples: &[f32]) -> Vec<f64> {
     let mut out = vec![0.0; samples.len()];
-    assert_eq!(tuppence::filter(&mut out, &mut [0.0; 2], &[-1.99599, 0.996, -2.0, 1.0], samples), 0);
+    assert_eq!(tuppence::filter(&mut out, &mut [0.0; 2], &HIGH_PASS, samples), 0);
     out.into_iter().map(f64::from).collect()
 }
 
@@ -172,6 +174,7 @@ fn store([left, right]: &[Cleaned; 2], out: &Path, force: bool) -> Result<(), St
     let names = [left, right].map(|bench| before(bench.side));
     let mut files = Files::new(out, &names, force, false)?;
     for (bench, name) in [left, right].into_iter().zip(&names) {
+        files.about(bench.side, About::stream(name, "house.rnn".as_ref()));
         files.add(name, &wav::write(RATE, &bench.before))?;
         files.before(bench.side, &bench.before)?;
         files.after(bench.side, &bench.after)?;

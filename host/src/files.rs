@@ -1,6 +1,7 @@
 //! What `host clean` writes, as it goes: for each bench the recording with its side sheet, and of both the table, the picture and the page.
 //! All that has come out of a bench is in its files before the next block is read, and on the disk a second later.
 
+use crate::about::About;
 use crate::cleaned::Summary;
 use crate::folder::{told, Folder};
 use crate::place::write_through;
@@ -102,6 +103,16 @@ impl Files {
     /// Whether there is nothing to keep.
     pub fn is_empty(&self) -> bool {
         self.benches.iter().all(Bench::is_empty)
+    }
+
+    /// What the page says of a recording.
+    pub fn about(&mut self, side: Side, about: About) {
+        self.benches[side as usize].summary.about = about;
+    }
+
+    /// Why a recording is not whole, for its page.
+    pub fn fault(&mut self, side: Side, why: &str) {
+        self.benches[side as usize].summary.about.fault.get_or_insert(why.into());
     }
 
     /// Another file, beside those that are always there.

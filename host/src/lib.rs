@@ -13,10 +13,12 @@ macro_rules! warn {
     ($($words:tt)*) => { $crate::answer::warn(format_args!($($words)*)) };
 }
 
+pub mod about;
 pub mod answer;
 pub mod bench;
 pub mod clean;
 pub mod cleaned;
+pub mod colours;
 pub mod demo;
 pub mod files;
 pub mod folder;
@@ -28,6 +30,7 @@ pub mod mend;
 pub mod overview;
 pub mod pack;
 pub mod page;
+pub mod pauses;
 pub mod picture;
 pub mod place;
 pub mod progress;

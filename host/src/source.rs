@@ -161,6 +161,18 @@ impl Recording {
     }
 }
 
+/// Whose recording is not whole, and why.
+pub struct Lost {
+    pub sides: Vec<Side>,
+    pub why: String,
+}
+
+impl Lost {
+    pub fn of(side: Side, why: String) -> Lost {
+        Lost { sides: vec![side], why }
+    }
+}
+
 /// A file for each bench, or both benches as the channels of one recording.
 pub enum Recordings {
     Two([Recording; 2]),
@@ -217,13 +229,19 @@ impl Recordings {
         self.all().iter().for_each(Recording::tell);
     }
 
-    /// What is missing of what should have been read, a line each.
-    pub fn lost(&self) -> Vec<String> {
+    /// What is missing of what should have been read.
+    pub fn lost(&self) -> Vec<Lost> {
         let broken = |side: Side| match self {
             Recordings::Two(both) => both[side as usize].broken(side, 0),
             Recordings::Stereo(one) => one.broken(side, side as usize),
         };
-        Side::BOTH.into_iter().filter_map(broken).chain(self.all().iter().filter_map(Recording::cut)).collect()
+        let broken = |side: Side| broken(side).map(|why| Lost::of(side, why));
+        let sides = match self {
+            Recordings::Two(_) => Side::BOTH.map(|side| vec![side]).to_vec(),
+            Recordings::Stereo(_) => vec![Side::BOTH.to_vec()],
+        };
+        let cut = self.all().iter().zip(sides).filter_map(|(one, sides)| Some(Lost { sides, why: one.cut()? }));
+        Side::BOTH.into_iter().filter_map(broken).chain(cut).collect()
     }
 }
 

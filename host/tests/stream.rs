@@ -52,6 +52,11 @@ fn stereo() -> Vec<u8> {
 const HEADER: usize = 44;
 const WRITTEN: [&str; 5] = ["left.wav", "right.wav", "frames.csv", "benches.svg", "index.html"];
 
+/// Whether a line of a page names its recording or its date.
+fn names_it(line: &str) -> bool {
+    [">recording<", ">date<"].iter().any(|word| line.contains(word))
+}
+
 fn names(path: &Path) -> Vec<String> {
     let mut names: Vec<String> =
         fs::read_dir(path).unwrap().map(|e| e.unwrap().file_name().into_string().unwrap()).collect();
@@ -82,7 +87,15 @@ fn a_stream_is_its_file() {
         assert_eq!(names(&path.join(name)), names(&path.join("file")));
         for written in WRITTEN {
             let read = |folder: &str| fs::read(path.join(folder).join(written)).unwrap();
-            assert!(read(name) == read("file"), "{name}: {written}");
+            // a page names its recording and its date
+            let lines = |file: Vec<u8>| {
+                String::from_utf8_lossy(&file).lines().filter(|line| !names_it(line)).collect::<String>()
+            };
+            let same = match written {
+                "index.html" => lines(read(name)) == lines(read("file")),
+                _ => read(name) == read("file"),
+            };
+            assert!(same, "{name}: {written}");
         }
     }
 }

@@ -1,6 +1,10 @@
 // desk: an opening, the frame calls and pieces of dictation, for a host that has numbers alone. `record` is a side's record as ten numbers: due call,
 // cepstral index, the three GRU counts, frames, heard frames, the samples that wait, the size of an unfinished piece and its progress. `answer` is
 // call 3's as three: heard or not, voice, energy. Returned is 0 or the refusal.
+// `store` is the one of all benches, of the length that is published, and `model` the bytes of a model file. Refusals,
+// the first that is due: 1 no such side; 2 another length of `store` or `record`, or a record out of range; 3 the side is
+// closed; 4 another call is due; 5 another wrong length; 6 a lag above 768; 7 + 256 times its refusal + 65,536 times the
+// layer, a model that does not read; 8 other counts than at the opening; 9 a sample outside of -32,768 to 32,767.
 ghost use mathlib.Core.Path.{_≡_};
 ghost use mathlib.Core.Bool.{true, cond};
 ghost use mathlib.Core.List.{[], _∷_};
@@ -98,6 +102,7 @@ pub(crate) fn hand_back(record: &mut [u32], given: Answer) -> u32
     number_of(reply)
 }
 
+// A bench's side: 0 left for an even one, 1 right for an odd one.
 #[no_mangle]
 pub extern "C" fn tuppence_side_of(bench: u32) -> u32
     ensures { λ r. ⌜ r ≡ sideOf bench ⌝ }
@@ -105,6 +110,7 @@ pub extern "C" fn tuppence_side_of(bench: u32) -> u32
     desk::side_of(bench)
 }
 
+// Opens a side, at any moment: what it held is wiped, and call 1 is due.
 #[no_mangle]
 pub extern "C" fn tuppence_open(
     record: &mut [u32],
@@ -120,6 +126,7 @@ pub extern "C" fn tuppence_open(
     hand_back(record, given)
 }
 
+// Call 1: `samples` are a frame's 480, `window` gets 960 windowed numbers, to be transformed.
 #[no_mangle]
 pub extern "C" fn tuppence_call1(
     record: &mut [u32],
@@ -143,6 +150,8 @@ pub extern "C" fn tuppence_call1(
     hand_back(record, given)
 }
 
+// Call 2: `spectrum` is the window's, 961 numbers, and `lag` at most 768. `window` gets 960 numbers, to be transformed,
+// and `sums` 22, of which call 3 is lent the logarithms.
 #[no_mangle]
 pub extern "C" fn tuppence_call2(
     record: &mut [u32],
@@ -171,6 +180,7 @@ pub extern "C" fn tuppence_call2(
     hand_back(record, given)
 }
 
+// Call 2 with our own lag: `spectrum`, `window` and `sums` as there.
 #[no_mangle]
 pub extern "C" fn tuppence_call2_own(
     record: &mut [u32],
@@ -221,6 +231,8 @@ pub(crate) fn places(answer: usize, out: usize) -> usize
     out
 }
 
+// Call 3: `spectrum` is the second window's, 961 numbers, and `logs` are 22. `out` gets the 961 numbers of the spectrum
+// to be transformed back, and `answer` its three.
 #[no_mangle]
 pub extern "C" fn tuppence_call3(
     record: &mut [u32],
@@ -254,6 +266,7 @@ pub extern "C" fn tuppence_call3(
     hand_back(record, given)
 }
 
+// Call 4: `inverse` are the 960 numbers of the inverse transform, and `out` gets the frame's 480 samples.
 #[no_mangle]
 pub extern "C" fn tuppence_call4(
     record: &mut [u32],
@@ -271,6 +284,7 @@ pub extern "C" fn tuppence_call4(
     hand_back(record, given)
 }
 
+// Calls 1 and 2 with our own transforms and lag: `samples` are a frame's 480, `sums` gets 22 numbers.
 #[no_mangle]
 pub extern "C" fn tuppence_first_half(
     record: &mut [u32],
@@ -288,6 +302,7 @@ pub extern "C" fn tuppence_first_half(
     hand_back(record, given)
 }
 
+// Calls 3 and 4: `logs` are the 22 logarithms of the sums, `out` gets 480 samples, and `answer` its three.
 #[no_mangle]
 pub extern "C" fn tuppence_second_half(
     record: &mut [u32],
@@ -318,6 +333,8 @@ pub extern "C" fn tuppence_second_half(
     hand_back(record, given)
 }
 
+// A piece of 1 to 4,096 `samples`. `out` has room for 480 for each frame that they complete with those that wait, and
+// `sums` for 22: those of the first frame, where there is one, and the piece then waits to be resumed.
 #[no_mangle]
 pub extern "C" fn tuppence_piece(
     record: &mut [u32],
@@ -344,6 +361,8 @@ pub extern "C" fn tuppence_piece(
     hand_back(record, given)
 }
 
+// Goes on with a piece: the same `samples` and the same `out`, and the 22 `logs` of the sums. `sums` gets those of the
+// next frame, where there is one, and `answer` the three of the frame that is done.
 #[no_mangle]
 pub extern "C" fn tuppence_resume(
     record: &mut [u32],

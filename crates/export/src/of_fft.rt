@@ -4,6 +4,7 @@ ghost use Rattle.rules.specs.Leaf.{Leaf, _leaving_};
 ghost use Rattle.transforms.specs.Transform.{ForwardFits, InverseFits};
 ghost use Rattle.fft.specs.Single.{fastForward, fastInverse};
 
+// `spectrum` has 961 places, `samples` 960.
 #[no_mangle]
 pub extern "C" fn tuppence_fft_forward(spectrum: &mut [f32], samples: &[f32]) -> u32
     ensures { λ r. ⌜ Leaf (ForwardFits (length (now (spectrum .entry))) (length (now (samples .entry))))
@@ -14,6 +15,7 @@ pub extern "C" fn tuppence_fft_forward(spectrum: &mut [f32], samples: &[f32]) ->
     fft::forward(spectrum, samples)
 }
 
+// `samples` has 960 places, `spectrum` 961.
 #[no_mangle]
 pub extern "C" fn tuppence_fft_inverse(samples: &mut [f32], spectrum: &[f32]) -> u32
     ensures { λ r. ⌜ Leaf (InverseFits (length (now (samples .entry))) (length (now (spectrum .entry))))

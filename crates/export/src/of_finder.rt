@@ -4,7 +4,7 @@ ghost use lib.ListN.{length};
 ghost use Rattle.rules.specs.Leaf.{Leaf, _leaving_};
 ghost use Rattle.export.specs.OfFinder.{FindFits, foundAfter, keptNumbers};
 
-// numbers has two places, the last period and the last gain; place has one.
+// `numbers` has two places, the last period and the last gain; `place` has one, for the period; `input_mem` has 1,728.
 #[no_mangle]
 pub extern "C" fn tuppence_find(numbers: &mut [f32], place: &mut [u32], input_mem: &[f32]) -> u32
     ensures { λ r. ⌜ Leaf (FindFits (length (now (numbers .entry))) (length (now (place .entry))) (length (now («input_mem» .entry))))

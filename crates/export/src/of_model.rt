@@ -1,10 +1,11 @@
-// model: what a file reads as, in numbers.
+// model: what a file reads as, in numbers. A refusal r, 11 to 22, of layer l is r + 65,536 l; 5 is a wrong length.
 ghost use mathlib.Core.Path.{_≡_};
 ghost use Prim.Native.Nat.{_≤_};
 ghost use Rattle.rules.specs.Leaf.{_leaving_};
 ghost use Rattle.model.specs.Summary.{summaryOf};
 ghost use Rattle.desk.specs.Surface.{sevenOf};
 
+// `numbers` has thirty places: six times inputs, neurons, activation, offset and length. `model` is a file's bytes.
 #[no_mangle]
 pub extern "C" fn tuppence_model(numbers: &mut [u32], model: &[u8]) -> u32
     ensures { λ r. ⌜ (r leaving now (numbers .exit)) ≡ summaryOf (now (model .entry)) (now (numbers .entry)) ⌝ }

@@ -1,4 +1,5 @@
-// network: the layers, with the activation as a number, and the six layers for one frame.
+// network: the layers, with the activation as a number, and the six layers for one frame. 5 is a wrong length, and of a
+// model that does not read 7 + 256 times its refusal + 65,536 times the layer.
 ghost use mathlib.Core.Path.{_≡_};
 ghost use lib.ListN.{length};
 ghost use Rattle.rules.specs.Leaf.{Leaf, _leaving_};
@@ -20,6 +21,8 @@ fn activation_of(number: u32) -> Activation
     }
 }
 
+// A dense layer of 1 to 127 inputs i and neurons n: `output` has n numbers, `weights` i*n, `bias` n, `input` i.
+// `activation` is 0 for tanh, 1 for sigmoid, 2 for relu.
 #[no_mangle]
 pub extern "C" fn tuppence_dense(
     output: &mut [f32],
@@ -41,6 +44,8 @@ pub extern "C" fn tuppence_dense(
     network::dense(output, weights, bias, activation_of(activation), input)
 }
 
+// A GRU layer: `state` has n numbers, and is left as the frame's output; `weights` 3*i*n, `recurrent` 3*n*n, `bias`
+// 3*n, `input` i.
 #[no_mangle]
 pub extern "C" fn tuppence_gru(
     state: &mut [f32],
@@ -85,7 +90,8 @@ fn number_of(answer: Computed) -> u32
     }
 }
 
-// The states have 128 places each.
+// `gains` has 22 places, `voice` one, the states `vad`, `noise` and `denoise` 128 each; `features` are 42, and `model`
+// is a file's bytes.
 #[no_mangle]
 pub extern "C" fn tuppence_network(
     gains: &mut [f32],

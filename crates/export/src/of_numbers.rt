@@ -1,4 +1,4 @@
-// numbers: each function as it stands there.
+// numbers: activations, root, the larger and the smaller, and the filter. 5 is a wrong length.
 ghost use mathlib.Core.Path.{_≡_};
 ghost use lib.Ieee.{binary32};
 ghost use lib.ListN.{length};
@@ -11,6 +11,7 @@ ghost use Rattle.numbers.specs.Root.{root};
 ghost use Rattle.numbers.specs.Filter.{memoryOf, memoryList};
 ghost use Rattle.export.specs.OfNumbers.{BiquadFits, biquadOf};
 
+// The crate's table of the hyperbolic tangent, with its interpolation.
 #[no_mangle]
 pub extern "C" fn tuppence_tansig(x: f32) -> f32
     ensures { λ r. ⌜ r ≡ tansigApprox x ⌝ }
@@ -18,6 +19,7 @@ pub extern "C" fn tuppence_tansig(x: f32) -> f32
     numbers::tansig_approx(x)
 }
 
+// The sigmoid, by that table.
 #[no_mangle]
 pub extern "C" fn tuppence_sigmoid(x: f32) -> f32
     ensures { λ r. ⌜ r ≡ sigmoidApprox x ⌝ }
@@ -25,6 +27,7 @@ pub extern "C" fn tuppence_sigmoid(x: f32) -> f32
     numbers::sigmoid_approx(x)
 }
 
+// x where it is above 0, else 0; NaN gives 0.
 #[no_mangle]
 pub extern "C" fn tuppence_relu(x: f32) -> f32
     ensures { λ r. ⌜ r ≡ rectified x ⌝ }
@@ -32,6 +35,7 @@ pub extern "C" fn tuppence_relu(x: f32) -> f32
     numbers::relu(x)
 }
 
+// The root, rounded to nearest.
 #[no_mangle]
 pub extern "C" fn tuppence_sqrt(x: f32) -> f32
     ensures { λ r. ⌜ r ≡ root binary32 x ⌝ }
@@ -39,6 +43,7 @@ pub extern "C" fn tuppence_sqrt(x: f32) -> f32
     numbers::sqrt(x)
 }
 
+// The larger; the other where one is NaN; the left one where they compare equal.
 #[no_mangle]
 pub extern "C" fn tuppence_max(a: f32, b: f32) -> f32
     ensures { λ r. ⌜ r ≡ larger a b ⌝ }
@@ -46,6 +51,7 @@ pub extern "C" fn tuppence_max(a: f32, b: f32) -> f32
     numbers::max(a, b)
 }
 
+// The smaller; the other where one is NaN; the left one where they compare equal.
 #[no_mangle]
 pub extern "C" fn tuppence_min(a: f32, b: f32) -> f32
     ensures { λ r. ⌜ r ≡ smaller a b ⌝ }
@@ -53,6 +59,7 @@ pub extern "C" fn tuppence_min(a: f32, b: f32) -> f32
     numbers::min(a, b)
 }
 
+// x within two ends; NaN stays NaN.
 #[no_mangle]
 pub extern "C" fn tuppence_clamp(x: f32, low: f32, high: f32) -> f32
     ensures { λ r. ⌜ r ≡ clamped x low high ⌝ }
@@ -60,6 +67,7 @@ pub extern "C" fn tuppence_clamp(x: f32, low: f32, high: f32) -> f32
     numbers::clamp(x, low, high)
 }
 
+// The nearest f32.
 #[no_mangle]
 pub extern "C" fn tuppence_narrow(x: f64) -> f32
     ensures { λ r. ⌜ r ≡ narrowed x ⌝ }
@@ -67,7 +75,8 @@ pub extern "C" fn tuppence_narrow(x: f64) -> f32
     numbers::narrow(x)
 }
 
-// memory holds m0 and m1, and coefficients a0, a1, b0 and b1.
+// A filter of the second order: `output` is as long as `input`; `memory` holds m0 and m1, and is left as they then are;
+// `coefficients` are a0, a1, b0 and b1.
 #[no_mangle]
 pub extern "C" fn tuppence_filter(
     output: &mut [f32],

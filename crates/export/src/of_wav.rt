@@ -7,7 +7,7 @@ ghost use Rattle.wav.specs.Head.{headWritten};
 ghost use Rattle.wav.specs.Seal.{sealSummary, sealWritten};
 use wav::seal::Seal;
 
-// The checksum of what was handed in before, 0 of nothing, and of these bytes behind it.
+// The checksum of what was handed in `before`, 0 of nothing, and of these `bytes` behind it, as many as there are.
 #[no_mangle]
 pub extern "C" fn tuppence_checksum(before: u32, bytes: &[u8]) -> u32
     ensures { λ r. ⌜ r ≡ crc32 before (now (bytes .entry)) ⌝ }
@@ -15,7 +15,7 @@ pub extern "C" fn tuppence_checksum(before: u32, bytes: &[u8]) -> u32
     checksum::crc32(before, bytes)
 }
 
-// out has 24 places. So many bytes of audio, with this checksum.
+// `out` has 24 bytes. The seal of a side, 0 for left, 1 for right, whose audio has `size` bytes with this `checksum`.
 #[no_mangle]
 pub extern "C" fn tuppence_seal_write(out: &mut [u8], side: u32, size: u64, checksum: u32) -> u32
     ensures { λ r. ⌜ (r leaving now (out .exit)) ≡ sealWritten (record { side = side; size = size; checksum = checksum }) (now (out .entry)) ⌝ }
@@ -30,7 +30,8 @@ pub extern "C" fn tuppence_seal_write(out: &mut [u8], side: u32, size: u64, chec
     )
 }
 
-// numbers has three places: the side, how many bytes of audio, and their checksum.
+// `numbers` has three places: the side, how many bytes of audio, and their checksum. `file` is what stands where the seal
+// begins, of any length.
 #[no_mangle]
 pub extern "C" fn tuppence_seal_read(numbers: &mut [u64], file: &[u8]) -> u32
     ensures { λ r. ⌜ (r leaving now (numbers .exit)) ≡ sealSummary (now (file .entry)) (now (numbers .entry)) ⌝ }
@@ -38,7 +39,7 @@ pub extern "C" fn tuppence_seal_read(numbers: &mut [u64], file: &[u8]) -> u32
     wav::seal::summary(numbers, file)
 }
 
-// out has 44 places. So many bytes of audio at a rate, and of chunks behind it.
+// `out` has 44 bytes. So many bytes of audio at a rate, and of chunks `behind` it.
 #[no_mangle]
 pub extern "C" fn tuppence_wav_head(out: &mut [u8], rate: u32, size: u32, behind: u32) -> u32
     ensures { λ r. ⌜ (r leaving now (out .exit)) ≡ headWritten rate size behind (now (out .entry)) ⌝ }
@@ -46,7 +47,7 @@ pub extern "C" fn tuppence_wav_head(out: &mut [u8], rate: u32, size: u32, behind
     wav::head::write(out, rate, size, behind)
 }
 
-// numbers has five places: place, format, channels, rate and size; all 0 at first. The file is lent from the place on.
+// `numbers` has five places: place, format, channels, rate and size; all 0 at first. `file` is lent from the place on.
 #[no_mangle]
 pub extern "C" fn tuppence_wav_read(numbers: &mut [u64], file: &[u8]) -> u32
     ensures { λ r. ⌜ (r leaving now (numbers .exit)) ≡ stepTold (now (file .entry)) (now (numbers .entry)) ⌝ }

@@ -1,5 +1,5 @@
-// whole: a frame, and a piece of dictation, in one call, with our own logarithms. `record` is a side's record as ten numbers, as in `of_desk`. Returned
-// is 0 or the refusal.
+// whole: a frame, and a piece of dictation, in one call, with our own logarithms. `record`, `store`, `model` and the
+// refusals are the desk's.
 ghost use mathlib.Core.List.{[], _∷_};
 ghost use lib.ListN.{length};
 ghost use Rattle.desk.specs.Gate.{BENCHES};
@@ -8,7 +8,7 @@ ghost use Rattle.whole.specs.Whole.{take};
 ghost use Rattle.whole.specs.Surface.{hostedFrame, HostTook};
 use desk::Side;
 
-// `samples` and `out` are 480 numbers, `answer` three: heard or not, voice, energy.
+// `samples` are a frame's 480, `out` gets 480, and `answer` three: heard or not, voice, energy.
 #[no_mangle]
 pub extern "C" fn tuppence_frame(
     record: &mut [u32],
@@ -39,7 +39,8 @@ pub extern "C" fn tuppence_frame(
     crate::of_desk::hand_back(record, given)
 }
 
-// `answers` are three numbers for each frame that the piece completes, or more, which stay.
+// `piece` is 1 to 4,096 samples. `out` has room for 480, and `answers` for three numbers, for each frame that the piece
+// completes with the samples that wait, or more, which stay: 4,320 and 27 are enough for any.
 #[no_mangle]
 pub extern "C" fn tuppence_take(
     record: &mut [u32],

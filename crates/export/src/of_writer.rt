@@ -1,8 +1,12 @@
-// model: a file from six layers' counts, activations and arrays.
+// model: a file from six layers' counts, activations and arrays. A refusal r of layer l, as when it is read, or 24 where
+// `out` is too short, is r + 65,536 l; 5 is a wrong length of `shapes`.
 ghost use mathlib.Core.Path.{_≡_};
 ghost use Rattle.rules.specs.Leaf.{_leaving_};
 ghost use Rattle.model.specs.Writer.{arraysOf, writeModel};
 
+// `shapes` are six times inputs, neurons and activation. The arrays are signed bytes, input weights, recurrent ones and
+// biases: `w0`, `b0` of input_dense, `w1`, `r1`, `b1` of vad_gru, `w2`, `r2`, `b2` of noise_gru, `w3`, `r3`, `b3` of
+// denoise_gru, `w4`, `b4` of denoise_output, `w5`, `b5` of vad_output. `out` has the file's length, or more, which stays.
 #[no_mangle]
 pub extern "C" fn tuppence_write_model(
     out: &mut [u8],

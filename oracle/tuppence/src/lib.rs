@@ -63,12 +63,12 @@ surface! {
 
 #[cfg(feature = "lag")]
 surface! {
-    tuppence_lag as lag(lag: &mut [u32], input_mem: &[f32]) -> u32;
+    tuppence_lag as lag(place: &mut [u32], input_mem: &[f32]) -> u32;
 }
 
 #[cfg(feature = "finder")]
 surface! {
-    tuppence_find as find(numbers: &mut [f32], lag: &mut [u32], input_mem: &[f32]) -> u32;
+    tuppence_find as find(numbers: &mut [f32], place: &mut [u32], input_mem: &[f32]) -> u32;
 }
 
 #[cfg(feature = "transforms")]
@@ -137,10 +137,10 @@ surface! {
         record: &mut [u32], store: &mut [f32], side: u32, logs: &[f32], model: &[u8], out: &mut [f32], answer: &mut [f32]
     ) -> u32;
     tuppence_piece as piece(
-        record: &mut [u32], store: &mut [f32], side: u32, piece: &[f32], out: &mut [f32], sums: &mut [f32]
+        record: &mut [u32], store: &mut [f32], side: u32, samples: &[f32], out: &mut [f32], sums: &mut [f32]
     ) -> u32;
     tuppence_resume as resume(
-        record: &mut [u32], store: &mut [f32], side: u32, piece: &[f32], logs: &[f32], model: &[u8],
+        record: &mut [u32], store: &mut [f32], side: u32, samples: &[f32], logs: &[f32], model: &[u8],
         out: &mut [f32], sums: &mut [f32], answer: &mut [f32]
     ) -> u32;
 }
