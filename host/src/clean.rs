@@ -3,12 +3,12 @@
 use crate::cleaned::{Cleaned, Summary};
 use crate::files::Files;
 use crate::folder::told;
+use crate::import;
 use crate::recorder::{Frame, Recorder, Side, Way};
 use crate::refusal::Refusal;
 use crate::source::{Memory, Recordings, Source};
 use crate::{FRAME, RATE};
 use std::fmt;
-use std::fs;
 use std::path::{Path, PathBuf};
 use std::time::Instant;
 
@@ -215,7 +215,7 @@ fn progress_of(length: Option<u64>, quiet: bool) -> impl FnMut(u64) {
 
 /// Runs a job. Of files that can't be read to their end nothing is written; of a stream, what came before.
 pub fn clean(job: &Job) -> Result<[Summary; 2], String> {
-    let model = fs::read(&job.model).map_err(|why| told(&job.model, why))?;
+    let model = import::read(&job.model)?;
     if let Some(file) = job.inputs.files().into_iter().find(|file| is_in_the_way(file, &job.out)) {
         return Err(told(file, "this would be written over; name another folder with --out"));
     }

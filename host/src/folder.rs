@@ -86,6 +86,12 @@ impl Folder {
         self.create(&name)?.write_all(bytes).map_err(|why| told(&self.place(name), why))
     }
 
+    /// What a file has that was written beside its place.
+    pub fn read_back(&self, name: impl AsRef<Path>) -> Result<Vec<u8>, String> {
+        let part = beside(&self.place(name), ".part");
+        fs::read(&part).map_err(|why| told(&part, why))
+    }
+
     /// Where something may be laid down for a while.
     pub fn beside(&self, name: &str, ending: &str) -> PathBuf {
         beside(&self.place(name), ending)

@@ -44,6 +44,13 @@ host: cleans two dictations, one for each bench
       (input_dense.weights, input_dense.bias, vad_gru.recurrent ...).
   host unpack M.rnn --out FOLDER
       The other way.
+  host import FILE --out M.rnn [--force]
+      A model as a .rnn, from RNNoise's rnn_data.c or from rnnoise-nu's text form
+      (.rnnn), which are told apart by their first words. --model and unpack take
+      both as they are, too. What is wrong is said by layer, array and line, and
+      then nothing is written; nor over a file that stands there, but with --force.
+  host export M.rnn --as rnnn --out FILE [--force]
+      A model in that text form, for ffmpeg's filter arnndn.
   host mend FILE --out FILE2
       A recording whose side sheet was torn: what follows the audio in whole records
       is kept, and the sheet closed again. FILE2 must not exist.
@@ -66,6 +73,8 @@ Examples:
   host mend monday/left.wav --out left.wav
   host unpack house.rnn --out layers
   host pack --layers layers --out mine.rnn
+  host import rnn_data.c --out rnnoise.rnn
+  host export house.rnn --as rnnn --out house.rnnn
 
 Exit status: 0 done, 2 something was not right; then nothing is written, but of a
 stream what came before.
@@ -83,6 +92,12 @@ fn options(words: &[OsString], names: &[&str]) -> Option<Vec<PathBuf>> {
 /// Takes a word out, where it stands there.
 fn flag(words: &mut Vec<OsString>, name: &str) -> bool {
     words.iter().position(|word| word == name).map(|at| words.remove(at)).is_some()
+}
+
+/// Whether `--force` stands there, and the other words.
+fn forced(words: &[OsString]) -> (bool, Vec<OsString>) {
+    let mut words = words.to_vec();
+    (flag(&mut words, "--force"), words)
 }
 
 /// Takes `--lag WHOSE` out.
@@ -151,6 +166,20 @@ fn run(words: &[OsString]) -> Result<(), String> {
             let paths = options(rest, &["--out"]).ok_or_else(|| wrong("unpack"))?;
             host::pack::unpack(model.as_ref(), &paths[0])?;
             host::say!("{}: sixteen files", paths[0].display());
+        }
+        [word, file, rest @ ..] if word == "import" => {
+            let (force, rest) = forced(rest);
+            let paths = options(&rest, &["--out"]).ok_or_else(|| wrong("import"))?;
+            host::say!("{}: {}", paths[0].display(), host::import::import(file.as_ref(), &paths[0], force)?);
+        }
+        [word, model, rest @ ..] if word == "export" => {
+            let (force, rest) = forced(rest);
+            let paths = options(&rest, &["--as", "--out"]).ok_or_else(|| wrong("export"))?;
+            if paths[0].as_os_str() != "rnnn" {
+                return Err(wrong("export"));
+            }
+            let bytes = host::export::export(model.as_ref(), &paths[1], force)?;
+            host::say!("{}: {bytes} bytes", paths[1].display());
         }
         [word, file, rest @ ..] if word == "mend" => {
             let paths = options(rest, &["--out"]).ok_or_else(|| wrong("mend"))?;
