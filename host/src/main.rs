@@ -94,12 +94,6 @@ fn flag(words: &mut Vec<OsString>, name: &str) -> bool {
     words.iter().position(|word| word == name).map(|at| words.remove(at)).is_some()
 }
 
-/// Whether `--force` stands there, and the other words.
-fn forced(words: &[OsString]) -> (bool, Vec<OsString>) {
-    let mut words = words.to_vec();
-    (flag(&mut words, "--force"), words)
-}
-
 /// Takes `--lag WHOSE` out.
 fn way(words: &mut Vec<OsString>) -> Option<Way> {
     let Some(at) = words.iter().position(|word| word == "--lag") else { return Some(Way::Own) };
@@ -116,6 +110,13 @@ fn demo(words: &[OsString]) -> Option<(PathBuf, Way)> {
     let way = way(&mut words)?;
     let [dir] = &words[..] else { return None };
     Some((dir.into(), way))
+}
+
+/// The values of options beside which `--force` may stand, and whether it does.
+fn forced(words: &[OsString], names: &[&str]) -> Option<(Vec<PathBuf>, bool)> {
+    let mut words = words.to_vec();
+    let force = flag(&mut words, "--force");
+    Some((options(&words, names)?, force))
 }
 
 fn job(words: &[OsString]) -> Option<Job> {
@@ -168,13 +169,11 @@ fn run(words: &[OsString]) -> Result<(), String> {
             host::say!("{}: sixteen files", paths[0].display());
         }
         [word, file, rest @ ..] if word == "import" => {
-            let (force, rest) = forced(rest);
-            let paths = options(&rest, &["--out"]).ok_or_else(|| wrong("import"))?;
+            let (paths, force) = forced(rest, &["--out"]).ok_or_else(|| wrong("import"))?;
             host::say!("{}: {}", paths[0].display(), host::import::import(file.as_ref(), &paths[0], force)?);
         }
         [word, model, rest @ ..] if word == "export" => {
-            let (force, rest) = forced(rest);
-            let paths = options(&rest, &["--as", "--out"]).ok_or_else(|| wrong("export"))?;
+            let (paths, force) = forced(rest, &["--as", "--out"]).ok_or_else(|| wrong("export"))?;
             if paths[0].as_os_str() != "rnnn" {
                 return Err(wrong("export"));
             }

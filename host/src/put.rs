@@ -7,9 +7,10 @@ use std::path::Path;
 pub fn put(place: &Path, bytes: &[u8], force: bool) -> Result<(), String> {
     let name = place.file_name().ok_or_else(|| told(place, "this is no name of a file"))?;
     if !force && place.symlink_metadata().is_ok() {
-        return Err(told(place, "this stands there already, and is written over with --force alone"));
+        return Err(told(place, "it stands there already; name another place, or write over it with --force"));
     }
-    let mut folder = Folder::new(place.parent().filter(|path| *path != Path::new("")).unwrap_or(Path::new(".")))?;
+    let within = place.parent().filter(|path| *path != Path::new("")).unwrap_or(Path::new("."));
+    let mut folder = Folder::new(within)?;
     folder.write(name, bytes)?;
     if folder.read_back(name)? != bytes {
         return Err(told(place, "what was written does not read back"));

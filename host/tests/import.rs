@@ -200,11 +200,11 @@ fn each_refusal_of_a_text_of_rnnoise_nu() {
             5,
             "1 1 0",
             "1 1 3",
-            "line 5: vad_gru: its activation is 3, and not 0, 1 or 2 (tanh, sigmoid, relu) (refusal 14, layer 1)",
+            "line 5: vad_gru: its activation is `3`, and not 0, 1 or 2 (tanh, sigmoid, relu) (refusal 14, layer 1)",
         ),
-        (2, "42", "128", "line 2: input_dense: 128 inputs are not from 0 to 127 (refusal 12, layer 0)"),
-        (9, "44", "-1", "line 9: noise_gru: -1 inputs are not from 0 to 127 (refusal 12, layer 2)"),
-        (13, "44 1", "44 128", "line 13: denoise_gru: 128 neurons are not from 1 to 127 (refusal 13, layer 3)"),
+        (2, "42", "128", "line 2: input_dense: `128` inputs are not from 0 to 127 (refusal 12, layer 0)"),
+        (9, "44", "-1", "line 9: noise_gru: `-1` inputs are not from 0 to 127 (refusal 12, layer 2)"),
+        (13, "44 1", "44 128", "line 13: denoise_gru: `128` neurons are not from 1 to 127 (refusal 13, layer 3)"),
         (20, "1 1", "1 0", "line 20: vad_output: it has no neurons (refusal 15, layer 5)"),
         (22, "0", "", "it ends within vad_output.bias: 0 of 1 numbers are there (refusal 16, layer 5)"),
         (22, "0", "0\r\n\r\n0", "line 24: `0` stands behind the last number of vad_output.bias"),
@@ -308,11 +308,11 @@ fn each_refusal_of_an_array_in_c() {
 fn each_refusal_of_a_layer_in_c() {
     let activation = "and not 0, 1 or 2 (tanh, sigmoid, relu) (refusal 14, layer 0)";
     for (numbers, why) in [
-        ("42, 1, ACTIVATION_LINEAR", &format!("its activation is ACTIVATION_LINEAR, {activation}")[..]),
-        ("42, 1, 3", &format!("its activation is 3, {activation}")),
-        ("128, 1, 0", "128 inputs are not from 0 to 127 (refusal 12, layer 0)"),
-        ("42, 128, 0", "128 neurons are not from 1 to 127 (refusal 13, layer 0)"),
-        ("42, -1, 0", "-1 neurons are not from 1 to 127 (refusal 13, layer 0)"),
+        ("42, 1, ACTIVATION_LINEAR", &format!("its activation is `ACTIVATION_LINEAR`, {activation}")[..]),
+        ("42, 1, 3", &format!("its activation is `3`, {activation}")),
+        ("128, 1, 0", "`128` inputs are not from 0 to 127 (refusal 12, layer 0)"),
+        ("42, 128, 0", "`128` neurons are not from 1 to 127 (refusal 13, layer 0)"),
+        ("42, -1, 0", "`-1` neurons are not from 1 to 127 (refusal 13, layer 0)"),
         ("42, 0, 0", "it has no neurons (refusal 15, layer 0)"),
         ("NB_FEATURES, 1, 0", "`NB_FEATURES` is no whole number"),
         (
@@ -403,9 +403,9 @@ fn what_is_refused_writes_nothing() {
         ("import cut.rnn --out m.rnn", "cut.rnn: the model is refused: it ends within a layer's weights (refusal 16"),
         ("import none.c --out m.rnn", "none.c: "),
         ("import house.rnnn --out house.rnn/m.rnn", "house.rnn: "),
-        ("import house.rnnn --out cut.rnn", "cut.rnn: this stands there already"),
+        ("import house.rnnn --out cut.rnn", "cut.rnn: it stands there already"),
         ("export cut.rnn --as rnnn --out m.rnnn", "cut.rnn: the model is refused"),
-        ("export house.rnn --as rnnn --out cut.rnn", "cut.rnn: this stands there already"),
+        ("export house.rnn --as rnnn --out cut.rnn", "cut.rnn: it stands there already"),
         ("export house.rnn --as c --out m.c", "export: the options are not right"),
         ("import house.rnnn", "import: the options are not right"),
     ] {
@@ -420,6 +420,15 @@ fn what_is_refused_writes_nothing() {
     assert!(output.status.success(), "{said}");
     assert!(fs::read(path.join("cut.rnn")).unwrap() == HOUSE);
     assert_eq!(names(&path), before);
+}
+
+/// What never ends is no model.
+#[cfg(unix)]
+#[test]
+fn no_more_is_read_than_a_model_can_have() {
+    let path = folder("endless");
+    let (output, said) = host(&path, "import /dev/zero --out m.rnn");
+    assert!(!output.status.success() && said.contains("/dev/zero: the model is refused"), "{said}");
 }
 
 /// A recording is cleaned alike with a model in any form, and taken apart alike.
@@ -443,6 +452,9 @@ fn each_form_is_taken_as_a_model() {
     }
     fs::write(path.join("bad.rnnn"), "rnnoise-nu model file version 1\n42 24 3").unwrap();
     let (output, said) = host(&path, "clean --left L.wav --right L.wav --model bad.rnnn --out bad");
-    assert!(!output.status.success() && said.contains("bad.rnnn: line 2: input_dense: its activation is 3"), "{said}");
+    assert!(
+        !output.status.success() && said.contains("bad.rnnn: line 2: input_dense: its activation is `3`"),
+        "{said}"
+    );
     assert!(!path.join("bad").exists());
 }

@@ -5,6 +5,7 @@
 mod c;
 mod number;
 mod rnnn;
+mod tokens;
 
 use crate::folder::told;
 use crate::layers::{Layers, Unwritten, LAYERS};
@@ -54,7 +55,8 @@ impl Form {
 
 /// What the writer finds wrong with a layer's three numbers, told as they stand in the text; its arrays are not known
 /// yet.
-fn header_fault(layers: &Layers, [inputs, neurons, activation]: [&str; 3]) -> Result<(), String> {
+fn header_fault(layers: &Layers, header: [&[u8]; 3]) -> Result<(), String> {
+    let [inputs, neurons, activation] = header.map(number::shown);
     let Unwritten { number, layer } = layers.fault();
     let what = match number {
         12 => format!("{inputs} inputs are not from 0 to 127"),

@@ -44,10 +44,10 @@ fn header(words: &mut Words, layer: usize, layers: &mut Layers) -> Result<(), St
     for (k, what) in ["inputs", "neurons", "activation"].into_iter().enumerate() {
         let (line, word) = words.next().ok_or_else(|| format!("it ends before the {what} of {name}"))?;
         layers.shapes[3 * layer + k] = count(word).map_err(|why| format!("line {line}: {name}, {what}: {why}"))?;
-        told.push(String::from_utf8_lossy(word).into_owned());
+        told.push(word);
         at = line;
     }
-    header_fault(layers, [&told[0], &told[1], &told[2]]).map_err(|why| format!("line {at}: {why}"))
+    header_fault(layers, [told[0], told[1], told[2]]).map_err(|why| format!("line {at}: {why}"))
 }
 
 /// The numbers of one array, fewer where the text ends before.

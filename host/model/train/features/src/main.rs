@@ -1,9 +1,12 @@
 //! Features and ideal gains, from standard input to standard output, a sequence at a time until the input ends.
 //!
-//! `features`        in: frames (u32), lag (u32: 0 the library's own, 1 the text's), clean and mixed samples (f32, 480 to a frame)
-//!                   out: for each frame 42 features of the mix, 22 ideal gains (-1: not to be learnt), 1 for heard or 0
-//! `features MODEL`  in: the same. out: for each frame 22 remembered gains, voice, and 1 for heard or 0, as the product works
-//!                   them out in its four calls with this model: what train.py's own network is checked against
+//! `features`
+//!     in: frames (u32), lag (u32: 0 the library's own, 1 the text's), clean and mixed samples (f32, 480 to a frame)
+//!     out: for each frame 42 features of the mix, 22 ideal gains (-1: not to be learnt), 1 for heard or 0
+//! `features MODEL`
+//!     in: the same
+//!     out: for each frame 22 remembered gains, voice, and 1 for heard or 0, as the product works them out in its four
+//!     calls with this model: what train.py's own network is checked against
 
 #[path = "../../../../src/transform.rs"]
 #[allow(dead_code)]
