@@ -62,7 +62,7 @@ fn ten_minutes_of_noise_and_speech() {
 
 #[test]
 fn recordings_of_odd_lengths() {
-    let sound = minutes(1, 0);
+    let sound = dictation(0).noisy;
     for n in [0, 1, 479, 480, 481, 5_000] {
         both_agree(&sound[..n], &sound[7_000..7_000 + 2 * n], &common::model());
     }
@@ -90,7 +90,7 @@ fn cut(way: Way, samples: &[f32], lengths: &[usize]) -> (Vec<f32>, Vec<(u32, Hea
 
 #[test]
 fn however_it_is_cut() {
-    let sound = &minutes(1, 1)[..200 * FRAME + 7];
+    let sound = &dictation(1).noisy[..200 * FRAME + 7];
     for way in [Way::Own, Way::Text] {
         let whole = cut(way, sound, &[FRAME]);
         assert_eq!(whole.1.len(), 200);

@@ -212,6 +212,10 @@ fn each_refusal_of_a_text_of_rnnoise_nu() {
     ] {
         refused(&with_line(&text, line, from, to), why);
     }
+    refused(
+        "\u{FEFF}\n\nrnnoise-nu model file version 1\n42 x",
+        "line 4: input_dense, neurons: `x` is no whole number",
+    );
     refused("rnnoise-nu model file version\n", "it ends before its version");
     refused("rnnoise-nu model file version 1\n42 1", "it ends before the activation of input_dense");
     let cut = text.lines().take(9).collect::<Vec<_>>().join("\n") + "\n1 2 3 4 5";
@@ -301,6 +305,7 @@ fn each_refusal_of_an_array_in_c() {
     let cut = text.find("noise_gru_bias[3] = {\n   0,").unwrap() + 26;
     refused(&text[..cut], "it ends within noise_gru_bias");
     refused(&(text + "/* and then"), "line 128: a comment begins and does not end");
+    refused("\u{FEFF}#if 0\n\"\n#endif", "line 2: a quotation begins and does not end");
     refused(&(HEAD.to_string() + "\"quoted\n\""), "line 9: a quotation begins and does not end");
 }
 

@@ -31,16 +31,17 @@ enum Form {
     Newer,
 }
 
-/// What a text begins with: no byte order mark, and no white space.
-fn start(bytes: &[u8]) -> &[u8] {
-    let text = bytes.strip_prefix(b"\xEF\xBB\xBF").unwrap_or(bytes);
-    &text[text.iter().take_while(|byte| number::is_space(**byte)).count()..]
+/// A text without the mark of its byte order, which some editors put in front.
+fn unmarked(bytes: &[u8]) -> &[u8] {
+    bytes.strip_prefix(b"\xEF\xBB\xBF").unwrap_or(bytes)
 }
 
 impl Form {
     /// A `.rnn` that reads begins with the byte 42, which none of the others does.
     fn of(bytes: &[u8]) -> Form {
-        let begins = |words: &[&str]| words.iter().any(|word| start(bytes).starts_with(word.as_bytes()));
+        let text = unmarked(bytes);
+        let text = &text[text.iter().take_while(|byte| number::is_space(**byte)).count()..];
+        let begins = |words: &[&str]| words.iter().any(|word| text.starts_with(word.as_bytes()));
         if begins(&["rnnoise-nu"]) {
             Form::Rnnn
         } else if begins(&["DNNw"]) {
@@ -75,8 +76,8 @@ pub fn model(bytes: Vec<u8>) -> Result<Vec<u8>, String> {
         Form::Newer => return Err(NEWER.into()),
         Form::C if c::is_newer(&bytes) => return Err(NEWER.into()),
         _ if bytes.len() > LONGEST => return Err(format!("a text of more than {} MiB is no model", LONGEST >> 20)),
-        Form::Rnnn => rnnn::layers(&bytes)?,
-        Form::C => c::layers(&bytes)?,
+        Form::Rnnn => rnnn::layers(unmarked(&bytes))?,
+        Form::C => c::layers(unmarked(&bytes))?,
     };
     layers.file().map_err(|Unwritten { number, .. }| format!("{} (refusal {number})", refusal::of_model(number)))
 }

@@ -3,7 +3,6 @@
 
 use super::header_fault;
 use super::number::{count, is_space, shown, weight, whole};
-use super::start;
 use crate::layers::{first_array, lengths, Layers, Unwritten, LAYERS};
 
 /// The words of a text, each with its line.
@@ -59,7 +58,6 @@ fn array(words: &mut Words, name: &str, length: usize) -> Result<Vec<u8>, String
 }
 
 pub fn layers(text: &[u8]) -> Result<Layers, String> {
-    let text = start(text);
     let (mut words, mut layers) = (Words { rest: text, line: 1 }, Layers::default());
     version(&mut words)?;
     for (layer, (name, arrays)) in LAYERS.iter().enumerate() {

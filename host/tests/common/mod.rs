@@ -34,7 +34,7 @@ pub fn any(rng: &mut Rng, most: u32) -> Layers {
 /// A small model whose gains and voice move with what it hears: for tests that ask how a recording goes through the
 /// box, and not how well it is cleaned.
 pub fn model() -> Vec<u8> {
-    layers(&mut Rng(0x5eed), [8, 8, 12, 16], 40).file().expect("the layers fit")
+    layers(&mut Rng(5), [8, 8, 12, 16], 127).file().expect("the layers fit")
 }
 
 /// One of several.
