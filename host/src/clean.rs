@@ -4,13 +4,13 @@ use crate::about::About;
 use crate::cleaned::Summary;
 use crate::files::{recording, Files};
 use crate::folder::told;
+use crate::import;
 use crate::progress::progress_of;
 use crate::recorder::{Recorder, Side, Way};
 use crate::run::{run, Refused};
 use crate::source::{Limited, Lost, Recordings};
 use crate::status::Failure;
 use crate::{stop, wav, RATE};
-use std::fs;
 use std::path::{Path, PathBuf};
 
 /// What to read, and where to write.
@@ -81,7 +81,7 @@ fn is_in_the_way(file: &Path, out: &Path) -> bool {
 
 /// The model, which the library must take.
 fn model(path: &Path, way: Way) -> Result<Vec<u8>, String> {
-    let model = fs::read(path).map_err(|why| told(path, why))?;
+    let model = import::read(path)?;
     Recorder::new(way).open(Side::Left, &model).map_err(|refusal| told(path, refusal))?;
     Ok(model)
 }

@@ -10,7 +10,7 @@ use crate::{wav, FRAME, RATE};
 use std::f64::consts::TAU;
 use std::path::Path;
 
-/// The house model (host/model/house.py).
+/// The house model (model/train/README.md).
 pub const HOUSE: &[u8] = include_bytes!("../model/house.rnn");
 /// The voices (demo/README.md).
 const VOICES: [&[u8]; 2] = [include_bytes!("../demo/left.wav"), include_bytes!("../demo/right.wav")];
@@ -128,7 +128,7 @@ fn db(ratio: f64) -> f64 {
     10.0 * ratio.log10()
 }
 
-/// What the cleaning did, in decibels; the first 1.5 seconds, in which the model finds the noise floor, do not count.
+/// What the cleaning did, in decibels; the first 1.5 seconds, in which a model may be looking for the noise floor, do not count.
 pub struct Effect {
     pub pauses: f64,
     pub voice: f64,

@@ -129,6 +129,12 @@ impl Folder {
         Ok((path, file))
     }
 
+    /// What a file has that was written beside its place.
+    pub fn read_back(&self, name: impl AsRef<Path>) -> Result<Vec<u8>, String> {
+        let part = beside(&self.place(name), ".part");
+        fs::read(&part).map_err(|why| told(&part, why))
+    }
+
     /// Forgets a file that was on its way to this name.
     pub fn forget(&mut self, name: &str) {
         let place = self.place(name);

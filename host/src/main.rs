@@ -50,6 +50,13 @@ host: cleans two dictations, one for each bench
       What a run left unfinished in DIR, since the power failed or the disk was full:
       each recording is closed as far as its audio and its records both go, and put in
       its place, or where that is taken under the next free name.
+  host import FILE --out M.rnn [--force]
+      A model as a .rnn, from RNNoise's rnn_data.c or from rnnoise-nu's text form
+      (.rnnn), which are told apart by their first words. --model and unpack take
+      both as they are, too. What is wrong is said by layer, array and line, and
+      then nothing is written; nor over a file that stands there, but with --force.
+  host export M.rnn --as rnnn --out FILE [--force]
+      A model in that text form, for ffmpeg's filter arnndn.
   host mend FILE --out FILE2
       A recording whose side sheet was torn: what follows the audio in whole records
       is kept, and the sheet closed again. FILE2 must not exist.
@@ -73,6 +80,8 @@ Examples:
   host mend monday/left.wav --out left.wav
   host unpack house.rnn --out layers
   host pack --layers layers --out mine.rnn
+  host import rnn_data.c --out rnnoise.rnn
+  host export house.rnn --as rnnn --out house.rnnn
 
 Exit status: 0 done as asked; 1 it could not be done; 2 what was given is not right: the
 command line, or a recording that is not all there, of which the rest is cleaned.
@@ -182,6 +191,18 @@ fn run(words: &[OsString]) -> Result<(), Failure> {
             host::say!("{}: sixteen files", paths[0].display());
         }
         [word, folder] if word == "mend" && Path::new(folder).is_dir() => host::rescue::mend(folder.as_ref())?,
+        [word, file, rest @ ..] if word == "import" => {
+            let (paths, force) = forced(rest, &["--out"]).ok_or_else(|| wrong("import"))?;
+            host::say!("{}: {}", paths[0].display(), host::import::import(file.as_ref(), &paths[0], force)?);
+        }
+        [word, model, rest @ ..] if word == "export" => {
+            let (paths, force) = forced(rest, &["--as", "--out"]).ok_or_else(|| wrong("export"))?;
+            if paths[0].as_os_str() != "rnnn" {
+                return Err(wrong("export"));
+            }
+            let bytes = host::export::export(model.as_ref(), &paths[1], force)?;
+            host::say!("{}: {bytes} bytes", paths[1].display());
+        }
         [word, file, rest @ ..] if word == "mend" => {
             let paths = options(rest, &["--out"]).ok_or_else(|| wrong("mend"))?;
             host::mend::mend(file.as_ref(), &paths[0])?;

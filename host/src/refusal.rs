@@ -1,12 +1,11 @@
 //! The library's refusals, in words.
 
+use crate::layers::LAYERS;
 use std::fmt;
 
 /// A refusal as the library returns it: its number, and for 7 the model's number and layer.
 #[derive(Clone, Copy, Debug, PartialEq)]
 pub struct Refusal(pub u32);
-
-const LAYERS: [&str; 6] = ["input_dense", "vad_gru", "noise_gru", "denoise_gru", "denoise_output", "vad_output"];
 
 pub fn of_model(number: u32) -> &'static str {
     match number {
@@ -42,7 +41,7 @@ impl fmt::Display for Refusal {
         match number {
             7 => {
                 write!(f, "the model is refused: {} (refusal {of}, layer {layer}", of_model(of))?;
-                LAYERS.get(layer as usize).map_or(Ok(()), |name| write!(f, ", {name}"))?;
+                LAYERS.get(layer as usize).map_or(Ok(()), |(name, _)| write!(f, ", {name}"))?;
                 write!(f, ")")
             }
             8 => write!(f, "the model's GRU counts are not those of the opening (refusal 8)"),

@@ -1,6 +1,8 @@
 //! With `--lag crate`, what the box gives is what the Rust text's `process_frame` gives for the same samples, model and transforms, bit for bit
 //! but for the signs of zeros. With our own lag and transforms it is the same however the recording is cut.
 
+mod models;
+
 use host::demo::{dictation, minutes, HOUSE};
 use host::recorder::{Heard, Recorder, Side, Way, PIECE};
 use host::reference::Reference;
@@ -8,8 +10,8 @@ use host::run::{frames_of, in_memory};
 use host::FRAME;
 
 /// One bench by the text: its output, and the voice of each frame.
-fn by_the_text(recording: &[f32]) -> (Vec<f32>, Vec<f32>) {
-    let mut reference = Reference::new(HOUSE).unwrap();
+fn by_the_text(recording: &[f32], model: &[u8]) -> (Vec<f32>, Vec<f32>) {
+    let mut reference = Reference::new(model).unwrap();
     let (mut output, mut voices) = (Vec::new(), Vec::new());
     // past its end there is silence
     let mut samples = recording.to_vec();
@@ -28,10 +30,10 @@ fn alike(a: f32, b: f32) -> bool {
     a == b || (a.is_nan() && b.is_nan())
 }
 
-fn both_agree(left: &[f32], right: &[f32]) {
-    for bench in in_memory([left, right], HOUSE, Way::Text).unwrap() {
+fn both_agree(left: &[f32], right: &[f32], model: &[u8]) {
+    for bench in in_memory([left, right], model, Way::Text).unwrap() {
         assert_eq!(bench.before, if bench.side == Side::Left { left } else { right });
-        let (output, voices) = by_the_text(&bench.before);
+        let (output, voices) = by_the_text(&bench.before, model);
         let name = bench.side.name();
         assert_eq!((bench.after.len(), bench.frames.len()), (output.len(), voices.len()));
         for (i, (a, b)) in bench.after.iter().zip(output).enumerate() {
@@ -50,33 +52,34 @@ fn both_agree(left: &[f32], right: &[f32]) {
 
 #[test]
 fn the_demo() {
-    both_agree(&dictation(0).noisy, &dictation(1).noisy);
+    both_agree(&dictation(0).noisy, &dictation(1).noisy, HOUSE);
 }
 
 #[test]
 fn ten_minutes_of_noise_and_speech() {
-    both_agree(&minutes(10, 0), &minutes(10, 1));
+    both_agree(&minutes(10, 0), &minutes(10, 1), &models::model());
 }
 
 #[test]
 fn recordings_of_odd_lengths() {
-    let sound = minutes(1, 0);
+    let sound = dictation(0).noisy;
     for n in [0, 1, 479, 480, 481, 5_000] {
-        both_agree(&sound[..n], &sound[7_000..7_000 + 2 * n]);
+        both_agree(&sound[..n], &sound[7_000..7_000 + 2 * n], &models::model());
     }
 }
 
 /// All that a recorder gives, by pieces of these lengths in turn.
 fn cut(way: Way, samples: &[f32], lengths: &[usize]) -> (Vec<f32>, Vec<(u32, Heard, u32)>) {
     let (mut recorder, mut output, mut frames, mut rest) = (Recorder::new(way), vec![], vec![], samples);
-    recorder.open(Side::Right, HOUSE).unwrap();
+    let model = models::model();
+    recorder.open(Side::Right, &model).unwrap();
     for length in lengths.iter().cycle() {
         let (piece, behind) = rest.split_at(rest.len().min(*length));
         let each = |frame: host::recorder::Frame, out: &[f32]| {
             frames.push((frame.number, frame.heard, frame.heard_so_far));
             output.extend(out);
         };
-        recorder.take(Side::Right, piece, HOUSE, each).unwrap();
+        recorder.take(Side::Right, piece, &model, each).unwrap();
         rest = behind;
         if rest.is_empty() {
             break;
@@ -87,10 +90,15 @@ fn cut(way: Way, samples: &[f32], lengths: &[usize]) -> (Vec<f32>, Vec<(u32, Hea
 
 #[test]
 fn however_it_is_cut() {
-    let sound = &minutes(1, 1)[..200 * FRAME + 7];
+    let sound = &dictation(1).noisy[..200 * FRAME + 7];
     for way in [Way::Own, Way::Text] {
         let whole = cut(way, sound, &[FRAME]);
         assert_eq!(whole.1.len(), 200);
+        let voices = whole.1.iter().map(|(_, heard, _)| match heard {
+            Heard::Silent => 0.0,
+            Heard::Voice { probability, .. } => *probability,
+        });
+        assert!(voices.clone().fold(0.0, f32::max) > 0.1 + voices.fold(1.0, f32::min), "the voice hardly moves");
         for lengths in [&[1][..], &[479, 2, 1, 960], &[PIECE], &[3 * PIECE + 1, 5], &[sound.len()]] {
             assert!(cut(way, sound, lengths) == whole, "{way:?}, {lengths:?}");
         }

@@ -1,6 +1,9 @@
 //! Every command of the box that the README and docs/BOX.md show is run here, with files in the place of the names that stand there.
 
-use host::demo::{dictation, HOUSE};
+mod models;
+
+use host::demo::{dictation, Rng, HOUSE};
+use host::layers::Layers;
 use host::wav;
 use std::fs::{self, File};
 use std::io::Write;
@@ -33,6 +36,7 @@ fn bench() -> PathBuf {
     fs::write(path.join("L.wav"), wav::write(48_000, &left)).unwrap();
     fs::write(path.join("R.wav"), wav::write(48_000, &right)).unwrap();
     fs::write(path.join("M.rnn"), HOUSE).unwrap();
+    fs::write(path.join("rnn_data.c"), models::as_c(&Layers::of(HOUSE).unwrap(), &mut Rng(7))).unwrap();
     let raw: Vec<u8> =
         left.iter().zip(&right).flat_map(|(l, r)| [*l as i16, *r as i16]).flat_map(i16::to_le_bytes).collect();
     fs::write(path.join("stream"), raw).unwrap();
@@ -102,7 +106,20 @@ fn every_command_of_the_pages() {
             run(&folder, command);
         }
     }
-    let words = ["demo", "clean", "clean -", "side", "mend FILE", "mend DIR", "pack", "unpack", "bench", "--help"];
+    let words = [
+        "demo",
+        "clean",
+        "clean -",
+        "side",
+        "mend FILE",
+        "mend DIR",
+        "pack",
+        "unpack",
+        "import",
+        "export",
+        "bench",
+        "--help",
+    ];
     for word in words {
         assert!(shown.iter().any(|command| command.starts_with(word)), "no page shows {word}");
     }
