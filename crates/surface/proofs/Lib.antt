@@ -1,2 +1,3 @@
 pub mod Surfaced
 pub mod Expanded
+pub mod Between
