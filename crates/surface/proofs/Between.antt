@@ -7,15 +7,15 @@
 use Prim.Native.Nat.{ℕ, _+_, _-_, _*_, _/_, _≤_, _<_}
 use native.Mathlib.Omega.{arith}
 use mathlib.Core.Bool.{Bool, true, false, cond, _&&_}
-use mathlib.Core.List.{List, [], _∷_, _++_, map, append-assoc}
+use mathlib.Core.List.{List, [], _∷_, _++_, append-assoc}
 use mathlib.Core.Path.{_≡_, refl, sym, ap, ap₂, _∙_}
 use borrow.Author.Tests.{eqb-true, eqb-false, ltb-true, ltb-false, not-false}
 use lib.Dec.{eqb, ltb, leb}
-use lib.ListN.{length, drop, length-append, length-drop}
+use lib.ListN.{length, drop, length-drop}
 use lib.Seq.{drop-drop, drop-append-add}
 use lib.Ieee.{Float}
 use Rattle.rules.specs.Place.{get, put}
-use Rattle.rules.specs.Written.{Written, from, nothing, firstIn}
+use Rattle.rules.specs.Written.{Written, from, firstIn}
 use Rattle.rules.proofs.Places.{length-get}
 use Rattle.rules.proofs.Truth.{both}
 use Rattle.rules.proofs.Wholes.{get-whole, put-whole}
@@ -24,13 +24,12 @@ use Rattle.frame.specs.declared.Reply.the-variants.{Done}
 use Rattle.frame.specs.Reply.{passed}
 use Rattle.frame.specs.Share.{SHARE}
 use Rattle.halves.specs.Halves.{buffer}
-use Rattle.pieces.specs.Pieces.{waitingIn, waits, further}
-use Rattle.pieces.specs.Pieces as pieces
+use Rattle.pieces.specs.Pieces.{waitingIn, waits}
 use Rattle.pieces.proofs.Shares.{waiting-length, waits-length}
 use Rattle.desk.specs.declared.Record.{Record}
 use Rattle.desk.specs.Gate.{PIECE, shareOf, gate, isDue, inRange, inPieces, underWay}
-use Rattle.desk.specs.Desk.{Ask, piece, resume, holding, carried, Given, desk}
-use Rattle.desk.proofs.Apart.{placed, its-own, own-share, other-share, same-length, one-length}
+use Rattle.desk.specs.Desk.{Ask, piece, resume, holding, Given, desk}
+use Rattle.desk.proofs.Apart.{placed, its-own, own-share, other-share, same-length}
 use Rattle.desk.proofs.Ranged.{open-range}
 use Rattle.desk.proofs.Settled.{refused-keeps}
 use Rattle.desk.proofs.Turned.{none}
@@ -40,11 +39,12 @@ use Rattle.dictation.proofs.Taken.{onward, ends, pauses, piece-passed, resume-p
 use Rattle.dictation.proofs.Follows.{place, following, follows}
 use Rattle.isolation.specs.Run.{Call}
 use Rattle.isolation.specs.Run as desks
-use Rattle.isolation.specs.Isolation.{On, State, ended}
-use Rattle.surface.specs.Surface.{Request, surface}
+use Rattle.isolation.specs.Isolation.{ended}
+use Rattle.surface.specs.Surface.{surface}
 use Rattle.surface.specs.Mixed.{inDesk, expand, madeOf}
-use Rattle.surface.specs.Between.{done, cleaned, resumes, Row, lastPiece, morePieces, Between}
+use Rattle.surface.specs.Between.{done, resumes, Row, lastPiece, morePieces, Between}
 use Rattle.surface.proofs.Expanded.{expands}
+use Rattle.surface.proofs.Outputs.{cleaned, first-written, row-hands, received-is}
 
 -- ---- calls on a desk of one bench, all of them done
 
@@ -136,15 +136,6 @@ module _ (n s : ℕ) (h : s < n) where
           (other-share n (c .side) (st .rec (c .side)) (st .store) (c .ask) l s (eqb-false (c .side) s t) ∙ f)
 
 -- ---- the resumes of a piece
-
-first-written : (side : ℕ) (store : List Float) (rec : Record) (reply : Reply) (share rest : List Float) (size progress k : ℕ) (ys : List Float)
-    → firstIn (onward side store rec reply share rest size progress (from k ys) .written) ≡ ys
-unfolding further
-first-written side store rec reply share rest size progress k ys = go (ltb (length rest) 480)
-  where
-    go : (t : Bool) → firstIn (cond t (pieces.atEnd reply share rest (from k ys)) (pieces.paused reply share rest (from k ys)) .written) ≡ ys
-    go true = refl
-    go false = refl
 
 module _ (store : List Float) (size : length store ≡ 1 * SHARE) (samples : List Float) (some : 1 ≤ length samples) (room : ℕ) where
   module _ (o : Given) (rec : Record) (reply : Reply) (share rest : List Float) (progress : ℕ) (w : Written)
@@ -314,5 +305,5 @@ between n s h st l calls samples lent r z =
     let d = rows r b share (length-get (shareOf s) (st .store) (omega arith)) (c .all) rest in (
       ap (λ (t : desks.State). t .rec s) x ∙ c .rec ∙ d .rec,
       ap (λ (t : desks.State). get (shareOf s) (t .store)) x ∙ c .share ∙ d .share,
-      c .numbers ∙ d .out,
+      received-is n s calls st (row-hands r) ∙ c .numbers ∙ d .out,
     )
