@@ -1,3 +1,0 @@
-pub mod Frames
-pub mod Takes
-pub mod Dictations
