@@ -12,6 +12,9 @@ ghost use Rattle.pitch.specs.Fir.{fir5};
 ghost use Rattle.pitch.specs.Downsample.{halvedAt, halved, flooredAt, floored, fadedLpc, coefficients, downsampled, DownsampleFits};
 ghost use Rattle.pitch.specs.Lpc.{recurrence, mirror, state, lagNext, lagsOf, lpcOf};
 ghost use Rattle.pitch.specs.Xcorr.{corr, wholeFours, lagOf, pitchXcorr, XcorrFits};
+ghost use Rattle.pitch.specs.Parts.{wholeSixteens};
+
+mod lanes;
 
 // The filter of `fir5_in_place`, for five coefficients.
 fn fir5_core(xs: &mut [f32], num: &[f32])
@@ -131,35 +134,6 @@ pub fn lpc(lpc: &mut [f32], ac: &[f32]) -> u32
     0
 }
 
-// The correlations at four lags in a row.
-struct Four {
-    c0: f32,
-    c1: f32,
-    c2: f32,
-    c3: f32,
-}
-
-fn corr4(xs: &[f32], ys: &[f32], i: usize) -> Four
-    requires { ⌜ i + 3 + length (now xs) ≤ length (now ys) ⌝ }
-    ensures { λ r. ⌜ (r .c0 ≡ corr (f32 0) (now (xs .entry)) (now (ys .entry)) i)
-        × (r .c1 ≡ corr (f32 0) (now (xs .entry)) (now (ys .entry)) (i + 1))
-        × (r .c2 ≡ corr (f32 0) (now (xs .entry)) (now (ys .entry)) (i + 2))
-        × (r .c3 ≡ corr (f32 0) (now (xs .entry)) (now (ys .entry)) (i + 3)) ⌝ }
-{
-    let mut c0 = 0.0f32;
-    let mut c1 = 0.0f32;
-    let mut c2 = 0.0f32;
-    let mut c3 = 0.0f32;
-    for j in 0..xs.len() {
-        let x = xs[j];
-        c0 = c0 + x * ys[i + j];
-        c1 = c1 + x * ys[i + 1 + j];
-        c2 = c2 + x * ys[i + 2 + j];
-        c3 = c3 + x * ys[i + 3 + j];
-    }
-    Four { c0, c1, c2, c3 }
-}
-
 // The correlation at one lag, summed from -0.0 as an iterator sums it.
 fn corr1(xs: &[f32], ys: &[f32], i: usize) -> f32
     requires { ⌜ i + length (now xs) ≤ length (now ys) ⌝ }
@@ -172,20 +146,41 @@ fn corr1(xs: &[f32], ys: &[f32], i: usize) -> f32
     sum
 }
 
+// The lags by sixteens.
+fn xcorr_sixteens(xs: &[f32], ys: &[f32], xcorr: &mut [f32])
+    requires { ⌜ XcorrFits (length (now xs)) (length (now ys)) (length (now xcorr)) ⌝ }
+    ensures { λ _. ⌜ take (wholeSixteens (length (now (xcorr .entry)))) (now (xcorr .exit))
+        ≡ tab (wholeSixteens (length (now (xcorr .entry)))) (lagOf (now (xs .entry)) (now (ys .entry)) (length (now (xcorr .entry)))) ⌝ }
+{
+    for k in 0..xcorr.len() / 16 {
+        let i = 16 * k;
+        lanes::put_sixteen(xcorr, i, lanes::corr16(xs, ys, i));
+    }
+}
+
+// The fours that the sixteens leave.
+fn xcorr_fours_left(xs: &[f32], ys: &[f32], xcorr: &mut [f32])
+    requires { ⌜ XcorrFits (length (now xs)) (length (now ys)) (length (now xcorr)) ⌝ }
+    requires { ⌜ take (wholeSixteens (length (now xcorr))) (now xcorr)
+        ≡ tab (wholeSixteens (length (now xcorr))) (lagOf (now xs) (now ys) (length (now xcorr))) ⌝ }
+    ensures { λ _. ⌜ take (wholeFours (length (now (xcorr .entry)))) (now (xcorr .exit))
+        ≡ tab (wholeFours (length (now (xcorr .entry)))) (lagOf (now (xs .entry)) (now (ys .entry)) (length (now (xcorr .entry)))) ⌝ }
+{
+    let n = xcorr.len();
+    for k in n / 16 * 4..n / 4 {
+        let i = 4 * k;
+        lanes::put_four(xcorr, i, lanes::corr4(xs, ys, i));
+    }
+}
+
 // The lags by fours.
 fn xcorr_fours(xs: &[f32], ys: &[f32], xcorr: &mut [f32])
     requires { ⌜ XcorrFits (length (now xs)) (length (now ys)) (length (now xcorr)) ⌝ }
     ensures { λ _. ⌜ take (wholeFours (length (now (xcorr .entry)))) (now (xcorr .exit))
         ≡ tab (wholeFours (length (now (xcorr .entry)))) (lagOf (now (xs .entry)) (now (ys .entry)) (length (now (xcorr .entry)))) ⌝ }
 {
-    for k in 0..xcorr.len() / 4 {
-        let i = 4 * k;
-        let c = corr4(xs, ys, i);
-        xcorr[i] = c.c0;
-        xcorr[i + 1] = c.c1;
-        xcorr[i + 2] = c.c2;
-        xcorr[i + 3] = c.c3;
-    }
+    xcorr_sixteens(xs, ys, xcorr);
+    xcorr_fours_left(xs, ys, xcorr);
 }
 
 // The lags that are left.

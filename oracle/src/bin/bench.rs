@@ -68,33 +68,63 @@ impl Row {
     }
 }
 
+/// The Rust's, called as ours is.
+#[cfg(feature = "numbers")]
+#[inline(never)]
+extern "C" fn rust_max(a: f32, b: f32) -> f32 {
+    f32::max(a, b)
+}
+
+#[cfg(feature = "numbers")]
+#[inline(never)]
+extern "C" fn rust_narrow(x: f64) -> f32 {
+    x as f32
+}
+
+/// What is shorter than its call, beside the Rust's in place and beside the Rust's called.
+#[cfg(feature = "numbers")]
+fn of_short_numbers(rng: &mut Rng) -> Vec<Row> {
+    let pairs: Vec<[f32; 2]> = (0..1000).map(|_| std::array::from_fn(|_| rng.of(Mood::Small))).collect();
+    let [p1, p2, p3, p4] = std::array::from_fn(|_| pairs.clone());
+    let xs: Vec<f64> = (0..1000).map(|_| rng.of(Mood::Audio) as f64 * 1.000_000_1).collect();
+    let [x1, x2, x3, x4] = std::array::from_fn(|_| xs.clone());
+    vec![
+        row(
+            "max, 1,000 pairs",
+            move || p1.iter().fold(0.0, |_, [a, b]| black_box(tuppence::max(black_box(*a), black_box(*b)))),
+            move || p2.iter().fold(0.0, |_, [a, b]| black_box(f32::max(black_box(*a), black_box(*b)))),
+        ),
+        row(
+            "max, both called",
+            move || p3.iter().fold(0.0, |_, [a, b]| black_box(tuppence::max(black_box(*a), black_box(*b)))),
+            move || p4.iter().fold(0.0, |_, [a, b]| black_box(rust_max(black_box(*a), black_box(*b)))),
+        ),
+        row(
+            "narrow, 1,000 numbers",
+            move || x1.iter().fold(0.0, |_, x| black_box(tuppence::narrow(black_box(*x)))),
+            move || x2.iter().fold(0.0, |_, x| black_box(black_box(*x) as f32)),
+        ),
+        row(
+            "narrow, both called",
+            move || x3.iter().fold(0.0, |_, x| black_box(tuppence::narrow(black_box(*x)))),
+            move || x4.iter().fold(0.0, |_, x| black_box(rust_narrow(black_box(*x)))),
+        ),
+    ]
+}
+
 #[cfg(feature = "numbers")]
 fn of_numbers(rng: &mut Rng) -> Vec<Row> {
-    let xs: Vec<f64> = (0..1000).map(|_| rng.of(Mood::Audio) as f64 * 1.000_000_1).collect();
-    let ys = xs.clone();
     let input = rng.list_of(480, Mood::Audio);
     let again = input.clone();
     let (mut out, mut memory) = (vec![0.0; 480], [0.0; 2]);
     let (mut outs, mut memories) = (vec![0.0; 480], [0.0; 2]);
     let curve = rng.list_of(1000, Mood::Small);
     let curves = curve.clone();
-    let pairs: Vec<[f32; 2]> = (0..1000).map(|_| std::array::from_fn(|_| rng.of(Mood::Small))).collect();
-    let again_pairs = pairs.clone();
     vec![
-        row(
-            "max, 1,000 pairs",
-            move || pairs.iter().fold(0.0, |_, [a, b]| black_box(tuppence::max(black_box(*a), black_box(*b)))),
-            move || again_pairs.iter().fold(0.0, |_, [a, b]| black_box(f32::max(black_box(*a), black_box(*b)))),
-        ),
         row(
             "tansig, 1,000 numbers",
             move || curve.iter().fold(0.0, |_, x| black_box(tuppence::tansig(black_box(*x)))),
             move || curves.iter().fold(0.0, |_, x| black_box(util::tansig_approx(black_box(*x)))),
-        ),
-        row(
-            "narrow, 1,000 numbers",
-            move || xs.iter().fold(0.0, |_, x| black_box(tuppence::narrow(black_box(*x)))),
-            move || ys.iter().fold(0.0, |_, x| black_box(black_box(*x) as f32)),
         ),
         row(
             "filter, 480 samples",
@@ -461,7 +491,7 @@ fn main() {
     let rng = &mut Rng::new(1);
     let mut rows = vec![];
     #[cfg(feature = "numbers")]
-    rows.extend(of_numbers(rng));
+    rows.extend([of_short_numbers(rng), of_numbers(rng)].into_iter().flatten());
     #[cfg(feature = "bands")]
     rows.extend([of_bands(rng), of_windows(rng)].into_iter().flatten());
     #[cfg(feature = "pitch")]
