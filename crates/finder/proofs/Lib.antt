@@ -1,3 +1,4 @@
 pub mod Joined
+pub mod Lags
 pub mod Ranges
 pub mod Two

@@ -5,7 +5,7 @@ use lib.Ieee.{Float}
 use Rattle.rules.specs.F32.{f32}
 use Rattle.pitch.specs.Downsample.{downsampled}
 use Rattle.finder.specs.Doubling.{removeDoubling}
-use Rattle.finder.specs.Kept.{wholePeriod}
+use Rattle.finder.specs.Kept.{wholeLag}
 use Rattle.finder.specs.Search.{pitchSearch}
 use Rattle.finder.specs.declared.Found.{Found}
 use Rattle.finder.specs.declared.Pitch.{Pitch}
@@ -15,7 +15,7 @@ process lastPeriod lastGain input = let buf = downsampled input in removeDoublin
 
 -- with a last period that may be any number
 abbrev pub find : Float → Float → List Float → Pitch
-find lastPeriod lastGain input = process (wholePeriod lastPeriod) lastGain input
+find lastPeriod lastGain input = process (wholeLag lastPeriod) lastGain input
 
 -- an answer's number, its period and its gain
 abbrev pub foundNumber : Found → ℕ

@@ -1,6 +1,6 @@
 // `PitchFinder::process` of pitch.rs: the period and the gain of the 1,728 numbers that a bench remembers of its input. What the Rust's
 // finder keeps from frame to frame, the last period and the last gain, goes in and comes out.
-//     kept        a kept period as a whole number
+//     kept        a kept lag or period as a whole number
 //     search      `pitch_search`
 //     doubling    `remove_doubling` and `pitch_gain`
 ghost use mathlib.Core.Path.{_≡_};
@@ -9,7 +9,7 @@ ghost use Rattle.rules.specs.Leaf.{Leaf};
 ghost use Rattle.finder.specs.Finder.{process, find, foundNumber, periodIn, gainIn};
 
 mod doubling;
-mod kept;
+pub mod kept;
 mod search;
 
 // A period in samples and its gain.
@@ -74,5 +74,5 @@ pub fn find(last_period: f32, last_gain: f32, input_mem: &[f32]) -> Found
     if input_mem.len() != 1728 {
         return Found::Refused(5);
     }
-    Found::At(process_core(kept::whole_period(last_period), last_gain, input_mem))
+    Found::At(process_core(kept::whole_lag(last_period), last_gain, input_mem))
 }

@@ -4,14 +4,13 @@ use Prim.Native.Nat.{ℕ}
 use mathlib.Core.Bool.{cond}
 use mathlib.Core.List.{List, [], _∷_}
 use lib.Dec.{ltb}
-use lib.IntN.{pos}
 use lib.ListN.{length, getD, drop}
-use lib.Ieee.{Float, binary32, ofInt, le}
+use lib.Ieee.{Float}
 use Rattle.rules.specs.F32.{at}
-use Rattle.rules.specs.Loop.{range}
 use Rattle.rules.specs.Place.{get}
 use Rattle.rules.specs.Refusals.{_when_, wrong}
 use Rattle.bands.specs.Windowed.{windowed}
+use Rattle.finder.specs.Kept.{wholeLag}
 use Rattle.transforms.specs.Transform.{forwardOf, inverseOf}
 use Rattle.frame.specs.Share.{PART, inputMem, keptLag}
 use Rattle.frame.specs.Reply.{passed}
@@ -41,14 +40,6 @@ firstHalf share samples sums =
     (onward (call1 share samples 960) (λ a. analysed (a .share) (buffer a) sums))
 
 -- ---- the second half: call 3 with the spectrum of the window that call 2 gave, and call 4 with the inverse of what call 3 wrote
-
--- the largest whole number of 0 to 768 that is not above x; 0 where there is none, and for a NaN:
--- for k in 1..769 { if k as f32 <= x { lag = k; } }
-abbrev pub lagStep : Float → ℕ → ℕ → ℕ
-lagStep x k lag = cond (le (ofInt binary32 (pos k)) x) k lag
-
-unfoldable pub wholeLag : Float → ℕ
-wholeLag x = range 1 769 (lagStep x) 0
 
 -- call 2's window for the lag that stands in the share, whoever made that call
 unfoldable pub lookedBack : List Float → List Float

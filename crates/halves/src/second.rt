@@ -1,42 +1,19 @@
 // The second half of a frame: call 3 with the spectrum of the window that call 2 gave, and call 4 with the inverse of what call 3 wrote.
 ghost use mathlib.Core.List.{[], _∷_};
 ghost use mathlib.Core.Path.{_≡_};
-ghost use Prim.Native.Nat.{_≤_};
 ghost use lib.ListN.{length};
 ghost use Rattle.transforms.specs.Transform.{forwardOf, inverseOf};
 ghost use Rattle.frame.specs.Frame.{Worked, call4};
-ghost use Rattle.halves.specs.Halves.{lagStep, wholeLag, lookedBack, secondHalf};
+ghost use Rattle.halves.specs.Halves.{lookedBack, secondHalf};
 use frame::PART;
 use frame::Reply;
-
-// k where it is not above x, and else the lag so far.
-fn nearer(x: f32, k: usize, lag: usize) -> usize
-    requires { ⌜ k ≤ 768 ⌝ }
-    ensures { λ r. ⌜ r ≡ lagStep x k lag ⌝ }
-{
-    if k as f32 <= x {
-        return k;
-    }
-    lag
-}
-
-// The largest whole number of 0 to 768 that is not above x; 0 where there is none, and for a NaN.
-fn whole_lag(x: f32) -> usize
-    ensures { λ r. ⌜ r ≡ wholeLag x ⌝ }
-{
-    let mut lag = 0;
-    for k in 1..769 {
-        lag = nearer(x, k, lag);
-    }
-    lag
-}
 
 // The spectrum of the window that call 2 gave, for the lag that stands in the share.
 fn look_back(spectrum: &mut [f32], share: &[f32])
     requires { ⌜ (length (now spectrum) ≡ 961) × (length (now share) ≡ 3776) ⌝ }
     ensures { λ _. ⌜ now (spectrum .exit) ≡ forwardOf (lookedBack (now (share .entry))) ⌝ }
 {
-    let lag = whole_lag(share[3191]);
+    let lag = finder::kept::whole_lag(share[3191]);
     let from = 768 - lag;
     let mut window = [0.0f32; 960];
     bands::apply_window(&mut window, &share[from..from + 960]);

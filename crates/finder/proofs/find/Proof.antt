@@ -10,6 +10,6 @@ find-spec =
     tie.close
     (tie.spec
     (λ c. refused (λ fits. c .if1 .taken fits) refl)  -- returns
-    (λ c κs. search needs)  -- whole-period-requires
+    (λ c κs. search needs)  -- whole-lag-requires
     (λ c κs. search needs)  -- process-core-requires
-    (λ c. done (search needs) (rw (c .process-core .ensures, c .before .whole-period .ensures))))  -- returns-2
+    (λ c. done (search needs) (rw (c .process-core .ensures, c .before .whole-lag .ensures))))  -- returns-2

@@ -7,7 +7,8 @@ use denote.Ref.{now}
 use lib.ListN.{length-take, length-drop}
 use Rattle.rules.proofs.Called.{left as fitted}
 use Rattle.transforms.specs.Transform.{forwardOf}
-use Rattle.halves.proofs.Lagged.{lag-small, looked-back}
+use Rattle.finder.proofs.Lags.{lag-small}
+use Rattle.halves.proofs.Lagged.{looked-back}
 use Rattle.halves.proofs.second.look_back.Statement.{statement}
 use Rattle.halves.proofs.second.look_back.Tie as tie
 

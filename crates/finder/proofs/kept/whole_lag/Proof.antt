@@ -1,11 +1,11 @@
--- `halves::second::whole_lag` meets its contract. Assumes nothing.
+-- `finder::kept::whole_lag` meets its contract. Assumes nothing.
 use mathlib.Core.Path.{_≡_}
 use Prim.Native.Nat.{_≤_, _-_}
 use Rattle.rules.specs.Loop.{range}
 use Rattle.rules.proofs.Loops.{turns}
-use Rattle.halves.specs.Halves.{lagStep, wholeLag}
-use Rattle.halves.proofs.second.whole_lag.Statement.{statement}
-use Rattle.halves.proofs.second.whole_lag.Tie as tie
+use Rattle.finder.specs.Kept.{lagStep, wholeLag}
+use Rattle.finder.proofs.kept.whole_lag.Statement.{statement}
+use Rattle.finder.proofs.kept.whole_lag.Tie as tie
 
 abbrev Inv-loop : tie.InvT-loop
 Inv-loop x lag₀ k₀ lag k = (1 ≤ k) × (k ≤ 769) × (lag ≡ range 1 k (lagStep x) 0)
