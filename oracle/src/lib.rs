@@ -6,6 +6,7 @@
 //! the very bits, and every call its inputs.
 
 pub mod models;
+pub mod plain_pcm;
 pub mod plain_sheet;
 pub mod reader;
 pub mod rng;
@@ -45,6 +46,8 @@ pub mod model;
 pub mod network;
 #[cfg(feature = "numbers")]
 pub mod numbers;
+#[cfg(feature = "pcm")]
+pub mod pcm;
 #[cfg(feature = "frame")]
 pub mod pieces;
 #[cfg(feature = "pitch")]
@@ -108,6 +111,8 @@ pub const GROUPS: &[Group] = &[
     ("writer", writer::compare),
     #[cfg(feature = "sheet")]
     ("mend", mend::compare),
+    #[cfg(feature = "pcm")]
+    ("pcm", pcm::compare),
     #[cfg(feature = "network")]
     ("network", network::compare),
     #[cfg(feature = "frame")]

@@ -6,6 +6,7 @@ pub mod of_logs;
 pub mod of_model;
 pub mod of_network;
 pub mod of_numbers;
+pub mod of_pcm;
 pub mod of_pitch;
 pub mod of_sheet;
 pub mod of_transforms;

@@ -154,3 +154,10 @@ surface! {
     tuppence_sheet_entry as sheet_entry(entry: &mut [u64], file: &[u8], index: u64) -> u32;
     tuppence_mend as mend(numbers: &mut [u64], out: &mut [u8], file: &[u8], place: u64) -> u32;
 }
+
+// A format is 16, 24, or 32 for floats; of so many channels by turns one is unpacked. Packed are 16 bits, two bytes for each sample.
+#[cfg(feature = "pcm")]
+surface! {
+    tuppence_unpack as unpack(out: &mut [f32], bytes: &[u8], format: u32, channels: u32, channel: u32) -> u32;
+    tuppence_pack as pack(out: &mut [u8], samples: &[f32]) -> u32;
+}
