@@ -3,9 +3,8 @@
 ghost use mathlib.Core.List.{[], _∷_};
 ghost use lib.ListN.{length};
 ghost use Rattle.desk.specs.Gate.{BENCHES};
-ghost use Rattle.desk.specs.Surface.{recordIn, outOf, Hosted};
-ghost use Rattle.whole.specs.Whole.{take};
-ghost use Rattle.whole.specs.Surface.{hostedFrame, HostTook};
+ghost use Rattle.desk.specs.Surface.{outOf, Hosted};
+ghost use Rattle.whole.specs.Surface.{hostedFrame, hostedTake};
 use desk::Side;
 
 // `samples` and `out` are 480 numbers, `answer` three: heard or not, voice, energy.
@@ -50,10 +49,11 @@ pub extern "C" fn tuppence_take(
     out: &mut [f32],
     answers: &mut [f32],
 ) -> u32
-    ensures { λ r. ⌜ HostTook
-        (take BENCHES side (recordIn (now («record» .entry))) (now (store .entry)) (now (piece .entry)) (now (model .entry))
-        (now (out .entry)) (now (answers .entry)))
-        r (now («record» .entry)) (now («record» .exit)) (now (store .exit)) (now (out .exit)) (now (answers .exit)) ⌝ }
+    ensures { λ r. ⌜ Hosted
+        (hostedTake BENCHES side (now («record» .entry)) (now (store .entry)) (now (piece .entry)) (now (model .entry))
+        (length (now (out .entry))) (length (now (answers .entry))))
+        r (now («record» .entry)) (now («record» .exit)) (now (store .exit))
+        (now (out .entry) ∷ now (answers .entry) ∷ []) (now (out .exit) ∷ now (answers .exit) ∷ []) ⌝ }
 {
     let given = whole::take(
         Side(side as usize),

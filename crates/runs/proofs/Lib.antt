@@ -1,3 +1,2 @@
 pub mod Frames
 pub mod Takes
-pub mod Dictations

@@ -14,24 +14,22 @@ use Rattle.frame.specs.declared.Reply.{Reply}
 use Rattle.frame.specs.Reply.{passed}
 use Rattle.pieces.specs.Pieces.{completes}
 use Rattle.desk.specs.declared.Record.{Record}
-use Rattle.desk.specs.Desk.{piece}
+use Rattle.desk.specs.Desk.{piece, Given}
 use Rattle.isolation.specs.Run.{Call, State, after, ended}
-use Rattle.whole.specs.Whole.{takeReply, Taking, takeFrames, takenAs, Taken, take, standing}
+use Rattle.whole.specs.Whole.{unchanged, takeReply, Taking, takeFrames, takenAs, take}
 use Rattle.runs.specs.Runs.{on, leaving, standsAt, resumeFrom, TakeRuns}
 use Rattle.runs.proofs.Frames.{again, unmoved}
 
-module _ (n side : ℕ) (rec : Record) (store samples : List Float) (model : List ℕ) (out answers : List Float) where
+module _ (n side : ℕ) (rec : Record) (store samples : List Float) (model : List ℕ) (out answers : ℕ) where
   abbrev reply : Reply
-  reply = takeReply n side rec store samples model (length out) (length answers)
+  reply = takeReply n side rec store samples model out answers
 
-  pub taken-is : passed (takeReply n side rec store samples model (length out) (length answers)) ≡ true
-      → take n side rec store samples model out answers
-      ≡ takenAs (takeReply n side rec store samples model (length out) (length answers))
-      (standsAt n side rec store samples model out answers (completes (rec .waiting) (length samples)))
+  taken-is : passed reply ≡ true
+      → take n side rec store samples model out answers ≡ takenAs reply (standsAt n side rec store samples model out (completes (rec .waiting) (length samples)))
   unfolding take
   taken-is p = rw p
 
-  refused-is : passed reply ≡ false → take n side rec store samples model out answers ≡ takenAs reply (standing rec store out [] answers)
+  refused-is : passed reply ≡ false → take n side rec store samples model out answers ≡ unchanged rec store reply
   unfolding take
   refused-is p = rw p
 
@@ -41,21 +39,21 @@ unfolding ended
 further n [] c st = refl
 further n (d ∷ calls) c st = further n calls c (after n st d)
 
-module _ (n side : ℕ) (st : State) (samples : List Float) (model : List ℕ) (out answers : List Float) where
+module _ (n side : ℕ) (st : State) (samples : List Float) (model : List ℕ) (out : ℕ) where
   abbrev at : ℕ → Taking
-  at j = standsAt n side (st .rec side) (st .store) samples model out answers j
+  at j = standsAt n side (st .rec side) (st .store) samples model out j
 
   abbrev resumed : ℕ → Call
-  resumed j = on side (resumeFrom samples model (at j))
+  resumed j = on side (resumeFrom samples model out (at j))
 
   abbrev begun : Call
-  begun = on side (piece samples (length out) 22)
+  begun = on side (piece samples out 22)
 
   steps : (j : ℕ) → leaving st side (at j .rec) (at j .store) ≡ ended n st (begun ∷ tab j resumed)
   unfolding takeFrames loop tab ended
   steps zero = refl
   steps (suc j) =
-      sym (again n side st (at j .rec) (at j .store) (resumeFrom samples model (at j)))
+      sym (again n side st (at j .rec) (at j .store) (resumeFrom samples model out (at j)))
       ∙ ap (λ (s : State). after n s (resumed j)) (steps j)
       ∙ sym (further n (begun ∷ tab j resumed) (resumed j) st)
 
@@ -66,17 +64,17 @@ take-runs n side st samples model out answers = go (passed (reply n side (st .re
     k : ℕ
     k = completes (st .rec side .waiting) (length samples)
 
-    t : Taken
+    t : Given
     t = take n side (st .rec side) (st .store) samples model out answers
 
     calls : List Call
-    calls = begun n side st samples model out answers ∷ tab k (resumed n side st samples model out answers)
+    calls = begun n side st samples model out ∷ tab k (resumed n side st samples model out)
 
     go : (b : Bool) → passed (reply n side (st .rec side) (st .store) samples model out answers) ≡ b
         → leaving st side (t .answer .rec) (t .store) ≡ ended n st (cond b calls [])
     go true p =
-        ap (λ (x : Taken). leaving st side (x .answer .rec) (x .store)) (taken-is n side (st .rec side) (st .store) samples model out answers p)
-        ∙ steps n side st samples model out answers k
+        ap (λ (x : Given). leaving st side (x .answer .rec) (x .store)) (taken-is n side (st .rec side) (st .store) samples model out answers p)
+        ∙ steps n side st samples model out k
     go false p =
-        ap (λ (x : Taken). leaving st side (x .answer .rec) (x .store)) (refused-is n side (st .rec side) (st .store) samples model out answers p)
+        ap (λ (x : Given). leaving st side (x .answer .rec) (x .store)) (refused-is n side (st .rec side) (st .store) samples model out answers p)
         ∙ unmoved n side st

@@ -41,24 +41,23 @@ FrameRuns =
 
 -- ---- a take
 
--- where it stands after j frames
-abbrev pub standsAt : ℕ → ℕ → Record → List Float → List Float → List ℕ → List Float → List Float → ℕ → Taking
-standsAt n side rec store samples model out answers j =
-    takeFrames j n side samples model (takeBegins n side rec store samples out answers)
+-- how far it came after j frames
+abbrev pub standsAt : ℕ → ℕ → Record → List Float → List Float → List ℕ → ℕ → ℕ → Taking
+standsAt n side rec store samples model out j = takeFrames j n side samples model out (takeBegins n side rec store samples out)
 
 -- the resume with which it goes on from there
-abbrev pub resumeFrom : List Float → List ℕ → Taking → Ask
-resumeFrom samples model t = resume samples (logsOf (t .sums)) model (length (t .out)) 22
+abbrev pub resumeFrom : List Float → List ℕ → ℕ → Taking → Ask
+resumeFrom samples model out t = resume samples (logsOf (t .sums)) model out 22
 
-abbrev pub takeCalls : ℕ → ℕ → State → List Float → List ℕ → List Float → List Float → List Call
+abbrev pub takeCalls : ℕ → ℕ → State → List Float → List ℕ → ℕ → ℕ → List Call
 takeCalls n side st samples model out answers =
     let rec = st .rec side in
-    cond (passed (takeReply n side rec (st .store) samples model (length out) (length answers)))
-    (on side (piece samples (length out) 22) ∷ tab (completes (rec .waiting) (length samples)) (λ j.
-    on side (resumeFrom samples model (standsAt n side rec (st .store) samples model out answers j)))) []
+    cond (passed (takeReply n side rec (st .store) samples model out answers))
+    (on side (piece samples out 22) ∷ tab (completes (rec .waiting) (length samples)) (λ j.
+    on side (resumeFrom samples model out (standsAt n side rec (st .store) samples model out j)))) []
 
 abbrev pub TakeRuns : Type 0
 TakeRuns =
-    (n side : ℕ) (st : State) (samples : List Float) (model : List ℕ) (out answers : List Float)
-    → let t = take n side (st .rec side) (st .store) samples model out answers in
-    leaving st side (t .answer .rec) (t .store) ≡ ended n st (takeCalls n side st samples model out answers)
+    (n side : ℕ) (st : State) (samples : List Float) (model : List ℕ) (out answers : ℕ)
+    → let o = take n side (st .rec side) (st .store) samples model out answers in
+    leaving st side (o .answer .rec) (o .store) ≡ ended n st (takeCalls n side st samples model out answers)

@@ -1,7 +1,7 @@
 -- A frame that is accepted is its two halves (`two-halves`); what is refused changes nothing (`refused-is`, `frame-leaves`, `take-leaves`). Assumes nothing.
 use Prim.Native.Nat.{ℕ, _*_, _<_}
 use native.Mathlib.Omega.{arith}
-use mathlib.Core.Bool.{Bool, true, false, true≢false}
+use mathlib.Core.Bool.{Bool, true, false, cond, true≢false}
 use mathlib.Core.List.{List, map}
 use mathlib.Core.Path.{_≡_, refl, sym, ap, _∙_}
 use borrow.Author.Tests.{eqb-true, lt-ltb, eq-eqb, not-false}
@@ -25,7 +25,7 @@ use Rattle.desk.specs.Gate.{idle, inRange, isDue, gate, shareOf}
 use Rattle.desk.specs.Desk.{firstHalf, secondHalf, advanced, Given, desk}
 use Rattle.desk.proofs.Ranged.{bounded, range-kept}
 use Rattle.desk.proofs.Turned.{none, through}
-use Rattle.whole.specs.Whole.{unchanged, frameReply, frameBegins, frameEnds, frame, take}
+use Rattle.whole.specs.Whole.{unchanged, frameReply, frameBegins, frameEnds, frame, takeReply, takeEnds, takenAs, take}
 use Rattle.whole.specs.Laws.{TwoHalves, FrameLeaves, TakeLeaves}
 use Rattle.whole.proofs.Accepted.{logs-length, Frame, frame-accepted}
 use Rattle.whole.proofs.Framed.{let-in, partOf, part-length, first-halved}
@@ -124,4 +124,14 @@ frame-leaves n side rec store samples model out = go (passed reply) refl
 
 pub take-leaves : TakeLeaves
 unfolding take
-take-leaves n side rec store samples model out answers e = rw e
+take-leaves n side rec store samples model out answers = go (passed reply) refl
+  where
+    reply : Reply
+    reply = takeReply n side rec store samples model out answers
+
+    given : Bool → Given
+    given t = cond t (takenAs reply (takeEnds n side rec store samples model out)) (unchanged rec store reply)
+
+    go : (t : Bool) → passed reply ≡ t → passed (given t .answer .reply) ≡ false → given t ≡ unchanged rec store (given t .answer .reply)
+    go true p e = absurd (true≢false (sym p ∙ e))
+    go false p e = refl

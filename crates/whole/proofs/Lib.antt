@@ -1,6 +1,7 @@
 pub mod Accepted
+pub mod Dictations
+mod Followed
 mod Framed
 pub mod Halves
 pub mod Ranged
-mod Settled
 mod Taken

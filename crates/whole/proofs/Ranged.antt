@@ -3,6 +3,7 @@
 --     frame-range, take-range      where it is done, the record that it was given and the one that it gives back are in range
 --     frame-buffers                a frame writes to its buffer, or is refused and writes to none
 --     frame-no-out                 a frame with no place for its samples is refused
+--     take-by                      what holds of a take, by its tests
 -- Assumes nothing.
 use Prim.Native.Nat.{ℕ, zero, suc}
 use native.Mathlib.Omega.{arith}
@@ -34,7 +35,7 @@ use Rattle.desk.proofs.Ranged.{range-kept}
 use Rattle.desk.proofs.Replies.{Small, small}
 use Rattle.desk.proofs.Settled.{refused-keeps}
 use Rattle.desk.proofs.Turned.{none}
-use Rattle.whole.specs.Whole.{unchanged, tested, frameReply, frameBegins, frameEnds, frame, takeRows, takeReply, Taking, takeStep, takeFrames, takeBegins, take}
+use Rattle.whole.specs.Whole.{unchanged, tested, frameReply, frameBegins, frameEnds, frame, takeRows, takeReply, Taking, takeStep, takeFrames, takeBegins, takeEnds, takenAs, take}
 use Rattle.whole.proofs.Accepted.{frame-accepted, take-accepted}
 
 -- ---- the tests before a call
@@ -122,25 +123,47 @@ module _ (n side : ℕ) where
       go false p = rw (refused-keeps n side b store ask p .0) r
 
   module _ (samples : List Float) (model : List ℕ) where
-    steps-range : (k : ℕ) (t : Taking) → inRange (t .rec) ≡ true → inRange (loop k (takeStep n side samples model) t .rec) ≡ true
+    steps-range : (k out : ℕ) (t : Taking) → inRange (t .rec) ≡ true → inRange (loop k (λ _. takeStep n side samples model out) t .rec) ≡ true
     unfolding loop
-    steps-range zero t r = r
-    steps-range (suc k) t r =
-        let s = loop k (takeStep n side samples model) t in
-        stays (s .rec) (s .store) (resume samples (logsOf (s .sums)) model (length (s .out)) 22) (steps-range k t r)
+    steps-range zero out t r = r
+    steps-range (suc k) out t r =
+        let s = loop k (λ _. takeStep n side samples model out) t in
+        stays (s .rec) (s .store) (resume samples (logsOf (s .sums)) model out 22) (steps-range k out t r)
 
-    module _ (rec : Record) (store out answers : List Float) where
-      pub take-small : Small (take n side rec store samples model out answers .answer .reply)
-      unfolding take takeReply
-      take-small =
-          tested-small (gate n side rec (length store) PIECE) rec (takeRows rec (length samples) (length out) (length answers)) model
+    module _ (rec : Record) (store : List Float) (out answers : ℕ) where
+      abbrev taken : Reply
+      taken = takeReply n side rec store samples model out answers
+
+      -- what holds of its end, where no test refuses it, and of a refusal, holds of a take
+      pub take-by : (P : Given → Type 0)
+          → (passed (takeReply n side rec store samples model out answers) ≡ true
+          → P (takenAs (takeReply n side rec store samples model out answers) (takeEnds n side rec store samples model out)))
+          → (passed (takeReply n side rec store samples model out answers) ≡ false
+          → P (unchanged rec store (takeReply n side rec store samples model out answers)))
+          → P (take n side rec store samples model out answers)
+      unfolding take
+      take-by P ends refused = go (passed taken) refl
+        where
+          go : (t : Bool) → passed taken ≡ t → P (cond t (takenAs taken (takeEnds n side rec store samples model out)) (unchanged rec store taken))
+          go true e = ends e
+          go false e = refused e
+
+      taken-small : Small taken
+      unfolding takeReply
+      taken-small =
+          tested-small (gate n side rec (length store) PIECE) rec (takeRows rec (length samples) out answers) model
           (waitingIn (rec .waiting) (get (shareOf side) store) ++ samples)
+
+      pub take-small : Small (take n side rec store samples model out answers .answer .reply)
+      take-small = take-by (λ o. Small (o .answer .reply)) (λ _. taken-small) (λ _. taken-small)
 
       pub take-range : passed (take n side rec store samples model out answers .answer .reply) ≡ true
           → (inRange rec ≡ true) × (inRange (take n side rec store samples model out answers .answer .rec) ≡ true)
-      unfolding take takeFrames
-      take-range p =
-          let k = take-accepted n side rec store samples model (length out) (length answers) p in
+      unfolding takeFrames
+      take-range =
+          take-by (λ o. passed (o .answer .reply) ≡ true → (inRange rec ≡ true) × (inRange (o .answer .rec) ≡ true))
+          (λ p _.
+          let k = take-accepted n side rec store samples model out answers p in
           let r = let-in-range n side rec (length store) PIECE (k .gated) in
-          let begun = takeBegins n side rec store samples out answers in
-          (r, rw p (steps-range (completes (rec .waiting) (length samples)) begun (stays rec store (piece samples (length out) 22) r)))
+          (r, steps-range (completes (rec .waiting) (length samples)) out (takeBegins n side rec store samples out) (stays rec store (piece samples out 22) r)))
+          (λ f q. absurd (false≢true (sym f ∙ q)))

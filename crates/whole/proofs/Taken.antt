@@ -6,7 +6,7 @@
 use Prim.Native.Nat.{ℕ}
 use mathlib.Core.Bool.{true, false}
 use mathlib.Core.List.{List, [], _∷_}
-use mathlib.Core.Path.{_≡_, refl, ap, _∙_}
+use mathlib.Core.Path.{_≡_, refl, ap, ap₂, _∙_}
 use lib.ListN.{length, getD}
 use lib.Ieee.{Float}
 use Rattle.rules.specs.F32.{zeros}
@@ -20,11 +20,14 @@ use Rattle.desk.specs.declared.Record.{Record}
 use Rattle.desk.specs.declared.Answer.{Answer}
 use Rattle.desk.specs.Desk.{piece, resume, Given, desk, Served}
 use Rattle.desk.specs.Surface.{heardOf}
-use Rattle.whole.specs.Whole.{takeReply, Taking, taking, takeStep, takeFrames, take, Took, three, standing}
+use Rattle.whole.specs.Whole.{takeReply, take}
+use Rattle.whole.specs.Parts.{Midway, midway, behind, three, stepOf, stepsOf}
+use Rattle.whole.proofs.Accepted.{take-known}
+use Rattle.whole.proofs.Followed.{ends}
 
 -- a call with two buffers
 called : {o : Given} {a : Answer} {s out sums out′ sums′ : List Float} → Served o a s (out ∷ sums ∷ []) (out′ ∷ sums′ ∷ []) → (answers : List Float)
-    → standing (a .rec) s out′ sums′ answers ≡ taking o out sums answers
+    → midway (a .rec) s out′ sums′ answers ≡ behind o out sums answers
 called {o} {a} {s} {out} {sums} {out′} {sums′} w answers =
     let first : out′ ≡ getD (onto (o .written) (out ∷ sums ∷ [])) 0 [] = ap (λ (l : List (List Float)). getD l 0 []) (w .writes) in
     let second : sums′ ≡ getD (onto (o .written) (out ∷ sums ∷ [])) 1 [] = ap (λ (l : List (List Float)). getD l 1 []) (w .writes) in
@@ -34,31 +37,35 @@ module _ (n side : ℕ) (samples : List Float) (model : List ℕ) where
   pub stepped : (j : ℕ) (rec : Record) (store answers : List Float) {out sums logs s out′ sums′ answers′ : List Float} {a : Answer} → length sums ≡ 22 → logs ≡ logsOf sums
       → Served (desk n side rec store (resume samples logs model (length out) (length sums))) a s (out ∷ sums ∷ []) (out′ ∷ sums′ ∷ [])
       → answers′ ≡ put (three j) answers (heardOf (a .reply))
-      → standing (a .rec) s out′ sums′ answers′ ≡ takeStep n side samples model j (standing rec store out sums answers)
+      → midway (a .rec) s out′ sums′ answers′ ≡ stepOf n side samples model j (midway rec store out sums answers)
   stepped j rec store answers {out} {sums} {logs} {s} {out′} {sums′} {answers′} {a} size lent w told =
       let w′ = rw (size, lent) at w in
       let heard : answers′ ≡ put (three j) answers (heardOf (desk n side rec store (resume samples (logsOf sums) model (length out) 22) .answer .reply)) =
       told ∙ ap (λ (x : Answer). put (three j) answers (heardOf (x .reply))) (w′ .answers) in
-      called w′ answers′ ∙ ap (taking (desk n side rec store (resume samples (logsOf sums) model (length out) 22)) out sums) heard
+      called w′ answers′ ∙ ap (behind (desk n side rec store (resume samples (logsOf sums) model (length out) 22)) out sums) heard
 
   module _ (rec : Record) (store out answers : List Float) where
     pub refused : {r : Reply} → r ≡ takeReply n side rec store samples model (length out) (length answers) → passed r ≡ false
-        → Took (take n side rec store samples model out answers) (record { reply = r; rec = rec }) store out answers
+        → Served (take n side rec store samples model (length out) (length answers)) (record { reply = r; rec = rec }) store
+        (out ∷ answers ∷ []) (out ∷ answers ∷ [])
     unfolding take
-    refused e p = rw (← e, p) (record { answered = refl; stores = refl; writes = (refl, refl) })
+    refused e p = rw (← e, p) (record { answers = refl; stores = refl; writes = refl })
 
     pub took : {r : Reply} {s out′ sums′ s₂ out₂ sums₂ answers₂ : List Float} {a : Answer} {last : Record}
         → r ≡ takeReply n side rec store samples model (length out) (length answers) → passed r ≡ true
         → Served (desk n side rec store (piece samples (length out) 22)) a s (out ∷ zeros 22 ∷ []) (out′ ∷ sums′ ∷ [])
-        → standing last s₂ out₂ sums₂ answers₂
-        ≡ takeFrames (completes (rec .waiting) (length samples)) n side samples model (standing (a .rec) s out′ sums′ answers)
-        → Took (take n side rec store samples model out answers) (record { reply = r; rec = last }) s₂ out₂ answers₂
+        → midway last s₂ out₂ sums₂ answers₂
+        ≡ stepsOf (completes (rec .waiting) (length samples)) n side samples model (midway (a .rec) s out′ sums′ answers)
+        → Served (take n side rec store samples model (length out) (length answers)) (record { reply = r; rec = last }) s₂
+        (out ∷ answers ∷ []) (out₂ ∷ answers₂ ∷ [])
     unfolding take
     took {r} {last = last} e p w t =
-        let t′ = t ∙ ap (takeFrames (completes (rec .waiting) (length samples)) n side samples model) (called w answers) in
+        let t′ = t ∙ ap (stepsOf (completes (rec .waiting) (length samples)) n side samples model) (called w answers) in
+        let k = ends n side rec store samples model out answers (take-known n side rec store samples model (length out) (length answers) e p) in
         rw (← e, p)
         (record {
-          answered = ap (λ (x : Taking). record { reply = r; rec = x .rec }) t′;
-          stores = ap (λ (x : Taking). x .store) t′;
-          writes = (ap (λ (x : Taking). x .out) t′, ap (λ (x : Taking). x .answers) t′);
+          answers = ap (λ (b : Record). record { reply = r; rec = b }) (ap (λ (x : Midway). x .rec) t′ ∙ k .recs);
+          stores = ap (λ (x : Midway). x .store) t′ ∙ k .stores;
+          writes =
+              ap₂ (λ (x y : List Float). x ∷ y ∷ []) (ap (λ (x : Midway). x .out) t′ ∙ k .out) (ap (λ (x : Midway). x .answers) t′ ∙ k .told);
         })

@@ -1,3 +1,5 @@
 pub mod Whole
 pub mod Surface
 pub mod Laws
+pub mod Taking
+pub mod Parts

@@ -3,15 +3,13 @@
 use Prim.Native.Nat.{ℕ, _*_}
 use mathlib.Core.Bool.{cond, not}
 use mathlib.Core.List.{List, [], _∷_, _++_}
-use mathlib.Core.Path.{_≡_}
 use lib.Dec.{eqb, leb}
 use lib.ListN.{length, getD}
 use lib.Ieee.{Float}
-use Rattle.rules.specs.F32.{zeros}
 use Rattle.rules.specs.Loop.{loop}
-use Rattle.rules.specs.Place.{Place, get, put}
+use Rattle.rules.specs.Place.{get}
 use Rattle.rules.specs.Refusals.{Row, _when_, refusing, wrong}
-use Rattle.rules.specs.Written.{firstIn, onto}
+use Rattle.rules.specs.Written.{from, nothing, numbersIn, firstIn}
 use Rattle.samples.specs.Samples.{good}
 use Rattle.logs.specs.Log10.{logsOf}
 use Rattle.frame.specs.Reply.{passed}
@@ -19,7 +17,6 @@ use Rattle.frame.specs.declared.Reply.{Reply}
 use Rattle.frame.specs.declared.Reply.the-variants.{Refused}
 use Rattle.pieces.specs.Pieces.{waitingIn, completes, pieceFits, lastTests}
 use Rattle.desk.specs.declared.Record.{Record}
-use Rattle.desk.specs.declared.Answer.{Answer}
 use Rattle.desk.specs.Gate.{PIECE, gate, shareOf}
 use Rattle.desk.specs.Desk.{firstHalf, secondHalf, piece, resume, Given, desk}
 use Rattle.desk.specs.Surface.{heardOf}
@@ -64,60 +61,52 @@ takeReply n side rec store samples model out answers =
     tested (gate n side rec (length store) PIECE) rec (takeRows rec (length samples) out answers) model
     (waitingIn (rec .waiting) (get (shareOf side) store) ++ samples)
 
--- where it stands between two calls: record, store and buffers; the sums are of no account to the caller
+-- a piece and a resume write to two buffers, the output and the sums of the frame that is then under way
+abbrev pub sumsIn : Given → List Float
+sumsIn o = numbersIn (getD (o .written) 1 nothing)
+
+-- how far it came: the record, the store and the sums of the frame under way; and what is handed out so far, the samples of the frames and their answers
 pub record Taking : Type 0 where
   pub rec : Record
   pub store : List Float
-  pub out : List Float
   pub sums : List Float
-  pub answers : List Float
-
-abbrev pub standing : Record → List Float → List Float → List Float → List Float → Taking
-standing rec store out sums answers = record { rec = rec; store = store; out = out; sums = sums; answers = answers }
-
--- after a call, which was lent the output and the sums
-abbrev pub taking : Given → List Float → List Float → List Float → Taking
-taking o out sums answers =
-    let held = onto (o .written) (out ∷ sums ∷ []) in standing (o .answer .rec) (o .store) (getD held 0 []) (getD held 1 []) answers
-
--- where the answers of frame j stand, from 0
-abbrev pub three : ℕ → Place
-three j = record { at = 3 * j; size = 3 }
-
--- frame j: a resume with our logarithms of the sums; three answers, heard or not, voice and energy
-abbrev pub takeStep : ℕ → ℕ → List Float → List ℕ → ℕ → Taking → Taking
-takeStep n side samples model j t =
-    let o = desk n side (t .rec) (t .store) (resume samples (logsOf (t .sums)) model (length (t .out)) 22) in
-    taking o (t .out) (t .sums) (put (three j) (t .answers) (heardOf (o .answer .reply)))
-
-unfoldable pub takeFrames : ℕ → ℕ → ℕ → List Float → List ℕ → Taking → Taking
-takeFrames k n side samples model t = loop k (takeStep n side samples model) t
-
-abbrev pub takeBegins : ℕ → ℕ → Record → List Float → List Float → List Float → List Float → Taking
-takeBegins n side rec store samples out answers = taking (desk n side rec store (piece samples (length out) 22)) out (zeros 22) answers
-
-abbrev pub takeEnds : ℕ → ℕ → Record → List Float → List Float → List ℕ → List Float → List Float → Taking
-takeEnds n side rec store samples model out answers =
-    takeFrames (completes (rec .waiting) (length samples)) n side samples model (takeBegins n side rec store samples out answers)
-
--- what it gives: the answer, the store, and the two buffers
-pub record Taken : Type 0 where
-  pub answer : Answer
-  pub store : List Float
   pub out : List Float
   pub answers : List Float
 
-abbrev pub takenAs : Reply → Taking → Taken
-takenAs reply t = record { answer = record { reply = reply; rec = t .rec }; store = t .store; out = t .out; answers = t .answers }
+abbrev pub takeBegins : ℕ → ℕ → Record → List Float → List Float → ℕ → Taking
+takeBegins n side rec store samples out =
+    let o = desk n side rec store (piece samples out 22) in
+    record { rec = o .answer .rec; store = o .store; sums = sumsIn o; out = []; answers = [] }
 
-unfoldable pub take : ℕ → ℕ → Record → List Float → List Float → List ℕ → List Float → List Float → Taken
+-- a frame more: a resume with our logarithms of the sums. It gives 480 samples, and three answers: heard or not, voice and energy
+abbrev pub takeStep : ℕ → ℕ → List Float → List ℕ → ℕ → Taking → Taking
+takeStep n side samples model out t =
+    let o = desk n side (t .rec) (t .store) (resume samples (logsOf (t .sums)) model out 22) in
+    record {
+      rec = o .answer .rec;
+      store = o .store;
+      sums = sumsIn o;
+      out = t .out ++ firstIn (o .written);
+      answers = t .answers ++ heardOf (o .answer .reply);
+    }
+
+unfoldable pub takeFrames : ℕ → ℕ → ℕ → List Float → List ℕ → ℕ → Taking → Taking
+takeFrames k n side samples model out t = loop k (λ _. takeStep n side samples model out) t
+
+abbrev pub takeEnds : ℕ → ℕ → Record → List Float → List Float → List ℕ → ℕ → Taking
+takeEnds n side rec store samples model out =
+    takeFrames (completes (rec .waiting) (length samples)) n side samples model out (takeBegins n side rec store samples out)
+
+-- what is handed out fills the front of its buffer, and the places behind it stay
+abbrev pub takenAs : Reply → Taking → Given
+takenAs reply t =
+    record {
+      answer = record { reply = reply; rec = t .rec };
+      store = t .store;
+      written = from 0 (t .out) ∷ from 0 (t .answers) ∷ [];
+    }
+
+unfoldable pub take : ℕ → ℕ → Record → List Float → List Float → List ℕ → ℕ → ℕ → Given
 take n side rec store samples model out answers =
-    let reply = takeReply n side rec store samples model (length out) (length answers) in
-    takenAs reply
-    (cond (passed reply) (takeEnds n side rec store samples model out answers) (standing rec store out [] answers))
-
--- what a contract says of a take
-pub record Took (o : Taken) (answer : Answer) (store out answers : List Float) : Type 0 where
-  pub answered : answer ≡ o .answer
-  pub stores : store ≡ o .store
-  pub writes : (out ≡ o .out) × (answers ≡ o .answers)
+    let reply = takeReply n side rec store samples model out answers in
+    cond (passed reply) (takenAs reply (takeEnds n side rec store samples model out)) (unchanged rec store reply)

@@ -6,7 +6,7 @@ ghost use lib.ListN.{length};
 ghost use Rattle.rules.specs.F32.{zeros};
 ghost use Rattle.rules.specs.Place.{put};
 ghost use Rattle.desk.specs.Surface.{heardOf};
-ghost use Rattle.whole.specs.Whole.{three};
+ghost use Rattle.whole.specs.Parts.{three};
 use frame::Reply;
 
 pub struct Three {

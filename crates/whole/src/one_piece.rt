@@ -1,9 +1,12 @@
 // A piece in one call: it is resumed to its end, with our logarithms at each pause.
+ghost use mathlib.Core.List.{[], _∷_};
 ghost use mathlib.Core.Path.{_≡_};
 ghost use Prim.Native.Nat.{_+_, _*_, _≤_};
 ghost use lib.ListN.{length};
 ghost use Rattle.desk.specs.Gate.{BENCHES};
-ghost use Rattle.whole.specs.Whole.{takeStep, takeFrames, take, Took, standing};
+ghost use Rattle.desk.specs.Desk.{Served};
+ghost use Rattle.whole.specs.Whole.{take};
+ghost use Rattle.whole.specs.Parts.{midway, stepOf, stepsOf};
 use desk::Answer;
 use desk::Record;
 use desk::Side;
@@ -21,9 +24,9 @@ fn step(
     j: usize,
 ) -> Record
     requires { ⌜ (length (now sums) ≡ 22) × (3 * j + 3 ≤ length (now answers)) ⌝ }
-    ensures { λ r. ⌜ standing r (now (store .exit)) (now (out .exit)) (now (sums .exit)) (now (answers .exit))
-        ≡ takeStep BENCHES (side .0) (now (piece .entry)) (now (model .entry)) j
-        (standing rec (now (store .entry)) (now (out .entry)) (now (sums .entry)) (now (answers .entry))) ⌝ }
+    ensures { λ r. ⌜ midway r (now (store .exit)) (now (out .exit)) (now (sums .exit)) (now (answers .exit))
+        ≡ stepOf BENCHES (side .0) (now (piece .entry)) (now (model .entry)) j
+        (midway rec (now (store .entry)) (now (out .entry)) (now (sums .entry)) (now (answers .entry))) ⌝ }
 {
     let mut logs = [0.0f32; 22];
     logs::logs(&mut logs, sums);
@@ -46,9 +49,9 @@ fn finish(
     frames: usize,
 ) -> Record
     requires { ⌜ (length (now sums) ≡ 22) × (3 * frames ≤ length (now answers)) ⌝ }
-    ensures { λ r. ⌜ standing r (now (store .exit)) (now (out .exit)) (now (sums .exit)) (now (answers .exit))
-        ≡ takeFrames frames BENCHES (side .0) (now (piece .entry)) (now (model .entry))
-        (standing rec (now (store .entry)) (now (out .entry)) (now (sums .entry)) (now (answers .entry))) ⌝ }
+    ensures { λ r. ⌜ midway r (now (store .exit)) (now (out .exit)) (now (sums .exit)) (now (answers .exit))
+        ≡ stepsOf frames BENCHES (side .0) (now (piece .entry)) (now (model .entry))
+        (midway rec (now (store .entry)) (now (out .entry)) (now (sums .entry)) (now (answers .entry))) ⌝ }
 {
     let mut last = rec;
     for j in 0..frames {
@@ -67,9 +70,10 @@ pub fn take(
     out: &mut [f32],
     answers: &mut [f32],
 ) -> Answer
-    ensures { λ r. ⌜ Took
-        (take BENCHES (side .0) rec (now (store .entry)) (now (piece .entry)) (now (model .entry)) (now (out .entry)) (now (answers .entry)))
-        r (now (store .exit)) (now (out .exit)) (now (answers .exit)) ⌝ }
+    ensures { λ r. ⌜ Served
+        (take BENCHES (side .0) rec (now (store .entry)) (now (piece .entry)) (now (model .entry))
+        (length (now (out .entry))) (length (now (answers .entry))))
+        r (now (store .exit)) (now (out .entry) ∷ now (answers .entry) ∷ []) (now (out .exit) ∷ now (answers .exit) ∷ []) ⌝ }
 {
     let reply = crate::tests::take_reply(side, rec, store, piece, model, out.len(), answers.len());
     if !frame::passed(reply) {

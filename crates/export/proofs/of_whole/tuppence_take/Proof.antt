@@ -1,18 +1,20 @@
 -- `tuppence_take` meets its contract: it is a take of `whole`, and its answer is handed back as numbers. Assumes nothing.
 use Prim.Native.Nat.{ℕ}
 use mathlib.Core.Bool.{cond}
-use mathlib.Core.List.{List}
+use mathlib.Core.List.{List, [], _∷_}
 use mathlib.Core.Path.{_≡_}
 use borrow.Author.Needs.{needs}
 use denote.Ref.{now}
+use lib.ListN.{length}
 use lib.Ieee.{Float}
 use Rattle.frame.specs.Reply.{passed}
 use Rattle.desk.specs.declared.Answer.{Answer}
 use Rattle.desk.specs.declared.Record.{Record}
 use Rattle.desk.specs.Gate.{BENCHES}
-use Rattle.desk.specs.Surface.{recordIn, numbersOf, replyNumber}
-use Rattle.whole.specs.Whole.{take, Took}
-use Rattle.whole.specs.Surface.{HostTook}
+use Rattle.desk.specs.Desk.{Served}
+use Rattle.desk.specs.Surface.{recordIn, numbersOf, replyNumber, Hosted}
+use Rattle.whole.specs.Whole.{take}
+use Rattle.whole.specs.Surface.{hostedTake}
 use Rattle.whole.proofs.Ranged.{take-small, take-range}
 use Rattle.export.specs.Parts.{HandsBack}
 use Rattle.export.proofs.Given as any
@@ -21,24 +23,25 @@ use Rattle.export.proofs.of_whole.tuppence_take.Tie as tie
 
 -- the record as the code has it, and what the take left
 module _ (side : ℕ) (ns : List ℕ) (b : Record) (store samples : List Float) (model : List ℕ) (out answers : List Float)
-    {store′ out′ answers′ : List Float} {given : Answer}
-    (read : b ≡ recordIn ns) (took : Took (take BENCHES side b store samples model out answers) given store′ out′ answers′) where
+    {store′ : List Float} {left : List (List Float)} {given : Answer}
+    (read : b ≡ recordIn ns) (took : Served (take BENCHES side b store samples model (length out) (length answers)) given store′ (out ∷ answers ∷ []) left) where
   hands-back : HandsBack ns given
   hands-back =
       any.hands-back ns b read
       (record {
-        small = take-small BENCHES side samples model b store out answers;
-        ranged = take-range BENCHES side samples model b store out answers;
+        small = take-small BENCHES side samples model b store (length out) (length answers);
+        ranged = take-range BENCHES side samples model b store (length out) (length answers);
       })
-      (took .answered)
+      (took .answers)
 
   handed : {number : ℕ} {ns′ : List ℕ} → (number ≡ replyNumber (given .reply)) × (ns′ ≡ cond (passed (given .reply)) (numbersOf (given .rec)) ns)
-      → HostTook (take BENCHES side (recordIn ns) store samples model out answers) number ns ns′ store′ out′ answers′
+      → Hosted (hostedTake BENCHES side ns store samples model (length out) (length answers)) number ns ns′ store′ (out ∷ answers ∷ []) left
+  unfolding hostedTake
   handed h =
       rw (← read)
       (record {
-        numbers = rw (← took .answered) (h .0);
-        records = rw (← took .answered) (h .1);
+        numbers = rw (← took .answers) (h .0);
+        records = rw (← took .answers) (h .1);
         stores = took .stores;
         writes = took .writes;
       })

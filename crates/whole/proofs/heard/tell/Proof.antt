@@ -9,7 +9,7 @@ use lib.ListN.{length, set, length-set}
 use lib.Ieee.{Float}
 use Rattle.rules.specs.Place.{put}
 use Rattle.rules.proofs.Places.{put-sets}
-use Rattle.whole.specs.Whole.{three}
+use Rattle.whole.specs.Parts.{three}
 use Rattle.whole.proofs.heard.tell.Statement.{statement}
 use Rattle.whole.proofs.heard.tell.Tie as tie
 

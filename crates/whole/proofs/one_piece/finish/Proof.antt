@@ -6,7 +6,7 @@ use lib.ListN.{length}
 use Rattle.rules.specs.Loop.{loop}
 use Rattle.rules.proofs.Loops.{turns, more, ended}
 use Rattle.desk.specs.Gate.{BENCHES}
-use Rattle.whole.specs.Whole.{takeStep, takeFrames, standing}
+use Rattle.whole.specs.Parts.{midway, stepOf, stepsOf}
 use Rattle.whole.proofs.one_piece.finish.Statement.{statement}
 use Rattle.whole.proofs.one_piece.finish.Tie as tie
 
@@ -19,7 +19,7 @@ Inv-loop side store₀ piece model out₀ sums₀ answers₀ frames last₀ j₀
     × (length answers ≡ length answers₀)
     × (length sums₀ ≡ 22)
     × (3 * frames ≤ length answers₀)
-    × (standing last store out sums answers ≡ loop j (takeStep BENCHES (side .0) piece model) (standing last₀ store₀ out₀ sums₀ answers₀))
+    × (midway last store out sums answers ≡ loop j (stepOf BENCHES (side .0) piece model) (midway last₀ store₀ out₀ sums₀ answers₀))
 
 abbrev μ-loop : tie.MeasureT-loop
 μ-loop side store₀ piece model out₀ sums₀ answers₀ frames last₀ j₀ store out sums answers last j = frames - j
@@ -33,7 +33,7 @@ loop-again c =
     (omega arith, omega (arith, k), omega (arith, k), omega (arith, k), omega (arith, k), i .5, i .6, more _ _ _ (i .7) (s .step .ensures))
 
 returns : tie.Need-returns Inv-loop μ-loop
-unfolding takeFrames
+unfolding stepsOf
 returns c = let i = c .before .loop .inv in ended _ _ _ _ (omega arith) (omega arith) (i .7)
 
 pub finish-spec : {M : Type 1} → statement M

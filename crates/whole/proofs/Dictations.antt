@@ -1,0 +1,100 @@
+-- A take that is accepted is the dictation of its samples, by the law of cutting (`dictates`, `as-dictated`); how much it hands out (`take-fills`).
+-- Assumes nothing.
+use Prim.Native.Nat.{ℕ, suc, _*_}
+use native.Mathlib.Omega.{arith}
+use mathlib.Core.Bool.{true}
+use mathlib.Core.List.{List, [], _∷_, map}
+use mathlib.Core.Path.{_≡_, refl, sym, ap, ap₂, _∙_}
+use lib.ListN.{length, take, length-replicate}
+use lib.Seq.{take-at}
+use lib.Ieee.{Float}
+use Rattle.rules.specs.F32.{zeros}
+use Rattle.rules.specs.Place.{put}
+use Rattle.rules.specs.Written.{Written, from, over, onto}
+use Rattle.frame.specs.Reply.{passed}
+use Rattle.pieces.specs.Pieces.{completes}
+use Rattle.desk.specs.declared.Record.{Record}
+use Rattle.desk.specs.Desk.{Given}
+use Rattle.dictation.specs.Dictation.{Dictated, dictated}
+use Rattle.dictation.proofs.Cuts.{is-whole}
+use Rattle.whole.specs.Whole.{takeReply, Taking, takeEnds, takenAs}
+use Rattle.whole.specs.Whole as whole
+use Rattle.whole.specs.Taking.{Told, lentTo, answersOf, Dictates, AsDictated}
+use Rattle.whole.proofs.Accepted.{take-accepted}
+use Rattle.whole.proofs.Followed.{ends}
+
+module _ (n side : ℕ) (rec : Record) (store samples : List Float) (model : List ℕ) (out answers : ℕ) where
+  taken-is : passed (takeReply n side rec store samples model out answers) ≡ true
+      → whole.take n side rec store samples model out answers
+      ≡ takenAs (takeReply n side rec store samples model out answers) (takeEnds n side rec store samples model out)
+  unfolding whole.take
+  taken-is p = rw p
+
+-- so many places
+places : (n : ℕ) → (xs : List Float) × (length xs ≡ n)
+places n = (zeros n, length-replicate n _)
+
+-- what a take hands out that is accepted: 480 samples and three answers of each frame
+pub take-fills : (n side : ℕ) (rec : Record) (store samples : List Float) (model : List ℕ) (out answers : ℕ)
+    → passed (takeReply n side rec store samples model out answers) ≡ true
+    → let t = takeEnds n side rec store samples model out in let k = completes (rec .waiting) (length samples) in
+    (length (t .out) ≡ 480 * k) × (length (t .answers) ≡ 3 * k)
+take-fills n side rec store samples model out answers p =
+    let h = places out in
+    let l = places answers in
+    let e = ends n side rec store samples model (h .0) (l .0) (rw (h .1, l .1) (take-accepted n side rec store samples model out answers p)) in
+    (rw (h .1) at (e .filled), rw (h .1) at (e .threes))
+
+pub dictates : Dictates
+dictates n side rec store samples model held answers p =
+    let l = places answers in
+    let e = ends n side rec store samples model held (l .0) (rw (l .1) (take-accepted n side rec store samples model (length held) answers p)) in
+    let t = takeEnds n side rec store samples model (length held) in
+    let is = taken-is n side rec store samples model (length held) answers p in (
+      e .dictated,
+      e .led,
+      record {
+        records = ap (λ (g : Given). g .answer .rec) is ∙ e .same .0;
+        stores = ap (λ (g : Given). g .store) is ∙ e .same .1;
+        writes =
+            λ xs. ap (λ (g : Given). onto (g .written) (held ∷ xs ∷ [])) is
+            ∙ ap₂ (λ (x y : List Float). x ∷ y ∷ []) (sym (e .out) ∙ e .same .2) (ap (λ (x : List Float). over (from 0 x) xs) (e .same .3));
+      },
+    )
+
+same-number : (model : List ℕ) (told : List Told) → length (map (lentTo model) told) ≡ length told
+same-number model [] = refl
+same-number model (f ∷ told) = ap suc (same-number model told)
+
+-- the numbers that are written to the front of a buffer
+written : (m : ℕ) (xs held : List Float) → length xs ≡ m → take m (over (from 0 xs) held) ≡ xs
+unfolding put
+written m xs held e = take-at xs _ m e
+
+pub as-dictated : AsDictated
+as-dictated n side rec store samples model out answers p =
+    let h = places out in
+    let l = places answers in
+    let m = completes (rec .waiting) (length samples) in
+    let e = ends n side rec store samples model (h .0) (l .0) (rw (h .1, l .1) (take-accepted n side rec store samples model out answers p)) in
+    let told = e .dictated .told in
+    let whole = is-whole n side rec store samples (h .0) (map (lentTo model) told) (e .dictated) (e .led) in
+    let d = dictated side rec store samples (map (lentTo model) told) in
+    let t = takeEnds n side rec store samples model (length (h .0)) in
+    let number : length told ≡ m = sym (same-number model told) ∙ whole .0 in
+    let size : length (d .out) ≡ 480 * m = whole .1 ∙ ap (λ (k : ℕ). 480 * k) (whole .0) in
+    let outs : t .out ≡ d .out =
+    sym (written (480 * m) (t .out) (h .0) (e .filled))
+    ∙ ap (take (480 * m)) (sym (e .out) ∙ e .same .2 ∙ ap (λ (x : Dictated). x .out) (whole .2))
+    ∙ written (480 * m) (d .out) (h .0) size in
+    let reply = takeReply n side rec store samples model out answers in
+    let same : takenAs reply t ≡ record { answer = record { reply = reply; rec = d .rec }; store = d .store; written = from 0 (d .out) ∷ from 0 (answersOf told) ∷ [] } =
+    rw (e .same .0, e .same .1, outs, e .same .3, ap (λ (x : Dictated). x .rec) (whole .2), ap (λ (x : Dictated). x .store) (whole .2)) in (
+      told,
+      (
+        number,
+        size ∙ ap (λ (k : ℕ). 480 * k) (sym number),
+        sym (ap (λ (x : Dictated). x .told) (whole .2)),
+        taken-is n side rec store samples model out answers p ∙ ap (λ (k : ℕ). takenAs reply (takeEnds n side rec store samples model k)) (sym (h .1)) ∙ same,
+      ),
+    )

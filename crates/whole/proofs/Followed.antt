@@ -1,0 +1,360 @@
+-- A take that is accepted, frame by frame: what its definition hands out, what the code does with its buffers, and where a piece's resumes lead.
+--     Onward, writes-onward     what a piece or a resume writes that goes onward
+--     Alike                     after j frames the definition and the code stand alike
+--     follow                    along the resumes of a piece that comes to its end
+--     Ends, ends                at the end of an accepted take
+-- Assumes nothing.
+use Prim.Native.Nat.{ℕ, zero, suc, _+_, _-_, _*_, _≤_}
+use native.Mathlib.Omega.{arith}
+use mathlib.Core.Bool.{Bool, true, false, cond, false≢true}
+use mathlib.Core.List.{List, [], _∷_, _++_, map, append-assoc, append-nil}
+use mathlib.Core.Path.{_≡_, refl, sym, ap, _∙_}
+use borrow.Author.Tests.{eqb-false, not-false, not-true}
+use lib.Dec.{ltb}
+use lib.ListN.{length, getD, take, length-append}
+use lib.Ieee.{Float}
+use Rattle.rules.specs.F32.{zeros}
+use Rattle.rules.specs.Loop.{loop}
+use Rattle.rules.specs.Place.{get, put}
+use Rattle.rules.specs.Written.{Written, all, from, nothing, numbersIn, firstIn, over, onto}
+use Rattle.rules.proofs.Places.{length-get, length-put}
+use Rattle.rules.proofs.Writing.{over-none, over-next}
+use Rattle.logs.specs.Log10.{logsOf}
+use Rattle.model.specs.Model.{readOf}
+use Rattle.model.specs.declared.Model.{Model}
+use Rattle.model.specs.declared.Reading.{Reading}
+use Rattle.model.specs.declared.Reading.the-variants.{Good, Refused as Unread}
+use Rattle.frame.specs.declared.Reply.{Reply}
+use Rattle.frame.specs.declared.Reply.the-variants.{Done, Silent, Heard, Numbered, Refused, Misread}
+use Rattle.frame.specs.Frame.{counted, checked}
+use Rattle.frame.specs.Reply.{passed}
+use Rattle.halves.specs.Halves.{buffer, firstHalf, secondHalf}
+use Rattle.pieces.specs.Pieces.{framePart, waitingIn, waits, completes, frameAt, further}
+use Rattle.pieces.specs.Pieces as pieces
+use Rattle.pieces.proofs.Accepted.{Piece, piece-taken}
+use Rattle.pieces.proofs.Kept.{further-reply}
+use Rattle.desk.specs.declared.Record.{Record}
+use Rattle.desk.specs.Gate.{PIECE, RESUME, shareOf, isDue, gate}
+use Rattle.desk.specs.Desk.{piece, resume, holding, carried, Given, desk}
+use Rattle.desk.specs.Surface.{heardOf}
+use Rattle.desk.proofs.Turned.{none, through}
+use Rattle.dictation.specs.Dictation.{Lent, Dictated}
+use Rattle.dictation.specs.Cutting.{Led, ended, paused}
+use Rattle.dictation.specs.Resuming.{handedIn, Fitting}
+use Rattle.dictation.proofs.Resumes.{completed}
+use Rattle.dictation.proofs.Taken.{let-through, onward, half-passes, piece-passed, resume-passed}
+use Rattle.whole.specs.Whole.{takeReply, Taking, takeFrames, takeBegins, sumsIn}
+use Rattle.whole.specs.Parts.{Midway, behind, three, stepsOf}
+use Rattle.whole.specs.Taking.{Told, lentTo, answersOf}
+use Rattle.whole.proofs.Accepted.{good-both, logs-length, Take, take-accepted, fits-sizes}
+
+-- ---- what a call writes that goes onward
+
+abbrev Unfinished : Given → Type 0
+Unfinished o = o .answer .rec .piece ≡ 0 → ⊥
+
+record Onward (w : Written) (progress : ℕ) (o : Given) : Type 0 where
+  sums : Written
+  writes : o .written ≡ w ∷ sums ∷ []
+  pauses : Unfinished o → (sums ≡ all (numbersIn sums)) × (o .answer .rec .progress ≡ progress)
+
+writes-onward : (side : ℕ) (store : List Float) (rec : Record) (reply : Reply) (share rest : List Float) (size progress : ℕ) (w : Written)
+    → Onward w progress (onward side store rec reply share rest size progress w)
+unfolding further carried
+writes-onward side store rec reply share rest size progress w = go (ltb (length rest) 480)
+  where
+    given : Bool → Given
+    given t =
+        let f = cond t (pieces.atEnd reply share rest w) (pieces.paused reply share rest w) in
+        record {
+          answer = record { reply = reply; rec = cond t (holding 1 rec (length rest) 0 0) (holding 3 rec 0 size progress) };
+          store = put (shareOf side) store (f .share);
+          written = f .written;
+        }
+
+    go : (t : Bool) → Onward w progress (given t)
+    go true = record { sums = nothing; writes = refl; pauses = λ h. absurd (h refl) }
+    go false = record { sums = all (buffer (firstHalf (get framePart share) (take 480 rest) 22)); writes = refl; pauses = λ h. (refl, refl) }
+
+module _ {w : Written} {progress : ℕ} {o : Given} (k : Onward w progress o) where
+  first-is : (held kept : List Float) → getD (onto (o .written) (held ∷ kept ∷ [])) 0 [] ≡ over w held
+  first-is held kept = ap (λ (ws : List Written). getD (onto ws (held ∷ kept ∷ [])) 0 []) (k .writes)
+
+  sums-are : Unfinished o → (held kept : List Float) → getD (onto (o .written) (held ∷ kept ∷ [])) 1 [] ≡ sumsIn o
+  sums-are h held kept =
+      ap (λ (ws : List Written). getD (onto ws (held ∷ kept ∷ [])) 1 []) (k .writes)
+      ∙ ap (λ (v : Written). over v kept) (k .pauses h .0)
+      ∙ sym (ap (λ (ws : List Written). numbersIn (getD ws 1 nothing)) (k .writes))
+
+-- a resume gets through only where a piece is unfinished
+unfinished : (n side : ℕ) (rec : Record) (len : ℕ) → gate n side rec len RESUME ≡ 0 → rec .piece ≡ 0 → ⊥
+unfolding isDue
+unfinished n side rec len e = eqb-false (rec .piece) 0 (not-true _ (not-false _ (none n side rec len RESUME e .1 .1 .1 .1 .0)))
+
+led-passed : {n side : ℕ} {samples : List Float} {o : Given} {held : List Float} {ls : List Lent} {d : Dictated}
+    → Led n side samples o held ls d → passed (o .answer .reply) ≡ true
+led-passed (ended kept p w e) = p
+led-passed (paused kept p w q r) = p
+
+three-long : (r : Reply) → length (heardOf r) ≡ 3
+three-long Done = refl
+three-long Silent = refl
+three-long (Heard v e) = refl
+three-long (Numbered f h) = refl
+three-long (Refused m) = refl
+three-long (Misread m l) = refl
+
+-- what is written behind the front of a buffer
+further-on : (m : ℕ) (xs ys held : List Float) → length xs ≡ m → over (from m ys) (over (from 0 xs) held) ≡ over (from 0 (xs ++ ys)) held
+further-on m xs ys held e =
+    let here : m ≡ 0 + m = omega arith in
+    ap (λ (i : ℕ). over (from i ys) (over (from 0 xs) held)) here ∙ over-next 0 m xs ys held e (omega arith)
+
+-- ---- frame by frame
+
+module _ (n side : ℕ) (rec : Record) (store samples : List Float) (model : List ℕ) (held answers : List Float) where
+  abbrev pub at : ℕ → Taking
+  at j = takeFrames j n side samples model (length held) (takeBegins n side rec store samples (length held))
+
+  abbrev pub mid : ℕ → Midway
+  mid j = stepsOf j n side samples model (behind (handedIn n side rec store samples held) held (zeros 22) answers)
+
+  -- after j frames, where the last call gave o and its output held this before
+  record Alike (j : ℕ) (o : Given) (was : List Float) : Type 0 where
+    recs : (at j .rec ≡ o .answer .rec) × (mid j .rec ≡ o .answer .rec)
+    stores : (at j .store ≡ o .store) × (mid j .store ≡ o .store)
+    sums : at j .sums ≡ sumsIn o
+    lent : Unfinished o → mid j .sums ≡ sumsIn o
+    wrote : Unfinished o → (held kept : List Float) → getD (onto (o .written) (held ∷ kept ∷ [])) 1 [] ≡ sumsIn o
+    progress : Unfinished o → o .answer .rec .progress + rec .waiting ≡ 480 * j + 480
+    here : (kept : List Float) → getD (onto (o .written) (was ∷ kept ∷ [])) 0 [] ≡ mid j .out
+    out : mid j .out ≡ over (from 0 (at j .out)) held
+    filled : length (at j .out) ≡ 480 * j
+    told : mid j .answers ≡ over (from 0 (at j .answers)) answers
+    threes : length (at j .answers) ≡ 3 * j
+
+  begins : rec .waiting ≤ 479 → passed (handedIn n side rec store samples held .answer .reply) ≡ true → Alike 0 (handedIn n side rec store samples held) held
+  unfolding takeFrames stepsOf loop
+  begins few p =
+      let o = handedIn n side rec store samples held in
+      let k : Onward nothing (480 - rec .waiting) o = rw (piece-passed n side rec store samples (length held) 22 p .2) (writes-onward side store _ _ _ _ _ _ _) in
+      record {
+        recs = (refl, refl);
+        stores = (refl, refl);
+        sums = refl;
+        lent = λ h. sums-are k h held (zeros 22);
+        wrote = λ h. sums-are k h;
+        progress = λ h. omega (arith, k .pauses h .1);
+        here = λ kept. first-is k held kept ∙ sym (first-is k held (zeros 22));
+        out = first-is k held (zeros 22);
+        filled = refl;
+        told = sym (over-none 0 answers);
+        threes = refl;
+      }
+
+  -- a frame more is answered
+  heard-more : (j : ℕ) (next : Given) → desk n side (at j .rec) (at j .store) (resume samples (logsOf (at j .sums)) model (length held) 22) ≡ next
+      → at (suc j) .answers ≡ at j .answers ++ heardOf (next .answer .reply)
+  unfolding takeFrames loop
+  heard-more j next call = ap (λ (g : Given). at j .answers ++ heardOf (g .answer .reply)) call
+
+  goes-on : (j : ℕ) (o next : Given) {was : List Float} → Alike j o was
+      → next ≡ desk n side (o .answer .rec) (o .store) (resume samples (logsOf (at j .sums)) model (length held) 22)
+      → passed (next .answer .reply) ≡ true → rec .waiting ≤ 479 → 480 * j + 480 ≤ length held → 3 * j + 3 ≤ length answers → Alike (suc j) next (mid j .out)
+  unfolding takeFrames stepsOf loop
+  goes-on j o next {was} a q p few room places =
+      let b = o .answer .rec in
+      let logs = logsOf (at j .sums) in
+      let resumed = resume-passed n side b (o .store) samples logs model (length held) 22 (ap (λ (g : Given). passed (g .answer .reply)) (sym q) ∙ p) in
+      let begun = unfinished n side b (length (o .store)) (resumed .0) in
+      let ys = buffer (secondHalf (get framePart (get (shareOf side) (o .store))) (b .index) (b .vad) (b .noise) (b .denoise) logs model 480) in
+      let long : length ys ≡ 480 = half-passes n side b (o .store) samples logs model (length held) 22 (resumed .1) .fills in
+      let place : 480 * (frameAt (b .progress) - 1) ≡ 480 * j = omega (arith, a .progress begun) in
+      let k : Onward (from (480 * j) ys) (b .progress + 480) next = rw (q ∙ resumed .2, ← place) (writes-onward side (o .store) _ _ _ _ _ _ _) in
+      let r = next .answer .reply in
+      let size : length (mid j .out) ≡ length held =
+      ap length (a .out) ∙ length-put (record { at = 0; size = length (at j .out) }) held (at j .out) (omega (arith, a .filled)) refl in
+      let call : desk n side (at j .rec) (at j .store) (resume samples logs model (length held) 22) ≡ next = rw (a .recs .0, a .stores .0) (sym q) in
+      let call′ : desk n side (mid j .rec) (mid j .store) (resume samples (logsOf (mid j .sums)) model (length (mid j .out)) 22) ≡ next =
+      rw (a .recs .1, a .stores .1, a .lent begun, ← a .sums, size) (sym q) in
+      let given : firstIn (next .written) ≡ ys = ap firstIn (k .writes) in
+      let more : at (suc j) .out ≡ at j .out ++ ys = ap (λ (g : Given). at j .out ++ firstIn (g .written)) call ∙ ap (λ (x : List Float). at j .out ++ x) given in
+      let heard : at (suc j) .answers ≡ at j .answers ++ heardOf r = heard-more j next call in
+      record {
+        recs = (ap (λ (g : Given). g .answer .rec) call, ap (λ (g : Given). g .answer .rec) call′);
+        stores = (ap (λ (g : Given). g .store) call, ap (λ (g : Given). g .store) call′);
+        sums = ap sumsIn call;
+        lent = λ h. ap (λ (g : Given). getD (onto (g .written) (mid j .out ∷ mid j .sums ∷ [])) 1 []) call′ ∙ sums-are k h (mid j .out) (mid j .sums);
+        wrote = λ h. sums-are k h;
+        progress = λ h. omega (arith, k .pauses h .1, a .progress begun);
+        here = λ kept. first-is k (mid j .out) kept ∙ sym (first-is k (mid j .out) (mid j .sums)) ∙ sym (ap (λ (g : Given). getD (onto (g .written) (mid j .out ∷ mid j .sums ∷ [])) 0 []) call′);
+        out =
+            ap (λ (g : Given). getD (onto (g .written) (mid j .out ∷ mid j .sums ∷ [])) 0 []) call′
+            ∙ first-is k (mid j .out) (mid j .sums)
+            ∙ ap (over (from (480 * j) ys)) (a .out)
+            ∙ further-on (480 * j) (at j .out) ys held (a .filled)
+            ∙ ap (λ (x : List Float). over (from 0 x) held) (sym more);
+        filled = ap length more ∙ length-append (at j .out) ys ∙ omega (arith, a .filled, long);
+        told =
+            ap (λ (g : Given). put (three j) (mid j .answers) (heardOf (g .answer .reply))) call′
+            ∙ ap (λ (x : List Float). put (three j) x (heardOf r)) (a .told)
+            ∙ ap (λ (m : ℕ). put (record { at = 3 * j; size = m }) (over (from 0 (at j .answers)) answers) (heardOf r)) (sym (three-long r))
+            ∙ further-on (3 * j) (at j .answers) (heardOf r) answers (a .threes)
+            ∙ ap (λ (x : List Float). over (from 0 x) answers) (sym heard);
+        threes = ap length heard ∙ length-append (at j .answers) (heardOf r) ∙ omega (arith, a .threes, three-long r);
+      }
+
+  -- ---- along the resumes
+
+  abbrev lentAt : ℕ → Lent
+  lentAt j = record { logs = logsOf (at j .sums); model = model }
+
+  -- what is lent from frame j on
+  abbrev Lends : ℕ → List Lent → Type 0
+  Lends j [] = Unit
+  Lends j (l ∷ ls) = (l ≡ lentAt j) × Lends (suc j) ls
+
+  -- to frame e, from frame j
+  record Followed (j e : ℕ) (ls : List Lent) (d : Dictated) : Type 0 where
+    last : Given
+    was : List Float
+    alike : Alike e last was
+    recs : last .answer .rec ≡ d .rec
+    stores : last .store ≡ d .store
+    outs : mid e .out ≡ d .out
+    answered : at e .answers ≡ at j .answers ++ answersOf (d .told)
+    lent : map (lentTo model) (d .told) ≡ ls
+
+  follow : {o : Given} {was : List Float} {ls : List Lent} {d : Dictated} → Led n side samples o was ls d → (j e : ℕ) → Alike j o was → Lends j ls → rec .waiting ≤ 479
+      → 480 * j + 480 * length ls ≤ length held → 3 * j + 3 * length ls ≤ length answers → j + length ls ≡ e → Followed j e ls d
+  follow (ended {o} {held = was} kept p w z) j e a lends few room places last =
+      let same : j ≡ e = omega arith in
+      rw (← same)
+      (record {
+        last = o;
+        was = was;
+        alike = a;
+        recs = refl;
+        stores = refl;
+        outs = sym (a .here kept) ∙ ap (λ (l : List (List Float)). getD l 0 []) w;
+        answered = sym (append-nil (at j .answers));
+        lent = refl;
+      })
+  follow (paused {o} {next} {held = was} {out = to} {sums = sent} {l} {more} {d} kept p w q rest) j e a lends few room places last =
+      let stands : to ≡ mid j .out = sym (ap (λ (x : List (List Float)). getD x 0 []) w) ∙ a .here kept in
+      let size : length to ≡ length held =
+      ap length (stands ∙ a .out) ∙ length-put (record { at = 0; size = length (at j .out) }) held (at j .out) (omega (arith, a .filled)) refl in
+      let call : next ≡ desk n side (o .answer .rec) (o .store) (resume samples (logsOf (at j .sums)) model (length held) 22) = rw (lends .0, size) at q in
+      let passes = led-passed rest in
+      let resumed =
+      resume-passed n side (o .answer .rec) (o .store) samples (logsOf (at j .sums)) model (length held) 22 (ap (λ (g : Given). passed (g .answer .reply)) (sym call) ∙ passes) in
+      let b : Alike (suc j) next to = rw stands (goes-on j o next a call passes few (omega arith) (omega arith)) in
+      let f = follow rest (suc j) e b (lends .1) few (omega arith) (omega arith) (omega arith) in
+      let begun = unfinished n side (o .answer .rec) (length (o .store)) (resumed .0) in
+      let sums : sent ≡ at j .sums = sym (ap (λ (x : List (List Float)). getD x 1 []) w) ∙ a .wrote begun was kept ∙ sym (a .sums) in
+      record {
+        last = f .last;
+        was = f .was;
+        alike = f .alike;
+        recs = f .recs;
+        stores = f .stores;
+        outs = f .outs;
+        answered =
+            f .answered
+            ∙ ap (λ (x : List Float). x ++ answersOf (d .told)) (heard-more j next (rw (a .recs .0, a .stores .0) (sym call)))
+            ∙ append-assoc (at j .answers) (heardOf (next .answer .reply)) (answersOf (d .told));
+        lent = rw (f .lent, sums, lends .0);
+      }
+
+  -- what the take lends
+  abbrev lents : ℕ → ℕ → List Lent
+  lents j zero = []
+  lents j (suc m) = lentAt j ∷ lents (suc j) m
+
+  lents-length : (m j : ℕ) → length (lents j m) ≡ m
+  lents-length zero j = refl
+  lents-length (suc m) j = ap suc (lents-length m (suc j))
+
+  lends : (m j : ℕ) → Lends j (lents j m)
+  lends zero j = tt
+  lends (suc m) j = (refl, lends m (suc j))
+
+  fitting : checked (counted (rec .vad) (rec .noise) (rec .denoise)) (readOf model) ≡ Done → (m j : ℕ) → Fitting rec (lents j m)
+  fitting e zero j = tt
+  fitting e (suc m) j = (logs-length (at j .sums), e, fitting e m (suc j))
+
+-- a model that passes
+is-done : (same : Model → Bool) (r : Reading) → passed (checked same r) ≡ true → checked same r ≡ Done
+unfolding checked
+is-done same (Unread m l) e = absurd (false≢true e)
+is-done same (Good m) e = go (same m) e
+  where
+    go : (t : Bool) → passed (cond t Done (Refused 8)) ≡ true → cond t Done (Refused 8) ≡ Done
+    go true e = refl
+    go false e = absurd (false≢true e)
+
+-- ---- the end
+
+-- the definition's end, and the code's, of an accepted take; and the dictation that it is
+pub record Ends (n side : ℕ) (rec : Record) (store samples : List Float) (model : List ℕ) (held answers : List Float) (t : Taking) (c : Midway) : Type 0 where
+  pub recs : c .rec ≡ t .rec
+  pub stores : c .store ≡ t .store
+  pub out : c .out ≡ over (from 0 (t .out)) held
+  pub filled : length (t .out) ≡ 480 * completes (rec .waiting) (length samples)
+  pub told : c .answers ≡ over (from 0 (t .answers)) answers
+  pub threes : length (t .answers) ≡ 3 * completes (rec .waiting) (length samples)
+  pub dictated : Dictated
+  pub led : Led n side samples (handedIn n side rec store samples held) held (map (lentTo model) (dictated .told)) dictated
+  pub same : (t .rec ≡ dictated .rec) × (t .store ≡ dictated .store) × (c .out ≡ dictated .out) × (t .answers ≡ answersOf (dictated .told))
+
+module _ (n side : ℕ) (rec : Record) (store samples : List Float) (model : List ℕ) (held answers : List Float)
+    (k : Take n side rec store samples model (length held) (length answers)) where
+  abbrev mine : List Float
+  mine = get (shareOf side) store
+
+  fitted : Piece mine (rec .waiting) samples (length held) 22
+  fitted =
+      let t = through n side rec (length store) PIECE (k .gated) in
+      let f = fits-sizes (rec .waiting) (length samples) (length held) 22 (k .fits) in
+      let g = good-both (waitingIn (rec .waiting) mine) samples (k .fine) in
+      record {
+        size = length-get (shareOf side) store (omega arith);
+        waits = f .0;
+        some = f .1;
+        few = f .2;
+        room = f .3;
+        places = refl;
+        waited = g .0;
+        fine = g .1;
+      }
+
+  piece-done : passed (handedIn n side rec store samples held .answer .reply) ≡ true
+  piece-done =
+      ap (λ (o : Given). passed (o .answer .reply)) (let-through n side rec store (piece samples (length held) 22) (k .gated))
+      ∙ rw (piece-taken mine (rec .waiting) samples (length held) 22 fitted, further-reply Done (waits mine []) (waitingIn (rec .waiting) mine ++ samples) nothing)
+
+  pub ends : let m = completes (rec .waiting) (length samples) in
+      Ends n side rec store samples model held answers (at n side rec store samples model held answers m) (mid n side rec store samples model held answers m)
+  unfolding takeFrames loop
+  ends =
+      let m = completes (rec .waiting) (length samples) in
+      let ls = lents n side rec store samples model held answers 0 m in
+      let long = lents-length n side rec store samples model held answers m 0 in
+      let right = is-done (counted (rec .vad) (rec .noise) (rec .denoise)) (readOf model) (k .right) in
+      let c = completed n side rec store samples held ls piece-done long (fitting n side rec store samples model held answers right m 0) in
+      let f =
+      follow n side rec store samples model held answers (c .1) 0 m
+      (begins n side rec store samples model held answers (fitted .waits) piece-done) (lends n side rec store samples model held answers m 0) (fitted .waits)
+      (omega (arith, fitted .room, long)) (omega (arith, k .told, long)) (omega arith) in
+      let a = f .alike in
+      record {
+        recs = a .recs .1 ∙ sym (a .recs .0);
+        stores = a .stores .1 ∙ sym (a .stores .0);
+        out = a .out;
+        filled = a .filled;
+        told = a .told;
+        threes = a .threes;
+        dictated = c .0;
+        led = rw (f .lent) (c .1);
+        same = (a .recs .0 ∙ f .recs, a .stores .0 ∙ f .stores, f .outs, f .answered);
+      }
