@@ -22,6 +22,8 @@ pub mod ask;
 pub mod bands;
 #[cfg(feature = "frame")]
 pub mod beside;
+#[cfg(feature = "blocks")]
+pub mod blocks;
 #[cfg(feature = "frame")]
 pub mod cutting;
 #[cfg(feature = "frame")]
@@ -123,4 +125,6 @@ pub const GROUPS: &[Group] = &[
     ("pieces", pieces::compare),
     #[cfg(feature = "frame")]
     ("whole", whole::compare),
+    #[cfg(feature = "blocks")]
+    ("feed", blocks::compare),
 ];

@@ -1,6 +1,7 @@
 // The static library for Rust and C: thin functions named `tuppence_…`, a module for each crate below.
 pub mod of_bands;
 pub mod of_desk;
+pub mod of_feed;
 pub mod of_lag;
 pub mod of_logs;
 pub mod of_model;
