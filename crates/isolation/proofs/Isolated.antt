@@ -1,135 +1,173 @@
--- The law of isolation, once over the number of benches.
+-- The law of isolation, once over the kind of calls and the number of benches.
 --     in-any-run     in any run, what a side receives is what its own record, share and calls alone give
 --     closed-same    from closed, what the share held is never received
---     isolated, our-desk, undisturbed, starts-anew     what specs/Isolation.antt claims
+--     isolated, undisturbed     what specs/Isolation.antt claims
 -- Assumes nothing.
 use Prim.Native.Nat.{ℕ, _*_, _<_}
 use native.Mathlib.Omega.{arith}
-use mathlib.Core.Bool.{Bool, true, false}
+use mathlib.Core.Bool.{Bool, true, false, cond}
 use mathlib.Core.List.{List, [], _∷_, map}
-use mathlib.Core.Logic.{⊎-elim}
+use mathlib.Core.Logic.{_⊎_, inl, inr, ⊎-elim}
 use mathlib.Core.Path.{_≡_, refl, sym, ap, ap₂, _∙_}
-use borrow.Author.Tests.{eq-eqb, eqb-true, eqb-false}
-use lib.Dec.{eqb}
-use lib.ListN.{length, replicate}
+use borrow.Author.Tests.{eqb-true, eqb-false, ltb-true, ltb-false}
+use lib.Dec.{eqb, ltb}
+use lib.ListN.{length}
 use lib.Ieee.{Float}
-use Rattle.rules.specs.F32.{f32}
-use Rattle.rules.specs.Place.{get}
-use Rattle.rules.specs.Written.{Written}
-use Rattle.rules.proofs.Places.{length-get}
+use Rattle.rules.specs.F32.{zeros}
+use Rattle.rules.specs.Place.{get, put}
+use Rattle.rules.proofs.Places.{length-get, length-put, get-put, get-put-apart}
 use Rattle.rules.proofs.Wholes.{get-whole}
 use Rattle.frame.specs.Reply.{passed}
 use Rattle.frame.specs.Share.{SHARE}
-use Rattle.desk.specs.declared.Answer.{Answer}
 use Rattle.desk.specs.declared.Record.{Record}
-use Rattle.desk.specs.Gate.{BENCHES, shareOf}
-use Rattle.desk.specs.Desk.{Ask, opening, Given, closed, desk}
-use Rattle.desk.proofs.Apart.{its-own, own-share, one-length, other-share, same-length, closed-alike, anew}
-use Rattle.isolation.specs.Run.{Call, openingOf, State, allClosed, given, after, Received, receive, received, asked, lonely, alone}
-use Rattle.isolation.specs.Isolation.{Isolated, OurDesk, Undisturbed, Anew}
+use Rattle.desk.specs.Gate.{shareOf}
+use Rattle.desk.specs.Desk.{closed}
+use Rattle.desk.specs.Surface.{numbersOf, recordIn}
+use Rattle.desk.proofs.Apart.{apart}
+use Rattle.isolation.specs.Plan.{Came, perform}
+use Rattle.isolation.specs.Isolation.{Returned, Gives, givenBy, Kind, On, State, allZeros, own, lonely, given, after, received, alone, Isolated, Undisturbed, Planned}
+use Rattle.isolation.proofs.Performed.{sized, its-own, no-side, unseen}
 
--- what one bench receives, from its record and share
-lone : Record → List Float → List Ask → List Received
-lone b share [] = []
-lone b share (a ∷ more) =
-    let o = desk 1 0 b share a in
-    receive o ∷ lone (o .answer .rec) (o .store) more
+reads : (b : Record) → recordIn (numbersOf b) ≡ b
+unfolding recordIn
+reads b = refl
 
--- a call's outcome, and what comes after it
-abbrev onward : List Ask → Given → List Received
-onward more o = receive o ∷ lone (o .answer .rec) (o .store) more
+-- in the store that a share is a part of
+abbrev inStore : {O : Type 0} → ℕ → List Float → Gives O → Gives O
+inStore side store o = record { returned = o .returned; store = put (shareOf side) store (o .store) }
 
--- ---- any run
+module _ {C O : Type 0} (serve : Kind C O) (planned : Planned serve) where
+  -- ---- one call
 
-module _ (n s : ℕ) (h : s < n) where
-  -- a call on side s is the bench's own
-  own-call : (st : State) (c : Call) → length (st .store) ≡ n * SHARE → c .side ≡ s
-      → (receive (given n st c) ≡ receive (desk 1 0 (st .rec s) (get (shareOf s) (st .store)) (c .ask)))
-      × (given n st c .answer .rec ≡ desk 1 0 (st .rec s) (get (shareOf s) (st .store)) (c .ask) .answer .rec)
-      × (get (shareOf s) (given n st c .store) ≡ desk 1 0 (st .rec s) (get (shareOf s) (st .store)) (c .ask) .store)
-  own-call st c l e =
-      let t = its-own n s (st .rec s) (st .store) (c .ask) l h in
-      rw e (ap receive t, ap (λ (o : Given). o .answer .rec) t, own-share n s (st .rec s) (st .store) (c .ask) l h)
+  abbrev came : List ℕ → List Float → C → Came O
+  came ns xs c = perform 1 0 (recordIn ns) xs (planned .plan c)
 
-  in-any-run : (cs : List Call) (st : State) → length (st .store) ≡ n * SHARE
-      → received n s st cs ≡ lone (st .rec s) (get (shareOf s) (st .store)) (asked s cs)
-  unfolding received asked lone
-  in-any-run [] st l = refl
-  in-any-run (c ∷ cs) st l =
-      go (eqb (c .side) s) refl
-      (in-any-run cs (after n st c) (same-length n (c .side) (st .rec (c .side)) (st .store) (c .ask) l ∙ l))
+  mine : (n s : ℕ) (ns : List ℕ) (store : List Float) (c : C) → s < n → length store ≡ n * SHARE
+      → serve n s ns store c ≡ inStore s store (serve 1 0 ns (get (shareOf s) store) c)
+  mine n s ns store c h l =
+      planned .does n s ns store c
+      ∙ ap (givenBy ns) (its-own n s store h l (planned .plan c) (recordIn ns))
+      ∙ ap (inStore s store) (sym (planned .does 1 0 ns (get (shareOf s) store) c))
+
+  kept : (ns : List ℕ) (xs : List Float) (c : C) → length xs ≡ SHARE → length (serve 1 0 ns xs c .store) ≡ SHARE
+  kept ns xs c l = rw (planned .does 1 0 ns xs c) (sized (planned .plan c) (recordIn ns) xs l)
+
+  -- every other share stays, and the length of the store
+  beside : (n side : ℕ) (ns : List ℕ) (store : List Float) (c : C) → length store ≡ n * SHARE
+      → (length (serve n side ns store c .store) ≡ n * SHARE)
+      × ((s : ℕ) → (side ≡ s → ⊥) → get (shareOf s) (serve n side ns store c .store) ≡ get (shareOf s) store)
+  beside n side ns store c l = go (ltb side n) refl
     where
-      go : (t : Bool) → eqb (c .side) s ≡ t
-          → received n s (after n st c) cs ≡ lone (after n st c .rec s) (get (shareOf s) (after n st c .store)) (asked s cs)
-          → received n s st (c ∷ cs) ≡ lone (st .rec s) (get (shareOf s) (st .store)) (asked s (c ∷ cs))
-      go true e rest =
-          let k = own-call st c l (eqb-true (c .side) s e) in
-          rw e
-          (ap₂ {C = List Received} (λ (x : Received) (xs : List Received). x ∷ xs)
-          (k .0)
-          ((rw e at rest) ∙ ap₂ (λ (b : Record) (x : List Float). lone b x (asked s cs)) (k .1) (k .2)))
-      go false e rest =
-          rw e
-          ((rw e at rest)
-          ∙ ap (λ (x : List Float). lone (st .rec s) x (asked s cs))
-          (other-share n (c .side) (st .rec (c .side)) (st .store) (c .ask) l s (eqb-false (c .side) s e)))
+      go : (t : Bool) → ltb side n ≡ t
+          → (length (serve n side ns store c .store) ≡ n * SHARE)
+          × ((s : ℕ) → (side ≡ s → ⊥) → get (shareOf s) (serve n side ns store c .store) ≡ get (shareOf s) store)
+      go true e =
+          let h = ltb-true side n e in
+          let k = kept ns (get (shareOf side) store) c (length-get (shareOf side) store (omega arith)) in
+          rw (mine n side ns store c h l) (
+            length-put (shareOf side) store (serve 1 0 ns (get (shareOf side) store) c .store) (omega arith) k ∙ l,
+            λ s ne. get-put-apart (shareOf side) (shareOf s) store (serve 1 0 ns (get (shareOf side) store) c .store) (omega arith) k (apart side s ne),
+          )
+      go false e =
+          let h = ltb-false side n e in
+          let o : serve n side ns store c .store ≡ store =
+          ap (λ (g : Gives O). g .store) (planned .does n side ns store c) ∙ no-side n side h (planned .plan c) (recordIn ns) store l in
+          rw o (l, λ s ne. refl)
 
--- ---- from closed
+  -- what the share of a closed side held is not told
+  record Alike (o u : Gives O) : Type 0 where
+    returned : o .returned ≡ u .returned
+    store : (o .store ≡ u .store) ⊎ (recordIn (o .returned .numbers) .due ≡ 0)
 
-closed-same : (asks : List Ask) (b : Record) (xs ys : List Float) → length xs ≡ SHARE → length ys ≡ SHARE → b .due ≡ 0 → lone b xs asks ≡ lone b ys asks
-unfolding lone
-closed-same [] b xs ys l k z = refl
-closed-same (a ∷ more) b xs ys l k z =
-    let o = desk 1 0 b xs a in
-    let u = desk 1 0 b ys a in
-    let like = closed-alike b xs ys l k a z in
-    ap₂ {C = List Received} (λ (x : Received) (rest : List Received). x ∷ rest)
-    (ap₂ (λ (r : Answer) (w : List Written). receive (record { answer = r; store = []; written = w })) (like .answer) (like .written))
-    (⊎-elim
-    (λ e. ap₂ (λ (r : Answer) (x : List Float). lone (r .rec) x more) (like .answer) e)
-    (λ d. closed-same more (o .answer .rec) (o .store) (u .store) (one-length b xs a l) (one-length b ys a k) d ∙ ap (λ (r : Answer). lone (r .rec) (u .store) more) (like .answer))
-    (like .store))
+  untold : (ns : List ℕ) (xs ys : List Float) (c : C) → length xs ≡ SHARE → length ys ≡ SHARE → recordIn ns .due ≡ 0
+      → Alike (serve 1 0 ns xs c) (serve 1 0 ns ys c)
+  untold ns xs ys c l k z =
+      let a = unseen (planned .plan c) (recordIn ns) xs ys l k z in
+      rw (planned .does 1 0 ns xs c, planned .does 1 0 ns ys c)
+      (record {
+        returned = cc;
+        store = ⊎-elim (λ e. inl e) (λ d. inr (shut (passed (came ns xs c .reply)) d)) (a .store);
+      })
+    where
+      shut : (t : Bool) → came ns xs c .rec .due ≡ 0 → recordIn (cond t (numbersOf (came ns xs c .rec)) ns) .due ≡ 0
+      shut true d = rw (reads (came ns xs c .rec)) d
+      shut false d = z
 
-wiped : List Float
-wiped = replicate SHARE (f32 0)
+  -- ---- any run
 
--- a desk of one bench that only this side calls
-pub asked-lonely : (asks : List Ask) → asked 0 (map lonely asks) ≡ asks
-unfolding asked
-asked-lonely [] = refl
-asked-lonely (a ∷ more) = ap (λ (xs : List Ask). a ∷ xs) (asked-lonely more)
+  -- what one bench receives, from its record and share
+  unfoldable pub lone : List ℕ → List Float → List C → List (Returned O)
+  lone ns xs [] = []
+  lone ns xs (c ∷ more) = let o = serve 1 0 ns xs c in o .returned ∷ lone (o .returned .numbers) (o .store) more
 
-alone-lone : (asks : List Ask) → alone asks ≡ lone closed wiped asks
-unfolding alone wiped
-alone-lone asks =
-    in-any-run 1 0 (omega arith) (map lonely asks) (allClosed wiped) refl
-    ∙ ap₂ (lone closed) (get-whole wiped SHARE refl) (asked-lonely asks)
+  -- and what comes after a call
+  abbrev pub next : List C → Gives O → List (Returned O)
+  next more o = o .returned ∷ lone (o .returned .numbers) (o .store) more
 
--- ---- what is claimed
+  module _ (n s : ℕ) (h : s < n) where
+    pub in-any-run : (cs : List (On C)) (st : State) → length (st .store) ≡ n * SHARE
+        → received serve n s st cs ≡ lone (st .numbers s) (get (shareOf s) (st .store)) (own s cs)
+    unfolding received own lone
+    in-any-run [] st l = refl
+    in-any-run (c ∷ cs) st l =
+        let b = beside n (c .side) (st .numbers (c .side)) (st .store) (c .call) l in
+        go (eqb (c .side) s) refl (b .1 s) (in-any-run cs (after serve n st c) (b .0))
+      where
+        go : (t : Bool) → eqb (c .side) s ≡ t
+            → ((c .side ≡ s → ⊥) → get (shareOf s) (after serve n st c .store) ≡ get (shareOf s) (st .store))
+            → received serve n s (after serve n st c) cs ≡ lone (after serve n st c .numbers s) (get (shareOf s) (after serve n st c .store)) (own s cs)
+            → received serve n s st (c ∷ cs) ≡ lone (st .numbers s) (get (shareOf s) (st .store)) (own s (c ∷ cs))
+        go true e others rest =
+            let same = eqb-true (c .side) s e in
+            let xs = get (shareOf s) (st .store) in
+            let k = kept (st .numbers s) xs (c .call) (length-get (shareOf s) (st .store) (omega arith)) in
+            let here : given serve n st c ≡ inStore s (st .store) (serve 1 0 (st .numbers s) xs (c .call)) = rw same (mine n s (st .numbers s) (st .store) (c .call) h l) in
+            let share : get (shareOf s) (given serve n st c .store) ≡ serve 1 0 (st .numbers s) xs (c .call) .store =
+            ap (λ (g : Gives O). get (shareOf s) (g .store)) here ∙ get-put (shareOf s) (st .store) (serve 1 0 (st .numbers s) xs (c .call) .store) (omega arith) k in
+            let told : given serve n st c .returned ≡ serve 1 0 (st .numbers s) xs (c .call) .returned = ap (λ (g : Gives O). g .returned) here in
+            rw e
+            (ap₂ {C = List (Returned O)} (λ (x : Returned O) (more : List (Returned O)). x ∷ more) told
+            ((rw e at rest) ∙ ap₂ (λ (r : Returned O) (x : List Float). lone (r .numbers) x (own s cs)) told share))
+        go false e others rest =
+            rw e ((rw e at rest) ∙ ap (λ (x : List Float). lone (st .numbers s) x (own s cs)) (others (eqb-false (c .side) s e)))
 
-share-length : (n s : ℕ) → s < n → (store : List Float) → length store ≡ n * SHARE → length (get (shareOf s) store) ≡ SHARE
-share-length n s h store l = length-get (shareOf s) store (omega arith)
+  -- ---- from closed
 
-pub isolated : (n : ℕ) → Isolated n
-unfolding wiped
-isolated n s h store l calls =
-    in-any-run n s h calls (allClosed store) l
-    ∙ closed-same (asked s calls) closed (get (shareOf s) store) wiped (share-length n s h store l) refl refl
-    ∙ sym (alone-lone (asked s calls))
+  closed-same : (cs : List C) (ns : List ℕ) (xs ys : List Float) → length xs ≡ SHARE → length ys ≡ SHARE → recordIn ns .due ≡ 0 → lone ns xs cs ≡ lone ns ys cs
+  unfolding lone
+  closed-same [] ns xs ys l k z = refl
+  closed-same (c ∷ more) ns xs ys l k z =
+      let o = serve 1 0 ns xs c in
+      let u = serve 1 0 ns ys c in
+      let like = untold ns xs ys c l k z in
+      ap₂ {C = List (Returned O)} (λ (x : Returned O) (rest : List (Returned O)). x ∷ rest) (like .returned)
+      (⊎-elim
+      (λ e. ap₂ (λ (r : Returned O) (x : List Float). lone (r .numbers) x more) (like .returned) e)
+      (λ d.
+      closed-same more (o .returned .numbers) (o .store) (u .store) (kept ns xs c l) (kept ns ys c k) d
+      ∙ ap (λ (r : Returned O). lone (r .numbers) (u .store) more) (like .returned))
+      (like .store))
 
-pub our-desk : OurDesk
-our-desk = isolated BENCHES
+  own-lonely : (cs : List C) → own 0 (map lonely cs) ≡ cs
+  unfolding own
+  own-lonely [] = refl
+  own-lonely (c ∷ more) = ap (λ (xs : List C). c ∷ xs) (own-lonely more)
 
-pub undisturbed : (n : ℕ) → Undisturbed n
-undisturbed n s h store store′ l l′ calls calls′ e = isolated n s h store l calls ∙ ap alone e ∙ sym (isolated n s h store′ l′ calls′)
+  pub alone-lone : (cs : List C) → alone serve cs ≡ lone (numbersOf closed) (zeros SHARE) cs
+  unfolding alone
+  alone-lone cs =
+      in-any-run 1 0 (omega arith) (map lonely cs) (allZeros (zeros SHARE)) refl
+      ∙ ap₂ (lone (numbersOf closed)) (get-whole (zeros SHARE) SHARE refl) (own-lonely cs)
 
-pub starts-anew : (n : ℕ) → Anew n
-unfolding asked lone wiped
-starts-anew n s h st l model p calls =
-    let xs = get (shareOf s) (st .store) in
-    let all = share-length n s h (st .store) l in
-    let done : passed (desk 1 0 (st .rec s) xs (opening model) .answer .reply) ≡ true = rw (its-own n s (st .rec s) (st .store) (opening model) l h) at p in
-    let same = anew (st .rec s) xs wiped all refl model done in
-    in-any-run n s h (openingOf s model ∷ calls) st l
-    ∙ rw (eq-eqb s s refl) (ap (onward (asked s calls)) same)
-    ∙ sym (alone-lone (opening model ∷ asked s calls))
+  -- ---- what is claimed
+
+  pub isolated : (n : ℕ) → Isolated serve n
+  unfolding recordIn
+  isolated n s h store l calls =
+      in-any-run n s h calls (allZeros store) l
+      ∙ closed-same (own s calls) (numbersOf closed) (get (shareOf s) store) (zeros SHARE) (length-get (shareOf s) store (omega arith)) refl refl
+      ∙ sym (alone-lone (own s calls))
+
+  pub undisturbed : (n : ℕ) → Undisturbed serve n
+  undisturbed n s h store store′ l l′ calls calls′ e =
+      isolated n s h store l calls ∙ ap (alone serve) e ∙ sym (isolated n s h store′ l′ calls′)

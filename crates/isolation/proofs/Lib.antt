@@ -1,4 +1,4 @@
-pub mod Hosts
+pub mod Performed
 pub mod Isolated
 pub mod Memories
 pub mod Numberings

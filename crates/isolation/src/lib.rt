@@ -1,1 +1,1 @@
-// No code. specs/ has runs of calls on the desk and what is claimed of them; proofs/ shows it.
+// No code. specs/ has the law of isolation, over runs of calls of any kind, and what is claimed of runs of the desk's calls; proofs/ shows it.

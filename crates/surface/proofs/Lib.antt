@@ -1,0 +1,2 @@
+pub mod Surfaced
+pub mod Expanded
