@@ -11,7 +11,7 @@ use crate::pcm::NO_FORMATS;
 use crate::plain_pcm::{self as plain, Layout};
 use crate::rng::{Mood, Rng};
 use crate::tally::{Given, Tally, Value};
-use crate::{values, Options};
+use crate::Options;
 
 type Feed = fn(&mut [u32], &mut [f32], u32, &[u8], u32, u32, u32, &[u8], &mut [u8], &mut [u64], &mut [f32]) -> u32;
 
@@ -37,6 +37,8 @@ struct Case {
     out: Vec<u8>,
     entries: Vec<u64>,
     answers: Vec<f32>,
+    /// The frames that it completes.
+    frames: usize,
 }
 
 impl Case {
@@ -52,6 +54,7 @@ impl Case {
             out: vec![],
             entries: vec![],
             answers: vec![],
+            frames: 0,
         };
         assert_eq!(tuppence::open(&mut case.record, &mut case.store, side, &case.model), 0);
         case
@@ -62,7 +65,7 @@ impl Case {
         let samples = plain::unpack(&bytes, layout).map_or(0, |samples| samples.len());
         let frames = completed(self.record[WAITING] as usize, samples);
         let (out, entries) = (rng.bytes(960 * frames), (0..frames).map(|_| rng.bits()).collect());
-        Case { bytes, layout, out, entries, answers: rng.list_of(3 * frames, Mood::Any), ..self.clone() }
+        Case { bytes, layout, out, entries, answers: rng.list_of(3 * frames, Mood::Any), frames, ..self.clone() }
     }
 
     fn put(&mut self, feed: Feed) -> u32 {
@@ -114,8 +117,7 @@ impl Case {
         // of refusal 7, not the model's own number and layer
         let (told, expected) = ([number, want % 256], [want, lowest.unwrap_or(want % 256)]);
         tally.judge("feed", given, &ours.left(&told, Value::Floats), &wanted.left(&expected, Value::Kept));
-        let inputs = [&ours.bytes == &self.bytes, &ours.model == &self.model];
-        if inputs != [true; 2] {
+        if ours.bytes != self.bytes || ours.model != self.model {
             tally.differs(|text| *text += "feed: what was given is changed\n");
         }
         (number, ours)
@@ -214,6 +216,7 @@ fn damage(rng: &mut Rng, case: &mut Case) -> bool {
         9 => case.model = models::any(rng),
         10 => case.record.fill(0),
         11 => case.bytes.resize(case.bytes.len() + 12 * LONGEST, 0),
+        12 => (case.record[DUE], case.record[WAITING]) = (2, 0),
         _ => return false,
     }
     true
@@ -271,9 +274,9 @@ const ANY: &[Fault] = &[
 
 /// Where a frame is completed.
 const COMPLETING: &[Fault] = &[
-    (5, |c| c.out.truncate(c.out.len() / 960 * 960 - 1)),
-    (5, |c| c.entries.truncate(c.out.len().div_ceil(960) - 1)),
-    (5, |c| c.answers.truncate(3 * c.out.len().div_ceil(960) - 1)),
+    (5, |c| c.out.truncate(960 * c.frames - 1)),
+    (5, |c| c.entries.truncate(c.frames - 1)),
+    (5, |c| c.answers.truncate(3 * c.frames - 1)),
 ];
 
 /// Where samples wait.
@@ -318,7 +321,7 @@ fn every_two_faults(tally: &mut Tally, rng: &mut Rng, feed: Feed) {
         };
         let case = bench.with(rng, layout, bytes);
         case.judge(tally, feed, Some(0));
-        let parts = [(!case.out.is_empty(), COMPLETING), (waiting > 0, OF_WAITING), (format == 32, OF_FLOATS)];
+        let parts = [(case.frames > 0, COMPLETING), (waiting > 0, OF_WAITING), (format == 32, OF_FLOATS)];
         let more = parts.iter().filter(|(there, _)| *there).flat_map(|(_, faults)| faults.iter());
         let faults: Vec<Fault> = ANY.iter().chain(more).copied().collect();
         for (i, one) in faults.iter().enumerate() {
