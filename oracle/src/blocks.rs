@@ -22,6 +22,7 @@ pub fn compare(options: &Options) -> Tally {
     tally.note(&met.told());
     every_two_faults(&mut tally, rng, tuppence::feed);
     beside_any_right(&mut tally, rng, tuppence::feed, options.calls(1_000));
+    cut_in_two_ways(&mut tally, rng, tuppence::feed, options.calls(1_000) / 20);
     tally
 }
 
@@ -343,7 +344,7 @@ fn received(
     format: u32,
     right: bool,
     benches: &[Case; 2],
-) -> Vec<Case> {
+) -> Vec<([u32; 1], Case)> {
     let width = plain::width(format).expect("it is a format");
     let [mut one, mut other] = benches.clone();
     let mut received = vec![];
@@ -357,8 +358,8 @@ fn received(
             answers: vec![1.0; case.answers.len()],
             ..case
         };
-        assert_eq!(one.put(feed), 0, "it is refused nothing");
-        received.push(Case { store: vec![], bytes: vec![], ..one.clone() });
+        let number = [one.put(feed)];
+        received.push((number, Case { store: vec![], bytes: vec![], ..one.clone() }));
         if right {
             other = Case { store: one.store, ..other }.with(rng, Layout { format, channels, channel: 1 }, bytes);
             other.put(feed);
@@ -386,19 +387,52 @@ fn beside_any_right(tally: &mut Tally, rng: &mut Rng, feed: Feed, times: u64) {
             xs.collect::<Vec<_>>().into_iter().flat_map(bytes).collect::<Vec<u8>>()
         });
         let wanted = received(rng, feed, &lefts, format, false, &benches);
+        assert!(wanted.iter().all(|(number, _)| *number == [0]), "the left by itself is refused nothing");
         for _ in 0..times.div_ceil(3) {
             let ours = received(rng, feed, &lefts, format, true, &benches);
-            for (ours, wanted) in ours.iter().zip(&wanted) {
-                tally.judge(
-                    "the left beside any right",
-                    Given::new(&[]),
-                    &ours.left(&[], Value::Floats),
-                    &wanted.left(&[], Value::Kept),
-                );
+            for ((number, ours), (want, wanted)) in ours.iter().zip(&wanted) {
+                let (left, right) = (ours.left(number, Value::Floats), wanted.left(want, Value::Kept));
+                tally.judge("the left beside any right", Given::new(&[]), &left, &right);
             }
         }
     }
     tally.note(&format!("the left's bytes beside {times} right channels"));
+}
+
+/// A stream in blocks of any lengths: what comes out in a row, and the bench at the end.
+fn in_blocks(rng: &mut Rng, feed: Feed, bench: &Case, layout: Layout, stream: &[u8]) -> (Vec<u32>, Case) {
+    let row = layout.channels as usize * plain::width(layout.format).expect("it is a format");
+    let (mut case, mut all, mut rest) = (bench.clone(), bench.clone(), stream);
+    let mut numbers = vec![];
+    while !rest.is_empty() {
+        let (block, behind) = rest.split_at(rest.len().min(row * (1 + rng.below(1_500))));
+        case = case.with(rng, layout, block.to_vec());
+        numbers.push(case.put(feed));
+        all.out.extend(&case.out);
+        all.entries.extend(&case.entries);
+        all.answers.extend(&case.answers);
+        rest = behind;
+    }
+    numbers.dedup();
+    (numbers, Case { out: all.out, entries: all.entries, answers: all.answers, ..case })
+}
+
+/// However a stream is cut into blocks, its bytes, entries and answers in a row are the same, and so is the bench at the end.
+fn cut_in_two_ways(tally: &mut Tally, rng: &mut Rng, feed: Feed, times: u64) {
+    let store = rng.list(STORE);
+    for _ in 0..times {
+        let bench = Case::opened(rng, SIDE, store.clone(), SHAPE);
+        let channels = 1 + rng.below(8) as u32;
+        let layout = Layout { format: rng.pick(&[16, 24, 32]), channels, channel: rng.below(channels as usize) as u32 };
+        let samples = 1 + rng.below(6_000);
+        let stream = recorded(rng, layout, samples);
+        if desk::broken(&plain::unpack(&stream, layout).expect("they are whole samples")) {
+            continue;
+        }
+        let [(numbers, one), (want, other)] = [(); 2].map(|_| in_blocks(rng, feed, &bench, layout, &stream));
+        let (left, right) = (one.left(&numbers, Value::Floats), other.left(&want, Value::Kept));
+        tally.judge("a stream cut in two ways", Given::new(&[]), &left, &right);
+    }
 }
 
 #[cfg(test)]
