@@ -19,7 +19,6 @@ use Rattle.rules.specs.Written.{firstIn}
 use Rattle.logs.specs.Log10.{logsOf}
 use Rattle.frame.specs.declared.Reply.{Reply}
 use Rattle.frame.specs.Reply.{passed}
-use Rattle.frame.specs.Share.{SHARE}
 use Rattle.pieces.specs.Pieces.{completes}
 use Rattle.desk.specs.declared.Answer.{Answer}
 use Rattle.desk.specs.declared.Record.{Record}
@@ -39,17 +38,17 @@ use Rattle.isolation.specs.Numbering.{endsFrame, hears, howMany, Unopened}
 use Rattle.isolation.specs.Memory.{recalled, frames, Since}
 use Rattle.isolation.proofs.Memories as memories
 use Rattle.isolation.proofs.Numberings as numberings
-use Rattle.isolation.specs.Isolation.{Kind, On, State, on, given, after, ended}
+use Rattle.isolation.specs.Isolation.{Kind, On, State, on, after, ended}
 use Rattle.surface.specs.Surface.{Request, ask, frame, take, called, surface}
 use Rattle.surface.specs.Mixed.{inDesk, expand, Expands, Opened, Mixed, madeOf, OurCalls}
 
 -- ---- the desk's records and store
 
-abbrev callOn : ℕ → Ask → Call
+abbrev pub callOn : ℕ → Ask → Call
 callOn side a = record { side = side; ask = a }
 
 -- where a call on a side gave these
-abbrev leaving : desks.State → ℕ → Record → List Float → desks.State
+abbrev pub leaving : desks.State → ℕ → Record → List Float → desks.State
 leaving st side rec store = record { rec = λ s. cond (eqb side s) rec (st .rec s); store = store }
 
 -- the record of a side that another one replaces
@@ -85,7 +84,7 @@ unfolding desks.ended
 joined n [] rest st = refl
 joined n (c ∷ first) rest st = joined n first rest (desks.after n st c)
 
-map-more : (f : Ask → Call) (xs : List Ask) (x : Ask) → map f (xs ++ (x ∷ [])) ≡ map f xs ++ (f x ∷ [])
+pub map-more : (f : Ask → Call) (xs : List Ask) (x : Ask) → map f (xs ++ (x ∷ [])) ≡ map f xs ++ (f x ∷ [])
 map-more f [] x = refl
 map-more f (y ∷ xs) x = ap (λ (cs : List Call). f y ∷ cs) (map-more f xs x)
 
@@ -125,13 +124,13 @@ module _ (n side : ℕ) (st : desks.State) where
           ∙ unmoved n side st
 
   module _ (x : List Float) (m : List ℕ) (o : ℕ) where
-    abbrev stands : ℕ → Taking
+    abbrev pub stands : ℕ → Taking
     stands j = takeFrames j n side x m o (takeBegins n side (st .rec side) (st .store) x o)
 
-    abbrev resumed : ℕ → Ask
+    abbrev pub resumed : ℕ → Ask
     resumed j = resume x (logsOf (stands j .sums)) m o 22
 
-    steps : (j : ℕ) → leaving st side (stands j .rec) (stands j .store) ≡ desks.ended n st (map (callOn side) (piece x o 22 ∷ tab j resumed))
+    pub steps : (j : ℕ) → leaving st side (stands j .rec) (stands j .store) ≡ desks.ended n st (map (callOn side) (piece x o 22 ∷ tab j resumed))
     unfolding takeFrames loop tab desks.ended
     steps zero = refl
     steps (suc j) =
@@ -194,7 +193,7 @@ module _ (n : ℕ) (st : State) (side : ℕ) where
   leads (frame x m o) = frame-runs n side (inDesk st) x m o
   leads (take x m o a) = take-runs n side (inDesk st) x m o a
 
-  one-call : (c : Request)
+  pub one-call : (c : Request)
       → inDesk (after surface n st (on side c)) ≡ desks.ended n (inDesk st) (map (callOn side) (madeOf n side (recordIn ns) (st .store) c))
   one-call c =
       let o = called n side ns (st .store) c in

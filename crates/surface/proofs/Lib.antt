@@ -1,2 +1,4 @@
 pub mod Surfaced
 pub mod Expanded
+pub mod Outputs
+pub mod Between

@@ -2,7 +2,7 @@
 --     plans, does                  the plan of each, and that it is
 --     our-surface, starts-anew     what specs/Surface.antt claims
 -- Assumes nothing.
-use Prim.Native.Nat.{ℕ, zero, suc, _<_}
+use Prim.Native.Nat.{ℕ, zero, suc}
 use native.Mathlib.Omega.{arith}
 use mathlib.Core.Bool.{Bool, true, false, cond}
 use mathlib.Core.List.{List, [], _∷_, _++_}

@@ -62,8 +62,7 @@ module _ {C O : Type 0} (serve : Kind C O) (asksOf : ℕ → ℕ → Record → 
         → recalled s (inDesk (ended serve n st calls)) ≡ heardAll blank (frames n s unnoted (inDesk st) (expand st calls))
     -- no gain that it remembers is NaN
     pub neverNan : (i : ℕ) → i < 22 → isNan (at (recalled s (inDesk (ended serve n st calls)) .gains) i) ≡ false
-    -- where the calls that follow hear k frames, one of them or all together, each gain is at least what it was, multiplied k times by 0.6; with k = 0
-    -- all that is remembered stays
+    -- where the calls that follow hear k frames, one or all of them, each gain is at least what it was, k times multiplied by 0.6; with none, all stays
     pub fading : let first = ended serve n st calls in
         Unopened n s (inDesk first) (expand first more)
         → let k = howMany hears n s (inDesk first) (expand first more) in
@@ -74,9 +73,7 @@ module _ {C O : Type 0} (serve : Kind C O) (asksOf : ℕ → ℕ → Record → 
   abbrev pub Mixed : Type 0
   Mixed = (s : ℕ) → s < n → (st : State) → Opened s st → (calls more : List (On C)) → Holds s st calls more
 
--- ---- as the box has it
-
--- a frame is its two halves, and a take its piece and a resume for each frame that it completes; refused, neither is any
+-- as the box has it: a frame is its two halves, and a take its piece and a resume for each frame that it completes; refused, neither is any
 abbrev pub madeOf : ℕ → ℕ → Record → List Float → Request → List Ask
 madeOf n side rec store (ask a) = a ∷ []
 madeOf n side rec store (frame x m o) =

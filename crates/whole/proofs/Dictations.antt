@@ -1,7 +1,6 @@
 -- A take that is accepted is the dictation of its samples, by the law of cutting (`dictates`, `as-dictated`); how much it hands out (`take-fills`).
 -- Assumes nothing.
 use Prim.Native.Nat.{ℕ, suc, _*_}
-use native.Mathlib.Omega.{arith}
 use mathlib.Core.Bool.{true}
 use mathlib.Core.List.{List, [], _∷_, map}
 use mathlib.Core.Path.{_≡_, refl, sym, ap, ap₂, _∙_}
@@ -10,14 +9,14 @@ use lib.Seq.{take-at}
 use lib.Ieee.{Float}
 use Rattle.rules.specs.F32.{zeros}
 use Rattle.rules.specs.Place.{put}
-use Rattle.rules.specs.Written.{Written, from, over, onto}
+use Rattle.rules.specs.Written.{from, over, onto}
 use Rattle.frame.specs.Reply.{passed}
 use Rattle.pieces.specs.Pieces.{completes}
 use Rattle.desk.specs.declared.Record.{Record}
 use Rattle.desk.specs.Desk.{Given}
 use Rattle.dictation.specs.Dictation.{Dictated, dictated}
 use Rattle.dictation.proofs.Cuts.{is-whole}
-use Rattle.whole.specs.Whole.{takeReply, Taking, takeEnds, takenAs}
+use Rattle.whole.specs.Whole.{takeReply, takeEnds, takenAs}
 use Rattle.whole.specs.Whole as whole
 use Rattle.whole.specs.Taking.{Told, lentTo, answersOf, Dictates, AsDictated}
 use Rattle.whole.proofs.Accepted.{take-accepted}

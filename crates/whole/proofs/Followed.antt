@@ -43,10 +43,10 @@ use Rattle.dictation.specs.Cutting.{Led, ended, paused}
 use Rattle.dictation.specs.Resuming.{handedIn, Fitting}
 use Rattle.dictation.proofs.Resumes.{completed}
 use Rattle.dictation.proofs.Taken.{let-through, onward, half-passes, piece-passed, resume-passed}
-use Rattle.whole.specs.Whole.{takeReply, Taking, takeFrames, takeBegins, sumsIn}
+use Rattle.whole.specs.Whole.{Taking, takeFrames, takeBegins, sumsIn}
 use Rattle.whole.specs.Parts.{Midway, behind, three, stepsOf}
-use Rattle.whole.specs.Taking.{Told, lentTo, answersOf}
-use Rattle.whole.proofs.Accepted.{good-both, logs-length, Take, take-accepted, fits-sizes}
+use Rattle.whole.specs.Taking.{lentTo, answersOf}
+use Rattle.whole.proofs.Accepted.{good-both, logs-length, Take, fits-sizes}
 
 -- ---- what a call writes that goes onward
 
