@@ -115,6 +115,18 @@ uint32_t tuppence_resume(uint32_t *record, size_t record_len, float *store, size
     float *sums, size_t sums_len, float *answer, size_t answer_len);
 
 
+/* ---- feed: a block of recorded bytes in one call. `record` is a side's record as ten numbers, and
+   `store` 98,304, as in `of_desk`; `model` is a model file's bytes. Returned is 0 or the refusal. */
+
+/* `bytes` are 1 to 4,096 whole samples of all channels, little end first; `format` is 16, 24, or 32
+   for floats; of so many channels by turns one is the bench's. For each frame that its samples
+   complete `out` has 960 bytes, `entries` one number and `answers` three, or more, which stay. */
+uint32_t tuppence_feed(uint32_t *record, size_t record_len, float *store, size_t store_len,
+    uint32_t side, const uint8_t *bytes, size_t bytes_len, uint32_t format, uint32_t channels,
+    uint32_t channel, const uint8_t *model, size_t model_len, uint8_t *out, size_t out_len,
+    uint64_t *entries, size_t entries_len, float *answers, size_t answers_len);
+
+
 /* ---- fft: each leaf as it stands there. */
 
 /* `spectrum` has 961 places, `samples` 960. */
@@ -213,6 +225,17 @@ float tuppence_narrow(double x);
    left as they then are; `coefficients` are a0, a1, b0 and b1. */
 uint32_t tuppence_filter(float *output, size_t output_len, float *memory, size_t memory_len,
     const float *coefficients, size_t coefficients_len, const float *input, size_t input_len);
+
+
+/* ---- pcm: recorded bytes as samples, and samples as bytes. */
+
+/* `format` is 16, 24, or 32 for floats; of so many channels by turns, one is unpacked. `bytes` are
+   whole samples of all channels, little end first, and `out` has a place for each. */
+uint32_t tuppence_unpack(float *out, size_t out_len, const uint8_t *bytes, size_t bytes_len,
+    uint32_t format, uint32_t channels, uint32_t channel);
+
+/* `out` has two bytes for each of the `samples`, as many as there are. */
+uint32_t tuppence_pack(uint8_t *out, size_t out_len, const float *samples, size_t samples_len);
 
 
 /* ---- pitch: the arithmetic of the pitch; what a leaf writes comes first. 5 is a wrong length. */

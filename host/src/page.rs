@@ -69,6 +69,9 @@ fn share(frames: u64, all: u64) -> String {
 
 /// Whether a recording is sealed, and why not: what its side sheet says.
 fn seal(bench: &Summary) -> String {
+    if bench.samples == 0 {
+        return "<p class=\"seal\">There is no recording of this bench.</p>".into();
+    }
     let gaps = match bench.gaps {
         0 => "no gap".into(),
         1 => "1 gap".into(),

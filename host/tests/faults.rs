@@ -103,7 +103,7 @@ fn broken_from_the_start() {
     assert_eq!(names(&path.join("out")), ["benches.svg", "frames.csv", "index.html", "left.wav"]);
     assert!(same(&path, "out/left.wav", "whole/left.wav"));
     let page = fs::read_to_string(path.join("out/index.html")).unwrap();
-    assert!(page.contains("no recording") && !page.contains("right.wav"));
+    assert!(page.contains("There is no recording of this bench") && !page.contains("right.wav"));
     let ended = two(&path, "broken.wav", "broken.wav", "none");
     assert!(ended.status == Some(2) && ended.why.contains("left, at 0.00 s"), "{}", ended.why);
     assert!(!path.join("none").exists());

@@ -6,6 +6,7 @@
 //! the very bits, and every call its inputs.
 
 pub mod models;
+pub mod plain_pcm;
 pub mod plain_sheet;
 pub mod plain_wav;
 pub mod reader;
@@ -22,6 +23,8 @@ pub mod ask;
 pub mod bands;
 #[cfg(feature = "frame")]
 pub mod beside;
+#[cfg(feature = "blocks")]
+pub mod blocks;
 #[cfg(feature = "frame")]
 pub mod cutting;
 #[cfg(feature = "frame")]
@@ -50,6 +53,8 @@ pub mod model;
 pub mod network;
 #[cfg(feature = "numbers")]
 pub mod numbers;
+#[cfg(feature = "pcm")]
+pub mod pcm;
 #[cfg(feature = "frame")]
 pub mod pieces;
 #[cfg(feature = "pitch")]
@@ -121,6 +126,8 @@ pub const GROUPS: &[Group] = &[
     ("mend", mend::compare),
     #[cfg(feature = "wav")]
     ("wav", wav::compare),
+    #[cfg(feature = "pcm")]
+    ("pcm", pcm::compare),
     #[cfg(feature = "network")]
     ("network", network::compare),
     #[cfg(feature = "frame")]
@@ -131,4 +138,6 @@ pub const GROUPS: &[Group] = &[
     ("pieces", pieces::compare),
     #[cfg(feature = "frame")]
     ("whole", whole::compare),
+    #[cfg(feature = "blocks")]
+    ("feed", blocks::compare),
 ];

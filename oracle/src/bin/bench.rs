@@ -8,6 +8,7 @@
 
 use nnnoiseless_text::probe::{bands, pitch, rnn, util};
 use nnnoiseless_text::{DenoiseState, RnnModel};
+use oracle::plain_pcm::{self, Layout};
 use oracle::rng::{Mood, Rng};
 use oracle::{bins, models};
 use std::hint::black_box;
@@ -523,6 +524,26 @@ fn of_whole(rng: &mut Rng) -> Vec<Row> {
     ]
 }
 
+/// A block of a stereo recording in one call; in the Rust's column stands a take of the same samples.
+#[cfg(feature = "blocks")]
+fn of_blocks(rng: &mut Rng) -> Vec<Row> {
+    let model = models::of_shape(rng, models::USUAL);
+    let [mut one, mut other] = [(); 2].map(|_| Bench::opened(&model));
+    let blocks: Vec<Vec<u8>> = (0..10).map(|_| rng.bytes(4 * 4_096)).collect();
+    let layout = Layout { format: 16, channels: 2, channel: 1 };
+    let pieces: Vec<Vec<f32>> = blocks.iter().map(|block| plain_pcm::unpack(block, layout).unwrap()).collect();
+    let (blocks, pieces): (&'static [_], &'static [_]) = (blocks.leak(), pieces.leak());
+    let (mut blocks, mut pieces) = (blocks.iter().cycle(), pieces.iter().cycle());
+    let (mut cleaned, mut entries) = ([0; 8_640], [0; 9]);
+    let feed = move || {
+        let Bench { record, store, model, answers, .. } = &mut one;
+        let block = blocks.next().unwrap();
+        let refused = tuppence::feed(record, store, 1, block, 16, 2, 1, model, &mut cleaned, &mut entries, answers);
+        assert!(refused == 0 && entries[0] >> 32 == 1, "the frames are heard");
+    };
+    vec![row("4,096 stereo samples fed; taken", feed, move || other.take(pieces.next().unwrap()))]
+}
+
 fn main() {
     let rng = &mut Rng::new(1);
     let mut rows = vec![];
@@ -550,6 +571,8 @@ fn main() {
     rows.extend(of_wav(rng));
     #[cfg(feature = "frame")]
     rows.extend([of_frame(rng), of_whole(rng)].into_iter().flatten());
+    #[cfg(feature = "blocks")]
+    rows.extend(of_blocks(rng));
     let words: Vec<String> = std::env::args().skip(1).collect();
     if let [name, side, times] = &words[..] {
         let row = rows.iter_mut().find(|row| row.name.starts_with(&name[..])).expect("no such row");

@@ -2,7 +2,7 @@
 //!
 //! Without a group, every group whose functions stand in the library, on two threads. A line a group, after its first
 //! differences in full; exit status 1 where there are any. `--calls` is the number of calls of each leaf, or of files,
-//! networks, calls or frames. `--all`: all 4,294,967,296 numbers, for the groups `numbers` and `logs`.
+//! networks, calls or frames. `--all`: all 4,294,967,296 numbers, for the groups `numbers`, `logs` and `pcm`.
 
 use oracle::{Group, Options, GROUPS};
 use std::sync::Mutex;

@@ -181,3 +181,19 @@ surface! {
     tuppence_wav_head as wav_head(out: &mut [u8], rate: u32, size: u32, behind: u32) -> u32;
     tuppence_wav_read as wav_read(numbers: &mut [u64], file: &[u8]) -> u32;
 }
+
+// A format is 16, 24, or 32 for floats; of so many channels by turns one is unpacked. Packed are 16 bits, two bytes for each sample.
+#[cfg(feature = "pcm")]
+surface! {
+    tuppence_unpack as unpack(out: &mut [f32], bytes: &[u8], format: u32, channels: u32, channel: u32) -> u32;
+    tuppence_pack as pack(out: &mut [u8], samples: &[f32]) -> u32;
+}
+
+// A block of recorded bytes for a bench, by its channel: 960 bytes, an entry of the side sheet and three answers for each frame that it completes.
+#[cfg(feature = "feed")]
+surface! {
+    tuppence_feed as feed(
+        record: &mut [u32], store: &mut [f32], side: u32, bytes: &[u8], format: u32, channels: u32, channel: u32, model: &[u8],
+        out: &mut [u8], entries: &mut [u64], answers: &mut [f32]
+    ) -> u32;
+}

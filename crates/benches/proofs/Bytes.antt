@@ -1,0 +1,101 @@
+-- What a bench receives is made of its own channel's bytes (`bytes-to-bytes`, `our-benches`). Assumes nothing.
+use Prim.Native.Nat.{ℕ, zero, suc}
+use native.Mathlib.Nat.{zero-lt-suc}
+use mathlib.Core.Bool.{cond}
+use mathlib.Core.List.{List, [], _∷_, map}
+use mathlib.Core.Path.{_≡_, refl, sym, ap, ap₂, _∙_}
+use lib.Dec.{eqb}
+use lib.ListN.{length}
+use lib.Ieee.{Float}
+use Rattle.rules.specs.F32.{zeros}
+use Rattle.rules.specs.Refusals.{refusing}
+use Rattle.rules.specs.Tab.{tab}
+use Rattle.frame.specs.Share.{SHARE}
+use Rattle.frame.specs.declared.Reply.the-variants.{Refused}
+use Rattle.desk.specs.declared.Record.{Record}
+use Rattle.desk.specs.Gate.{BENCHES, PIECE, gate}
+use Rattle.desk.specs.Surface.{recordIn}
+use Rattle.whole.specs.Whole.{take}
+use Rattle.isolation.specs.Isolation.{Returned, Gives, State, allZeros, own, lonely, received, alone, after}
+use Rattle.surface.specs.Surface.{Request}
+use Rattle.pcm.specs.Pcm.{unpacked}
+use Rattle.pcm.specs.Laws.{AgreeIn}
+use Rattle.pcm.proofs.Channels.{own-channel}
+use Rattle.feed.specs.Feed.{Block, blockOf, ROOM, samplesIn, sizeOf, samplesOf, feedRows, Fed, unfed, fedBy}
+use Rattle.feed.specs.Feed as feeding
+use Rattle.feed.proofs.Blocks.{block-fits}
+use Rattle.benches.specs.Benches.{Call, one, feed, Told, ofBytes, every, SameChannel, Alike, AllAlike, BytesToBytes, OurBenches}
+use Rattle.benches.proofs.Fed.{benches-apart}
+
+none : (bytes : List ℕ) (format channels channel : ℕ) → unpacked 0 bytes format channels channel ≡ []
+unfolding unpacked tab
+none bytes format channels channel = refl
+
+-- a feed by the samples that it sees
+abbrev seen : ℕ → ℕ → Record → List Float → ℕ → List Float → List ℕ → ℕ → ℕ → ℕ → Fed
+seen n side rec store size samples model cleaned entries answers =
+    refusing (feedRows (gate n side rec (length store) PIECE) (rec .waiting) size cleaned entries answers) (λ r. unfed rec store (Refused r))
+    (fedBy (rec .frame) (take n side rec store samples model ROOM answers))
+
+seen-is : (n side : ℕ) (rec : Record) (store : List Float) (b : Block) (model : List ℕ) (cleaned entries answers : ℕ)
+    → feeding.feed n side rec store b model cleaned entries answers ≡ seen n side rec store (sizeOf b) (samplesOf b) model cleaned entries answers
+unfolding feeding.feed
+seen-is n side rec store b model cleaned entries answers = refl
+
+-- the samples of two such blocks
+same-samples : (format channels channel : ℕ) (bytes bytes′ : List ℕ) → let n = samplesIn (length bytes) format channels channel in
+    AgreeIn n format channels channel bytes bytes′ → unpacked n bytes format channels channel ≡ unpacked n bytes′ format channels channel
+same-samples format channels channel bytes bytes′ agree = go (samplesIn (length bytes) format channels channel) refl agree
+  where
+    go : (n : ℕ) → samplesIn (length bytes) format channels channel ≡ n → AgreeIn n format channels channel bytes bytes′
+        → unpacked n bytes format channels channel ≡ unpacked n bytes′ format channels channel
+    go zero e a = none bytes format channels channel ∙ sym (none bytes′ format channels channel)
+    go (suc n) e a = own-channel (suc n) format channels channel bytes bytes′ (block-fits (length bytes) format channels channel (rw e (zero-lt-suc n)) .known) a
+
+-- of a block a feed sees its samples alone
+feed-alike : (n side : ℕ) (rec : Record) (store : List Float) (b b′ : Block) (model : List ℕ) (cleaned entries answers : ℕ) → SameChannel b b′
+    → feeding.feed n side rec store b model cleaned entries answers ≡ feeding.feed n side rec store b′ model cleaned entries answers
+feed-alike n side rec store b b′ model cleaned entries answers h =
+    let shape : blockOf (b′ .bytes) (b .format) (b .channels) (b .channel) ≡ b′ = rw (h .format, h .channels, h .channel) in
+    let other = blockOf (b′ .bytes) (b .format) (b .channels) (b .channel) in
+    let sizes : sizeOf b ≡ sizeOf other = ap (λ (k : ℕ). samplesIn k (b .format) (b .channels) (b .channel)) (h .size) in
+    let samples : samplesOf b ≡ samplesOf other =
+    same-samples (b .format) (b .channels) (b .channel) (b .bytes) (b′ .bytes) (h .agree) ∙ ap (λ (k : ℕ). unpacked k (b′ .bytes) (b .format) (b .channels) (b .channel)) sizes in
+    seen-is n side rec store b model cleaned entries answers
+    ∙ ap₂ (λ (size : ℕ) (xs : List Float). seen n side rec store size xs model cleaned entries answers) sizes samples
+    ∙ sym (seen-is n side rec store other model cleaned entries answers)
+    ∙ ap (λ (x : Block). feeding.feed n side rec store x model cleaned entries answers) shape
+
+-- ---- one call, and any run
+
+-- the state behind a call of side 0
+abbrev next : State → Gives Told → State
+next st g = record { numbers = λ s. cond (eqb 0 s) (g .returned .numbers) (st .numbers s); store = g .store }
+
+call-alike : (n side : ℕ) (ns : List ℕ) (store : List Float) (c c′ : Call) → Alike c c′ → every n side ns store c ≡ every n side ns store c′
+call-alike n side ns store (one r) (one r′) e = ap (λ (x : Request). every n side ns store (one x)) e
+call-alike n side ns store (feed b m c e a) (feed b′ m′ c′ e′ a′) h =
+    rw (← h .1, ← h .2, ← h .3, ← h .4) (ap (ofBytes ns) (feed-alike n side (recordIn ns) store b b′ m c e a (h .0)))
+call-alike n side ns store (one r) (feed b m c e a) h = absurd h
+call-alike n side ns store (feed b m c e a) (one r) h = absurd h
+
+runs-alike : (cs cs′ : List Call) → AllAlike cs cs′ → (st : State) → received every 1 0 st (map lonely cs) ≡ received every 1 0 st (map lonely cs′)
+unfolding received
+runs-alike [] [] h st = refl
+runs-alike (c ∷ cs) (c′ ∷ cs′) h st =
+    let here = call-alike 1 0 (st .numbers 0) (st .store) c c′ (h .0) in
+    ap₂ {C = List (Returned Told)} (λ (x : Returned Told) (xs : List (Returned Told)). x ∷ xs) (ap (λ (g : Gives Told). g .returned) here)
+    (runs-alike cs cs′ (h .1) (after every 1 st (lonely c))
+    ∙ ap (λ (g : Gives Told). received every 1 0 (next st g) (map lonely cs′)) here)
+runs-alike [] (c′ ∷ cs′) h st = absurd h
+runs-alike (c ∷ cs) [] h st = absurd h
+
+pub bytes-to-bytes : (n : ℕ) → BytesToBytes n
+unfolding alone
+bytes-to-bytes n s inside store store′ l l′ calls calls′ alike =
+    benches-apart n s inside store l calls
+    ∙ runs-alike (own s calls) (own s calls′) alike (allZeros (zeros SHARE))
+    ∙ sym (benches-apart n s inside store′ l′ calls′)
+
+pub our-benches : OurBenches
+our-benches = (benches-apart BENCHES, bytes-to-bytes BENCHES)

@@ -1,0 +1,80 @@
+-- `tuppence_feed` meets its contract: it is a feed, and its answer is handed back as numbers. Assumes nothing.
+use Prim.Native.Nat.{ℕ}
+use mathlib.Core.Bool.{cond}
+use mathlib.Core.List.{List}
+use mathlib.Core.Path.{_≡_}
+use borrow.Author.Needs.{needs}
+use denote.Ref.{now}
+use lib.ListN.{length}
+use lib.Ieee.{Float}
+use Rattle.frame.specs.Reply.{passed}
+use Rattle.desk.specs.declared.Answer.{Answer}
+use Rattle.desk.specs.declared.Record.{Record}
+use Rattle.desk.specs.Gate.{BENCHES}
+use Rattle.desk.specs.Surface.{recordIn, numbersOf, replyNumber}
+use Rattle.feed.specs.Feed.{Block, blockOf, feed, FedTo}
+use Rattle.feed.specs.Surface.{HostFed}
+use Rattle.feed.proofs.Ranged.{feed-small, feed-range}
+use Rattle.export.specs.Parts.{HandsBack}
+use Rattle.export.proofs.Given as any
+use Rattle.export.proofs.of_feed.tuppence_feed.Statement.{statement}
+use Rattle.export.proofs.of_feed.tuppence_feed.Tie as tie
+
+-- the record as the code has it, and what the feed left
+module _ (side : ℕ) (ns : List ℕ) (b : Record) (store : List Float) (block : Block) (model cleaned entries : List ℕ) (answers : List Float)
+    {store′ : List Float} {cleaned′ entries′ : List ℕ} {answers′ : List Float} {given : Answer} (read : b ≡ recordIn ns)
+    (fed : FedTo (feed BENCHES side b store block model (length cleaned) (length entries) (length answers)) given store′
+    cleaned cleaned′ entries entries′ answers answers′) where
+  hands-back : HandsBack ns given
+  hands-back =
+      any.hands-back ns b read
+      (record {
+        small = feed-small BENCHES side b store block model (length cleaned) (length entries) (length answers);
+        ranged = feed-range BENCHES side b store block model (length cleaned) (length entries) (length answers);
+      })
+      (fed .answered)
+
+  handed : {number : ℕ} {ns′ : List ℕ} → (number ≡ replyNumber (given .reply)) × (ns′ ≡ cond (passed (given .reply)) (numbersOf (given .rec)) ns)
+      → HostFed (feed BENCHES side (recordIn ns) store block model (length cleaned) (length entries) (length answers)) number ns ns′ store′
+      cleaned cleaned′ entries entries′ answers answers′
+  handed h =
+      rw (← read)
+      (record {
+        numbers = rw (← fed .answered) (h .0);
+        records = rw (← fed .answered) (h .1);
+        stores = fed .stores;
+        cleans = fed .cleans;
+        notes = fed .notes;
+        tells = fed .tells;
+      })
+
+hand-back-requires : tie.Need-hand-back-requires
+hand-back-requires c κs =
+    let d = c .before .before .before .before .before .before .before .before .before in
+    let r = d .before .before .before .before .before in
+    let a = r .before .before .before .before .before .before .before .before .before .args in
+    hands-back (a .side) _ _ (now (a .store)) (blockOf (now (a .bytes)) (a .format) (a .channels) (a .channel)) (now (a .model)) (now (a .out)) (now (a .entries)) (now (a .answers))
+    (r .record-in .ensures) (d .feed .ensures)
+
+returns : tie.Need-returns
+returns c =
+    let h = c .before .before in
+    let d = h .before .before .before .before .before .before .before .before .before .before in
+    let r = d .before .before .before .before .before in
+    let a = r .before .before .before .before .before .before .before .before .before .args in
+    handed (a .side) _ _ (now (a .store)) (blockOf (now (a .bytes)) (a .format) (a .channels) (a .channel)) (now (a .model)) (now (a .out)) (now (a .entries)) (now (a .answers))
+    (r .record-in .ensures) (d .feed .ensures) (h .hand-back .ensures)
+
+pub tuppence-feed-spec : {M : Type 1} → statement M
+tuppence-feed-spec =
+    tie.close
+    (tie.spec
+    (λ c κs. search needs)  -- record-in-requires
+    (λ c κs. search needs)  -- feed-requires
+    hand-back-requires
+    (λ c. search needs)  -- same-length
+    (λ c. search needs)  -- same-length-2
+    (λ c. search needs)  -- same-length-3
+    (λ c. search needs)  -- same-length-4
+    (λ c. search needs)  -- same-length-5
+    returns)

@@ -1,0 +1,47 @@
+// feed: a block of recorded bytes in one call. `record` is a side's record as ten numbers, and `store` 98,304, as in
+// `of_desk`; `model` is a model file's bytes. Returned is 0 or the refusal.
+ghost use lib.ListN.{length};
+ghost use Rattle.desk.specs.Gate.{BENCHES};
+ghost use Rattle.desk.specs.Surface.{recordIn};
+ghost use Rattle.feed.specs.Feed.{blockOf, feed};
+ghost use Rattle.feed.specs.Surface.{HostFed};
+use desk::Side;
+
+// `bytes` are 1 to 4,096 whole samples of all channels, little end first; `format` is 16, 24, or 32 for floats; of so many
+// channels by turns one is the bench's. For each frame that its samples complete `out` has 960 bytes, `entries` one number
+// and `answers` three, or more, which stay.
+#[no_mangle]
+pub extern "C" fn tuppence_feed(
+    record: &mut [u32],
+    store: &mut [f32],
+    side: u32,
+    bytes: &[u8],
+    format: u32,
+    channels: u32,
+    channel: u32,
+    model: &[u8],
+    out: &mut [u8],
+    entries: &mut [u64],
+    answers: &mut [f32],
+) -> u32
+    ensures { λ r. ⌜ HostFed
+        (feed BENCHES side (recordIn (now («record» .entry))) (now (store .entry)) (blockOf (now (bytes .entry)) format channels channel)
+        (now (model .entry)) (length (now (out .entry))) (length (now (entries .entry))) (length (now (answers .entry))))
+        r (now («record» .entry)) (now («record» .exit)) (now (store .exit)) (now (out .entry)) (now (out .exit))
+        (now (entries .entry)) (now (entries .exit)) (now (answers .entry)) (now (answers .exit)) ⌝ }
+{
+    let given = feed::feed(
+        Side(side as usize),
+        crate::of_desk::record_in(record),
+        store,
+        bytes,
+        format,
+        channels as usize,
+        channel as usize,
+        model,
+        out,
+        entries,
+        answers,
+    );
+    crate::of_desk::hand_back(record, given)
+}

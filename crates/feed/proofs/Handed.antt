@@ -1,0 +1,190 @@
+-- A feed, as the code calls it.
+--     of-samples, in-room         a take of samples that are others by name, and with room by another name
+--     of-unpacked                 how many frames it completes
+--     handed, unhanded            what comes of a take is handed out, or is not
+--     turned, shut, fed           a feed that the gate turns away, one that a row refuses, and one that is neither
+--     sized, part-length, ready   the numbers of one that is neither
+-- Assumes nothing.
+use Prim.Native.Nat.{ℕ, _-_, _*_, _/_, _≤_, _<_}
+use native.Mathlib.Nat.{sub-zero}
+use native.Mathlib.Omega.{arith}
+use mathlib.Core.Bool.{Bool, true, false, cond, not, _&&_, true≢false, false≢true}
+use mathlib.Core.List.{List, [], _∷_}
+use mathlib.Core.Path.{_≡_, refl, sym, ap, subst, _∙_}
+use borrow.Author.Tests.{ne-eqb, leb-true}
+use lib.Dec.{leb}
+use lib.ListN.{length, getD, drop, length-take, List·getD-append, take as list-take}
+use lib.Seq.{take-at}
+use lib.Ieee.{Float, nan}
+use Rattle.rules.specs.F32.{at, part}
+use Rattle.rules.specs.Place.{put}
+use Rattle.rules.specs.Refusals.{_when_, refusing}
+use Rattle.rules.specs.Tab.{tab}
+use Rattle.rules.specs.Written.{from, over}
+use Rattle.rules.proofs.Tabs.{length-tab, tab-same}
+use Rattle.rules.proofs.Tests.{answered-no, answered-yes}
+use Rattle.rules.proofs.Truth.{both}
+use Rattle.frame.specs.declared.Reply.the-variants.{Refused}
+use Rattle.frame.specs.Reply.{passed}
+use Rattle.pieces.specs.Pieces.{completes, pieceFits}
+use Rattle.desk.specs.declared.Answer.{Answer}
+use Rattle.desk.specs.declared.Record.{Record}
+use Rattle.desk.specs.Gate.{PIECE, gate}
+use Rattle.desk.specs.Desk.{Given, Served}
+use Rattle.whole.specs.Whole.{takeEnds, take}
+use Rattle.whole.proofs.Accepted.{fits-sizes}
+use Rattle.whole.proofs.Dictations.{take-fills}
+use Rattle.whole.proofs.Ranged.{take-by}
+use Rattle.pcm.specs.Pcm.{unpacked, packed}
+use Rattle.feed.specs.Feed.{Block, ROOM, samplesIn, sizeOf, samplesOf, Fed, unfed, entryOf, entriesOf, fedBy, feed, atFront, FedTo}
+use Rattle.feed.specs.Parts.{fitting, Ready}
+use Rattle.feed.proofs.Blocks.{block-fits}
+
+-- ---- a take
+
+pub of-samples : (n side : ℕ) (rec : Record) (store : List Float) (model : List ℕ) (out answers : ℕ) {a : Answer} {s : List Float} {held left : List (List Float)} {xs ys : List Float}
+    → xs ≡ ys → Served (take n side rec store xs model out answers) a s held left → Served (take n side rec store ys model out answers) a s held left
+of-samples n side rec store model out answers {a} {s} {held} {left} e w = subst (λ (zs : List Float). Served (take n side rec store zs model out answers) a s held left) e w
+
+pub in-room : (n side : ℕ) (rec : Record) (store samples : List Float) (model : List ℕ) (answers : ℕ) {m : ℕ} → m ≡ ROOM
+    → {a : Answer} {s : List Float} {c c′ d d′ : List ℕ} {t t′ : List Float}
+    → FedTo (fedBy (rec .frame) (take n side rec store samples model m answers)) a s c c′ d d′ t t′
+    → FedTo (fedBy (rec .frame) (take n side rec store samples model ROOM answers)) a s c c′ d d′ t t′
+in-room n side rec store samples model answers e {a} {s} {c} {c′} {d} {d′} {t} {t′} w =
+    subst (λ (x : ℕ). FedTo (fedBy (rec .frame) (take n side rec store samples model x answers)) a s c c′ d d′ t t′) e w
+
+-- so many frames are completed by the samples that are unpacked
+pub of-unpacked : (waiting n : ℕ) (bytes : List ℕ) (format channels channel : ℕ)
+    → completes waiting n ≡ completes waiting (length (unpacked n bytes format channels channel))
+unfolding unpacked
+of-unpacked waiting n bytes format channels channel = ap (completes waiting) (sym (length-tab n _))
+
+-- what stands at the front of a buffer to which these were written
+module _ (k frame : ℕ) (xs held : List Float) {held′ : List Float} (o : held′ ≡ over (from 0 xs) held) where
+  front-bytes : length xs ≡ 480 * k → packed (part 0 (480 * k) held′) ≡ packed xs
+  unfolding put
+  front-bytes l = ap packed (rw (sub-zero (480 * k), o) (take-at xs (drop (length xs) held) (480 * k) l))
+
+  front-entries : length xs ≡ 3 * k → tab k (λ j. entryOf frame j (at held′ (3 * j))) ≡ entriesOf frame xs
+  unfolding put
+  front-entries l =
+      tab-same k _ _ (λ j h. ap (entryOf frame j) (ap (λ (x : List Float). at x (3 * j)) o ∙ List·getD-append xs (drop (length xs) held) nan (3 * j) (omega arith)))
+      ∙ ap (λ (c : ℕ). tab c (λ j. entryOf frame j (at xs (3 * j)))) (omega arith)
+
+  front-answers : held′ ≡ atFront xs held
+  unfolding put
+  front-answers = o
+
+module _ (n side : ℕ) (rec : Record) (store samples : List Float) (model : List ℕ) {a : Answer} {s out out′ told told′ : List Float} {b : Bool} where
+  module _ (w : Served (take n side rec store samples model (length out) (length told)) a s (out ∷ told ∷ []) (out′ ∷ told′ ∷ [])) (e : b ≡ passed (a .reply)) where
+    pub handed : b ≡ true → (k : ℕ) → k ≡ completes (rec .waiting) (length samples) → {cleaned cleaned′ entries entries′ : List ℕ}
+        → (cleaned′ ≡ atFront (packed (part 0 (480 * k) out′)) cleaned) × (entries′ ≡ atFront (tab k (λ j. entryOf (rec .frame) j (at told′ (3 * j)))) entries)
+        → FedTo (fedBy (rec .frame) (take n side rec store samples model (length out) (length told))) a s cleaned cleaned′ entries entries′ told told′
+    handed p k count {cleaned} {cleaned′} {entries} {entries′} h =
+        take-by n side samples model rec store (length out) (length told)
+        (λ o. Served o a s (out ∷ told ∷ []) (out′ ∷ told′ ∷ []) → FedTo (fedBy (rec .frame) o) a s cleaned cleaned′ entries entries′ told told′)
+        (λ q v.
+        let t = takeEnds n side rec store samples model (length out) in
+        let f = take-fills n side rec store samples model (length out) (length told) q in
+        let o : out′ ≡ over (from 0 (t .out)) out = ap (λ (xs : List (List Float)). getD xs 0 []) (v .writes) in
+        let l : told′ ≡ over (from 0 (t .answers)) told = ap (λ (xs : List (List Float)). getD xs 1 []) (v .writes) in
+        record {
+          answered = v .answers;
+          stores = v .stores;
+          cleans = h .0 ∙ ap (λ (x : List ℕ). atFront x cleaned) (front-bytes k (rec .frame) (t .out) out o (f .0 ∙ ap (λ (m : ℕ). 480 * m) (sym count)));
+          notes = h .1 ∙ ap (λ (x : List ℕ). atFront x entries) (front-entries k (rec .frame) (t .answers) told l (f .1 ∙ ap (λ (m : ℕ). 3 * m) (sym count)));
+          tells = front-answers k (rec .frame) (t .answers) told l;
+        })
+        (λ q v. absurd (true≢false (sym p ∙ e ∙ ap (λ (x : Answer). passed (x .reply)) (v .answers) ∙ q)))
+        w
+
+    pub unhanded : b ≡ false → {cleaned entries : List ℕ} → FedTo (fedBy (rec .frame) (take n side rec store samples model (length out) (length told))) a s cleaned cleaned entries entries told told′
+    unfolding packed tab
+    unhanded p {cleaned} {entries} =
+        take-by n side samples model rec store (length out) (length told)
+        (λ o. Served o a s (out ∷ told ∷ []) (out′ ∷ told′ ∷ []) → FedTo (fedBy (rec .frame) o) a s cleaned cleaned entries entries told told′)
+        (λ q v. absurd (false≢true (sym p ∙ e ∙ ap (λ (x : Answer). passed (x .reply)) (v .answers) ∙ q)))
+        (λ q v. record { answered = v .answers; stores = v .stores; cleans = refl; notes = refl; tells = ap (λ (xs : List (List Float)). getD xs 1 []) (v .writes) })
+        w
+
+-- ---- the rows
+
+four : {A : Type 0} (p q r s t : Bool) (f : ℕ → A) (right : A) → (p && (q && (r && s))) ≡ t
+    → refusing (5 when not p ∷ 5 when not q ∷ 5 when not r ∷ 5 when not s ∷ []) f right ≡ cond t right (f 5)
+four true true true true t f right e = rw (← e)
+four true true true false t f right e = rw (← e)
+four true true false s t f right e = rw (← e)
+four true false r s t f right e = rw (← e)
+four false q r s t f right e = rw (← e)
+
+module _ (n side : ℕ) (rec : Record) (store : List Float) (b : Block) (model cleaned entries : List ℕ) (answers : List Float) where
+  abbrev given : Fed
+  given = feed n side rec store b model (length cleaned) (length entries) (length answers)
+
+  -- a refusal leaves the three buffers
+  abbrev Refuses : Fed → ℕ → Type 0
+  Refuses o r = FedTo o (record { reply = Refused r; rec = rec }) store cleaned cleaned entries entries answers answers
+
+  refuses : (r : ℕ) → Refuses (unfed rec store (Refused r)) r
+  refuses r = record { answered = refl; stores = refl; cleans = refl; notes = refl; tells = refl }
+
+  pub turned : {g : ℕ} → g ≡ gate n side rec (length store) PIECE → (g ≡ 0 → ⊥) → Refuses given g
+  unfolding feed
+  turned {g} e away = rw (← e, ne-eqb g 0 away) (refuses g)
+
+  module _ (entered : gate n side rec (length store) PIECE ≡ 0) where
+    behind : (t : Bool) → fitting (rec .waiting) (sizeOf b) (length cleaned) (length entries) (length answers) ≡ t
+        → given ≡ cond t (fedBy (rec .frame) (take n side rec store (samplesOf b) model ROOM (length answers))) (unfed rec store (Refused 5))
+    unfolding feed
+    behind t e =
+        let frames = completes (rec .waiting) (sizeOf b) in
+        rw entered
+        (four (pieceFits (rec .waiting) (sizeOf b) ROOM 22) (leb (960 * frames) (length cleaned)) (leb frames (length entries)) (leb (3 * frames) (length answers)) t
+        (λ r. unfed rec store (Refused r)) _ e)
+
+    -- by what the code asked, where it has k for the samples of the block
+    module _ {k : ℕ} {r : Bool} (e : k ≡ sizeOf b) (asked : r ≡ fitting (rec .waiting) k (length cleaned) (length entries) (length answers)) where
+      abbrev answer : {t : Bool} → fitting (rec .waiting) k (length cleaned) (length entries) (length answers) ≡ t
+          → fitting (rec .waiting) (sizeOf b) (length cleaned) (length entries) (length answers) ≡ t
+      answer h = ap (λ (m : ℕ). fitting (rec .waiting) m (length cleaned) (length entries) (length answers)) (sym e) ∙ h
+
+      pub shut : not r ≡ true → Refuses given 5
+      shut h = rw (behind false (answer (answered-no asked h))) (refuses 5)
+
+      pub fed : not r ≡ false → {size : ℕ} → size ≡ k → {a : Answer} {s : List Float} {c d : List ℕ} {t : List Float}
+          → FedTo (fedBy (rec .frame) (take n side rec store (unpacked size (b .bytes) (b .format) (b .channels) (b .channel)) model ROOM (length answers)))
+          a s cleaned c entries d answers t
+          → FedTo given a s cleaned c entries d answers t
+      fed h same w = rw (behind true (answer (answered-yes asked h))) (rw (same ∙ e) at w)
+
+-- ---- the numbers
+
+pub sized : (waiting size cleaned entries answers : ℕ) → fitting waiting size cleaned entries answers ≡ true
+    → (waiting ≤ 479) × (1 ≤ size) × (size ≤ 4096) × (960 * completes waiting size ≤ cleaned) × (completes waiting size ≤ entries) × (3 * completes waiting size ≤ answers)
+sized waiting size cleaned entries answers e =
+    let p = both (pieceFits waiting size ROOM 22) _ e in
+    let q = both (leb (960 * completes waiting size) cleaned) _ (p .1) in
+    let r = both (leb (completes waiting size) entries) _ (q .1) in
+    let s = fits-sizes waiting size ROOM 22 (p .0) in
+    (s .0, s .1, s .2, leb-true _ cleaned (q .0), leb-true _ entries (r .0), leb-true _ answers (r .1))
+
+-- a part of 4,096 places
+pub part-length : (k : ℕ) (xs : List Float) → length xs ≡ 4096 → k ≤ 4096 → length (list-take (k - 0) xs) ≡ k
+part-length k xs l h = simp length-take (omega arith)
+
+pub ready : (waiting bytes format channels channel cleaned entries answers : ℕ) {k size out : ℕ} {r : Bool}
+    → k ≡ samplesIn bytes format channels channel → r ≡ fitting waiting k cleaned entries answers → not r ≡ false → size ≡ k → out ≡ ROOM
+    → Ready waiting size bytes format channels channel out cleaned entries answers
+ready waiting bytes format channels channel cleaned entries answers {k} e asked h same outs =
+    let s = sized waiting k cleaned entries answers (answered-yes asked h) in
+    let n = samplesIn bytes format channels channel in
+    let some : 0 < n = omega (arith, e, s .1) in
+    rw same
+    (record {
+      fits = rw e (block-fits bytes format channels channel some);
+      few = omega (arith, s .0, s .2);
+      outs = outs;
+      room = s .3;
+      places = s .4;
+      told = s .5;
+    })

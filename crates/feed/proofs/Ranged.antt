@@ -1,0 +1,65 @@
+-- What a feed gives a host that hands its record back as numbers.
+--     feed-small, feed-range    a refused model's number and layer are small; where it is done, both records are in range
+--     feed-leaves, entry-small  what specs/Laws.antt claims
+--     feed-settled              a contract is met by one outcome alone
+-- Assumes nothing.
+use Prim.Native.Nat.{ℕ, _+_, _%_, _<_}
+use native.Mathlib.Omega.{arith}
+use mathlib.Core.Bool.{Bool, true, false, cond, true≢false, false≢true}
+use mathlib.Core.List.{List}
+use mathlib.Core.Path.{_≡_, refl, sym, _∙_}
+use lib.ListN.{length}
+use lib.Ieee.{Float, eq}
+use Rattle.rules.specs.F32.{f32}
+use Rattle.rules.specs.Tab.{tab}
+use Rattle.rules.proofs.Refused.{by-rows}
+use Rattle.frame.specs.declared.Reply.the-variants.{Refused}
+use Rattle.frame.specs.Reply.{passed}
+use Rattle.desk.specs.declared.Answer.{Answer}
+use Rattle.desk.specs.declared.Record.{Record}
+use Rattle.desk.specs.Gate.{PIECE, inRange, gate}
+use Rattle.desk.specs.Desk.{Given}
+use Rattle.desk.proofs.Replies.{Small}
+use Rattle.whole.specs.Whole.{take}
+use Rattle.whole.proofs.Ranged.{take-small, take-range, take-by}
+use Rattle.pcm.specs.Pcm.{packed}
+use Rattle.feed.specs.Feed.{Block, ROOM, sizeOf, samplesOf, feedRows, Fed, unfed, fedBy, feed, FedTo}
+use Rattle.feed.specs.Laws.{FeedLeaves, EntrySmall}
+
+module _ (n side : ℕ) (rec : Record) (store : List Float) (b : Block) (model : List ℕ) (cleaned entries answers : ℕ) where
+  -- what holds of a refusal, and of what comes of the take, holds of a feed
+  feed-by : (P : Fed → Type 0) → ((r : ℕ) → P (unfed rec store (Refused r))) → P (fedBy (rec .frame) (take n side rec store (samplesOf b) model ROOM answers))
+      → P (feed n side rec store b model cleaned entries answers)
+  unfolding feed
+  feed-by P bad good =
+      by-rows (λ r. unfed rec store (Refused r)) _ P (feedRows (gate n side rec (length store) PIECE) (rec .waiting) (sizeOf b) cleaned entries answers) bad (λ _. good)
+
+  pub feed-small : Small (feed n side rec store b model cleaned entries answers .answer .reply)
+  feed-small = feed-by (λ o. Small (o .answer .reply)) (λ _. tt) (take-small n side (samplesOf b) model rec store ROOM answers)
+
+  pub feed-range : passed (feed n side rec store b model cleaned entries answers .answer .reply) ≡ true
+      → (inRange rec ≡ true) × (inRange (feed n side rec store b model cleaned entries answers .answer .rec) ≡ true)
+  feed-range =
+      feed-by (λ o. passed (o .answer .reply) ≡ true → (inRange rec ≡ true) × (inRange (o .answer .rec) ≡ true)) (λ _ q. absurd (false≢true q))
+      (take-range n side (samplesOf b) model rec store ROOM answers)
+
+pub feed-leaves : FeedLeaves
+unfolding packed tab
+feed-leaves n side rec store b model cleaned entries answers =
+    feed-by n side rec store b model cleaned entries answers (λ o. passed (o .answer .reply) ≡ false → o ≡ unfed rec store (o .answer .reply)) (λ _ _. refl)
+    (take-by n side (samplesOf b) model rec store ROOM answers
+    (λ t. passed (t .answer .reply) ≡ false → fedBy (rec .frame) t ≡ unfed rec store (t .answer .reply))
+    (λ p e. absurd (true≢false (sym p ∙ e)))
+    (λ _ _. refl))
+
+pub entry-small : EntrySmall
+entry-small frame j heard = go (eq heard (f32 0))
+  where
+    go : (t : Bool) → (frame + j) % 4294967296 + cond t 0 4294967296 < 8589934592
+    go true = omega arith
+    go false = omega arith
+
+pub feed-settled : {o : Fed} {a a′ : Answer} {s s′ : List Float} {c c₁ c₂ d d₁ d₂ : List ℕ} {t t₁ t₂ : List Float}
+    → FedTo o a s c c₁ d d₁ t t₁ → FedTo o a′ s′ c c₂ d d₂ t t₂ → (a ≡ a′) × (s ≡ s′) × (c₁ ≡ c₂) × (d₁ ≡ d₂) × (t₁ ≡ t₂)
+feed-settled f g =
+    (f .answered ∙ sym (g .answered), f .stores ∙ sym (g .stores), f .cleans ∙ sym (g .cleans), f .notes ∙ sym (g .notes), f .tells ∙ sym (g .tells))

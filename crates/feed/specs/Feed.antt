@@ -1,0 +1,119 @@
+-- A block of recorded bytes in one call: a bench's own channel of it is unpacked, taken, and packed again, with an entry of the side sheet for each frame. By
+-- definition these one after the other; what may refuse them is tested before anything changes, the lowest number first.
+use Prim.Native.Nat.{ℕ, _+_, _*_, _/_, _%_}
+use mathlib.Core.Bool.{Bool, cond, not, _&&_}
+use mathlib.Core.List.{List, [], _∷_, _++_}
+use mathlib.Core.Path.{_≡_}
+use lib.Dec.{eqb, leb, ltb}
+use lib.ListN.{length, getD, drop}
+use lib.Ieee.{Float, eq}
+use Rattle.rules.specs.F32.{f32, at}
+use Rattle.rules.specs.Refusals.{Row, _when_, refusing}
+use Rattle.rules.specs.Tab.{tab}
+use Rattle.rules.specs.Written.{nothing, numbersIn, firstIn}
+use Rattle.frame.specs.declared.Reply.{Reply}
+use Rattle.frame.specs.declared.Reply.the-variants.{Refused}
+use Rattle.pieces.specs.Pieces.{completes, pieceFits}
+use Rattle.desk.specs.declared.Answer.{Answer}
+use Rattle.desk.specs.declared.Record.{Record}
+use Rattle.desk.specs.Gate.{PIECE, gate}
+use Rattle.desk.specs.Desk.{Given}
+use Rattle.whole.specs.Whole.{take}
+use Rattle.pcm.specs.Pcm.{width, unpacked, packed}
+
+-- ---- a block
+
+-- bytes of a format with so many channels by turns, and the bench's own among them
+pub record Block : Type 0 where
+  pub bytes : List ℕ
+  pub format : ℕ
+  pub channels : ℕ
+  pub channel : ℕ
+
+abbrev pub blockOf : List ℕ → ℕ → ℕ → ℕ → Block
+blockOf bytes format channels channel = record { bytes = bytes; format = format; channels = channels; channel = channel }
+
+-- whole samples of all channels, and such a channel among them
+abbrev pub even : ℕ → ℕ → ℕ → ℕ → Bool
+even bytes format channels channel =
+    ltb 0 (width format) && (leb channels 65535 && (ltb channel channels && eqb (bytes % (channels * width format)) 0))
+
+-- how many samples of a channel there are in so many bytes; none where they are no block
+unfoldable pub samplesIn : ℕ → ℕ → ℕ → ℕ → ℕ
+samplesIn bytes format channels channel = cond (even bytes format channels channel) (bytes / (channels * width format)) 0
+
+abbrev pub sizeOf : Block → ℕ
+sizeOf b = samplesIn (length (b .bytes)) (b .format) (b .channels) (b .channel)
+
+abbrev pub samplesOf : Block → List Float
+samplesOf b = unpacked (sizeOf b) (b .bytes) (b .format) (b .channels) (b .channel)
+
+-- ---- what refuses it
+
+-- nine frames, the most that a piece completes
+abbrev pub ROOM : ℕ
+ROOM = 4320
+
+-- the gate's number, 1 to 4; then 5, but for 1 to 4,096 samples, and 960 bytes, an entry and three answers of each frame that they complete. Behind these rows the
+-- take has 7 to 9
+abbrev pub feedRows : ℕ → ℕ → ℕ → ℕ → ℕ → ℕ → List Row
+feedRows number waiting size cleaned entries answers =
+    let frames = completes waiting size in
+    number when not (eqb number 0)
+    ∷ 5 when not (pieceFits waiting size ROOM 22)
+    ∷ 5 when not (leb (960 * frames) cleaned)
+    ∷ 5 when not (leb frames entries)
+    ∷ 5 when not (leb (3 * frames) answers)
+    ∷ []
+
+-- ---- what it gives
+
+-- the answer and the store; and what is written to the front of its three buffers, nothing by a refusal
+pub record Fed : Type 0 where
+  pub answer : Answer
+  pub store : List Float
+  pub cleaned : List ℕ
+  pub entries : List ℕ
+  pub answers : List Float
+
+abbrev pub unfed : Record → List Float → Reply → Fed
+unfed rec store reply = record { answer = record { reply = reply; rec = rec }; store = store; cleaned = []; entries = []; answers = [] }
+
+-- a frame's entry in the side sheet: its number, from 0 at the opening, and 2^32 more where it was heard
+abbrev pub entryOf : ℕ → ℕ → Float → ℕ
+entryOf frame j heard = (frame + j) % 4294967296 + cond (eq heard (f32 0)) 0 4294967296
+
+-- those of frames in a row, the first of them with this number, by the three answers of each
+abbrev pub entriesOf : ℕ → List Float → List ℕ
+entriesOf frame answers = tab (length answers / 3) (λ j. entryOf frame j (at answers (3 * j)))
+
+-- what comes of a take: its samples packed, an entry for each frame, and its answers
+abbrev pub fedBy : ℕ → Given → Fed
+fedBy frame t =
+    let answers = numbersIn (getD (t .written) 1 nothing) in
+    record {
+      answer = t .answer;
+      store = t .store;
+      cleaned = packed (firstIn (t .written));
+      entries = entriesOf frame answers;
+      answers = answers;
+    }
+
+unfoldable pub feed : ℕ → ℕ → Record → List Float → Block → List ℕ → ℕ → ℕ → ℕ → Fed
+feed n side rec store b model cleaned entries answers =
+    refusing (feedRows (gate n side rec (length store) PIECE) (rec .waiting) (sizeOf b) cleaned entries answers) (λ r. unfed rec store (Refused r))
+    (fedBy (rec .frame) (take n side rec store (samplesOf b) model ROOM answers))
+
+-- ---- what a contract says of it
+
+-- a buffer that held these, with those written to its front
+abbrev pub atFront : {A : Type 0} → List A → List A → List A
+atFront new held = new ++ drop (length new) held
+
+-- the answer and the store; and each buffer, by what it held
+pub record FedTo (o : Fed) (answer : Answer) (store : List Float) (cleaned cleaned′ entries entries′ : List ℕ) (answers answers′ : List Float) : Type 0 where
+  pub answered : answer ≡ o .answer
+  pub stores : store ≡ o .store
+  pub cleans : cleaned′ ≡ atFront (o .cleaned) cleaned
+  pub notes : entries′ ≡ atFront (o .entries) entries
+  pub tells : answers′ ≡ atFront (o .answers) answers

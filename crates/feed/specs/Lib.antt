@@ -1,0 +1,4 @@
+pub mod Feed
+pub mod Laws
+pub mod Surface
+pub mod Parts

@@ -1,0 +1,51 @@
+// What comes out: bytes, and entries of the side sheet.
+ghost use mathlib.Core.Path.{_≡_};
+ghost use Prim.Native.Nat.{_*_, _≤_};
+ghost use lib.ListN.{length};
+ghost use Rattle.rules.specs.F32.{at, part};
+ghost use Rattle.rules.specs.Tab.{tab};
+ghost use Rattle.pcm.specs.Pcm.{packed};
+ghost use Rattle.feed.specs.Feed.{entryOf, atFront};
+
+fn entry_of(frame: u32, j: usize, heard: f32) -> u64
+    requires { ⌜ j ≤ 9 ⌝ }
+    ensures { λ r. ⌜ r ≡ entryOf frame j heard ⌝ }
+{
+    let number = (frame as u64 + j as u64) % 0x1_0000_0000;
+    if heard == 0.0 {
+        return number;
+    }
+    number + 0x1_0000_0000
+}
+
+// An entry for each place, from a frame on: three answers of each are there.
+fn note(entries: &mut [u64], frame: u32, answers: &[f32])
+    requires { ⌜ (length (now entries) ≤ 9) × (3 * length (now entries) ≤ length (now answers)) ⌝ }
+    ensures { λ _. ⌜ now (entries .exit)
+        ≡ tab (length (now (entries .entry))) (λ j. entryOf frame j (at (now (answers .entry)) (3 * j))) ⌝ }
+{
+    for j in 0..entries.len() {
+        entries[j] = entry_of(frame, j, answers[3 * j]);
+    }
+}
+
+// The bytes and the entries of so many frames.
+pub(crate) fn hand_out(
+    cleaned: &mut [u8],
+    entries: &mut [u64],
+    out: &[f32],
+    answers: &[f32],
+    frame: u32,
+    frames: usize,
+)
+    requires { ⌜ (frames ≤ 9) × (960 * frames ≤ length (now cleaned)) × (frames ≤ length (now entries))
+        × (480 * frames ≤ length (now out)) × (3 * frames ≤ length (now answers)) ⌝ }
+    ensures { λ _. ⌜ (now (cleaned .exit) ≡ atFront (packed (part 0 (480 * frames) (now (out .entry)))) (now (cleaned .entry)))
+        × (now (entries .exit)
+        ≡ atFront (tab frames (λ j. entryOf frame j (at (now (answers .entry)) (3 * j)))) (now (entries .entry))) ⌝ }
+{
+    let bytes = 960 * frames;
+    let numbers = 480 * frames;
+    pcm::pack(&mut cleaned[0..bytes], &out[0..numbers]);
+    note(&mut entries[0..frames], frame, answers);
+}

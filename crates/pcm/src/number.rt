@@ -1,0 +1,96 @@
+// One sample from its bytes.
+ghost use mathlib.Core.Path.{_≡_};
+ghost use Prim.Native.Nat.{_+_, _*_, _<_, _≤_};
+ghost use lib.ListN.{length};
+ghost use lib.Ieee.{binary32, ofBits};
+ghost use Rattle.pcm.specs.Pcm.{width, two, three, four, signed, clipped, numberAt};
+
+// The bytes of a sample; 0 for no format.
+pub fn width_of(format: u32) -> usize
+    ensures { λ r. ⌜ r ≡ width format ⌝ }
+{
+    if format == 16 {
+        return 2;
+    }
+    if format == 24 {
+        return 3;
+    }
+    if format == 32 { 4 } else { 0 }
+}
+
+fn wide(b: u8) -> u32
+    ensures { λ r. ⌜ (r ≡ b) × (r < 256) ⌝ }
+{
+    b as u32
+}
+
+fn two(bytes: &[u8], a: usize) -> u32
+    requires { ⌜ a + 2 ≤ length (now bytes) ⌝ }
+    ensures { λ r. ⌜ (r ≡ two (now (bytes .entry)) a) × (r < 65536) ⌝ }
+{
+    wide(bytes[a]) + 256 * wide(bytes[a + 1])
+}
+
+fn three(bytes: &[u8], a: usize) -> u32
+    requires { ⌜ a + 3 ≤ length (now bytes) ⌝ }
+    ensures { λ r. ⌜ (r ≡ three (now (bytes .entry)) a) × (r < 16777216) ⌝ }
+{
+    two(bytes, a) + 65536 * wide(bytes[a + 2])
+}
+
+fn four(bytes: &[u8], a: usize) -> u32
+    requires { ⌜ a + 4 ≤ length (now bytes) ⌝ }
+    ensures { λ r. ⌜ r ≡ four (now (bytes .entry)) a ⌝ }
+{
+    three(bytes, a) + 16777216 * wide(bytes[a + 3])
+}
+
+// Two's complement: n, or from `half` on n less twice `half`.
+fn signed(half: u32, n: u32) -> f32
+    requires { ⌜ (n < 2 * half) × (half ≤ 8388608) ⌝ }
+    ensures { λ r. ⌜ r ≡ signed half n ⌝ }
+{
+    if n < half {
+        return n as f32;
+    }
+    -((2 * half - n) as f32)
+}
+
+// The float of a pattern, a NaN's too.
+fn float_of(bits: u32) -> f32
+    ensures { λ r. ⌜ r ≡ ofBits binary32 bits ⌝ }
+{
+    if bits % 0x8000_0000 > 0x7f80_0000 {
+        return 0.0 / 0.0;
+    }
+    f32::from_bits(bits)
+}
+
+const LARGEST: f32 = 340282350000000000000000000000000000000.0;
+
+// Within a sample's ends. A NaN and an infinity stay.
+fn clipped(y: f32) -> f32
+    ensures { λ r. ⌜ r ≡ clipped y ⌝ }
+{
+    if !(-LARGEST <= y) {
+        return y;
+    }
+    if !(y <= LARGEST) {
+        return y;
+    }
+    numbers::clamp(y, -32768.0, 32767.0)
+}
+
+// The sample from a place on.
+pub(crate) fn number_at(format: u32, bytes: &[u8], a: usize) -> f32
+    requires { ⌜ (0 < width format) × (a + width format ≤ length (now bytes)) ⌝ }
+    ensures { λ r. ⌜ r ≡ numberAt format (now (bytes .entry)) a ⌝ }
+{
+    if format == 16 {
+        return signed(32768, two(bytes, a));
+    }
+    if format == 24 {
+        return clipped(signed(8388608, three(bytes, a)) / 256.0);
+    }
+    clipped(32768.0 * float_of(four(bytes, a)))
+}
