@@ -1,3 +1,4 @@
 pub mod Surface
 pub mod Mixed
 pub mod Between
+pub mod Laws

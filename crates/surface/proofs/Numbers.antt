@@ -1,0 +1,291 @@
+-- What a call returns is a number of the table, and 0 exactly where it is done. Assumes nothing.
+use Prim.Native.Nat.{ℕ, _*_, _-_}
+use native.Mathlib.Omega.{arith}
+use mathlib.Core.Bool.{Bool, true, false, cond, not, true≢false}
+use mathlib.Core.List.{List, [], _∷_, _++_}
+use mathlib.Core.Path.{_≡_, refl, sym}
+use borrow.Author.Tests.{ne-eqb}
+use lib.Dec.{eqb, ltb}
+use lib.ListN.{length, drop}
+use lib.Ieee.{Float, lt}
+use Rattle.rules.specs.F32.{f32}
+use Rattle.rules.specs.Place.{get, put}
+use Rattle.rules.specs.Refusals.{Row, _when_, refusing, wrong}
+use Rattle.rules.specs.Written.{from, nothing, firstIn}
+use Rattle.rules.proofs.Rows.{Each, by-each}
+use Rattle.samples.specs.Samples.{good}
+use Rattle.logs.specs.Log10.{logsOf}
+use Rattle.model.specs.Model.{readOf}
+use Rattle.model.specs.declared.Model.{Model}
+use Rattle.model.specs.declared.Reading.{Reading}
+use Rattle.model.specs.declared.Reading.the-variants.{Good, Refused as Unread}
+use Rattle.model.proofs.Bounds.{refused-in}
+use Rattle.transforms.specs.Transform.{forwardOf}
+use Rattle.lag.specs.Lag.{ownLag}
+use Rattle.features.specs.Silence.{energy, soundOf}
+use Rattle.features.specs.declared.Sound.{Sound}
+use Rattle.frame.specs.declared.Reply.{Reply}
+use Rattle.frame.specs.declared.Reply.the-variants.{Done, Silent, Heard, Numbered, Refused, Misread}
+use Rattle.frame.specs.Reply.{passed}
+use Rattle.frame.specs.Share.{PART, inputMem, keptEx}
+use Rattle.frame.specs.Heard.{Spoken, spoken}
+use Rattle.frame.specs.Frame.{Effect, refusal, unless, sounded, done3, counted, checked, modelled}
+use Rattle.frame.specs.Frame as frames
+use Rattle.halves.specs.Own as own
+use Rattle.halves.specs.Halves as halves
+use Rattle.pieces.specs.Pieces.{framePart, waitingIn, waits, frameAt, refused, lastTests, resumeReply, resumed}
+use Rattle.pieces.specs.Pieces as pieces
+use Rattle.pieces.proofs.Kept.{further-reply}
+use Rattle.desk.specs.declared.Record.{Record}
+use Rattle.desk.specs.Gate.{PIECE, refusals, gate, shareOf}
+use Rattle.desk.specs.Desk.{Ask, opening, call1, call2, call2Own, call3, call4, firstHalf, secondHalf, piece, resume, callOf, opened, onShare, desk}
+use Rattle.desk.specs.Surface.{recordIn, replyNumber, hosted}
+use Rattle.whole.specs.Whole.{unchanged, tested, frameReply, frameBegins, frameEnds, takeRows, takeReply, takeEnds, takenAs}
+use Rattle.whole.specs.Whole as whole
+use Rattle.whole.specs.Surface.{hostedFrame, hostedTake}
+use Rattle.surface.specs.Surface.{ask, frame, take}
+use Rattle.surface.specs.Laws.{Known, ZeroIsDone}
+
+-- ---- the table's numbers
+
+one : Known (Refused 1)
+one = (omega arith, omega arith, λ e. omega arith)
+
+two : Known (Refused 2)
+two = (omega arith, omega arith, λ e. omega arith)
+
+three : Known (Refused 3)
+three = (omega arith, omega arith, λ e. omega arith)
+
+four : Known (Refused 4)
+four = (omega arith, omega arith, λ e. omega arith)
+
+five : Known (Refused 5)
+five = (omega arith, omega arith, λ e. omega arith)
+
+six : Known (Refused 6)
+six = (omega arith, omega arith, λ e. omega arith)
+
+eight : Known (Refused 8)
+eight = (omega arith, omega arith, λ e. omega arith)
+
+nine : Known (Refused 9)
+nine = (omega arith, omega arith, λ e. omega arith)
+
+pick : (t : Bool) (r s : Reply) → Known r → Known s → Known (cond t r s)
+pick true r s h k = h
+pick false r s h k = k
+
+-- ---- a model that is refused
+
+misread : (s : List ℕ) (n l : ℕ) → readOf s ≡ Unread n l → Known (Misread n l)
+misread s n l e = refused-in s (sym e)
+
+checks : (same : Model → Bool) (s : List ℕ) → Known (checked same (readOf s))
+unfolding checked
+checks same s = go (readOf s) refl
+  where
+    go : (r : Reading) → readOf s ≡ r → Known (checked same r)
+    go (Unread n l) e = misread s n l e
+    go (Good m) e = pick (same m) Done (Refused 8) tt eight
+
+tests : (vad noise denoise : ℕ) (s : List ℕ) (fine : Bool) → Known (lastTests vad noise denoise s fine)
+tests vad noise denoise s fine =
+    let reply = checked (counted vad noise denoise) (readOf s) in
+    pick (passed reply) (cond fine Done (Refused 9)) reply (pick fine Done (Refused 9) tt nine) (checks (counted vad noise denoise) s)
+
+-- ---- the calls of a frame
+
+sounds : (e : Float) (share : List Float) (s : Spoken) → Known (sounded (soundOf e) share s .reply)
+unfolding soundOf
+sounds e share s = go (lt e (f32 0x3D23D70A))
+  where
+    go : (t : Bool) → Known (sounded (cond t Sound.Silent (Sound.Heard e)) share s .reply)
+    go true = tt
+    go false = tt
+
+module _ (share : List Float) where
+  abbrev KnownOf : Effect → Type 0
+  KnownOf f = Known (f .reply)
+
+  by-one : (a : ℕ) (s : Bool) (f : Effect) → Known (Refused a) → KnownOf f → KnownOf (unless (a when s ∷ []) share f)
+  by-one a true f k h = k
+  by-one a false f k h = h
+
+  by-two : (a b : ℕ) (s t : Bool) (f : Effect) → Known (Refused a) → Known (Refused b) → KnownOf f → KnownOf (unless (a when s ∷ b when t ∷ []) share f)
+  by-two a b true t f k l h = k
+  by-two a b false t f k l h = by-one b t f l h
+
+  either : (t : Bool) (f g : Effect) → KnownOf f → KnownOf g → KnownOf (cond t f g)
+  either true f g h k = h
+  either false f g h k = k
+
+  of-1 : (x : List Float) (w : ℕ) → KnownOf (frames.call1 share x w)
+  unfolding frames.call1
+  of-1 x w =
+      by-two 5 9 (wrong ((length share, PART) ∷ (length x, 480) ∷ (w, 960) ∷ [])) (not (good x)) (frames.done1 share x) five nine tt
+
+  of-2 : (x : List Float) (lag w s : ℕ) → KnownOf (frames.call2 share x lag w s)
+  unfolding frames.call2
+  of-2 x lag w s =
+      by-two 5 6 (wrong ((length share, PART) ∷ (length x, 961) ∷ (w, 960) ∷ (s, 22) ∷ [])) (ltb 768 lag) (frames.done2 share x lag) five six tt
+
+  of-sister : (x : List Float) (w s : ℕ) → KnownOf (own.call2Own share x w s)
+  unfolding own.call2Own
+  of-sister x w s = of-2 x (ownLag (get inputMem share)) w s
+
+  of-3 : (index vad noise denoise : ℕ) (x logs : List Float) (model : List ℕ) (out : ℕ) → KnownOf (frames.call3 share index vad noise denoise x logs model out)
+  unfolding frames.call3 done3
+  of-3 index vad noise denoise x logs model out =
+      by-two 5 5 (wrong ((length share, PART) ∷ (length x, 961) ∷ (length logs, 22) ∷ (out, 961) ∷ [])) (ltb 7 index)
+      (modelled (counted vad noise denoise) (readOf model) share (done3 share index x logs model)) five five (go (readOf model) refl)
+    where
+      go : (r : Reading) → readOf model ≡ r → KnownOf (modelled (counted vad noise denoise) r share (done3 share index x logs model))
+      go (Unread n l) e = misread model n l e
+      go (Good m) e = either (counted vad noise denoise m) (done3 share index x logs model m) (refusal (Refused 8) share) (sounds (energy (get keptEx share)) share (spoken share index x logs model m)) eight
+
+  of-4 : (so-far heard : ℕ) (x : List Float) (out : ℕ) → KnownOf (frames.call4 share so-far heard x out)
+  unfolding frames.call4
+  of-4 so-far heard x out =
+      by-one 5 (wrong ((length share, PART) ∷ (length x, 960) ∷ (out, 480) ∷ [])) (frames.done4 share so-far heard x) five tt
+
+module _ (share : List Float) where
+  of-first : (x : List Float) (s : ℕ) → Known (halves.firstHalf share x s .reply)
+  unfolding halves.firstHalf
+  of-first x s =
+      let a = frames.call1 share x 960 in
+      let b = halves.analysed (a .share) (halves.buffer a) s in
+      by-one share 5 (wrong ((length share, PART) ∷ (length x, 480) ∷ (s, 22) ∷ [])) (cond (passed (a .reply)) b a) five
+      (either share (passed (a .reply)) b a (of-sister (a .share) (forwardOf (halves.buffer a)) 960 s) (of-1 share x 960))
+
+  of-second : (index vad noise denoise : ℕ) (logs : List Float) (model : List ℕ) (out : ℕ)
+      → Known (halves.secondHalf share index vad noise denoise logs model out .reply)
+  unfolding halves.secondHalf
+  of-second index vad noise denoise logs model out =
+      let a = frames.call3 share index vad noise denoise (forwardOf (halves.lookedBack share)) logs model 961 in
+      let k = of-3 share index vad noise denoise (forwardOf (halves.lookedBack share)) logs model 961 in
+      let b = halves.synthesised (a .reply) (a .share) (halves.buffer a) out in
+      by-two share 5 5 (wrong ((length share, PART) ∷ (length logs, 22) ∷ (out, 480) ∷ [])) (ltb 7 index) (cond (passed (a .reply)) b a) five five
+      (either share (passed (a .reply)) b a k k)
+
+-- ---- pieces
+
+of-piece : (share : List Float) (waiting : ℕ) (x : List Float) (out sums : ℕ) → Known (pieces.piece share waiting x out sums .reply)
+unfolding pieces.piece
+of-piece share waiting x out sums =
+    by-each (λ n. refused (Refused n) share) (pieces.begun share waiting x) (λ o. Known (o .reply)) (pieces.pieceRows share waiting x out sums)
+    (five, (five, (nine, (nine, tt)))) (rw (further-reply Done (waits share []) (waitingIn waiting share ++ x) nothing) tt)
+
+of-resume : (share : List Float) (index vad noise denoise size progress : ℕ) (x logs : List Float) (model : List ℕ) (out sums : ℕ)
+    → Known (pieces.resume share index vad noise denoise size progress x logs model out sums .reply)
+unfolding pieces.resume resumeReply
+of-resume share index vad noise denoise size progress x logs model out sums = go (passed reply)
+  where
+    reply : Reply
+    reply = resumeReply share index vad noise denoise size progress x logs model out sums
+
+    half : Effect
+    half = halves.secondHalf (get framePart share) index vad noise denoise logs model 480
+
+    go : (t : Bool) → Known (cond t (resumed share index vad noise denoise progress x logs model) (refused reply share) .reply)
+    go true =
+        rw (further-reply (half .reply) (put framePart share (half .share)) (drop progress x) (from (480 * (frameAt progress - 1)) (halves.buffer half)))
+        (of-second (get framePart share) index vad noise denoise logs model 480)
+    go false =
+        by-each Refused (lastTests vad noise denoise model (good x)) Known (pieces.resumeRows share index size progress x (length logs) out sums)
+        (five, (five, tt)) (tests vad noise denoise model (good x))
+
+-- ---- the desk
+
+of-opening : (share : List Float) (s : List ℕ) → Known (opened share (readOf s) .reply)
+of-opening share s = go (readOf s) refl
+  where
+    go : (r : Reading) → readOf s ≡ r → Known (opened share r .reply)
+    go (Good m) e = tt
+    go (Unread n l) e = misread s n l e
+
+of-share : (b : Record) (share : List Float) (a : Ask) → Known (onShare b share a .reply)
+of-share b share (opening m) = of-opening share m
+of-share b share (call1 x w) = of-1 (get framePart share) x w
+of-share b share (call2 x l w s) = of-2 (get framePart share) x l w s
+of-share b share (call2Own x w s) = of-sister (get framePart share) x w s
+of-share b share (call3 x l m o) = of-3 (get framePart share) (b .index) (b .vad) (b .noise) (b .denoise) x l m o
+of-share b share (call4 x o) = of-4 (get framePart share) (b .frame) (b .heard) x o
+of-share b share (firstHalf x s) = of-first (get framePart share) x s
+of-share b share (secondHalf l m o) = of-second (get framePart share) (b .index) (b .vad) (b .noise) (b .denoise) l m o
+of-share b share (piece x o s) = of-piece share (b .waiting) x o s
+of-share b share (resume x l m o s) = of-resume share (b .index) (b .vad) (b .noise) (b .denoise) (b .piece) (b .progress) x l m o s
+
+of-gate : (n side : ℕ) (b : Record) (len call : ℕ) → eqb (gate n side b len call) 0 ≡ false → Known (Refused (gate n side b len call))
+unfolding gate
+of-gate n side b len call =
+    by-each (λ k. k) 0 (λ k. eqb k 0 ≡ false → Known (Refused k)) (refusals n side b len call)
+    ((λ _. one), ((λ _. two), ((λ _. two), ((λ _. three), ((λ _. four), tt))))) (λ e. absurd (true≢false e))
+
+of-desk : (n side : ℕ) (b : Record) (store : List Float) (a : Ask) → Known (desk n side b store a .answer .reply)
+unfolding desk
+of-desk n side b store a = go (eqb (gate n side b (length store) (callOf a)) 0) refl
+  where
+    share : List Float
+    share = get (shareOf side) store
+
+    go : (t : Bool) → eqb (gate n side b (length store) (callOf a)) 0 ≡ t
+        → Known (cond t (onShare b share a) (refused (Refused (gate n side b (length store) (callOf a))) share) .reply)
+    go true e = of-share b share a
+    go false e = of-gate n side b (length store) (callOf a) e
+
+-- ---- a frame and a take
+
+of-tested : (n side : ℕ) (b : Record) (len call : ℕ) (rows : List Row) (model : List ℕ) (x : List Float) → Each (λ k. Known (Refused k)) rows
+    → Known (tested (gate n side b len call) b rows model x)
+of-tested n side b len call rows model x numbers = go (eqb (gate n side b len call) 0) refl
+  where
+    last : Reply
+    last = lastTests (b .vad) (b .noise) (b .denoise) model (good x)
+
+    go : (t : Bool) → eqb (gate n side b len call) 0 ≡ t → Known (cond t (refusing rows Refused last) (Refused (gate n side b len call)))
+    go true e = by-each Refused last Known rows numbers (tests (b .vad) (b .noise) (b .denoise) model (good x))
+    go false e = of-gate n side b len call e
+
+of-frame : (n side : ℕ) (b : Record) (store x : List Float) (model : List ℕ) (out : ℕ) → Known (whole.frame n side b store x model out .answer .reply)
+unfolding whole.frame frameReply
+of-frame n side b store x model out = go (passed reply)
+  where
+    reply : Reply
+    reply = frameReply n side b (length store) x model out
+
+    go : (t : Bool) → Known (cond t (frameEnds n side b store x model out) (unchanged b store reply) .answer .reply)
+    go true =
+        let a = frameBegins n side b store x in of-desk n side (a .answer .rec) (a .store) (secondHalf (logsOf (firstIn (a .written))) model out)
+    go false = of-tested n side b (length store) 1 (5 when wrong ((length x, 480) ∷ (out, 480) ∷ []) ∷ []) model x (five, tt)
+
+of-take : (n side : ℕ) (b : Record) (store x : List Float) (model : List ℕ) (out answers : ℕ)
+    → Known (whole.take n side b store x model out answers .answer .reply)
+unfolding whole.take takeReply
+of-take n side b store x model out answers = go (passed reply)
+  where
+    reply : Reply
+    reply = takeReply n side b store x model out answers
+
+    known : Known reply
+    known = of-tested n side b (length store) PIECE (takeRows b (length x) out answers) model (waitingIn (b .waiting) (get (shareOf side) store) ++ x) (five, (five, tt))
+
+    go : (t : Bool) → Known (cond t (takenAs reply (takeEnds n side b store x model out)) (unchanged b store reply) .answer .reply)
+    go true = known
+    go false = known
+
+-- ---- 0 is done
+
+zero-is-passed : (r : Reply) → Known r → passed r ≡ eqb (replyNumber r) 0
+zero-is-passed Done k = refl
+zero-is-passed Silent k = refl
+zero-is-passed (Heard v e) k = refl
+zero-is-passed (Numbered f h) k = refl
+zero-is-passed (Refused n) k = sym (ne-eqb n 0 (λ e. omega (arith, k .0)))
+zero-is-passed (Misread n l) k = sym (ne-eqb (replyNumber (Misread n l)) 0 (λ e. omega arith))
+
+pub zero-is-done : ZeroIsDone
+unfolding hosted hostedFrame hostedTake
+zero-is-done n side ns store (ask a) = let k = of-desk n side (recordIn ns) store a in (k, zero-is-passed (desk n side (recordIn ns) store a .answer .reply) k)
+zero-is-done n side ns store (frame x m out) = let k = of-frame n side (recordIn ns) store x m out in (k, zero-is-passed (whole.frame n side (recordIn ns) store x m out .answer .reply) k)
+zero-is-done n side ns store (take x m out answers) = let k = of-take n side (recordIn ns) store x m out answers in (k, zero-is-passed (whole.take n side (recordIn ns) store x m out answers .answer .reply) k)

@@ -1,0 +1,62 @@
+-- A refusal changes nothing, whichever call it is. Assumes nothing.
+use Prim.Native.Nat.{ℕ}
+use native.Mathlib.Omega.{arith}
+use mathlib.Core.Bool.{Bool, false, cond}
+use mathlib.Core.List.{List, [], _∷_, _++_}
+use mathlib.Core.Path.{_≡_, refl, ap, _∙_}
+use lib.ListN.{length}
+use Rattle.rules.specs.Written.{Written}
+use Rattle.frame.specs.declared.Reply.{Reply}
+use Rattle.frame.specs.Reply.{passed}
+use Rattle.desk.specs.declared.Answer.{Answer}
+use Rattle.desk.specs.Desk.{Ask, opening, call1, call2, call2Own, call3, call4, firstHalf, secondHalf, piece, resume, Given, desk}
+use Rattle.desk.specs.Surface.{numbersOf, recordIn, toldBesides, besides, hosted, handedBack}
+use Rattle.desk.proofs.Buffers.{buffersOf, buffers}
+use Rattle.desk.proofs.Settled.{refused-keeps}
+use Rattle.whole.specs.Whole as whole
+use Rattle.whole.specs.Surface.{hostedFrame, hostedTake}
+use Rattle.whole.proofs.Halves.{frame-leaves, take-leaves}
+use Rattle.surface.specs.Surface.{ask, frame, take}
+use Rattle.surface.specs.Laws.{RefusedLeaves}
+
+-- the record that is handed back is the one that came
+handed : (a : Answer) (ns : List ℕ) → passed (a .reply) ≡ false → handedBack a ns ≡ ns
+handed a ns e = ap (λ (t : Bool). cond t (numbersOf (a .rec)) ns) e
+
+-- nothing is told besides
+untold : (r : Reply) → passed r ≡ false → toldBesides r ≡ []
+untold r e = rw e
+
+nor-besides : (a : Ask) (r : Reply) → passed r ≡ false → besides a r ≡ []
+nor-besides (opening m) r e = refl
+nor-besides (call1 x w) r e = refl
+nor-besides (call2 x l w s) r e = refl
+nor-besides (call2Own x w s) r e = refl
+nor-besides (call3 x l m o) r e = untold r e
+nor-besides (call4 x o) r e = refl
+nor-besides (firstHalf x s) r e = refl
+nor-besides (secondHalf l m o) r e = untold r e
+nor-besides (piece x o s) r e = refl
+nor-besides (resume x l m o s) r e = untold r e
+
+none : (ws : List Written) → length ws ≡ 0 → ws ≡ []
+none [] e = refl
+none (w ∷ ws) e = absurd (omega arith)
+
+neither : {ws vs : List Written} → ws ≡ [] → vs ≡ [] → ws ++ vs ≡ []
+neither e d = rw (e, d)
+
+pub refused-leaves : RefusedLeaves
+unfolding hosted hostedFrame hostedTake
+refused-leaves n side ns store (ask a) e =
+    let o = desk n side (recordIn ns) store a in
+    let unwritten : o .written ≡ [] = none (o .written) (buffers n side (recordIn ns) store a ∙ ap (λ (t : Bool). cond t (buffersOf a) 0) e) in
+    (handed (o .answer) ns e, refused-keeps n side (recordIn ns) store a e .1, neither unwritten (nor-besides a (o .answer .reply) e))
+refused-leaves n side ns store (frame x m out) e =
+    let o = whole.frame n side (recordIn ns) store x m out in
+    let same = frame-leaves n side (recordIn ns) store x m out e in
+    (handed (o .answer) ns e, ap (λ (g : Given). g .store) same, neither (ap (λ (g : Given). g .written) same) (untold (o .answer .reply) e))
+refused-leaves n side ns store (take x m out answers) e =
+    let o = whole.take n side (recordIn ns) store x m out answers in
+    let same = take-leaves n side (recordIn ns) store x m out answers e in
+    (handed (o .answer) ns e, ap (λ (g : Given). g .store) same, ap (λ (g : Given). g .written) same)
