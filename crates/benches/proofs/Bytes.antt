@@ -52,6 +52,13 @@ same-samples format channels channel bytes bytes′ agree = go (samplesIn (lengt
     go zero e a = none bytes format channels channel ∙ sym (none bytes′ format channels channel)
     go (suc n) e a = own-channel (suc n) format channels channel bytes bytes′ (block-fits (length bytes) format channels channel (rw e (zero-lt-suc n)) .known) a
 
+pub samples-alike : (format channels channel : ℕ) (bytes bytes′ : List ℕ) → length bytes ≡ length bytes′
+    → AgreeIn (samplesIn (length bytes) format channels channel) format channels channel bytes bytes′
+    → samplesOf (blockOf bytes format channels channel) ≡ samplesOf (blockOf bytes′ format channels channel)
+samples-alike format channels channel bytes bytes′ size agree =
+    same-samples format channels channel bytes bytes′ agree
+    ∙ ap (λ (k : ℕ). unpacked (samplesIn k format channels channel) bytes′ format channels channel) size
+
 -- of a block a feed sees its samples alone
 feed-alike : (n side : ℕ) (rec : Record) (store : List Float) (b b′ : Block) (model : List ℕ) (cleaned entries answers : ℕ) → SameChannel b b′
     → feeding.feed n side rec store b model cleaned entries answers ≡ feeding.feed n side rec store b′ model cleaned entries answers
@@ -59,8 +66,7 @@ feed-alike n side rec store b b′ model cleaned entries answers h =
     let shape : blockOf (b′ .bytes) (b .format) (b .channels) (b .channel) ≡ b′ = rw (h .format, h .channels, h .channel) in
     let other = blockOf (b′ .bytes) (b .format) (b .channels) (b .channel) in
     let sizes : sizeOf b ≡ sizeOf other = ap (λ (k : ℕ). samplesIn k (b .format) (b .channels) (b .channel)) (h .size) in
-    let samples : samplesOf b ≡ samplesOf other =
-    same-samples (b .format) (b .channels) (b .channel) (b .bytes) (b′ .bytes) (h .agree) ∙ ap (λ (k : ℕ). unpacked k (b′ .bytes) (b .format) (b .channels) (b .channel)) sizes in
+    let samples = samples-alike (b .format) (b .channels) (b .channel) (b .bytes) (b′ .bytes) (h .size) (h .agree) in
     seen-is n side rec store b model cleaned entries answers
     ∙ ap₂ (λ (size : ℕ) (xs : List Float). seen n side rec store size xs model cleaned entries answers) sizes samples
     ∙ sym (seen-is n side rec store other model cleaned entries answers)

@@ -1,0 +1,197 @@
+-- What stands in a row.
+--     packed-both, entries-both     samples, and answers, in a row: their bytes, and their entries
+--     samples-both                  bytes in a row: their samples
+--     frame-after, waiting-after    the frame number behind a dictation, and how many samples wait
+--     settled                       what is told of a dictation's frames is told by itself
+-- Assumes nothing.
+use Prim.Native.Nat.{ℕ, zero, suc, _+_, _-_, _*_, _/_, _%_, _≤_, _<_}
+use native.Mathlib.Nat.{add-zero, add-suc, add-assoc, add-mul, mul-assoc, mul-pos, mul-mod-left, mul-div-cancel}
+use native.Mathlib.Omega.{arith}
+use mathlib.Core.Bool.{Bool, true, false, cond}
+use mathlib.Core.List.{List, [], _∷_, _++_, map, append-assoc, append-nil}
+use mathlib.Core.Path.{_≡_, refl, sym, ap, ap₂, _∙_}
+use borrow.Author.Tests.{ltb-true, ltb-false}
+use lib.Dec.{ltb}
+use lib.ListN.{length, getD, drop, length-append, length-drop, List·getD-append}
+use lib.Seq.{getD-append-add}
+use lib.Ieee.{Float, nan, eq}
+use Rattle.rules.specs.F32.{f32, at, natAt}
+use Rattle.rules.specs.Tab.{tab}
+use Rattle.rules.proofs.Tabs.{length-tab, tab-same}
+use Rattle.logs.specs.Log10.{logsOf}
+use Rattle.frame.specs.declared.Reply.{Reply}
+use Rattle.frame.specs.declared.Reply.the-variants.{Done, Silent, Heard, Numbered, Refused, Misread}
+use Rattle.frame.specs.Reply.{oneMore}
+use Rattle.halves.proofs.Cases.{second-half-by}
+use Rattle.desk.specs.declared.Record.{Record}
+use Rattle.desk.specs.Desk.{nextFrame}
+use Rattle.desk.specs.Surface.{heardOf}
+use Rattle.dictation.specs.Dictation.{Lent, Dictated, dictate}
+use Rattle.dictation.proofs.Joins.{first, second, recAfter, shareAfter, toldThere, dictate-more}
+use Rattle.whole.specs.Taking.{Told, lentTo, answersOf}
+use Rattle.pcm.specs.Pcm.{width, numberAt, placeOf, unpacked, byteOf, nearest16, packed, UnpackFits}
+use Rattle.pcm.proofs.Channels.{own-channel}
+use Rattle.pcm.proofs.Patterns.{room}
+use Rattle.feed.specs.Feed.{Block, blockOf, samplesIn, sizeOf, samplesOf, entryOf, entriesOf}
+use Rattle.feed.proofs.Blocks.{block-fits, whole}
+
+tab-both : {A : Type 0} (m k : ℕ) (f : ℕ → A) → tab (m + k) f ≡ tab m f ++ tab k (λ j. f (m + j))
+unfolding tab
+tab-both m zero f = rw add-zero (sym (append-nil (tab m f)))
+tab-both m (suc k) f = rw (add-suc, tab-both m k f) (append-assoc (tab m f) (tab k (λ j. f (m + j))) (f (m + k) ∷ []))
+
+-- ---- samples in a row, as bytes
+
+pub packed-both : (xs ys : List Float) → packed (xs ++ ys) ≡ packed xs ++ packed ys
+unfolding packed
+packed-both xs ys =
+    ap (λ (n : ℕ). tab n byte) (omega (arith, length-append xs ys))
+    ∙ tab-both (2 * length xs) (2 * length ys) byte
+    ∙ ap₂ (λ (u v : List ℕ). u ++ v)
+    (tab-same (2 * length xs) _ _ (λ k h. ap (λ (x : Float). byteOf (nearest16 x) (k % 2)) (List·getD-append xs ys nan (k / 2) (omega arith))))
+    (tab-same (2 * length ys) _ _ (λ k h. behind k))
+  where
+    byte : ℕ → ℕ
+    byte k = byteOf (nearest16 (at (xs ++ ys) (k / 2))) (k % 2)
+
+    behind : (k : ℕ) → byte (2 * length xs + k) ≡ byteOf (nearest16 (at ys (k / 2))) (k % 2)
+    behind k =
+        let half : (2 * length xs + k) / 2 ≡ length xs + k / 2 = omega arith in
+        let odd : (2 * length xs + k) % 2 ≡ k % 2 = omega arith in
+        ap₂ (λ (x : Float) (j : ℕ). byteOf (nearest16 x) j) (ap (at (xs ++ ys)) half ∙ getD-append-add xs ys (k / 2) nan) odd
+
+-- ---- answers in a row, as entries
+
+pub entries-both : (frame next p q : ℕ) (xs ys : List Float) → length xs ≡ 3 * p → length ys ≡ 3 * q
+    → ((j : ℕ) → (frame + (p + j)) % 4294967296 ≡ (next + j) % 4294967296) → entriesOf frame (xs ++ ys) ≡ entriesOf frame xs ++ entriesOf next ys
+entries-both frame next p q xs ys l k number =
+    ap (λ (n : ℕ). tab n entry) (omega (arith, length-append xs ys, l, k))
+    ∙ tab-both p q entry
+    ∙ ap₂ (λ (u v : List ℕ). u ++ v)
+    (tab-same p _ _ (λ j h. ap (entryOf frame j) (List·getD-append xs ys nan (3 * j) (omega (arith, l, h))))
+    ∙ ap (λ (n : ℕ). tab n (λ j. entryOf frame j (at xs (3 * j)))) (omega (arith, l)))
+    (tab-same q _ _ (λ j h. behind j) ∙ ap (λ (n : ℕ). tab n (λ j. entryOf next j (at ys (3 * j)))) (omega (arith, k)))
+  where
+    entry : ℕ → ℕ
+    entry j = entryOf frame j (at (xs ++ ys) (3 * j))
+
+    behind : (j : ℕ) → entry (p + j) ≡ entryOf next j (at ys (3 * j))
+    behind j =
+        let place : 3 * (p + j) ≡ length xs + 3 * j = omega (arith, l) in
+        ap₂ (λ (n : ℕ) (x : Float). n + cond (eq x (f32 0)) 0 4294967296) (number j) (ap (at (xs ++ ys)) place ∙ getD-append-add xs ys (3 * j) nan)
+
+three : (r : Reply) → length (heardOf r) ≡ 3
+three Done = refl
+three Silent = refl
+three (Heard v e) = refl
+three (Numbered f h) = refl
+three (Refused n) = refl
+three (Misread n l) = refl
+
+pub answers-length : (told : List Told) → length (answersOf told) ≡ 3 * length told
+answers-length [] = refl
+answers-length (f ∷ fs) = omega (arith, length-append (heardOf (f .1)) (answersOf fs), three (f .1), answers-length fs)
+
+pub answers-both : (fs gs : List Told) → answersOf (fs ++ gs) ≡ answersOf fs ++ answersOf gs
+answers-both [] gs = refl
+answers-both (f ∷ fs) gs = ap (λ (x : List Float). heardOf (f .1) ++ x) (answers-both fs gs) ∙ sym (append-assoc (heardOf (f .1)) (answersOf fs) (answersOf gs))
+
+-- ---- bytes in a row, as samples
+
+pub size-is : (b : Block) → length (samplesOf b) ≡ sizeOf b
+unfolding unpacked
+size-is b = length-tab (sizeOf b) _
+
+module _ (xs ys : List ℕ) where
+  shifted : (format a : ℕ) → numberAt format (xs ++ ys) (length xs + a) ≡ numberAt format ys a
+  unfolding numberAt
+  shifted format a = rw (getD-append-add xs ys a 0, next 1, next 2, next 3)
+    where
+      next : (j : ℕ) → natAt (xs ++ ys) (length xs + a + j) ≡ natAt ys (a + j)
+      next j = ap (natAt (xs ++ ys)) (add-assoc (length xs) a j) ∙ getD-append-add xs ys (a + j) 0
+
+  module _ (format channels channel n m : ℕ) (f : UnpackFits n (length xs) format channels channel) (g : UnpackFits m (length ys) format channels channel) where
+    place : (i : ℕ) → placeOf format channels channel (n + i) ≡ length xs + placeOf format channels channel i
+    place i =
+        let w = width format in
+        let rows : (n + i) * channels + channel ≡ n * channels + (i * channels + channel) =
+        ap (λ (k : ℕ). k + channel) (add-mul n i channels) ∙ add-assoc (n * channels) (i * channels) channel in
+        ap (λ (k : ℕ). k * w) rows ∙ add-mul (n * channels) (i * channels + channel) w
+        ∙ ap (λ (k : ℕ). k + (i * channels + channel) * w) (mul-assoc n channels w ∙ sym (f .size))
+
+    unpacked-both : unpacked (n + m) (xs ++ ys) format channels channel ≡ unpacked n xs format channels channel ++ unpacked m ys format channels channel
+    unfolding unpacked
+    unpacked-both =
+        tab-both n m (λ i. numberAt format (xs ++ ys) (placeOf format channels channel i))
+        ∙ ap₂ (λ (u v : List Float). u ++ v)
+        (own-channel n format channels channel (xs ++ ys) xs (f .known)
+        (λ i h j k. List·getD-append xs ys 0 _ (omega (arith, room n (length xs) format channels channel (width format) f refl i h .2, k))))
+        (tab-same m _ _ (λ i h. ap (numberAt format (xs ++ ys)) (place i) ∙ shifted format (placeOf format channels channel i)))
+
+    sizes-both : samplesIn (length (xs ++ ys)) format channels channel ≡ n + m
+    sizes-both =
+        let row = channels * width format in
+        let some : 0 < row = mul-pos (omega (arith, f .among)) (f .known) in
+        let all : length (xs ++ ys) ≡ (n + m) * row = length-append xs ys ∙ ap₂ (λ (u v : ℕ). u + v) (f .size) (g .size) ∙ sym (add-mul n m row) in
+        sym (whole (length (xs ++ ys)) format channels channel (width format) refl (f .known) (f .many) (f .among) (ap (λ (k : ℕ). k % row) all ∙ mul-mod-left (n + m) row))
+        ∙ ap (λ (k : ℕ). k / row) all ∙ mul-div-cancel (n + m) some
+
+pub samples-both : (xs ys : List ℕ) (format channels channel : ℕ) → let one = blockOf xs format channels channel in let other = blockOf ys format channels channel in
+    0 < sizeOf one → 0 < sizeOf other → samplesOf (blockOf (xs ++ ys) format channels channel) ≡ samplesOf one ++ samplesOf other
+samples-both xs ys format channels channel p q =
+    let f = block-fits (length xs) format channels channel p in
+    let g = block-fits (length ys) format channels channel q in
+    ap (λ (k : ℕ). unpacked k (xs ++ ys) format channels channel) (sizes-both xs ys format channels channel _ _ f g)
+    ∙ unpacked-both xs ys format channels channel _ _ f g
+
+-- ---- behind a dictation
+
+-- a second half is no numbering
+unnumbered : (frame : ℕ) (rec : Record) (share xs : List Float) (l : Lent) → nextFrame frame (second rec share xs l .reply) ≡ frame
+unnumbered frame rec share xs l =
+    second-half-by (first rec share xs l .share) (λ f. nextFrame frame (f .reply) ≡ frame) (λ _. refl) (rec .index) (rec .vad) (rec .noise) (rec .denoise) (l .logs) (l .model) 480
+    (λ _ _ _. refl) (λ _. refl) (λ _ _ _ _ _. refl)
+
+one-more : (n : ℕ) → n < 4294967296 → oneMore n ≡ (n + 1) % 4294967296
+one-more n h = go (ltb n 4294967295) refl
+  where
+    go : (t : Bool) → ltb n 4294967295 ≡ t → cond t (n + 1) 0 ≡ (n + 1) % 4294967296
+    go true e = omega (arith, ltb-true n 4294967295 e)
+    go false e = omega (arith, ltb-false n 4294967295 e, h)
+
+pub frame-after : (ls : List Lent) (rec : Record) (share xs : List Float) → rec .frame < 4294967296
+    → dictate rec share xs ls .rec .frame ≡ (rec .frame + length ls) % 4294967296
+unfolding dictate
+frame-after [] rec share xs h = omega arith
+frame-after (l ∷ ls) rec share xs h =
+    let here : recAfter rec share xs l .frame ≡ (rec .frame + 1) % 4294967296 = ap oneMore (unnumbered (rec .frame) rec share xs l) ∙ one-more (rec .frame) h in
+    omega (arith, here, frame-after ls (recAfter rec share xs l) (shareAfter rec share xs l) (drop 480 xs) (omega (arith, here)))
+
+pub waiting-after : (ls : List Lent) (rec : Record) (share xs : List Float) → 480 * length ls ≤ length xs
+    → dictate rec share xs ls .rec .waiting ≡ length xs - 480 * length ls
+unfolding dictate
+waiting-after [] rec share xs h = omega arith
+waiting-after (l ∷ ls) rec share xs h =
+    let rest = length-drop 480 xs in
+    waiting-after ls (recAfter rec share xs l) (shareAfter rec share xs l) (drop 480 xs) (omega arith) ∙ omega arith
+
+-- ---- what is told of its frames
+
+-- where our logarithms of their sums are lent, there is one such list of each length
+pub settled : (model : List ℕ) (fs gs : List Told) (rec : Record) (share xs : List Float) → length fs ≡ length gs
+    → dictate rec share xs (map (lentTo model) fs) .told ≡ fs → dictate rec share xs (map (lentTo model) gs) .told ≡ gs → fs ≡ gs
+settled model [] [] rec share xs l e d = refl
+settled model [] (g ∷ gs) rec share xs l e d = absurd (omega arith)
+settled model (f ∷ fs) [] rec share xs l e d = absurd (omega arith)
+settled model (f ∷ fs) (g ∷ gs) rec share xs l e d =
+    let there : Told → Told = λ x. toldThere rec share xs (lentTo model x) in
+    let rest : Lent → List Told → Dictated = λ a ts. dictate (recAfter rec share xs a) (shareAfter rec share xs a) (drop 480 xs) (map (lentTo model) ts) in
+    let e′ : there f ∷ rest (lentTo model f) fs .told ≡ f ∷ fs = ap (λ (x : Dictated). x .told) (sym (dictate-more rec share xs (lentTo model f) (map (lentTo model) fs))) ∙ e in
+    let d′ : there g ∷ rest (lentTo model g) gs .told ≡ g ∷ gs = ap (λ (x : Dictated). x .told) (sym (dictate-more rec share xs (lentTo model g) (map (lentTo model) gs))) ∙ d in
+    let one : there f ≡ f = ap (λ (ts : List Told). getD ts 0 f) e′ in
+    let other : there g ≡ g = ap (λ (ts : List Told). getD ts 0 g) d′ in
+    let lent : lentTo model f ≡ lentTo model g = ap (λ (sums : List Float). record { logs = logsOf sums; model = model }) (ap (λ (x : Told). x .0) (sym one) ∙ ap (λ (x : Told). x .0) other) in
+    let more : fs ≡ gs =
+    settled model fs gs (recAfter rec share xs (lentTo model f)) (shareAfter rec share xs (lentTo model f)) (drop 480 xs) (omega arith) (ap (drop 1) e′)
+    (ap (λ (a : Lent). rest a gs .told) lent ∙ ap (drop 1) d′) in
+    ap₂ {C = List Told} (λ (x : Told) (ts : List Told). x ∷ ts) (sym one ∙ ap (toldThere rec share xs) lent ∙ other) more

@@ -1,0 +1,261 @@
+-- What a bench has of any run, by its calls that are done.
+--     gave-nothing, gave-said     a refused call, and a feed that is done
+--     Comes, lone-run             a bench's calls that are done, one after the other, and that any run comes to these
+-- Assumes nothing.
+use Prim.Native.Nat.{ℕ, _*_, _≤_, _<_}
+use native.Mathlib.Omega.{arith}
+use mathlib.Core.Bool.{Bool, true, false, cond, false≢true}
+use mathlib.Core.List.{List, [], _∷_, _++_, map}
+use mathlib.Core.Path.{_≡_, refl, sym, ap, ap₂, subst, _∙_}
+use borrow.Author.Tests.{eqb-true, eqb-false, eq-eqb}
+use lib.Dec.{eqb}
+use lib.ListN.{length, getD}
+use lib.Ieee.{Float}
+use Rattle.rules.specs.Place.{get, put}
+use Rattle.rules.specs.Written.{Written, firstIn}
+use Rattle.rules.proofs.Places.{length-get, get-put}
+use Rattle.rules.proofs.Refused.{by-rows}
+use Rattle.rules.proofs.Writing.{to-none}
+use Rattle.frame.specs.declared.Reply.{Reply}
+use Rattle.frame.specs.declared.Reply.the-variants.{Refused}
+use Rattle.frame.specs.Reply.{passed}
+use Rattle.frame.specs.Share.{SHARE}
+use Rattle.pieces.specs.Pieces.{waitingIn, completes}
+use Rattle.desk.specs.declared.Record.{Record}
+use Rattle.desk.specs.Gate.{PIECE, gate, shareOf}
+use Rattle.desk.specs.Desk.{Ask, opening, call1, call2, call2Own, call3, call4, firstHalf, secondHalf, piece, resume, Given, desk}
+use Rattle.desk.specs.Surface.{recordIn, besides, telling, hosted}
+use Rattle.desk.proofs.Apart.{same-length, other-share}
+use Rattle.desk.proofs.Buffers.{buffers}
+use Rattle.desk.proofs.Settled.{refused-keeps}
+use Rattle.dictation.proofs.Joins.{share-size}
+use Rattle.whole.specs.Whole.{takeReply}
+use Rattle.whole.specs.Whole as whole
+use Rattle.whole.specs.Surface.{hostedFrame, hostedTake}
+use Rattle.whole.specs.Taking.{lentTo}
+use Rattle.whole.specs.Taking as frames
+use Rattle.whole.proofs.Accepted.{take-accepted, fits-sizes}
+use Rattle.whole.proofs.Dictations.{as-dictated}
+use Rattle.whole.proofs.Halves.{frame-leaves, take-leaves}
+use Rattle.whole.proofs.Ranged.{take-by}
+use Rattle.isolation.specs.Run as desks
+use Rattle.isolation.specs.Isolation.{Gives, On, State, on, after, ended, received}
+use Rattle.surface.specs.Surface.{Request, ask, frame, take, called}
+use Rattle.surface.specs.Mixed.{inDesk}
+use Rattle.surface.proofs.Expanded.{callOn}
+use Rattle.feed.specs.Feed.{Block, ROOM, sizeOf, samplesOf, feedRows, Fed, unfed, fedBy}
+use Rattle.feed.specs.Feed as feeding
+use Rattle.feed.proofs.Ranged.{feed-leaves}
+use Rattle.benches.specs.Benches.{Call, one, feed, Told, ofBytes, every}
+use Rattle.benches.specs.Cutting.{asksIn, Has, hasOf, said, hasSaid, replyTo, doneIn}
+use Rattle.benches.proofs.Made.{made}
+
+-- ---- one call
+
+-- what side s has of what a call gave
+abbrev gaveOf : ℕ → Gives Told → Has
+gaveOf s g =
+    record {
+      rec = recordIn (g .returned .numbers);
+      share = get (shareOf s) (g .store);
+      cleaned = getD (g .returned .told .1) 0 [];
+      entries = getD (g .returned .told .1) 1 [];
+      answers = firstIn (g .returned .told .0);
+    }
+
+-- and of none
+abbrev pub bare : Record → List Float → Has
+bare b xs = record { rec = b; share = xs; cleaned = []; entries = []; answers = [] }
+
+untold : (a : Ask) (r : Reply) → passed r ≡ false → besides a r ≡ []
+untold (opening m) r p = refl
+untold (call1 x w) r p = refl
+untold (call2 x l w s) r p = refl
+untold (call2Own x w s) r p = refl
+untold (call3 x l m o) r p = rw p
+untold (call4 x o) r p = refl
+untold (firstHalf x s) r p = refl
+untold (secondHalf l m o) r p = rw p
+untold (piece x o s) r p = refl
+untold (resume x l m o s) r p = rw p
+
+module _ (n s : ℕ) (ns : List ℕ) (store : List Float) where
+  -- a refused call of the C surface leaves the store, and writes nothing
+  leaves : (r : Request) → passed (called n s ns store r .answer .reply) ≡ false → (called n s ns store r .store ≡ store) × (called n s ns store r .written ≡ [])
+  unfolding hosted hostedFrame hostedTake
+  leaves (ask a) p =
+      let o = desk n s (recordIn ns) store a in
+      let none : o .written ≡ [] = to-none (o .written) (rw p at (buffers n s (recordIn ns) store a)) in
+      (refused-keeps n s (recordIn ns) store a p .1, ap₂ (λ (u v : List Written). u ++ v) none (untold a (o .answer .reply) p))
+  leaves (frame x m o) p =
+      let k = frame-leaves n s (recordIn ns) store x m o p in
+      (ap (λ (g : Given). g .store) k, ap (λ (g : Given). telling g .written) k ∙ rw p)
+  leaves (take x m o a) p = let k = take-leaves n s (recordIn ns) store x m o a p in (ap (λ (g : Given). g .store) k, ap (λ (g : Given). g .written) k)
+
+  gave-nothing : (c : Call) → passed (replyTo n s ns store c) ≡ false → gaveOf s (every n s ns store c) ≡ bare (recordIn ns) (get (shareOf s) store)
+  gave-nothing (one r) p = let k = leaves r p in rw (p, k .0, k .1)
+  gave-nothing (feed b model cleaned entries answers) p =
+      let k = feed-leaves n s (recordIn ns) store b model cleaned entries answers p in
+      ap (λ (o : Fed). gaveOf s (ofBytes ns o)) k ∙ rw p
+
+-- samples that a bench's feed says, behind those that wait
+pub record Says (b : Record) (xs samples : List Float) (model : List ℕ) (told : List frames.Told) : Type 0 where
+  pub same : said b xs samples model told .told ≡ told
+  pub count : length told ≡ completes (b .waiting) (length samples)
+  pub waits : b .waiting ≤ 479
+  pub some : 1 ≤ length samples
+
+module _ (n s : ℕ) (inside : s < n) (ns : List ℕ) (store : List Float) (l : length store ≡ n * SHARE) (b : Block) (model : List ℕ) (cleaned entries answers : ℕ) where
+  abbrev rec : Record
+  rec = recordIn ns
+
+  abbrev share : List Float
+  share = get (shareOf s) store
+
+  abbrev taken : Given
+  taken = whole.take n s rec store (samplesOf b) model ROOM answers
+
+  -- where it is done, it is what comes of its take
+  fed-is : passed (feeding.feed n s rec store b model cleaned entries answers .answer .reply) ≡ true
+      → (feeding.feed n s rec store b model cleaned entries answers ≡ fedBy (rec .frame) taken)
+      × (passed (takeReply n s rec store (samplesOf b) model ROOM answers) ≡ true)
+  unfolding feeding.feed
+  fed-is =
+      by-rows (λ r. unfed rec store (Refused r)) (fedBy (rec .frame) taken)
+      (λ (o : Fed). passed (o .answer .reply) ≡ true → (o ≡ fedBy (rec .frame) taken) × (passed (takeReply n s rec store (samplesOf b) model ROOM answers) ≡ true))
+      (feedRows (gate n s rec (length store) PIECE) (rec .waiting) (sizeOf b) cleaned entries answers) (λ _ p. absurd (false≢true p))
+      (λ _ p. (
+        refl,
+        take-by n s (samplesOf b) model rec store ROOM answers
+            (λ (o : Given). passed (o .answer .reply) ≡ true → passed (takeReply n s rec store (samplesOf b) model ROOM answers) ≡ true) (λ q _. q) (λ _ q. q) p,
+      ))
+
+  gave-said : passed (feeding.feed n s rec store b model cleaned entries answers .answer .reply) ≡ true
+      → (told : List frames.Told) × Says rec share (samplesOf b) model told
+      × (gaveOf s (every n s ns store (feed b model cleaned entries answers)) ≡ hasSaid rec share (samplesOf b) model told)
+  unfolding recordIn
+  gave-said p =
+      let f = fed-is p in
+      let t = as-dictated n s rec store (samplesOf b) model ROOM answers (f .1) in
+      let told = t .0 in
+      let d = said rec share (samplesOf b) model told in
+      let sizes = fits-sizes (rec .waiting) (length (samplesOf b)) ROOM 22 (take-accepted n s rec store (samplesOf b) model ROOM answers (f .1) .fits) in
+      let full : length share ≡ SHARE = length-get (shareOf s) store (omega arith) in
+      let back : get (shareOf s) (put (shareOf s) store (d .store)) ≡ d .store =
+      get-put (shareOf s) store (d .store) (omega arith)
+      (share-size rec share (waitingIn (rec .waiting) share ++ samplesOf b) (map (lentTo model) told) full) in (
+        told,
+        record { same = t .1 .2; count = t .1 .0; waits = sizes .0; some = sizes .1 },
+        ap (λ (o : Fed). gaveOf s (ofBytes ns o)) (f .0) ∙ ap (λ (g : Given). gaveOf s (ofBytes ns (fedBy (rec .frame) g))) (t .1 .3) ∙ rw (f .1, back),
+      )
+
+-- ---- calls that are done, one after the other
+
+-- what a bench has of one call and of those that follow
+abbrev pub ahead : Has → Has → Has
+ahead h k =
+    record {
+      rec = k .rec;
+      share = k .share;
+      cleaned = h .cleaned ++ k .cleaned;
+      entries = h .entries ++ k .entries;
+      answers = h .answers ++ k .answers;
+    }
+
+-- from a record and a share, it has this of feeds; of other calls nothing is said
+unfoldable pub Comes : List Call → Record → List Float → Has → Type 0
+Comes [] b xs h = h ≡ bare b xs
+Comes (one r ∷ more) b xs h = Unit
+Comes (feed k model c e a ∷ more) b xs h =
+    (told : List frames.Told) × (rest : Has) × Says b xs (samplesOf k) model told
+    × (let d = said b xs (samplesOf k) model told in Comes more (d .rec) (d .store) rest) × (h ≡ ahead (hasSaid b xs (samplesOf k) model told) rest)
+
+-- any number of calls of another side
+module _ (n side : ℕ) where
+  others : (asks : List Ask) (st : desks.State) → length (st .store) ≡ n * SHARE
+      → let end = desks.ended n st (map (callOn side) asks) in
+      (length (end .store) ≡ n * SHARE) × ((s : ℕ) → (side ≡ s → ⊥) → get (shareOf s) (end .store) ≡ get (shareOf s) (st .store))
+  unfolding desks.ended
+  others [] st l = (l, λ _ _. refl)
+  others (a ∷ more) st l =
+      let k = others more (desks.after n st (callOn side a)) (same-length n side (st .rec side) (st .store) a l ∙ l) in
+      (k .0, λ s ne. k .1 s ne ∙ other-share n side (st .rec side) (st .store) a l s ne)
+
+  beside : (c : Call) (st : State) → length (st .store) ≡ n * SHARE
+      → let next = after every n st (on side c) in
+      (length (next .store) ≡ n * SHARE) × ((s : ℕ) → (side ≡ s → ⊥) → get (shareOf s) (next .store) ≡ get (shareOf s) (st .store))
+  beside c st l =
+      let m = made n st side c in
+      let k = others (asksIn n side (recordIn (st .numbers side)) (st .store) c) (inDesk st) l in
+      (ap (λ (t : desks.State). length (t .store)) m ∙ k .0, λ s ne. ap (λ (t : desks.State). get (shareOf s) (t .store)) m ∙ k .1 s ne)
+
+module _ (n s : ℕ) (inside : s < n) where
+  abbrev Runs : List (On Call) → State → Type 0
+  Runs cs st = (b : Record) (xs : List Float) → recordIn (st .numbers s) ≡ b → get (shareOf s) (st .store) ≡ xs → Comes (doneIn n s st cs) b xs (hasOf n s st cs)
+
+  -- a call of its own, and those that follow
+  module _ (c : Call) (cs : List (On Call)) (st : State) where
+    abbrev next : State
+    next = after every n st (on s c)
+
+    abbrev reply : Reply
+    reply = replyTo n s (st .numbers s) (st .store) c
+
+    abbrev gave : Gives Told
+    gave = every n s (st .numbers s) (st .store) c
+
+    numbers-are : after every n st (on s c) .numbers s ≡ every n s (st .numbers s) (st .store) c .returned .numbers
+    numbers-are = rw (eq-eqb s s refl)
+
+    done-are : doneIn n s st (on s c ∷ cs) ≡ cond (passed (replyTo n s (st .numbers s) (st .store) c)) (c ∷ doneIn n s next cs) (doneIn n s next cs)
+    unfolding doneIn
+    done-are = rw (eq-eqb s s refl)
+
+    has-are : hasOf n s st (on s c ∷ cs) ≡ ahead (gaveOf s gave) (hasOf n s next cs)
+    unfolding received ended
+    has-are = rw (eq-eqb s s refl)
+
+  own-done : (c : Call) (rest : List Call) (h : Has) (ns : List ℕ) (store : List Float) → length store ≡ n * SHARE → passed (replyTo n s ns store c) ≡ true
+      → ((b : Record) (xs : List Float) → gaveOf s (every n s ns store c) .rec ≡ b → gaveOf s (every n s ns store c) .share ≡ xs → Comes rest b xs h)
+      → Comes (c ∷ rest) (recordIn ns) (get (shareOf s) store) (ahead (gaveOf s (every n s ns store c)) h)
+  unfolding Comes
+  own-done (one r) rest h ns store l p ih = tt
+  own-done (feed k model cleaned entries answers) rest h ns store l p ih =
+      let t = gave-said n s inside ns store l k model cleaned entries answers p in
+      (t .0, h, t .1, ih _ _ (ap (λ (x : Has). x .rec) (t .2)) (ap (λ (x : Has). x .share) (t .2)), ap (λ (x : Has). ahead x h) (t .2))
+
+  own-call : (c : Call) (cs : List (On Call)) (st : State) → length (st .store) ≡ n * SHARE → Runs cs (after every n st (on s c)) → Runs (on s c ∷ cs) st
+  own-call c cs st l ih b xs e f = rw (← e, ← f, done-are c cs st, has-are c cs st) (go (passed (reply c cs st)) refl)
+    where
+      rest : List Call
+      rest = doneIn n s (next c cs st) cs
+
+      h : Has
+      h = hasOf n s (next c cs st) cs
+
+      mine : recordIn (next c cs st .numbers s) ≡ recordIn (gave c cs st .returned .numbers)
+      mine = ap recordIn (numbers-are c cs st)
+
+      go : (t : Bool) → passed (reply c cs st) ≡ t
+          → Comes (cond t (c ∷ rest) rest) (recordIn (st .numbers s)) (get (shareOf s) (st .store)) (ahead (gaveOf s (gave c cs st)) h)
+      go true p = own-done c rest h (st .numbers s) (st .store) l p (λ b′ xs′ e′ f′. ih b′ xs′ (mine ∙ e′) f′)
+      go false p =
+          let k = gave-nothing n s (st .numbers s) (st .store) c p in
+          subst (λ (x : Has). Comes rest (recordIn (st .numbers s)) (get (shareOf s) (st .store)) (ahead x h)) (sym k)
+          (ih (recordIn (st .numbers s)) (get (shareOf s) (st .store)) (mine ∙ ap (λ (x : Has). x .rec) k) (ap (λ (x : Has). x .share) k))
+
+  other-call : (side : ℕ) → eqb side s ≡ false → (c : Call) (cs : List (On Call)) (st : State) → length (st .store) ≡ n * SHARE
+      → Runs cs (after every n st (on side c)) → Runs (on side c ∷ cs) st
+  unfolding doneIn received ended
+  other-call side t c cs st l ih b xs e f = rw t (ih b xs (rw t e) (beside n side c st l .1 s (eqb-false side s t) ∙ f))
+
+  pub lone-run : (cs : List (On Call)) (st : State) → length (st .store) ≡ n * SHARE → Runs cs st
+  unfolding doneIn received ended Comes
+  lone-run [] st l = λ b xs e f. ap₂ bare e f
+  lone-run (c ∷ cs) st l =
+      go (eqb (c .side) s) refl (lone-run cs (after every n st c) (beside n (c .side) (c .call) st l .0))
+    where
+      go : (t : Bool) → eqb (c .side) s ≡ t → Runs cs (after every n st (on (c .side) (c .call))) → Runs (on (c .side) (c .call) ∷ cs) st
+      go true t =
+          subst (λ (k : ℕ). Runs cs (after every n st (on k (c .call))) → Runs (on k (c .call) ∷ cs) st) (sym (eqb-true (c .side) s t)) (own-call (c .call) cs st l)
+      go false t = other-call (c .side) t (c .call) cs st l

@@ -1,0 +1,152 @@
+-- A stream of recorded bytes, cut into blocks: what is claimed. The proofs are in proofs/Made.antt and proofs/Cuts.antt.
+--
+-- A feed is a take of its channel's samples. So it is made of calls of the desk, as every other call is, and what holds over any run of these holds with feeds
+-- among them. And where a bench's stream is cut makes no difference: its cleaned bytes, entries and answers in a row, and its record and share at the end, are
+-- those of one dictation of its channel, whatever other benches do in between, and however often a call of its own is refused.
+use Prim.Native.Nat.{ℕ, _*_, _<_}
+use mathlib.Core.Bool.{true, cond, _&&_}
+use mathlib.Core.List.{List, [], _∷_, _++_, map}
+use mathlib.Core.Path.{_≡_}
+use lib.Dec.{eqb}
+use lib.ListN.{length, getD}
+use lib.Ieee.{Float}
+use Rattle.rules.specs.Place.{get}
+use Rattle.rules.specs.Refusals.{refusing}
+use Rattle.rules.specs.Written.{firstIn}
+use Rattle.frame.specs.declared.Reply.{Reply}
+use Rattle.frame.specs.Reply.{passed}
+use Rattle.frame.specs.Share.{SHARE}
+use Rattle.pieces.specs.Pieces.{waitingIn, completes}
+use Rattle.desk.specs.declared.Record.{Record}
+use Rattle.desk.specs.Gate.{BENCHES, PIECE, gate, shareOf}
+use Rattle.desk.specs.Desk.{Ask, opening}
+use Rattle.desk.specs.Surface.{recordIn}
+use Rattle.whole.specs.Taking.{lentTo, answersOf}
+use Rattle.whole.specs.Taking as frames
+use Rattle.dictation.specs.Dictation.{Dictated, dictate}
+use Rattle.isolation.specs.Run.{openingOf}
+use Rattle.isolation.specs.Run as desks
+use Rattle.isolation.specs.Isolation.{Returned, On, State, on, after, ended, received}
+use Rattle.surface.specs.Surface.{ask, take, called}
+use Rattle.surface.specs.Mixed.{inDesk, madeOf, Expands, Opened, Mixed}
+use Rattle.pcm.specs.Pcm.{packed}
+use Rattle.feed.specs.Feed.{blockOf, ROOM, sizeOf, samplesOf, feedRows, entriesOf}
+use Rattle.feed.specs.Feed as feeding
+use Rattle.benches.specs.Benches.{Call, one, feed, Told, every, SameChannel}
+
+-- ---- a feed is made of the desk's calls
+
+-- those of its take; where a row refuses it, none
+abbrev pub asksIn : ℕ → ℕ → Record → List Float → Call → List Ask
+asksIn n side rec store (one r) = madeOf n side rec store r
+asksIn n side rec store (feed b model cleaned entries answers) =
+    refusing (feedRows (gate n side rec (length store) PIECE) (rec .waiting) (sizeOf b) cleaned entries answers) (λ _. [])
+    (madeOf n side rec store (take (samplesOf b) model ROOM answers))
+
+-- so numbering, memory and fading are over runs with feeds among them, as the box has it
+abbrev pub OurFeeds : Type 0
+OurFeeds =
+    Expands every asksIn BENCHES × Mixed every asksIn BENCHES
+    × ((s : ℕ) (st : State) (model : List ℕ) → length (st .store) ≡ BENCHES * SHARE
+    → passed (desks.given BENCHES (inDesk st) (openingOf s model) .answer .reply) ≡ true
+    → Opened every asksIn BENCHES s (after every BENCHES st (on s (one (ask (opening model))))))
+
+-- ---- what a bench has of a run
+
+-- its record and its share at the end, and in a row what its feeds gave it
+pub record Has : Type 0 where
+  pub rec : Record
+  pub share : List Float
+  pub cleaned : List ℕ
+  pub entries : List ℕ
+  pub answers : List Float
+
+-- what was written to each of a feed's three buffers, call after call
+abbrev pub cleanedIn : List (Returned Told) → List ℕ
+cleanedIn [] = []
+cleanedIn (r ∷ rs) = getD (r .told .1) 0 [] ++ cleanedIn rs
+
+abbrev pub entriesIn : List (Returned Told) → List ℕ
+entriesIn [] = []
+entriesIn (r ∷ rs) = getD (r .told .1) 1 [] ++ entriesIn rs
+
+abbrev pub answersIn : List (Returned Told) → List Float
+answersIn [] = []
+answersIn (r ∷ rs) = firstIn (r .told .0) ++ answersIn rs
+
+abbrev pub hasOf : ℕ → ℕ → State → List (On Call) → Has
+hasOf n s st calls =
+    let end = ended every n st calls in
+    let got = received every n s st calls in
+    record {
+      rec = recordIn (end .numbers s);
+      share = get (shareOf s) (end .store);
+      cleaned = cleanedIn got;
+      entries = entriesIn got;
+      answers = answersIn got;
+    }
+
+-- ---- and what a dictation gives
+
+-- the samples stand behind those that wait, and each frame is lent our logarithms of its sums, and the one model; `told` has what is told of each
+abbrev pub said : Record → List Float → List Float → List ℕ → List frames.Told → Dictated
+said rec share samples model told = dictate rec share (waitingIn (rec .waiting) share ++ samples) (map (lentTo model) told)
+
+abbrev pub hasSaid : Record → List Float → List Float → List ℕ → List frames.Told → Has
+hasSaid rec share samples model told =
+    let d = said rec share samples model told in
+    record {
+      rec = d .rec;
+      share = d .store;
+      cleaned = packed (d .out);
+      entries = entriesOf (rec .frame) (answersOf told);
+      answers = answersOf told;
+    }
+
+-- ---- the law of cutting, for bytes
+
+-- what a call is answered
+abbrev pub replyTo : ℕ → ℕ → List ℕ → List Float → Call → Reply
+replyTo n side ns store (one r) = called n side ns store r .answer .reply
+replyTo n side ns store (feed b model cleaned entries answers) =
+    feeding.feed n side (recordIn ns) store b model cleaned entries answers .answer .reply
+
+-- side s's calls that are done in a run, in order
+unfoldable pub doneIn : ℕ → ℕ → State → List (On Call) → List Call
+doneIn n s st [] = []
+doneIn n s st (c ∷ cs) =
+    let rest = doneIn n s (after every n st c) cs in
+    cond (eqb (c .side) s && passed (replyTo n (c .side) (st .numbers (c .side)) (st .store) (c .call))) (c .call ∷ rest) rest
+
+-- feeds with one model, of blocks of one shape that have these bytes in a row
+pub data Feeds (format channels channel : ℕ) (model : List ℕ) : List Call → List ℕ → Type 0 where
+  lastBlock : (bytes : List ℕ) (c e a : ℕ) → Feeds format channels channel model (feed (blockOf bytes format channels channel) model c e a ∷ []) bytes
+  moreBlocks : (bytes : List ℕ) (c e a : ℕ) {calls : List Call} {rest : List ℕ} → Feeds format channels channel model calls rest
+      → Feeds format channels channel model (feed (blockOf bytes format channels channel) model c e a ∷ calls) (bytes ++ rest)
+
+-- in this run of n benches the calls of bench s that are done are such; at the start its frame number has 32 bits
+pub record Streams (n s : ℕ) (st : State) (calls : List (On Call)) (format channels channel : ℕ) (model bytes : List ℕ) : Type 0 where
+  pub inside : s < n
+  pub sized : length (st .store) ≡ n * SHARE
+  pub numbered : recordIn (st .numbers s) .frame < 4294967296
+  pub fed : Feeds format channels channel model (doneIn n s st calls) bytes
+
+-- then it has what one dictation of all its samples gives, in as many frames as they complete; the entries count on from its frame number
+abbrev pub BytesInARow : Type 0
+BytesInARow =
+    (n s : ℕ) (st : State) (calls : List (On Call)) (format channels channel : ℕ) (model bytes : List ℕ)
+    → Streams n s st calls format channels channel model bytes
+    → let b = recordIn (st .numbers s) in
+    let share = get (shareOf s) (st .store) in
+    let samples = samplesOf (blockOf bytes format channels channel) in
+    (told : List frames.Told) × (said b share samples model told .told ≡ told) × (length told ≡ completes (b .waiting) (length samples))
+    × (hasOf n s st calls ≡ hasSaid b share samples model told)
+
+-- so two runs in which a bench begins with the same record and share, and is fed streams that agree in its channel, each cut in its own way, give it the same
+abbrev pub HoweverCut : Type 0
+HoweverCut =
+    (n s : ℕ) (st st′ : State) (calls calls′ : List (On Call)) (format channels channel : ℕ) (model bytes bytes′ : List ℕ)
+    → Streams n s st calls format channels channel model bytes → Streams n s st′ calls′ format channels channel model bytes′
+    → SameChannel (blockOf bytes format channels channel) (blockOf bytes′ format channels channel)
+    → st .numbers s ≡ st′ .numbers s → get (shareOf s) (st .store) ≡ get (shareOf s) (st′ .store)
+    → hasOf n s st calls ≡ hasOf n s st′ calls′
