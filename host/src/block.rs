@@ -1,9 +1,9 @@
-//! Recorded bytes on their way to the library, which takes a bench's channel of them as it is. This program looks at their samples to draw and to measure, and
-//! has the library unpack them for that.
+//! Recorded bytes on their way to the library, which takes a bench's channel of them as it is. This program looks at
+//! their samples to draw and to measure, and has the library unpack them for that.
 
 use std::rc::Rc;
 
-/// How samples stand in bytes: a format is named by its bits, as the library has it, and so many channels come by turns.
+/// How samples stand in bytes: a format, by its bits as the library has it, and so many channels by turns.
 #[derive(Clone, Copy, Debug, PartialEq)]
 pub struct Layout {
     pub format: u32,
@@ -27,14 +27,14 @@ impl Layout {
         assert_eq!(tuppence::unpack(&mut samples, bytes, self.format, self.channels, channel), 0, "whole samples");
         samples
     }
+}
 
-    /// Whether a sample lies beyond what the library takes: there it is clipped. (None of 16 bits does.)
-    fn is_beyond(self, sample: &[u8]) -> bool {
-        match *sample {
-            [a, b, c] => i32::from_le_bytes([0, a, b, c]) > 0x7FFF_0000,
-            [a, b, c, d] => !(-1.0..=32_767.0 / 32_768.0).contains(&f32::from_le_bytes([a, b, c, d])),
-            _ => false,
-        }
+/// Whether a sample lies beyond what the library takes, which clips it there. (None of 16 bits does.)
+fn is_beyond(sample: &[u8]) -> bool {
+    match *sample {
+        [a, b, c] => i32::from_le_bytes([0, a, b, c]) > 0x7FFF_0000,
+        [a, b, c, d] => !(-1.0..=32_767.0 / 32_768.0).contains(&f32::from_le_bytes([a, b, c, d])),
+        _ => false,
     }
 }
 
@@ -45,7 +45,8 @@ pub fn packed(samples: &[f32]) -> Vec<u8> {
     bytes
 }
 
-/// A block of a recording as it was read, and which of its channels is a bench's own: two benches in one recording have the same bytes.
+/// A block of a recording as it was read, and which of its channels is a bench's own: two benches in one recording have
+/// the same bytes.
 #[derive(Clone, Debug)]
 pub struct Block {
     bytes: Rc<[u8]>,
@@ -105,7 +106,7 @@ impl Block {
     pub fn clipped(&self) -> u64 {
         let (size, width) = (self.layout.size(), self.layout.format as usize / 8);
         let own = self.bytes().chunks_exact(size).map(|all| &all[width * self.channel as usize..][..width]);
-        own.filter(|sample| self.layout.is_beyond(sample)).count() as u64
+        own.filter(|sample| is_beyond(sample)).count() as u64
     }
 }
 

@@ -1,4 +1,5 @@
-//! WAV files: 16-bit or 24-bit PCM or f32 in, 16-bit PCM out, both block by block, as bytes: which samples these are is the library's.
+//! WAV files: 16-bit or 24-bit PCM or f32 in, 16-bit PCM out, both block by block, as bytes: which samples these are is
+//! the library's.
 
 use crate::block::{packed, Block, Layout};
 use std::fmt;
@@ -253,7 +254,7 @@ impl<R: Read> Reader<R> {
         Ok(more)
     }
 
-    /// What comes next, at most so many samples of each channel, and whole ones, as soon as there is any; none at the end.
+    /// What comes next, whole samples of each channel and at most so many, as soon as there is any; none at the end.
     pub fn block(&mut self, most: usize) -> io::Result<Vec<u8>> {
         let one = self.layout().size();
         let mut bytes = std::mem::take(&mut self.carried);
@@ -341,7 +342,8 @@ pub fn said(head: &[u8; HEAD], rate: u32) -> Option<u32> {
     (size != UNKNOWN && head[..] == header(rate, size)).then_some(size)
 }
 
-/// One channel as 16-bit PCM, written as it comes. Until its end is known the header says that the audio goes on to the end of the file.
+/// One channel as 16-bit PCM, written as it comes. Until its end is known the header says that the audio goes on to the
+/// end of the file.
 pub struct Writer<W: Write + Seek> {
     to: W,
     rate: u32,

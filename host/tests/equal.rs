@@ -58,17 +58,13 @@ fn in_four_calls(recordings: [&[f32]; 2], model: &[u8]) -> [Received; 2] {
 }
 
 fn both_agree(left: &[f32], right: &[f32], model: &[u8]) {
-    let cleaned = in_memory([left, right], model, Way::Text).unwrap();
-    for ((bench, (output, frames)), before) in
-        cleaned.iter().zip(in_four_calls([left, right], model)).zip([left, right])
-    {
-        let (wanted, voices) = by_the_text(before, model);
-        let name = bench.side.name();
+    let received = in_four_calls([left, right], model);
+    for ((side, before), (output, frames)) in Side::BOTH.into_iter().zip([left, right]).zip(received) {
+        let ((wanted, voices), name) = (by_the_text(before, model), side.name());
         assert_eq!((output.len(), frames.len()), (FRAME * voices.len(), voices.len()));
         // what comes out of a frame belongs to the one before it
-        let output = output.get(FRAME..FRAME + before.len()).unwrap_or_default();
-        for (i, (a, b)) in output.iter().zip(&wanted).enumerate() {
-            assert!(alike(*a, *b), "{name}, sample {i}: {a} and {b}");
+        for (i, (a, b)) in output.iter().skip(FRAME).zip(wanted).enumerate() {
+            assert!(alike(*a, b), "{name}, sample {i}: {a} and {b}");
         }
         for (i, (frame, voice)) in frames.iter().zip(voices).enumerate() {
             assert_eq!(frame.number() as usize, i);
@@ -78,16 +74,24 @@ fn both_agree(left: &[f32], right: &[f32], model: &[u8]) {
             };
             assert!(alike(ours, voice), "{name}, frame {i}: voice {ours} and {voice}");
         }
-        // the box writes the same, rounded
-        assert!(bench.before == before && bench.frames == frames, "{name}");
-        let rounded: Vec<f32> = wanted.iter().map(|x| x.round().clamp(-32_768.0, 32_767.0)).collect();
-        assert!(bench.after == rounded, "{name}");
+    }
+}
+
+/// What the box writes is the same, rounded to 16 bits.
+fn both_are_written(left: &[f32], right: &[f32], model: &[u8]) {
+    for bench in in_memory([left, right], model, Way::Text).unwrap() {
+        assert_eq!(bench.before, if bench.side == Side::Left { left } else { right });
+        let (output, voices) = by_the_text(&bench.before, model);
+        let rounded: Vec<f32> = output.iter().map(|x| x.round().clamp(-32_768.0, 32_767.0)).collect();
+        assert!(bench.after == rounded && bench.frames.len() == voices.len(), "{}", bench.side.name());
     }
 }
 
 #[test]
 fn the_demo() {
-    both_agree(&dictation(0).noisy, &dictation(1).noisy, HOUSE);
+    let [left, right] = [0, 1].map(|bench| dictation(bench).noisy);
+    both_agree(&left, &right, HOUSE);
+    both_are_written(&left, &right, HOUSE);
 }
 
 #[test]
@@ -100,6 +104,7 @@ fn recordings_of_odd_lengths() {
     let sound = dictation(0).noisy;
     for n in [0, 1, 479, 480, 481, 5_000] {
         both_agree(&sound[..n], &sound[7_000..7_000 + 2 * n], &models::model());
+        both_are_written(&sound[..n], &sound[7_000..7_000 + 2 * n], &models::model());
     }
 }
 

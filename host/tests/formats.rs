@@ -1,5 +1,6 @@
-//! What the box writes of a recording of each format, held against fixed checksums: they were taken when it still made samples of bytes, and bytes of
-//! samples, by itself.
+//! What the box writes of a recording of each format, held against fixed checksums: they were taken when it still made
+//! samples of bytes, and bytes of samples, by itself. Where the library's own numbers move, they are to be taken anew;
+//! tests/bytes.rs goes along by itself.
 
 mod common;
 
@@ -138,7 +139,6 @@ fn streamed(path: &Path, format: Format, extensible: bool, sounds: &[Vec<i32>; 2
 const LENGTHS: [usize; 2] = [40_011, 33_007];
 const EVEN: [usize; 2] = [40_011; 2];
 
-/// A test of its own for each way in.
 fn same(name: &str, given: &[[u64; 3]], kept: &[[u64; 3]]) {
     assert!(given == kept, "{name}: {given:#018X?}");
 }
@@ -267,4 +267,21 @@ fn a_broken_sample() {
         &[after(&path, ended, 2, why)],
         &[[0x44DF_644E_579C_7CAD, 0x13C5_6B4E_EFB9_AABD, 0x7CBF_A30B_E7F9_9985]],
     );
+}
+
+/// Whatever bytes the right channel has, numbers or not, the left recording is the same.
+#[test]
+fn another_right_channel() {
+    let (path, sounds, mut rng) = (folder("formats-right"), both(EVEN), Rng(0x5EED_0035));
+    let mut audio = Float.stereo(&sounds);
+    let mut left = || {
+        let ended = fed(clean(&path, &["-", "--out", "out", "--force"]), &wav(Float, 2, false, &audio));
+        audio.chunks_exact_mut(8).for_each(|both| both[4..].copy_from_slice(&(rng.next() as u32).to_le_bytes()));
+        (ended.status, recorded(&path.join("out/left.wav")))
+    };
+    let (status, kept) = left();
+    assert_eq!(status, Some(0));
+    for _ in 0..4 {
+        assert_eq!(left(), (Some(2), kept));
+    }
 }
