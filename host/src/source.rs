@@ -118,7 +118,7 @@ impl Recording {
         Ok(())
     }
 
-    /// The next bytes, from this sample of each channel on.
+    /// The next bytes, and from which sample of each channel on they are.
     fn bytes(&mut self) -> (Rc<[u8]>, u64) {
         let at = self.reader.given;
         let bytes = if self.fault.is_some() { Ok(vec![]) } else { self.reader.block(PIECE) };
@@ -129,7 +129,7 @@ impl Recording {
         (bytes.into(), at)
     }
 
-    /// One of these channels of the next bytes, as far as it is not broken.
+    /// A channel of these bytes, as far as it is not broken.
     fn channel(&mut self, (bytes, at): &(Rc<[u8]>, u64), channel: usize) -> Block {
         let mut block = Block::new(bytes.clone(), self.reader.layout(), channel as u32);
         let broken = &mut self.broken[channel];
@@ -139,6 +139,18 @@ impl Recording {
         }
         self.clipped += block.clipped();
         block
+    }
+
+    /// The next block of one channel.
+    fn mono(&mut self) -> Block {
+        let bytes = self.bytes();
+        self.channel(&bytes, 0)
+    }
+
+    /// The next block of two channels, of which each bench has its own.
+    fn stereo(&mut self) -> [Block; 2] {
+        let bytes = self.bytes();
+        Side::BOTH.map(|side| self.channel(&bytes, side as usize))
     }
 
     /// Tells what was not as it should be, where nothing is lost by it.
@@ -269,14 +281,8 @@ impl Recordings {
 impl Source for Recordings {
     fn next(&mut self) -> [Block; 2] {
         match self {
-            Recordings::Two(both) => both.each_mut().map(|one| {
-                let bytes = one.bytes();
-                one.channel(&bytes, 0)
-            }),
-            Recordings::Stereo(one) => {
-                let bytes = one.bytes();
-                Side::BOTH.map(|side| one.channel(&bytes, side as usize))
-            }
+            Recordings::Two(both) => both.each_mut().map(Recording::mono),
+            Recordings::Stereo(one) => one.stereo(),
         }
     }
 }

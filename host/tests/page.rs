@@ -344,18 +344,20 @@ fn an_empty_recording_says_so() {
     fs::write(path.join("none.wav"), wav::write(48_000, &[])).unwrap();
     fs::write(path.join("some.wav"), wav::write(48_000, &dictation(1).noisy)).unwrap();
     let words = ["clean", "--left", "none.wav", "--right", "some.wav", "--model", "house.rnn", "--out", "out"];
-    assert!(Command::new(env!("CARGO_BIN_EXE_host")).args(words).current_dir(&path).status().unwrap().success());
+    let status = Command::new(env!("CARGO_BIN_EXE_host")).args(words).current_dir(&path).status().unwrap();
+    assert_eq!(status.code(), Some(2));
     let page = fs::read_to_string(path.join("out/index.html")).unwrap();
-    assert_eq!(page.matches("Empty.").count(), 1);
+    let empty = "Broken, and empty.</strong> none.wav: no audio follows its header";
+    assert_eq!(page.matches(empty).count(), 1);
     // no player and no picture of it; its name, its date and its model are there
     let left = page.split("<section").nth(1).unwrap();
-    assert!(left.contains("Empty.") && !left.contains("<audio") && !left.contains("<svg"));
+    assert!(left.contains(empty) && !left.contains("<audio") && !left.contains("<svg"));
     assert_eq!(row(&page, "left", "recording"), "none.wav");
     assert_eq!(left.matches("<th").count(), 3);
     assert!(fs::read_to_string(path.join("out/benches.svg")).unwrap().contains(">empty</text>"));
 }
 
-/// A stream that breaks off: the page says where, and why.
+/// A bench that breaks off: the page says where, and why; the other goes on.
 #[test]
 fn a_broken_recording_says_so() {
     let path = folder("broken");
@@ -368,6 +370,6 @@ fn a_broken_recording_says_so() {
     let _ = host.stdin.take().unwrap().write_all(&file);
     assert_eq!(host.wait().unwrap().code(), Some(2));
     let page = fs::read_to_string(path.join("out/index.html")).unwrap();
-    assert_eq!(page.matches("Broken off after 0:01.").count(), 2);
-    assert!(words(&page).contains("standard input: sample 55000 of channel 0"), "{}", words(&page));
+    assert_eq!(page.matches("Broken off after 0:01.").count(), 1);
+    assert!(words(&page).contains("standard input: left, at 1.15 s: not a finite number"), "{}", words(&page));
 }
