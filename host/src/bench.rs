@@ -1,5 +1,6 @@
 //! `host bench`: how fast the box is, beside the Rust text's `process_frame` with the same transforms.
 
+use crate::block::Block;
 use crate::demo::{grinder, HOUSE};
 use crate::recorder::{Recorder, Side, Spent, Way};
 use crate::reference::Reference;
@@ -16,11 +17,10 @@ fn median(mut times: Vec<Duration>) -> Duration {
 }
 
 /// The time of so many frames of one bench.
-fn frames(recorder: &mut Recorder, samples: &[f32]) -> Duration {
+fn frames<R>(recorder: &mut Recorder, run: impl FnOnce(&mut Recorder, &mut usize) -> Result<(), R>) -> Duration {
     recorder.open(Side::Left, HOUSE).expect("the house model");
     let (start, mut count) = (Instant::now(), 0);
-    recorder.take(Side::Left, samples, HOUSE, |_, _| count += 1).expect("the frames");
-    assert_eq!(count, FRAMES);
+    assert!(run(recorder, &mut count).is_ok() && count == FRAMES, "the frames");
     start.elapsed()
 }
 
@@ -40,9 +40,14 @@ pub fn bench() {
     let mut out = [0.0; FRAME];
     let (mut in_pieces, mut in_calls, mut text) = (Vec::new(), Vec::new(), Vec::new());
     let (mut pieces, mut calls) = (Recorder::new(Way::Own), Recorder::new(Way::Text));
+    let recorded = Block::of(&samples);
     for _ in 0..ROUNDS {
-        in_pieces.push(frames(&mut pieces, &samples));
-        in_calls.push(frames(&mut calls, &samples));
+        in_pieces.push(frames(&mut pieces, |recorder, count| {
+            recorder.feed(Side::Left, &recorded, HOUSE, |_, _| *count += 1)
+        }));
+        in_calls.push(frames(&mut calls, |recorder, count| {
+            recorder.frames(Side::Left, &samples, HOUSE, |_, _| *count += 1)
+        }));
 
         let mut reference = Reference::new(HOUSE).expect("the house model");
         let start = Instant::now();

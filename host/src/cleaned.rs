@@ -100,14 +100,14 @@ impl Summary {
     }
 
     pub fn frame(&mut self, frame: &Frame) {
-        let gap = self.last.is_some_and(|last| is_gap([last, frame.number]));
+        let gap = self.last.is_some_and(|last| is_gap([last, frame.number()]));
         let voice = matches!(frame.heard, Heard::Voice { probability, .. } if probability > LIKELY);
-        self.last = Some(frame.number);
+        self.last = Some(frame.number());
         self.frames += 1;
         self.heard += u64::from(frame.heard.is_heard());
         self.voices += u64::from(voice);
         if voice {
-            self.first_voice.get_or_insert(frame.number);
+            self.first_voice.get_or_insert(frame.number());
         }
         self.gaps += u64::from(gap);
         self.pauses.frame(voice);
@@ -131,8 +131,8 @@ mod tests {
         let mut summary = Summary::of(Side::Left);
         let noise = Heard::Voice { probability: 0.5, energy: 1.0 };
         let voice = Heard::Voice { probability: 0.6, energy: 1.0 };
-        for (number, heard) in [(7, Heard::Silent), (8, noise), (20, voice), (21, Heard::Silent), (23, voice)] {
-            summary.frame(&Frame { number, heard, heard_so_far: 0 });
+        for (entry, heard) in [(7, Heard::Silent), (8, noise), (20, voice), (21, Heard::Silent), (23, voice)] {
+            summary.frame(&Frame { entry, heard, heard_so_far: 0 });
         }
         summary.before(&[1.0; 25_000]);
         summary.before(&[-32_768.0, 32_767.0, 32_766.0]);

@@ -1,6 +1,7 @@
 //! `host demo`: two short dictations over a grinder, cleaned with the house model.
 
 use crate::about::About;
+use crate::block::packed;
 use crate::cleaned::Cleaned;
 use crate::files::{before, Files};
 use crate::pauses::HIGH_PASS;
@@ -177,7 +178,7 @@ fn store([left, right]: &[Cleaned; 2], out: &Path, force: bool) -> Result<(), St
         files.about(bench.side, About::stream(name, "house.rnn".as_ref()));
         files.add(name, &wav::write(RATE, &bench.before))?;
         files.before(bench.side, &bench.before)?;
-        files.after(bench.side, &bench.after)?;
+        files.after(bench.side, &packed(&bench.after))?;
     }
     files.frames(&[left.frames.clone(), right.frames.clone()])?;
     files.keep(Some([&names[0], &names[1]])).map(|_| ())

@@ -2,6 +2,7 @@
 //! All that has come out of a bench is in its files before the next block is read, and on the disk a second later.
 
 use crate::about::About;
+use crate::block::Layout;
 use crate::cleaned::Summary;
 use crate::folder::{told, Folder};
 use crate::place::write_through;
@@ -167,17 +168,17 @@ impl Sink for Files {
         Ok(())
     }
 
-    fn after(&mut self, side: Side, samples: &[f32]) -> Result<(), String> {
+    fn after(&mut self, side: Side, bytes: &[u8]) -> Result<(), String> {
         let bench = &mut self.benches[side as usize];
-        bench.summary.after(samples);
-        bench.audio.write(samples).map_err(|why| told(&bench.place, why))
+        bench.summary.after(&Layout::CLEANED.samples(bytes, 0));
+        bench.audio.write(bytes).map_err(|why| told(&bench.place, why))
     }
 
     fn frames(&mut self, frames: &[Vec<Frame>; 2]) -> Result<(), String> {
         for (bench, frames) in self.benches.iter_mut().zip(frames) {
             for frame in frames {
                 bench.summary.frame(frame);
-                bench.records.push(frame)?;
+                bench.records.push(frame.entry)?;
             }
             bench.records.put()?;
         }

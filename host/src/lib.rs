@@ -16,6 +16,7 @@ macro_rules! warn {
 pub mod about;
 pub mod answer;
 pub mod bench;
+pub mod block;
 pub mod clean;
 pub mod cleaned;
 pub mod colours;

@@ -1,5 +1,6 @@
 //! Both benches over one store: its first two of sixteen.
 
+use crate::block::{packed, Block};
 use crate::refusal::Refusal;
 use crate::transform::{Transform, SPECTRUM, WINDOW};
 use crate::FRAME;
@@ -14,9 +15,11 @@ const SHARE: usize = 6_144;
 const RECORD: usize = 10;
 const FRAMES: usize = 5;
 const HEARD: usize = 6;
-/// The most samples of a piece, and the most frames that it may complete: 479 may wait.
+/// The most samples of a block, and the most frames that it may complete: 479 may wait.
 pub const PIECE: usize = 4_096;
 const COMPLETED: usize = (479 + PIECE) / FRAME;
+/// The bytes of a frame that was cleaned.
+const CLEANED: usize = 2 * FRAME;
 /// `input_mem`, the first numbers of a share: what the lag is searched in.
 const INPUT_MEM: usize = 1_728;
 
@@ -38,7 +41,7 @@ impl Side {
     }
 }
 
-/// How frames are run: in pieces of the recording as it comes, all by the library, so that this program hands samples in and takes samples out;
+/// How frames are run: in blocks of the recording as it comes, all by the library, so that this program hands bytes in and takes bytes out;
 /// or each in four calls, with this program's transforms and logarithms and the lag of the text's own finder, or the library's.
 #[derive(Clone, Copy, Debug, PartialEq)]
 pub enum Way {
@@ -68,13 +71,20 @@ impl Heard {
     }
 }
 
-/// A frame by its number, from 0 at the opening, and what it was.
+/// A frame by its entry in the side sheet, and what it was.
 #[derive(Clone, Copy, Debug, PartialEq)]
 pub struct Frame {
-    pub number: u32,
+    pub entry: u64,
     pub heard: Heard,
     /// How many frames were heard since the opening, this one among them.
     pub heard_so_far: u32,
+}
+
+impl Frame {
+    /// From 0 at the opening.
+    pub fn number(&self) -> u32 {
+        self.entry as u32
+    }
 }
 
 /// Where a frame's time goes.
@@ -87,13 +97,14 @@ pub struct Spent {
     pub logarithms: Duration,
 }
 
-/// The buffers of a frame in four calls, and of a piece, for whichever bench calls.
+/// The buffers of a frame in four calls, and of a block, for whichever bench calls.
 struct Buffers {
     window: [f32; WINDOW],
     spectrum: [f32; SPECTRUM],
     sums: [f32; 22],
     out: [f32; SPECTRUM],
-    completed: [[f32; FRAME]; COMPLETED],
+    cleaned: [[u8; CLEANED]; COMPLETED],
+    entries: [u64; COMPLETED],
     answers: [[f32; 3]; COMPLETED],
 }
 
@@ -129,7 +140,8 @@ impl Recorder {
                 spectrum: [0.0; SPECTRUM],
                 sums: [0.0; 22],
                 out: [0.0; SPECTRUM],
-                completed: [[0.0; FRAME]; COMPLETED],
+                cleaned: [[0; CLEANED]; COMPLETED],
+                entries: [0; COMPLETED],
                 answers: [[0.0; 3]; COMPLETED],
             }),
             spent: Spent::default(),
@@ -137,8 +149,13 @@ impl Recorder {
     }
 }
 
-/// What is given each frame, and its 480 samples.
-type Each<'a> = &'a mut dyn FnMut(Frame, &[f32]);
+/// What is given each frame, and its 480 samples as the library packs them.
+type Each<'a> = &'a mut dyn FnMut(Frame, &[u8]);
+
+/// The entry of a frame that is run in four calls: its number, and 2^32 more where it was heard.
+fn entry(number: u32, heard: Heard) -> u64 {
+    u64::from(number) | u64::from(heard.is_heard()) << 32
+}
 
 fn done(number: u32) -> Result<(), Refusal> {
     if number == 0 {
@@ -166,51 +183,59 @@ impl Recorder {
         Ok(())
     }
 
-    /// So many samples of a bench as there are. `each` is given the frames that they complete, and the 480 samples of each.
-    pub fn take(
+    /// A bench's channel of a block. `each` is given the frames that it completes, and the bytes of each.
+    pub fn feed(
+        &mut self,
+        side: Side,
+        block: &Block,
+        model: &[u8],
+        mut each: impl FnMut(Frame, &[u8]),
+    ) -> Result<(), Refusal> {
+        match self.way {
+            Way::Own => {
+                let most = PIECE * block.layout.size();
+                block.bytes().chunks(most).try_for_each(|bytes| self.block(side, bytes, block, model, &mut each))
+            }
+            _ => self.frames(side, &block.samples(), model, |frame, samples| each(frame, &packed(samples))),
+        }
+    }
+
+    /// These bytes of a block in one call.
+    fn block(&mut self, side: Side, bytes: &[u8], of: &Block, model: &[u8], each: Each) -> Result<(), Refusal> {
+        let Recorder { store, records, buffers: b, spent, .. } = self;
+        let (record, number) = (&mut records[side as usize], side as u32);
+        let (before, mut heard_so_far) = (record[FRAMES], record[HEARD]);
+        let (format, channels, channel) = (of.layout.format, of.layout.channels, of.channel);
+        done(timed(&mut spent.pieces, || {
+            let (out, answers) = (b.cleaned.as_flattened_mut(), b.answers.as_flattened_mut());
+            let entries = &mut b.entries;
+            tuppence::feed(record, store, number, bytes, format, channels, channel, model, out, entries, answers)
+        }))?;
+        let frames = b.cleaned.iter().zip(b.entries).zip(b.answers).take(record[FRAMES].wrapping_sub(before) as usize);
+        for ((bytes, entry), answer) in frames {
+            let heard = Heard::of(answer);
+            heard_so_far = heard_so_far.wrapping_add(u32::from(heard.is_heard()));
+            each(Frame { entry, heard, heard_so_far }, bytes);
+        }
+        Ok(())
+    }
+
+    /// The frames that these samples complete, in four calls each. `each` is given their 480 samples as they come out.
+    pub fn frames(
         &mut self,
         side: Side,
         samples: &[f32],
         model: &[u8],
         mut each: impl FnMut(Frame, &[f32]),
     ) -> Result<(), Refusal> {
-        for piece in samples.chunks(PIECE) {
-            match self.way {
-                Way::Own => self.piece(side, piece, model, &mut each)?,
-                _ => self.frames(side, piece, model, &mut each)?,
-            }
-        }
-        Ok(())
-    }
-
-    /// A piece in one call. Its frames are numbered from those before them, as the record is.
-    fn piece(&mut self, side: Side, piece: &[f32], model: &[u8], each: Each) -> Result<(), Refusal> {
-        let Recorder { store, records, buffers: b, spent, .. } = self;
-        let record = &mut records[side as usize];
-        let (before, mut heard_so_far) = (record[FRAMES], record[HEARD]);
-        done(timed(&mut spent.pieces, || {
-            let (out, answers) = (b.completed.as_flattened_mut(), b.answers.as_flattened_mut());
-            tuppence::take(record, store, side as u32, piece, model, out, answers)
-        }))?;
-        let frames = record[FRAMES].wrapping_sub(before);
-        for (frame, (samples, answer)) in (0..frames).zip(b.completed.iter().zip(&b.answers)) {
-            let heard = Heard::of(*answer);
-            heard_so_far = heard_so_far.wrapping_add(u32::from(heard.is_heard()));
-            each(Frame { number: before.wrapping_add(frame), heard, heard_so_far }, samples);
-        }
-        Ok(())
-    }
-
-    /// The frames that these samples complete, in four calls each.
-    fn frames(&mut self, side: Side, samples: &[f32], model: &[u8], each: Each) -> Result<(), Refusal> {
         let mut waiting = std::mem::take(&mut self.waiting[side as usize]);
         waiting.extend(samples);
         let (frames, rest) = waiting.as_chunks::<FRAME>();
         for samples in frames {
             let (number, mut out) = (self.records[side as usize][FRAMES], [0.0; FRAME]);
-            let answer = self.calls(side, samples, model, &mut out)?;
-            let heard_so_far = self.records[side as usize][HEARD];
-            each(Frame { number, heard: Heard::of(answer), heard_so_far }, &out);
+            let heard = Heard::of(self.calls(side, samples, model, &mut out)?);
+            let (entry, heard_so_far) = (entry(number, heard), self.records[side as usize][HEARD]);
+            each(Frame { entry, heard, heard_so_far }, &out);
         }
         self.waiting[side as usize] = rest.to_vec();
         Ok(())

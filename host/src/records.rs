@@ -1,7 +1,7 @@
 //! The records of a side sheet as they come: they lie in a file of their own until the audio in front of them is at its end.
 
 use crate::folder::told;
-use crate::recorder::{Frame, Side};
+use crate::recorder::Side;
 use crate::refusal::Refusal;
 use crate::seal;
 use std::fs::File;
@@ -35,8 +35,8 @@ impl Records {
         Records { path, file, side: tuppence::side_of(side as u32), entries: Vec::new(), count, sum }
     }
 
-    pub fn push(&mut self, frame: &Frame) -> Result<(), String> {
-        self.entries.push(u64::from(frame.number) | u64::from(frame.heard.is_heard()) << 32);
+    pub fn push(&mut self, entry: u64) -> Result<(), String> {
+        self.entries.push(entry);
         if self.entries.len() == ENTRIES {
             self.put()?;
         }
@@ -86,7 +86,6 @@ pub fn trailer(side: u32, count: u32, sum: u32) -> Vec<u8> {
 #[cfg(test)]
 mod tests {
     use super::*;
-    use crate::recorder::Heard;
 
     /// The sheet in parts is the one that the library writes at once, whatever is left over at the end.
     #[test]
@@ -97,10 +96,9 @@ mod tests {
             let mut records = Records::new(path.clone(), crate::place::new_file(&path).unwrap(), side).unwrap();
             let mut entries = vec![];
             for i in 0..count as u32 {
-                let (number, voice) = (i.wrapping_mul(0x9e37_79b9), i % 3 == 0);
-                let heard = if voice { Heard::Voice { probability: 0.5, energy: 1.0 } } else { Heard::Silent };
-                records.push(&Frame { number, heard, heard_so_far: 0 }).unwrap();
-                entries.push(u64::from(number) | u64::from(voice) << 32);
+                let (number, heard) = (i.wrapping_mul(0x9e37_79b9), i % 3 == 0);
+                entries.push(u64::from(number) | u64::from(heard) << 32);
+                records.push(entries[i as usize]).unwrap();
             }
             let (mut parts, mut whole) = (vec![], vec![0; 8 * count + 16]);
             records.finish(&mut parts).unwrap();

@@ -1,6 +1,7 @@
 //! Both benches over one store, as their recordings come. What is kept in memory is the same for any length, and what
 //! ends one bench leaves the other as it is.
 
+use crate::block::{Block, Layout};
 use crate::cleaned::Cleaned;
 use crate::recorder::{Frame, Recorder, Side, Way};
 use crate::refusal::Refusal;
@@ -9,11 +10,12 @@ use crate::FRAME;
 
 /// What becomes of both recordings, as they are cleaned.
 pub trait Sink {
+    /// What was recorded, to be drawn and measured.
     fn before(&mut self, side: Side, samples: &[f32]) -> Result<(), String>;
     /// The frames of each bench that came of one block each.
     fn frames(&mut self, frames: &[Vec<Frame>; 2]) -> Result<(), String>;
-    /// The samples of these frames, of each bench in turn.
-    fn after(&mut self, side: Side, samples: &[f32]) -> Result<(), String>;
+    /// The bytes of these frames as the library packs them, of each bench in turn.
+    fn after(&mut self, side: Side, bytes: &[u8]) -> Result<(), String>;
 }
 
 impl Sink for [Cleaned; 2] {
@@ -22,8 +24,8 @@ impl Sink for [Cleaned; 2] {
         Ok(())
     }
 
-    fn after(&mut self, side: Side, samples: &[f32]) -> Result<(), String> {
-        self[side as usize].after.extend(samples);
+    fn after(&mut self, side: Side, bytes: &[u8]) -> Result<(), String> {
+        self[side as usize].after.extend(Layout::CLEANED.samples(bytes, 0));
         Ok(())
     }
 
@@ -63,20 +65,20 @@ struct Bench {
 
 impl Bench {
     /// What the recorder is to take: the block, and behind the last one as much silence as fills the frames.
-    fn taken(&mut self, block: Vec<f32>) -> Vec<f32> {
+    fn taken(&mut self, block: Block) -> Block {
         self.taken += block.len() as u64;
         if !block.is_empty() {
             return block;
         }
         self.ended = true;
-        vec![0.0; (frames_of(self.taken) * FRAME as u64 - self.taken) as usize]
+        Block::silence((frames_of(self.taken) * FRAME as u64 - self.taken) as usize)
     }
 
     /// Of what came out, what belongs to the recording: the first frame's output is what came before it.
-    fn given<'a>(&mut self, out: &'a [f32]) -> &'a [f32] {
-        let first = self.given;
-        self.given += out.len() as u64;
-        let within = |place: u64| (place.clamp(first, self.given) - first) as usize;
+    fn given<'a>(&mut self, out: &'a [u8]) -> &'a [u8] {
+        let (first, size) = (self.given, Layout::CLEANED.size());
+        self.given += (out.len() / size) as u64;
+        let within = |place: u64| size * (place.clamp(first, self.given) - first) as usize;
         &out[within(FRAME as u64)..within(FRAME as u64 + self.taken)]
     }
 
@@ -106,13 +108,13 @@ pub fn run(
         let (blocks, mut frames, mut outs) = (source.next(), [vec![], vec![]], [vec![], vec![]]);
         let each = Side::BOTH.into_iter().zip(&mut benches).zip(blocks);
         for ((side, bench), block) in each.filter(|((_, bench), _)| !bench.ended) {
-            to.before(side, &block)?;
+            to.before(side, &block.samples())?;
             let (length, mut out) = (block.len(), Vec::new());
-            let taken = recorder.take(side, &bench.taken(block), models[side as usize], |frame, samples| {
+            let fed = recorder.feed(side, &bench.taken(block), models[side as usize], |frame, bytes| {
                 frames[side as usize].push(frame);
-                out.extend(samples);
+                out.extend(bytes);
             });
-            taken.unwrap_or_else(|refusal| bench.refused(refusal, length));
+            fed.unwrap_or_else(|refusal| bench.refused(refusal, length));
             outs[side as usize] = bench.given(&out).to_vec();
         }
         to.frames(&frames)?;

@@ -1,5 +1,6 @@
-//! Where the samples of both benches come from, block by block.
+//! Where the bytes of both benches come from, block by block.
 
+use crate::block::Block;
 use crate::folder::told;
 use crate::form;
 use crate::recorder::{Side, PIECE};
@@ -11,22 +12,23 @@ use std::fs::File;
 use std::io::{self, Cursor, Read};
 use std::os::fd::AsFd;
 use std::path::{Path, PathBuf};
+use std::rc::Rc;
 
-/// Samples as they come.
+/// Recordings as they come.
 pub trait Source {
-    /// The next samples of each bench; none of one that is at its end, or was broken.
-    fn next(&mut self) -> [Vec<f32>; 2];
+    /// The next block of each bench; one without a sample where it is at its end, or was broken.
+    fn next(&mut self) -> [Block; 2];
 }
 
 /// Samples in memory.
 pub struct Memory<'a>(pub [&'a [f32]; 2]);
 
 impl Source for Memory<'_> {
-    fn next(&mut self) -> [Vec<f32>; 2] {
+    fn next(&mut self) -> [Block; 2] {
         self.0.each_mut().map(|left| {
             let (block, rest) = left.split_at(left.len().min(PIECE));
             *left = rest;
-            block.to_vec()
+            Block::of(block)
         })
     }
 }
@@ -46,11 +48,11 @@ impl<S> Limited<'_, S> {
 }
 
 impl<S: Source> Source for Limited<'_, S> {
-    fn next(&mut self) -> [Vec<f32>; 2] {
+    fn next(&mut self) -> [Block; 2] {
         let mut blocks = self.source.next();
         for ((block, room), cut) in blocks.iter_mut().zip(&mut self.room).zip(&mut self.cut) {
             *cut |= block.len() as u64 > *room;
-            block.truncate(usize::try_from(*room).unwrap_or(usize::MAX));
+            block.truncate(*room);
             *room -= block.len() as u64;
         }
         blocks
@@ -71,6 +73,11 @@ pub struct Recording {
     length: Option<u64>,
     /// Whether its header says, wrongly, that there is no audio.
     unsaid: bool,
+    /// Where a channel has a sample that is NaN or infinite, the first of them, counted from 0. It gives none from
+    /// there on.
+    broken: Vec<Option<u64>>,
+    /// How many samples lay beyond full scale.
+    clipped: u64,
     /// Why it can't be read on.
     fault: Option<io::Error>,
 }
@@ -85,7 +92,8 @@ impl Recording {
             let wanted = if channels == 1 { "one channel is" } else { "two channels are" };
             return Err(told(name, format!("{wanted} wanted; this has {}", reader.channels)));
         }
-        Ok(Recording { name: name.to_owned(), reader, length: None, unsaid: false, fault: None })
+        let broken = vec![None; channels];
+        Ok(Recording { name: name.to_owned(), reader, length: None, unsaid: false, broken, clipped: 0, fault: None })
     }
 
     fn file(path: &Path, channels: usize) -> Result<Recording, String> {
@@ -110,19 +118,44 @@ impl Recording {
         Ok(())
     }
 
-    fn block(&mut self) -> Vec<Vec<f32>> {
-        let block = if self.fault.is_some() { Ok(vec![]) } else { self.reader.block(PIECE) };
-        let mut channels = block.unwrap_or_else(|why| {
+    /// The next bytes, and from which sample of each channel on they are.
+    fn bytes(&mut self) -> (Rc<[u8]>, u64) {
+        let at = self.reader.given;
+        let bytes = if self.fault.is_some() { Ok(vec![]) } else { self.reader.block(PIECE) };
+        let bytes = bytes.unwrap_or_else(|why| {
             self.fault = Some(why);
             vec![]
         });
-        channels.resize(self.reader.channels, vec![]);
-        channels
+        (bytes.into(), at)
+    }
+
+    /// A channel of these bytes, as far as it is not broken.
+    fn channel(&mut self, (bytes, at): &(Rc<[u8]>, u64), channel: usize) -> Block {
+        let mut block = Block::new(bytes.clone(), self.reader.layout(), channel as u32);
+        let broken = &mut self.broken[channel];
+        *broken = broken.or_else(|| Some(at + block.broken()? as u64));
+        if let Some(broken) = *broken {
+            block.truncate(broken.saturating_sub(*at));
+        }
+        self.clipped += block.clipped();
+        block
+    }
+
+    /// The next block of one channel.
+    fn mono(&mut self) -> Block {
+        let bytes = self.bytes();
+        self.channel(&bytes, 0)
+    }
+
+    /// The next block of two channels, of which each bench has its own.
+    fn stereo(&mut self) -> [Block; 2] {
+        let bytes = self.bytes();
+        Side::BOTH.map(|side| self.channel(&bytes, side as usize))
     }
 
     /// Tells what was not as it should be, where nothing is lost by it.
     fn tell(&self) {
-        let clipped = match self.reader.clipped {
+        let clipped = match self.clipped {
             0 => return,
             1 => "1 sample was beyond full scale, and is clipped".into(),
             n => format!("{n} samples were beyond full scale, and are clipped"),
@@ -132,7 +165,7 @@ impl Recording {
 
     /// Why a channel ends before its recording does.
     fn broken(&self, side: Side, channel: usize) -> Option<String> {
-        let at = self.reader.broken[channel]? as f64 / f64::from(RATE);
+        let at = self.broken[channel]? as f64 / f64::from(RATE);
         Some(told(&self.name, format!("{}, at {at:.2} s: not a finite number", side.name())))
     }
 
@@ -246,13 +279,10 @@ impl Recordings {
 }
 
 impl Source for Recordings {
-    fn next(&mut self) -> [Vec<f32>; 2] {
+    fn next(&mut self) -> [Block; 2] {
         match self {
-            Recordings::Two(both) => both.each_mut().map(|one| one.block().remove(0)),
-            Recordings::Stereo(one) => {
-                let mut channels = one.block().into_iter();
-                Side::BOTH.map(|_| channels.next().unwrap_or_default())
-            }
+            Recordings::Two(both) => both.each_mut().map(Recording::mono),
+            Recordings::Stereo(one) => one.stereo(),
         }
     }
 }

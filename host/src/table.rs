@@ -13,7 +13,7 @@ pub fn rows(to: &mut impl Write, frames: &[Vec<Frame>; 2]) -> io::Result<()> {
     for at in 0..most {
         for (side, frames) in Side::BOTH.into_iter().zip(frames) {
             let Some(frame) = frames.get(at) else { continue };
-            write!(to, "{},{},{},", side.name(), frame.number, frame.heard_so_far)?;
+            write!(to, "{},{},{},", side.name(), frame.number(), frame.heard_so_far)?;
             match frame.heard {
                 Heard::Silent => writeln!(to, "silent,,")?,
                 Heard::Voice { probability, energy } => writeln!(to, "heard,{probability},{energy}")?,

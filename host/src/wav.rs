@@ -1,12 +1,10 @@
-//! WAV files: 16-bit or 24-bit PCM or f32 in, 16-bit PCM out, both block by block. A sample is a number from -32768 to 32767, as the library takes it; a
-//! float beyond these, as full scale is, is taken for the nearer of the two.
+//! WAV files: 16-bit or 24-bit PCM or f32 in, 16-bit PCM out, both block by block, as bytes: which samples these are is
+//! the library's.
 
+use crate::block::{packed, Block, Layout};
 use std::fmt;
 use std::io::{self, ErrorKind, Read, Seek, SeekFrom, Write};
-
-/// The ends of what the library takes.
-const LOWEST: f32 = -32_768.0;
-const HIGHEST: f32 = 32_767.0;
+use std::rc::Rc;
 
 /// What a header says of a length that is not known yet.
 const UNKNOWN: u32 = u32::MAX;
@@ -95,15 +93,6 @@ impl Sample {
             Sample::Float => 4,
         }
     }
-
-    fn number(self, b: &[u8]) -> f32 {
-        match self {
-            Sample::Pcm16 => f32::from(i16::from_le_bytes([b[0], b[1]])),
-            // the third byte is a fraction of a sample
-            Sample::Pcm24 => i32::from_le_bytes([0, b[0], b[1], b[2]]) as f32 / 65_536.0,
-            Sample::Float => 32_768.0 * f32::from_le_bytes([b[0], b[1], b[2], b[3]]),
-        }
-    }
 }
 
 /// A recording that is read block by block.
@@ -118,13 +107,8 @@ pub struct Reader<R> {
     carried: Vec<u8>,
     /// How many samples of a channel were read.
     pub given: u64,
-    /// Where a channel has a sample that is NaN or infinite, the first of them, counted from 0. It gives none from
-    /// there on.
-    pub broken: Vec<Option<u64>>,
     /// Whether the end has come.
     pub ended: bool,
-    /// How many samples lay beyond the two ends.
-    pub clipped: u64,
 }
 
 /// What a format's chunk says that matters.
@@ -231,9 +215,13 @@ impl<R: Read> Reader<R> {
     fn of(from: R, Format { rate, channels, sample }: Format, place: [u64; 2]) -> Self {
         // A stream that does not know its length says so, and a recorder that lost power leaves a size that is too large: what is there counts.
         let most = if place[1] == UNKNOWN.into() { u64::MAX } else { place[1] };
-        let broken = vec![None; channels];
-        let (carried, given, ended, clipped) = (Vec::new(), 0, false, 0);
-        Reader { from: from.take(most), rate, channels, sample, place, carried, given, broken, ended, clipped }
+        let (carried, given, ended) = (Vec::new(), 0, false);
+        Reader { from: from.take(most), rate, channels, sample, place, carried, given, ended }
+    }
+
+    /// How its samples stand in its bytes.
+    pub fn layout(&self) -> Layout {
+        Layout { format: 8 * self.sample.size() as u32, channels: self.channels as u32 }
     }
 
     /// How many samples each channel has, in a file of so many bytes of which none of these was read yet.
@@ -266,26 +254,14 @@ impl<R: Read> Reader<R> {
         Ok(more)
     }
 
-    /// What comes next, at most so many samples of each channel, as soon as there is any; none at the end, and none
-    /// of a channel from a broken sample on.
-    pub fn block(&mut self, most: usize) -> io::Result<Vec<Vec<f32>>> {
-        let one = self.sample.size() * self.channels;
+    /// What comes next, whole samples of each channel and at most so many, as soon as there is any; none at the end.
+    pub fn block(&mut self, most: usize) -> io::Result<Vec<u8>> {
+        let one = self.layout().size();
         let mut bytes = std::mem::take(&mut self.carried);
         while bytes.len() < one && self.more(&mut bytes, most * one)? > 0 {}
         self.carried = bytes.split_off(bytes.len() - bytes.len() % one);
-        let mut channels = vec![Vec::with_capacity(bytes.len() / one); self.channels];
-        for (i, b) in bytes.chunks_exact(self.sample.size()).enumerate() {
-            let (channel, number) = (i % self.channels, self.sample.number(b));
-            if !number.is_finite() {
-                self.broken[channel].get_or_insert(self.given + (i / self.channels) as u64);
-            }
-            if self.broken[channel].is_none() {
-                self.clipped += u64::from(!(LOWEST..=HIGHEST).contains(&number));
-                channels[channel].push(number.clamp(LOWEST, HIGHEST));
-            }
-        }
         self.given += (bytes.len() / one) as u64;
-        Ok(channels)
+        Ok(bytes)
     }
 }
 
@@ -320,14 +296,19 @@ pub fn audio_end(from: impl Read) -> Result<u64, Fault> {
 /// A whole file, where no sample is broken.
 pub fn read(bytes: &[u8]) -> Result<Wav, Fault> {
     let mut reader = Reader::new(bytes)?;
-    let mut channels = vec![Vec::new(); reader.channels];
+    let mut audio = Vec::new();
     while !reader.ended {
-        let block = reader.block(BLOCK)?;
-        channels.iter_mut().zip(block).for_each(|(all, more)| all.extend(more));
+        audio.extend(reader.block(BLOCK)?);
     }
-    match (0..).zip(&reader.broken).find_map(|(channel, broken)| broken.map(|sample| (channel, sample))) {
+    let (audio, layout): (Rc<[u8]>, _) = (audio.into(), reader.layout());
+    let channels: Vec<Block> = (0..layout.channels).map(|channel| Block::new(audio.clone(), layout, channel)).collect();
+    match (0..).zip(&channels).find_map(|(channel, block)| Some((channel, block.broken()? as u64))) {
         Some((channel, sample)) => Err(Fault::NotFinite { channel, sample }),
-        None => Ok(Wav { rate: reader.rate, channels, clipped: reader.clipped }),
+        None => Ok(Wav {
+            rate: reader.rate,
+            channels: channels.iter().map(Block::samples).collect(),
+            clipped: channels.iter().map(Block::clipped).sum(),
+        }),
     }
 }
 
@@ -361,8 +342,8 @@ pub fn said(head: &[u8; HEAD], rate: u32) -> Option<u32> {
     (size != UNKNOWN && head[..] == header(rate, size)).then_some(size)
 }
 
-/// One channel as 16-bit PCM, written as it comes: rounded, and kept within its ends; a NaN is 0. Until its end is known the header says that the
-/// audio goes on to the end of the file.
+/// One channel as 16-bit PCM, written as it comes. Until its end is known the header says that the audio goes on to the
+/// end of the file.
 pub struct Writer<W: Write + Seek> {
     to: W,
     rate: u32,
@@ -375,18 +356,16 @@ impl<W: Write + Seek> Writer<W> {
         Ok(Writer { to, rate, size: 0 })
     }
 
-    pub fn write(&mut self, samples: &[f32]) -> io::Result<()> {
-        let more = u32::try_from(2 * samples.len()).ok().and_then(|more| self.size.checked_add(more));
+    pub fn write(&mut self, bytes: &[u8]) -> io::Result<()> {
+        let more = u32::try_from(bytes.len()).ok().and_then(|more| self.size.checked_add(more));
         // the sizes of a WAV file have 32 bits, and that of the whole counts 36 more
         let Some(size) = more.filter(|size| *size < UNKNOWN - 36) else {
             return Err(io::Error::other("a WAV file can't hold more than 12 hours and 25 minutes"));
         };
-        if samples.is_empty() {
+        if bytes.is_empty() {
             return Ok(());
         }
-        let bytes: Vec<u8> =
-            samples.iter().flat_map(|x| (x.round().clamp(LOWEST, HIGHEST) as i16).to_le_bytes()).collect();
-        self.to.write_all(&bytes)?;
+        self.to.write_all(bytes)?;
         self.size = size;
         Ok(())
     }
@@ -412,7 +391,7 @@ impl<W: Write + Seek> Writer<W> {
 /// A whole file of one channel.
 pub fn write(rate: u32, samples: &[f32]) -> Vec<u8> {
     let mut writer = Writer::new(io::Cursor::new(Vec::new()), rate).expect("memory takes it");
-    writer.write(samples).expect("memory takes it");
+    writer.write(&packed(samples)).expect("memory takes it");
     writer.finish().expect("memory takes it").into_inner()
 }
 
@@ -432,7 +411,7 @@ mod tests {
     fn more_than_a_file_can_hold() {
         let mut writer = Writer::new(io::Cursor::new(Vec::new()), 48_000).unwrap();
         writer.size = UNKNOWN - 36 - 5;
-        assert!(writer.write(&[1.0; 3]).is_err() && writer.write(&[1.0; 2]).is_ok() && writer.write(&[1.0]).is_err());
+        assert!(writer.write(&[1; 6]).is_err() && writer.write(&[1; 4]).is_ok() && writer.write(&[1; 2]).is_err());
         let file = writer.finish().unwrap().into_inner();
         assert_eq!((file.len(), &file[4..8]), (44 + 4, &(UNKNOWN - 1).to_le_bytes()[..]));
     }
@@ -441,7 +420,7 @@ mod tests {
     #[test]
     fn a_file_that_was_never_closed() {
         let mut writer = Writer::new(io::Cursor::new(Vec::new()), 48_000).unwrap();
-        writer.write(&[5.0, 6.0]).unwrap();
+        writer.write(&[5, 0, 6, 0]).unwrap();
         assert_eq!(read(&writer.to.into_inner()).unwrap().channels, [[5.0, 6.0]]);
     }
 

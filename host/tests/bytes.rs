@@ -1,6 +1,15 @@
-//! What the box makes of recorded bytes, and of samples, is what the library's `unpack` and `pack` make of them, bit for bit.
+//! What the box makes of recorded bytes, and of samples, is what plain Rust makes of them, bit for bit; and what it
+//! writes of a recording is what comes of these samples, taken by themselves and rounded.
 
-use host::wav;
+mod common;
+
+use common::*;
+use host::demo::{Rng, HOUSE};
+use host::{wav, FRAME};
+use std::fs;
+use std::path::Path;
+
+const ENDS: [f32; 2] = [-32_768.0, 32_767.0];
 
 /// A stereo recording.
 fn recording(tag: u16, bits: u16, audio: &[u8]) -> Vec<u8> {
@@ -16,14 +25,34 @@ fn recording(tag: u16, bits: u16, audio: &[u8]) -> Vec<u8> {
     file
 }
 
-/// Both channels, as the box reads them and as the library unpacks them.
+/// A sample; of 24 bits the lowest byte is a fraction, and a float's full scale is 1.
+fn number(bytes: &[u8]) -> f32 {
+    let number = match *bytes {
+        [a, b] => f32::from(i16::from_le_bytes([a, b])),
+        [a, b, c] => i32::from_le_bytes([0, a, b, c]) as f32 / 65_536.0,
+        [a, b, c, d] => 32_768.0 * f32::from_le_bytes([a, b, c, d]),
+        _ => panic!("no sample has {} bytes", bytes.len()),
+    };
+    number.clamp(ENDS[0], ENDS[1])
+}
+
+/// A channel of two.
+fn channel(bits: u16, audio: &[u8], channel: usize) -> Vec<f32> {
+    audio.chunks_exact(usize::from(bits / 8)).skip(channel).step_by(2).map(number).collect()
+}
+
+fn packed(samples: &[f32]) -> Vec<u8> {
+    samples.iter().flat_map(|x| (x.round().clamp(ENDS[0], ENDS[1]) as i16).to_le_bytes()).collect()
+}
+
+/// Both channels, as the box reads them and in plain Rust.
 fn alike(tag: u16, bits: u16, audio: &[u8]) {
     let read = wav::read(&recording(tag, bits, audio)).expect("it is a recording");
-    for (channel, samples) in (0..).zip(&read.channels) {
-        let mut ours = vec![0.0; samples.len()];
-        assert_eq!(tuppence::unpack(&mut ours, audio, bits.into(), 2, channel), 0);
-        let differs = ours.iter().zip(samples).position(|(a, b)| a.to_bits() != b.to_bits());
-        assert_eq!(differs, None, "{bits} bits, channel {channel}");
+    for (at, samples) in read.channels.iter().enumerate() {
+        let plain = channel(bits, audio, at);
+        assert_eq!(plain.len(), samples.len());
+        let differs = plain.iter().zip(samples).position(|(a, b)| a.to_bits() != b.to_bits());
+        assert_eq!(differs, None, "{bits} bits, channel {at}");
     }
 }
 
@@ -50,8 +79,62 @@ fn samples_that_are_written() {
     let ties = (-33_000..33_000).map(|n| n as f32 + 0.5);
     let beside = ties.flat_map(|x| [-1, 0, 1].map(|d| f32::from_bits(x.to_bits().wrapping_add_signed(d))));
     let samples: Vec<f32> = beside.chain((0..u32::MAX).step_by(1_009).map(f32::from_bits)).collect();
-    let written = wav::write(48_000, &samples);
-    let mut ours = vec![0; 2 * samples.len()];
-    assert_eq!(tuppence::pack(&mut ours, &samples), 0);
-    assert!(written[44..] == ours[..]);
+    assert!(wav::write(48_000, &samples)[44..] == packed(&samples)[..]);
+}
+
+/// A bench by itself, taken in frames: its audio, and the entries of its sheet.
+fn alone(samples: &[f32]) -> (Vec<u8>, Vec<u64>) {
+    let (mut store, mut record, mut audio, mut entries) = (vec![0.0; 98_304], [0; 10], vec![], vec![]);
+    assert_eq!(tuppence::open(&mut record, &mut store, 0, HOUSE), 0);
+    let silence = vec![0.0; FRAME * (samples.len().div_ceil(FRAME) + 1) - samples.len()];
+    for (number, frame) in (0..).zip([samples, &silence].concat().chunks_exact(FRAME)) {
+        let (mut out, mut answer) = ([0.0; FRAME], [0.0; 3]);
+        assert_eq!(tuppence::take(&mut record, &mut store, 0, frame, HOUSE, &mut out, &mut answer), 0);
+        audio.extend(out);
+        entries.push(number + (u64::from(answer[0] != 0.0) << 32));
+    }
+    (packed(&audio[FRAME..FRAME + samples.len()]), entries)
+}
+
+/// The same of a file that the box wrote, with so many bytes of audio, and its side.
+fn written(path: &Path, audio: usize) -> (Vec<u8>, Vec<u64>, u64) {
+    let (file, mut numbers, mut entry) = (fs::read(path).unwrap(), [0; 3], [0]);
+    assert_eq!(tuppence::sheet_read(&mut numbers, &file), 0);
+    let entries = (0..numbers[1]).map(|index| {
+        assert_eq!(tuppence::sheet_entry(&mut entry, &file, index), 0);
+        entry[0]
+    });
+    (file[HEADER..HEADER + audio].to_vec(), entries.collect(), numbers[2])
+}
+
+/// Seeded noise over a buzz, with silence now and then, of both benches in turn.
+fn sound(bits: u16, length: usize) -> Vec<u8> {
+    let mut rng = Rng(35);
+    let sample = |i: usize| {
+        let (noise, buzz) = ([400.0, 9_000.0][i % 2] * rng.number(), 80.0 * (i / 2 % [161, 217][i % 2]) as f64);
+        let sample = if i / 2 % 9_000 > 6_000 { 0.0 } else { noise + buzz - 8_000.0 };
+        match bits {
+            16 => (sample as i16).to_le_bytes().to_vec(),
+            24 => ((256.0 * sample) as i32).to_le_bytes()[..3].to_vec(),
+            _ => (sample as f32 / 32_768.0).to_le_bytes().to_vec(),
+        }
+    };
+    (0..2 * length).flat_map(sample).collect()
+}
+
+/// Each bench's recording is that of its own channel by itself.
+#[test]
+fn a_recording_of_each_format() {
+    let path = folder("bytes");
+    for (tag, bits) in [(1, 16), (1, 24), (3, 32)] {
+        let audio = sound(bits, 20_003);
+        fs::write(path.join("both.wav"), recording(tag, bits, &audio)).unwrap();
+        assert_eq!(run(clean(&path, &["--both", "both.wav", "--out", "out", "--force"])).status, Some(0));
+        for (at, side) in ["left", "right"].into_iter().enumerate() {
+            let (wanted, entries) = alone(&channel(bits, &audio, at));
+            assert!(entries.iter().any(|entry| *entry > u64::from(u32::MAX)), "nothing is heard");
+            let written = written(&path.join(format!("out/{side}.wav")), wanted.len());
+            assert!(written == (wanted, entries, at as u64), "{bits} bits, {side}");
+        }
+    }
 }

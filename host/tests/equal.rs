@@ -3,8 +3,9 @@
 
 mod models;
 
+use host::block::Block;
 use host::demo::{dictation, minutes, HOUSE};
-use host::recorder::{Heard, Recorder, Side, Way, PIECE};
+use host::recorder::{Frame, Heard, Recorder, Side, Way, PIECE};
 use host::reference::Reference;
 use host::run::{frames_of, in_memory};
 use host::FRAME;
@@ -30,17 +31,43 @@ fn alike(a: f32, b: f32) -> bool {
     a == b || (a.is_nan() && b.is_nan())
 }
 
+/// What a bench received in four calls a frame: all that came out, and what each frame was.
+type Received = (Vec<f32>, Vec<Frame>);
+
+/// Both benches as the text has them, a piece of each in turn, and silence behind each.
+fn in_four_calls(recordings: [&[f32]; 2], model: &[u8]) -> [Received; 2] {
+    let (mut recorder, mut received) = (Recorder::new(Way::Text), [const { (vec![], vec![]) }; 2]);
+    let silent = recordings.map(|samples| {
+        let mut samples = samples.to_vec();
+        samples.resize(FRAME * frames_of(samples.len() as u64) as usize, 0.0);
+        samples
+    });
+    Side::BOTH.into_iter().for_each(|side| recorder.open(side, model).unwrap());
+    for at in (0..silent[0].len().max(silent[1].len())).step_by(PIECE) {
+        for (side, samples) in Side::BOTH.into_iter().zip(&silent) {
+            let piece = &samples[at.min(samples.len())..(at + PIECE).min(samples.len())];
+            let (output, frames) = &mut received[side as usize];
+            let each = |frame: Frame, out: &[f32]| {
+                frames.push(frame);
+                output.extend(out);
+            };
+            recorder.frames(side, piece, model, each).unwrap();
+        }
+    }
+    received
+}
+
 fn both_agree(left: &[f32], right: &[f32], model: &[u8]) {
-    for bench in in_memory([left, right], model, Way::Text).unwrap() {
-        assert_eq!(bench.before, if bench.side == Side::Left { left } else { right });
-        let (output, voices) = by_the_text(&bench.before, model);
-        let name = bench.side.name();
-        assert_eq!((bench.after.len(), bench.frames.len()), (output.len(), voices.len()));
-        for (i, (a, b)) in bench.after.iter().zip(output).enumerate() {
+    let received = in_four_calls([left, right], model);
+    for ((side, before), (output, frames)) in Side::BOTH.into_iter().zip([left, right]).zip(received) {
+        let ((wanted, voices), name) = (by_the_text(before, model), side.name());
+        assert_eq!((output.len(), frames.len()), (FRAME * voices.len(), voices.len()));
+        // what comes out of a frame belongs to the one before it
+        for (i, (a, b)) in output.iter().skip(FRAME).zip(wanted).enumerate() {
             assert!(alike(*a, b), "{name}, sample {i}: {a} and {b}");
         }
-        for (i, (frame, voice)) in bench.frames.iter().zip(voices).enumerate() {
-            assert_eq!(frame.number as usize, i);
+        for (i, (frame, voice)) in frames.iter().zip(voices).enumerate() {
+            assert_eq!(frame.number() as usize, i);
             let ours = match frame.heard {
                 Heard::Silent => 0.0,
                 Heard::Voice { probability, .. } => probability,
@@ -50,9 +77,21 @@ fn both_agree(left: &[f32], right: &[f32], model: &[u8]) {
     }
 }
 
+/// What the box writes is the same, rounded to 16 bits.
+fn both_are_written(left: &[f32], right: &[f32], model: &[u8]) {
+    for bench in in_memory([left, right], model, Way::Text).unwrap() {
+        assert_eq!(bench.before, if bench.side == Side::Left { left } else { right });
+        let (output, voices) = by_the_text(&bench.before, model);
+        let rounded: Vec<f32> = output.iter().map(|x| x.round().clamp(-32_768.0, 32_767.0)).collect();
+        assert!(bench.after == rounded && bench.frames.len() == voices.len(), "{}", bench.side.name());
+    }
+}
+
 #[test]
 fn the_demo() {
-    both_agree(&dictation(0).noisy, &dictation(1).noisy, HOUSE);
+    let [left, right] = [0, 1].map(|bench| dictation(bench).noisy);
+    both_agree(&left, &right, HOUSE);
+    both_are_written(&left, &right, HOUSE);
 }
 
 #[test]
@@ -65,21 +104,22 @@ fn recordings_of_odd_lengths() {
     let sound = dictation(0).noisy;
     for n in [0, 1, 479, 480, 481, 5_000] {
         both_agree(&sound[..n], &sound[7_000..7_000 + 2 * n], &models::model());
+        both_are_written(&sound[..n], &sound[7_000..7_000 + 2 * n], &models::model());
     }
 }
 
 /// All that a recorder gives, by pieces of these lengths in turn.
-fn cut(way: Way, samples: &[f32], lengths: &[usize]) -> (Vec<f32>, Vec<(u32, Heard, u32)>) {
+fn cut(way: Way, samples: &[f32], lengths: &[usize]) -> (Vec<u8>, Vec<Frame>) {
     let (mut recorder, mut output, mut frames, mut rest) = (Recorder::new(way), vec![], vec![], samples);
     let model = models::model();
     recorder.open(Side::Right, &model).unwrap();
     for length in lengths.iter().cycle() {
         let (piece, behind) = rest.split_at(rest.len().min(*length));
-        let each = |frame: host::recorder::Frame, out: &[f32]| {
-            frames.push((frame.number, frame.heard, frame.heard_so_far));
+        let each = |frame: Frame, out: &[u8]| {
+            frames.push(frame);
             output.extend(out);
         };
-        recorder.take(Side::Right, piece, &model, each).unwrap();
+        recorder.feed(Side::Right, &Block::of(piece), &model, each).unwrap();
         rest = behind;
         if rest.is_empty() {
             break;
@@ -94,9 +134,9 @@ fn however_it_is_cut() {
     for way in [Way::Own, Way::Text] {
         let whole = cut(way, sound, &[FRAME]);
         assert_eq!(whole.1.len(), 200);
-        let voices = whole.1.iter().map(|(_, heard, _)| match heard {
+        let voices = whole.1.iter().map(|frame| match frame.heard {
             Heard::Silent => 0.0,
-            Heard::Voice { probability, .. } => *probability,
+            Heard::Voice { probability, .. } => probability,
         });
         assert!(voices.clone().fold(0.0, f32::max) > 0.1 + voices.fold(1.0, f32::min), "the voice hardly moves");
         for lengths in [&[1][..], &[479, 2, 1, 960], &[PIECE], &[3 * PIECE + 1, 5], &[sound.len()]] {

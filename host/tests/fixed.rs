@@ -1,5 +1,6 @@
 //! Fixed cases, through the static library and the box.
 
+use host::block::Block;
 use host::demo::HOUSE;
 use host::recorder::{Recorder, Side, Way};
 use host::refusal::Refusal;
@@ -94,11 +95,11 @@ fn pulses() -> Vec<f32> {
 const PARTLY: usize = FRAME + 7;
 
 /// What comes out, with or without an opening after each piece that this model has refused.
-fn disturbed(way: Way, by: Option<&[u8]>) -> Vec<f32> {
+fn disturbed(way: Way, by: Option<&[u8]>) -> Vec<u8> {
     let (mut recorder, mut output) = (Recorder::new(way), Vec::new());
     recorder.open(Side::Left, HOUSE).unwrap();
     for samples in pulses().chunks(PARTLY) {
-        recorder.take(Side::Left, samples, HOUSE, |_, out| output.extend(out)).unwrap();
+        recorder.feed(Side::Left, &Block::of(samples), HOUSE, |_, out| output.extend(out)).unwrap();
         if let Some(model) = by {
             assert_eq!(recorder.open(Side::Left, model), Err(Refusal(7 + 256 * 11)));
         }

@@ -3,6 +3,7 @@
 
 mod models;
 
+use host::block::Block;
 use host::demo::filtered;
 use host::recorder::{Heard, Recorder, Side, Way};
 use host::reference::Reference;
@@ -20,12 +21,12 @@ fn frame(sample: f32) -> [f32; FRAME] {
 fn energy(way: Way, sample: f32) -> Option<f32> {
     let (mut recorder, model, mut found) = (Recorder::new(way), models::model(), None);
     recorder.open(Side::Left, &model).unwrap();
-    let each = |frame: host::recorder::Frame, _: &[f32]| {
+    let each = |frame: host::recorder::Frame, _: &[u8]| {
         if let Heard::Voice { energy, .. } = frame.heard {
             found = Some(energy);
         }
     };
-    recorder.take(Side::Left, &frame(sample), &model, each).unwrap();
+    recorder.feed(Side::Left, &Block::of(&frame(sample)), &model, each).unwrap();
     found
 }
 

@@ -84,7 +84,8 @@ fn benches() -> [Summary; 2] {
         summary.after(&before.iter().map(|x| x / 10.0).collect::<Vec<_>>());
         for number in (0..201).filter(|number| side == Side::Left || *number != 150) {
             let probability = if number >= 100 { 0.9 } else { 0.1 };
-            summary.frame(&Frame { number, heard: Heard::Voice { probability, energy: 1.0 }, heard_so_far: number });
+            let heard = Heard::Voice { probability, energy: 1.0 };
+            summary.frame(&Frame { entry: number.into(), heard, heard_so_far: number });
         }
         summary.about = About::stream(&format!("{} <1> & \"2\".wav", side.name()), "models/house.rnn".as_ref());
         summary
@@ -314,9 +315,9 @@ fn a_long_recording_has_as_large_a_page() {
                 let sound: Vec<f32> = (0..48_000).map(|i| ((i * 7 + second * 131) % 2_001) as f32 - 1_000.0).collect();
                 summary.before(&sound);
                 summary.after(&sound);
-                for number in 100 * second as u32..100 * second as u32 + 100 {
-                    let probability = (number % 7) as f32 / 7.0;
-                    summary.frame(&Frame { number, heard: Heard::Voice { probability, energy: 1.0 }, heard_so_far: 0 });
+                for entry in 100 * second as u64..100 * second as u64 + 100 {
+                    let probability = (entry % 7) as f32 / 7.0;
+                    summary.frame(&Frame { entry, heard: Heard::Voice { probability, energy: 1.0 }, heard_so_far: 0 });
                 }
             }
             summary
@@ -343,18 +344,20 @@ fn an_empty_recording_says_so() {
     fs::write(path.join("none.wav"), wav::write(48_000, &[])).unwrap();
     fs::write(path.join("some.wav"), wav::write(48_000, &dictation(1).noisy)).unwrap();
     let words = ["clean", "--left", "none.wav", "--right", "some.wav", "--model", "house.rnn", "--out", "out"];
-    assert!(Command::new(env!("CARGO_BIN_EXE_host")).args(words).current_dir(&path).status().unwrap().success());
+    let status = Command::new(env!("CARGO_BIN_EXE_host")).args(words).current_dir(&path).status().unwrap();
+    assert_eq!(status.code(), Some(2));
     let page = fs::read_to_string(path.join("out/index.html")).unwrap();
-    assert_eq!(page.matches("Empty.").count(), 1);
+    let empty = "Broken, and empty.</strong> none.wav: no audio follows its header";
+    assert_eq!(page.matches(empty).count(), 1);
     // no player and no picture of it; its name, its date and its model are there
     let left = page.split("<section").nth(1).unwrap();
-    assert!(left.contains("Empty.") && !left.contains("<audio") && !left.contains("<svg"));
+    assert!(left.contains(empty) && !left.contains("<audio") && !left.contains("<svg"));
     assert_eq!(row(&page, "left", "recording"), "none.wav");
     assert_eq!(left.matches("<th").count(), 3);
     assert!(fs::read_to_string(path.join("out/benches.svg")).unwrap().contains(">empty</text>"));
 }
 
-/// A stream that breaks off: the page says where, and why.
+/// A bench that breaks off: the page says where, and why; the other goes on.
 #[test]
 fn a_broken_recording_says_so() {
     let path = folder("broken");
@@ -367,6 +370,6 @@ fn a_broken_recording_says_so() {
     let _ = host.stdin.take().unwrap().write_all(&file);
     assert_eq!(host.wait().unwrap().code(), Some(2));
     let page = fs::read_to_string(path.join("out/index.html")).unwrap();
-    assert_eq!(page.matches("Broken off after 0:01.").count(), 2);
-    assert!(words(&page).contains("standard input: sample 55000 of channel 0"), "{}", words(&page));
+    assert_eq!(page.matches("Broken off after 0:01.").count(), 1);
+    assert!(words(&page).contains("standard input: left, at 1.15 s: not a finite number"), "{}", words(&page));
 }
