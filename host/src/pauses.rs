@@ -36,6 +36,8 @@ pub struct Pauses {
     memory: [f64; 2],
     before: Powers,
     after: Powers,
+    /// Whether a voice was likely, of the frames whose samples did not come yet.
+    voices: VecDeque<bool>,
     begun: bool,
     /// How many frames without a voice are softer by so many tenths.
     softer: Vec<u64>,
@@ -44,7 +46,7 @@ pub struct Pauses {
 impl Default for Pauses {
     fn default() -> Pauses {
         let [before, after] = [Powers::default(), Powers::default()];
-        Pauses { memory: [0.0; 2], before, after, begun: false, softer: vec![0; TENTHS] }
+        Pauses { memory: [0.0; 2], before, after, voices: VecDeque::new(), begun: false, softer: vec![0; TENTHS] }
     }
 }
 
@@ -61,21 +63,29 @@ impl Pauses {
 
     pub fn after(&mut self, samples: &[f32]) {
         self.after.add(samples.iter().map(|x| f64::from(*x)));
+        self.count();
     }
 
     /// The next frame. What comes out of it belongs to the one before it, so that the first has none.
     pub fn frame(&mut self, voice: bool) {
-        if !std::mem::replace(&mut self.begun, true) {
-            return;
+        if std::mem::replace(&mut self.begun, true) {
+            self.voices.push_back(voice);
+            self.count();
         }
-        if self.before.frames.is_empty() || self.after.frames.is_empty() {
-            return;
-        }
-        let [before, after] =
-            [&mut self.before, &mut self.after].map(|powers| powers.frames.pop_front().unwrap_or(0.0));
-        if !voice && before > 0.0 {
-            let tenths = (100.0 * (before / after).log10() + BELOW).round();
-            self.softer[(tenths.max(0.0) as usize).min(TENTHS - 1)] += 1;
+    }
+
+    /// Counts the frames of which all has come: how likely a voice is, and the samples before and after.
+    fn count(&mut self) {
+        while let (Some(voice), Some(before), Some(after)) =
+            (self.voices.front(), self.before.frames.front(), self.after.frames.front())
+        {
+            if !voice && *before > 0.0 {
+                let tenths = (100.0 * (before / after).log10() + BELOW).round();
+                self.softer[(tenths.max(0.0) as usize).min(TENTHS - 1)] += 1;
+            }
+            self.voices.pop_front();
+            self.before.frames.pop_front();
+            self.after.frames.pop_front();
         }
     }
 
@@ -110,6 +120,33 @@ mod tests {
         let taken = pauses.taken().unwrap();
         assert!((19.8..20.2).contains(&taken), "{taken}");
         assert_eq!((pauses.before.frames.len(), pauses.after.frames.len()), (1, 0));
+    }
+
+    /// Whatever comes first, and in whatever blocks, it is the same.
+    #[test]
+    fn in_any_order() {
+        let blocks = |frames: usize, frames_first: bool| {
+            let (mut pauses, mut rng) = (Pauses::default(), crate::demo::Rng(5));
+            for block in 0..240 / frames {
+                let voices = (frames * block..frames * (block + 1)).map(|number| number % 3 == 0);
+                let samples: Vec<f32> = (0..frames * FRAME).map(|_| 300.0 * rng.number() as f32).collect();
+                let softer: Vec<f32> = samples.iter().map(|x| x * x / 3_000.0).collect();
+                pauses.before(&samples);
+                if frames_first {
+                    voices.for_each(|voice| pauses.frame(voice));
+                    pauses.after(&softer);
+                } else {
+                    pauses.after(&softer);
+                    voices.for_each(|voice| pauses.frame(voice));
+                }
+            }
+            pauses.softer
+        };
+        let wanted = blocks(1, false);
+        assert_eq!(wanted.iter().sum::<u64>(), 160);
+        for frames in [1, 2, 8, 240] {
+            assert!(blocks(frames, true) == wanted && blocks(frames, false) == wanted, "{frames} frames at a time");
+        }
     }
 
     #[test]

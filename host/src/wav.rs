@@ -1,8 +1,11 @@
 //! WAV files: 16-bit or 24-bit PCM or f32 in, 16-bit PCM out, both block by block. A sample is a number from -32768 to 32767, as the library takes it; a
 //! float beyond these, as full scale is, is taken for the nearer of the two.
 
+use crate::recorder::Side;
+use crate::seal::Seal;
+use crate::{FRAME, RATE};
 use std::fmt;
-use std::io::{self, ErrorKind, Read, Seek, SeekFrom, Write};
+use std::io::{self, BufReader, ErrorKind, Read, Seek, SeekFrom, Write};
 
 /// The ends of what the library takes.
 const LOWEST: f32 = -32_768.0;
@@ -12,8 +15,10 @@ const HIGHEST: f32 = 32_767.0;
 const UNKNOWN: u32 = u32::MAX;
 /// Programs that write a stream don't know its length: they say 0, or 2 GiB or 4 GiB, or a little less.
 const OPEN: [std::ops::RangeInclusive<u64>; 3] = [0..=0, 0x7FFF_F000..=0x8000_0000, 0xFFFF_F000..=0xFFFF_FFFF];
-/// The most samples that a file can hold: its sizes have 32 bits, and that of the whole counts 36 bytes more.
-pub const MOST: u64 = (UNKNOWN as u64 - 37) / 2;
+/// The most samples that a file can hold: its sizes have 32 bits, and that of the whole counts 8 bytes more of each
+/// frame, and 92 besides: of the header, the seal, the last frame and the trailer.
+pub const MOST: u64 = (UNKNOWN as u64 - 1 - 92) / (2 * FRAME as u64 + 8) * FRAME as u64;
+pub const TOO_LONG: &str = "a WAV file can't hold more than 12 hours and 19 minutes";
 /// The bytes of the header that is written.
 pub const HEAD: usize = 44;
 
@@ -312,9 +317,27 @@ pub fn are_chunks(mut from: impl Read + Seek, mut at: u64) -> io::Result<bool> {
     Ok(at == end)
 }
 
-/// Where the audio ends, as the header says.
-pub fn audio_end(from: impl Read) -> Result<u64, Fault> {
-    Ok(Reader::new(from)?.end())
+/// Where the audio of a file is, as its header says.
+#[derive(Clone, Copy, Debug, PartialEq)]
+pub struct Audio {
+    pub place: u64,
+    pub size: u64,
+    /// Whether it is what the box writes: one channel of 16 bits, at 48 kHz.
+    pub is_ours: bool,
+}
+
+impl Audio {
+    /// Behind the samples, and the byte that an odd number of them is filled up with.
+    pub fn end(&self) -> u64 {
+        self.place + self.size + self.size % 2
+    }
+}
+
+pub fn audio(from: impl Read) -> Result<Audio, Fault> {
+    let reader = Reader::new(from)?;
+    let is_mono = reader.channels == 1 && matches!(reader.sample, Sample::Pcm16);
+    let [place, size] = reader.place;
+    Ok(Audio { place, size, is_ours: is_mono && reader.rate == RATE && size % 2 == 0 })
 }
 
 /// A whole file, where no sample is broken.
@@ -334,52 +357,76 @@ pub fn read(bytes: &[u8]) -> Result<Wav, Fault> {
 /// Samples that are read at a time.
 const BLOCK: usize = 4_096;
 
-/// The header of one channel of 16-bit PCM, with so many bytes of audio.
-fn header(rate: u32, size: u32) -> Vec<u8> {
-    let mut bytes = Vec::with_capacity(44);
-    bytes.extend(b"RIFF");
-    bytes.extend(size.saturating_add(36).to_le_bytes());
-    bytes.extend(b"WAVEfmt ");
-    bytes.extend(16u32.to_le_bytes());
-    bytes.extend([1, 0, 1, 0]);
-    bytes.extend(rate.to_le_bytes());
-    bytes.extend((2 * rate).to_le_bytes());
-    bytes.extend([2, 0, 16, 0]);
-    bytes.extend(b"data");
-    bytes.extend(size.to_le_bytes());
+/// The header of one channel of 16-bit PCM, with so many bytes of audio and of chunks behind it.
+pub fn header(rate: u32, size: u32, behind: u32) -> [u8; HEAD] {
+    let mut bytes = [0; HEAD];
+    assert_eq!(tuppence::wav_head(&mut bytes, rate, size, behind), 0, "a header has 44 bytes");
     bytes
 }
 
 /// The header of a recording that is under way.
-pub fn open_head(rate: u32) -> Vec<u8> {
-    header(rate, UNKNOWN)
+pub fn open_head(rate: u32) -> [u8; HEAD] {
+    header(rate, UNKNOWN, 0)
 }
 
 /// How many bytes of audio the header of a file of ours says, where it was known when that was written.
 pub fn said(head: &[u8; HEAD], rate: u32) -> Option<u32> {
-    let size = u32::from_le_bytes([head[40], head[41], head[42], head[43]]);
-    (size != UNKNOWN && head[..] == header(rate, size)).then_some(size)
+    let number = |at: usize| u32::from_le_bytes([head[at], head[at + 1], head[at + 2], head[at + 3]]);
+    let size = number(40);
+    let behind = number(4).checked_sub(36)?.checked_sub(size)?;
+    (size != UNKNOWN && *head == header(rate, size, behind)).then_some(size)
+}
+
+/// Writes on, and keeps up the checksum of what went through.
+pub struct Summed<W> {
+    to: W,
+    pub sum: u32,
+}
+
+impl<W: Write> Summed<W> {
+    pub fn new(to: W) -> Summed<W> {
+        Summed { to, sum: 0 }
+    }
+}
+
+impl<W: Write> Write for Summed<W> {
+    fn write(&mut self, bytes: &[u8]) -> io::Result<usize> {
+        let written = self.to.write(bytes)?;
+        self.sum = tuppence::checksum(self.sum, &bytes[..written]);
+        Ok(written)
+    }
+
+    fn flush(&mut self) -> io::Result<()> {
+        self.to.flush()
+    }
+}
+
+/// How many bytes there are, of so many at most, and their checksum.
+pub fn checksum(from: &mut impl Read, most: u64) -> io::Result<(u64, u32)> {
+    let mut summed = Summed::new(io::sink());
+    let bytes = io::copy(&mut BufReader::with_capacity(65_536, from.take(most)), &mut summed)?;
+    Ok((bytes, summed.sum))
 }
 
 /// One channel as 16-bit PCM, written as it comes: rounded, and kept within its ends; a NaN is 0. Until its end is known the header says that the
-/// audio goes on to the end of the file.
+/// audio goes on to the end of the file. Its checksum is kept up.
 pub struct Writer<W: Write + Seek> {
     to: W,
     rate: u32,
     size: u32,
+    checksum: u32,
 }
 
 impl<W: Write + Seek> Writer<W> {
     pub fn new(mut to: W, rate: u32) -> io::Result<Writer<W>> {
-        to.write_all(&header(rate, UNKNOWN))?;
-        Ok(Writer { to, rate, size: 0 })
+        to.write_all(&open_head(rate))?;
+        Ok(Writer { to, rate, size: 0, checksum: 0 })
     }
 
     pub fn write(&mut self, samples: &[f32]) -> io::Result<()> {
         let more = u32::try_from(2 * samples.len()).ok().and_then(|more| self.size.checked_add(more));
-        // the sizes of a WAV file have 32 bits, and that of the whole counts 36 more
-        let Some(size) = more.filter(|size| *size < UNKNOWN - 36) else {
-            return Err(io::Error::other("a WAV file can't hold more than 12 hours and 25 minutes"));
+        let Some(size) = more.filter(|size| u64::from(*size) <= 2 * MOST) else {
+            return Err(io::Error::other(TOO_LONG));
         };
         if samples.is_empty() {
             return Ok(());
@@ -387,6 +434,7 @@ impl<W: Write + Seek> Writer<W> {
         let bytes: Vec<u8> =
             samples.iter().flat_map(|x| (x.round().clamp(LOWEST, HIGHEST) as i16).to_le_bytes()).collect();
         self.to.write_all(&bytes)?;
+        self.checksum = tuppence::checksum(self.checksum, &bytes);
         self.size = size;
         Ok(())
     }
@@ -395,17 +443,30 @@ impl<W: Write + Seek> Writer<W> {
         &self.to
     }
 
-    /// A file that was left with so many bytes of audio.
-    pub fn resume(to: W, rate: u32, size: u32) -> Writer<W> {
-        Writer { to, rate, size }
+    /// The seal of what was written, as one side's.
+    pub fn seal(&self, side: Side) -> Seal {
+        Seal { side, bytes: self.size.into(), checksum: self.checksum }
     }
 
-    /// Mends the header. What follows is written behind the audio.
-    pub fn finish(mut self) -> io::Result<W> {
+    /// Mends the header, which says from then on how many bytes of chunks stand behind the audio. What follows is
+    /// written there.
+    pub fn finish(mut self, behind: u32) -> io::Result<W> {
         self.to.seek(SeekFrom::Start(0))?;
-        self.to.write_all(&header(self.rate, self.size))?;
+        self.to.write_all(&header(self.rate, self.size, behind))?;
         self.to.seek(SeekFrom::Start(HEAD as u64 + u64::from(self.size)))?;
         Ok(self.to)
+    }
+}
+
+impl<W: Read + Write + Seek> Writer<W> {
+    /// A file that was left with so many bytes of audio, which are read once more.
+    pub fn resume(mut to: W, rate: u32, size: u32) -> io::Result<Writer<W>> {
+        to.seek(SeekFrom::Start(HEAD as u64))?;
+        let (read, checksum) = self::checksum(&mut to, size.into())?;
+        if read < size.into() {
+            return Err(ErrorKind::UnexpectedEof.into());
+        }
+        Ok(Writer { to, rate, size, checksum })
     }
 }
 
@@ -413,7 +474,7 @@ impl<W: Write + Seek> Writer<W> {
 pub fn write(rate: u32, samples: &[f32]) -> Vec<u8> {
     let mut writer = Writer::new(io::Cursor::new(Vec::new()), rate).expect("memory takes it");
     writer.write(samples).expect("memory takes it");
-    writer.finish().expect("memory takes it").into_inner()
+    writer.finish(0).expect("memory takes it").into_inner()
 }
 
 #[cfg(test)]
@@ -431,10 +492,12 @@ mod tests {
     #[test]
     fn more_than_a_file_can_hold() {
         let mut writer = Writer::new(io::Cursor::new(Vec::new()), 48_000).unwrap();
-        writer.size = UNKNOWN - 36 - 5;
+        writer.size = 2 * MOST as u32 - 4;
         assert!(writer.write(&[1.0; 3]).is_err() && writer.write(&[1.0; 2]).is_ok() && writer.write(&[1.0]).is_err());
-        let file = writer.finish().unwrap().into_inner();
-        assert_eq!((file.len(), &file[4..8]), (44 + 4, &(UNKNOWN - 1).to_le_bytes()[..]));
+        let whole = |samples: u64| 36 + 2 * samples + u64::from(crate::records::behind(crate::run::frames_of(samples)));
+        assert!(whole(MOST) < UNKNOWN.into() && whole(MOST + FRAME as u64) >= UNKNOWN.into());
+        let file = writer.finish(crate::records::behind(crate::run::frames_of(MOST))).unwrap().into_inner();
+        assert_eq!((file.len(), &file[4..8]), (44 + 4, &(whole(MOST) as u32).to_le_bytes()[..]));
     }
 
     /// Until the end is known, what is there counts.

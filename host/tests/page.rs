@@ -208,7 +208,6 @@ fn what_a_clerk_wants_is_on_top() {
     let words = words(&page);
     for side in ["left", "right"] {
         assert!(words.contains(&side.to_uppercase()));
-        assert!(words.contains(&format!("It says: {side} side, 20")), "{words}");
         assert_eq!(row(&page, side, "recording"), format!("{side} &lt;1&gt; &amp; &quot;2&quot;.wav"));
         assert!(row(&page, side, "date").starts_with("<time datetime=\"20"));
         assert_eq!(row(&page, side, "length"), "0:02");
@@ -216,7 +215,9 @@ fn what_a_clerk_wants_is_on_top() {
         assert_eq!(row(&page, side, "noise taken away"), "20.0 dB");
         assert_eq!(row(&page, side, "model"), "house.rnn");
     }
-    assert!(words.contains("Not sealed:"));
+    let sealed = "Sealed as the left side, with this audio: 201 frames, 201 heard, no gap.";
+    assert!(words.contains(sealed), "{words}");
+    assert!(words.contains("Not to be relied on: frames are missing, in 1 gap."), "{words}");
     assert_eq!((row(&page, "left", "voice"), row(&page, "left", "heard")), ("101 frames, 50 %", "all 201 frames"));
     assert_eq!((row(&page, "left", "gaps"), row(&page, "left", "clipped samples")), ("0", "0"));
     let bad = |number: &str| format!("<span class=\"bad\">{number}</span>");
@@ -343,18 +344,20 @@ fn an_empty_recording_says_so() {
     fs::write(path.join("none.wav"), wav::write(48_000, &[])).unwrap();
     fs::write(path.join("some.wav"), wav::write(48_000, &dictation(1).noisy)).unwrap();
     let words = ["clean", "--left", "none.wav", "--right", "some.wav", "--model", "house.rnn", "--out", "out"];
-    assert!(Command::new(env!("CARGO_BIN_EXE_host")).args(words).current_dir(&path).status().unwrap().success());
+    let status = Command::new(env!("CARGO_BIN_EXE_host")).args(words).current_dir(&path).status().unwrap();
+    assert_eq!(status.code(), Some(2));
     let page = fs::read_to_string(path.join("out/index.html")).unwrap();
-    assert_eq!(page.matches("Empty.").count(), 1);
+    let empty = "Broken, and empty.</strong> none.wav: no audio follows its header";
+    assert_eq!(page.matches(empty).count(), 1);
     // no player and no picture of it; its name, its date and its model are there
     let left = page.split("<section").nth(1).unwrap();
-    assert!(left.contains("Empty.") && !left.contains("<audio") && !left.contains("<svg"));
+    assert!(left.contains(empty) && !left.contains("<audio") && !left.contains("<svg"));
     assert_eq!(row(&page, "left", "recording"), "none.wav");
     assert_eq!(left.matches("<th").count(), 3);
     assert!(fs::read_to_string(path.join("out/benches.svg")).unwrap().contains(">empty</text>"));
 }
 
-/// A stream that breaks off: the page says where, and why.
+/// A bench that breaks off: the page says where, and why; the other goes on.
 #[test]
 fn a_broken_recording_says_so() {
     let path = folder("broken");
@@ -367,6 +370,6 @@ fn a_broken_recording_says_so() {
     let _ = host.stdin.take().unwrap().write_all(&file);
     assert_eq!(host.wait().unwrap().code(), Some(2));
     let page = fs::read_to_string(path.join("out/index.html")).unwrap();
-    assert_eq!(page.matches("Broken off after 0:01.").count(), 2);
-    assert!(words(&page).contains("standard input: sample 55000 of channel 0"), "{}", words(&page));
+    assert_eq!(page.matches("Broken off after 0:01.").count(), 1);
+    assert!(words(&page).contains("standard input: left, at 1.15 s: not a finite number"), "{}", words(&page));
 }
