@@ -25,6 +25,7 @@ pub mod files;
 pub mod folder;
 pub mod form;
 pub mod found;
+pub mod head;
 pub mod import;
 pub mod kept;
 pub mod lags;

@@ -1,6 +1,7 @@
 //! WAV files: 16-bit or 24-bit PCM or f32 in, 16-bit PCM out, both block by block. A sample is a number from -32768 to 32767, as the library takes it; a
 //! float beyond these, as full scale is, is taken for the nearer of the two.
 
+use crate::head::{self, Head};
 use crate::recorder::Side;
 use crate::seal::Seal;
 use crate::{FRAME, RATE};
@@ -67,11 +68,7 @@ impl fmt::Display for Fault {
 
 impl From<io::Error> for Fault {
     fn from(why: io::Error) -> Fault {
-        match why.kind() {
-            // the end, where a chunk should be
-            ErrorKind::UnexpectedEof => Fault::NotWav("it has no `data` chunk"),
-            _ => Fault::Unreadable(why.to_string()),
-        }
+        Fault::Unreadable(why.to_string())
     }
 }
 
@@ -84,12 +81,12 @@ enum Sample {
 }
 
 impl Sample {
-    fn of(tag: u16, bits: u16) -> Result<Sample, Fault> {
-        match (tag, bits) {
-            (1, 16) => Ok(Sample::Pcm16),
-            (1, 24) => Ok(Sample::Pcm24),
-            (3, 32) => Ok(Sample::Float),
-            _ => Err(Fault::Format { tag, bits }),
+    /// By the library's number.
+    fn of(format: u32) -> Sample {
+        match format {
+            16 => Sample::Pcm16,
+            24 => Sample::Pcm24,
+            _ => Sample::Float,
         }
     }
 
@@ -113,7 +110,8 @@ impl Sample {
 
 /// A recording that is read block by block.
 pub struct Reader<R> {
-    from: io::Take<R>,
+    /// What was read with the head, and then what comes.
+    from: io::Take<io::Chain<io::Cursor<Vec<u8>>, R>>,
     pub rate: u32,
     pub channels: usize,
     sample: Sample,
@@ -132,78 +130,21 @@ pub struct Reader<R> {
     pub clipped: u64,
 }
 
-/// What a format's chunk says that matters.
-struct Format {
-    rate: u32,
-    channels: usize,
-    sample: Sample,
-}
-
-impl Format {
-    fn of(bytes: &[u8]) -> Result<Format, Fault> {
-        let at = |i: usize| bytes.get(i..i + 2).map_or(0, |b| u16::from_le_bytes([b[0], b[1]]));
-        if bytes.len() < 16 {
-            return Err(Fault::NotWav("its `fmt ` chunk is too short"));
-        }
-        let channels = at(2).into();
-        if channels != 1 && channels != 2 {
-            return Err(Fault::Channels(at(2)));
-        }
-        // an extensible format has its own tag in front of the identifier's rest
-        let tag = if at(0) == 0xFFFE { at(24) } else { at(0) };
-        let sample = Sample::of(tag, at(14))?;
-        let (bytes, wanted) = (at(12).into(), sample.size() * channels);
-        if bytes != wanted {
-            return Err(Fault::Block { bytes, wanted });
-        }
-        Ok(Format { rate: u32::from(at(4)) | u32::from(at(6)) << 16, channels, sample })
-    }
-}
-
 /// The header of a chunk: its name and its size.
-fn chunk(from: &mut impl Read) -> Result<([u8; 4], u32), Fault> {
+fn chunk(from: &mut impl Read) -> io::Result<([u8; 4], u32)> {
     let mut bytes = [0; 8];
     from.read_exact(&mut bytes)?;
     let [a, b, c, d, size @ ..] = bytes;
     Ok(([a, b, c, d], u32::from_le_bytes(size)))
 }
 
-/// The first bytes of a chunk, which takes `whole` bytes of the file; the others are passed over.
-fn head(from: &mut impl Read, size: u32, whole: u64) -> Result<Vec<u8>, Fault> {
-    let mut head = Vec::new();
-    from.by_ref().take(size.min(40).into()).read_to_end(&mut head)?;
-    let read = head.len() as u64;
-    let passed = io::copy(&mut from.by_ref().take(whole - read), &mut io::sink())?;
-    if read + passed < size.into() {
-        return Err(Fault::NotWav("a chunk in front of its audio goes beyond its end"));
-    }
-    Ok(head)
-}
-
 impl<R: Read> Reader<R> {
     /// Reads on to the first sample. The format stands in front of the audio, as WAV has it.
     pub fn new(mut from: R) -> Result<Reader<R>, Fault> {
-        let mut riff = [0; 12];
-        from.read_exact(&mut riff)?;
-        match (&riff[..4], &riff[8..]) {
-            (b"RIFF", b"WAVE") => (),
-            (b"RF64", b"WAVE") => return Err(Fault::NotWav("it is RF64")),
-            _ => return Err(Fault::NotWav("it does not start as one")),
-        }
-        let (mut at, mut seen) = (12, None);
-        loop {
-            let (name, size) = chunk(&mut from)?;
-            at += 8;
-            if &name == b"data" {
-                let format = seen.ok_or(Fault::NotWav("it has no `fmt ` chunk in front of its audio"))?;
-                return Ok(Reader::of(from, format, [at, size.into()]));
-            }
-            let whole = u64::from(size) + u64::from(size % 2);
-            let head = head(&mut from, size, whole)?;
-            if &name == b"fmt " && seen.is_none() {
-                seen = Some(Format::of(&head)?);
-            }
-            at += whole;
+        let (head, read) = head::read(&mut from)?;
+        match head.channels {
+            1 | 2 => Ok(Reader::of(from, read, head)),
+            many => Err(Fault::Channels(many as u16)),
         }
     }
 
@@ -230,15 +171,15 @@ impl<R: Read> Reader<R> {
 
     /// Samples of 16 bits, little end first, without a header, up to the end.
     pub fn raw(from: R, rate: u32, channels: usize) -> Reader<R> {
-        Reader::of(from, Format { rate, channels, sample: Sample::Pcm16 }, [0, UNKNOWN.into()])
+        Reader::of(from, vec![], Head { place: 0, format: 16, channels, rate, size: UNKNOWN.into() })
     }
 
-    fn of(from: R, Format { rate, channels, sample }: Format, place: [u64; 2]) -> Self {
+    fn of(from: R, read: Vec<u8>, Head { place, format, channels, rate, size }: Head) -> Self {
         // A stream that does not know its length says so, and a recorder that lost power leaves a size that is too large: what is there counts.
-        let most = if place[1] == UNKNOWN.into() { u64::MAX } else { place[1] };
-        let broken = vec![None; channels];
-        let (carried, given, ended, clipped) = (Vec::new(), 0, false, 0);
-        Reader { from: from.take(most), rate, channels, sample, place, carried, given, broken, ended, clipped }
+        let most = if size == UNKNOWN.into() { u64::MAX } else { size };
+        let (from, sample) = (io::Cursor::new(read).chain(from).take(most), Sample::of(format));
+        let (carried, given, broken, ended, clipped) = (Vec::new(), 0, vec![None; channels], false, 0);
+        Reader { from, rate, channels, sample, place: [place, size], carried, given, broken, ended, clipped }
     }
 
     /// How many samples each channel has, in a file of so many bytes of which none of these was read yet.

@@ -77,7 +77,7 @@ fn what_is_refused() {
     refused(&right[..3_000], &[], "the file ends within its audio (refusal 37)");
     refused(&right[..records], &[], "no records follow its seal, from frame 0 on");
     refused(&right[..records + 15], &[], "no records follow its seal, from frame 0 on");
-    refused(b"notes", &[], "not a WAV file: it has no `data` chunk");
+    refused(b"notes", &[], "not a WAV file: it does not start as one");
     let elsewhere = "its seal does not stand where its audio ends";
     refused(&[&right[..500], &[7], &right[500..]].concat(), &[], elsewhere);
     refused(&[&right[..500], &[7], &right[500..]].concat(), &["--as", "right"], elsewhere);
