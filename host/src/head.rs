@@ -1,5 +1,5 @@
-//! The head of a WAV file, which the library reads a step at a time: of a stream no more is taken than a step wants, and
-//! what stands in front of the audio is passed over.
+//! The head of a WAV file, which the library reads a step at a time: of a stream no more is taken than a step wants,
+//! and what stands in front of the audio is passed over.
 
 use crate::wav::Fault;
 use std::io::{self, Read};

@@ -1,4 +1,5 @@
-//! The records of a side sheet as they come: they lie in a file of their own until the audio in front of them is at its end.
+//! The records of a side sheet as they come: they lie in a file of their own until the audio in front of them is at
+//! its end.
 
 use crate::folder::told;
 use crate::recorder::{Frame, Side};

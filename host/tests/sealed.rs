@@ -1,4 +1,5 @@
-//! What the box writes is one whole RIFF with its seal, and no damage makes another side of it.
+//! What the box writes is one whole RIFF with its seal, and no damage makes another side of it. So many mutants as the
+//! variable MUTANTS says, or 20,000.
 
 mod common;
 mod made;
@@ -109,13 +110,14 @@ fn damage(rng: &mut Rng, file: &mut Vec<u8>, known: &Known, other: &[u8]) {
     }
 }
 
-/// Damage of every kind, alone and together: of no file the other side is told, and none becomes one by mending. What is
-/// told, and what is mended, is the audio of a recording of that side.
+/// Damage of every kind, alone and together: of no file the other side is told, and none becomes one by mending. What
+/// is told, and what is mended, is the audio of a recording of that side.
 #[test]
-fn twenty_thousand_mutants() {
+fn mutants() {
+    let many: usize = std::env::var("MUTANTS").map_or(20_000, |many| many.parse().unwrap());
     let (known, rng) = (Known::new(), &mut Rng(0x51de));
     let mut counts = [0; 3];
-    for i in 0..20_000 {
+    for i in 0..many {
         let (side, n) = (i % 2, i / 2 % known.0[0].len());
         let mut file = known.0[side][n].clone();
         (0..1 + rng.next() % 3).for_each(|_| damage(rng, &mut file, &known, known.other(side, n)));
@@ -132,8 +134,9 @@ fn twenty_thousand_mutants() {
         }
     }
     // some are as good as they were, some are mended, and most are neither
-    assert!(counts[0] == counts[2] && (20..2_000).contains(&counts[0]), "{counts:?}");
-    assert!((2_000..10_000).contains(&counts[1]), "{counts:?}");
+    let [as_they_were, mended, whole] = counts;
+    assert!(as_they_were == whole && (many / 1_000..many / 10).contains(&whole), "{counts:?}");
+    assert!((many / 10..many / 2).contains(&mended), "{counts:?}");
 }
 
 /// A right recording, cut anywhere and filled up with zeros as a power cut leaves it: it is never left.

@@ -228,6 +228,7 @@ fn what_is_claimed_takes_no_memory() {
     // records of the other side, and eight million silent frames 0 of the left one
     let why = "host: 1.wav: no side sheet: a record is broken or of the other side (refusal 34)\n";
     assert_eq!(looked("told-claims-right", &claims(536_870_911, 1)), (Some(3), why.into()));
-    let why = "host: 1.wav: a side sheet without a seal says: left side, 8000000 frames, 0 heard, 7999999 gaps, the first behind frame 0\n";
+    let why = "host: 1.wav: a side sheet without a seal says: left side, 8000000 frames, 0 heard, 7999999 gaps, \
+         the first behind frame 0\n";
     assert_eq!(looked("told-claims-left", &claims(8_000_000, 0)), (Some(4), why.into()));
 }
