@@ -4,6 +4,7 @@ use crate::about::About;
 use crate::cleaned::Summary;
 use crate::files::{recording, Files};
 use crate::folder::told;
+use crate::found::Found;
 use crate::import;
 use crate::progress::progress_of;
 use crate::recorder::{Recorder, Side, Way};
@@ -11,6 +12,8 @@ use crate::run::{run, Refused};
 use crate::source::{Limited, Lost, Recordings};
 use crate::status::Failure;
 use crate::{stop, wav, RATE};
+use std::fs::{self, File};
+use std::os::unix::fs::MetadataExt;
 use std::path::{Path, PathBuf};
 
 /// What to read, and where to write.
@@ -22,6 +25,8 @@ pub struct Job {
     pub quiet: bool,
     /// Whether what stands in the folder may be written over.
     pub force: bool,
+    /// Whether a recording is taken that says itself that it is the other bench's.
+    pub anyway: bool,
     pub out: PathBuf,
 }
 
@@ -79,6 +84,36 @@ fn is_in_the_way(file: &Path, out: &Path) -> bool {
     Side::BOTH.iter().any(|side| file == out.join(recording(*side)))
 }
 
+/// What in a recording says that it is the other bench's. (A pipe is not looked at: what is read of it is gone.)
+fn says_another(path: &Path, side: Side) -> Option<(&'static str, Side)> {
+    let mut file = File::open(path).ok().filter(|file| file.metadata().is_ok_and(|about| about.is_file()))?;
+    Found::of(&mut file).ok()?.sides().find(|(_, other)| *other != side)
+}
+
+/// Whether two names are of one file.
+fn is_one(left: &Path, right: &Path) -> bool {
+    let file = |path: &Path| fs::metadata(path).map(|about| (about.dev(), about.ino()));
+    file(left).is_ok_and(|left| file(right).is_ok_and(|right| left == right))
+}
+
+/// Refuses one file for both benches, and a recording whose seal or side sheet says the other bench.
+fn refuse_mix(left: &Path, right: &Path) -> Result<(), Failure> {
+    let refused =
+        |path: &Path, why: String| Failure::wrong(told(path, why + "; with --anyway it is taken all the same"));
+    if is_one(left, right) {
+        return Err(refused(left, "one recording can't be both benches'".into()));
+    }
+    for (path, side) in [left, right].into_iter().zip(Side::BOTH) {
+        if let Some((what, other)) = says_another(path, side) {
+            return Err(refused(
+                path,
+                format!("{what} says {}, and it is given for the {} bench", other.name(), side.name()),
+            ));
+        }
+    }
+    Ok(())
+}
+
 /// The model, which the library must take.
 fn model(path: &Path, way: Way) -> Result<Vec<u8>, String> {
     let model = import::read(path)?;
@@ -99,8 +134,7 @@ fn refused(benches: [Option<Refused>; 2]) -> impl Iterator<Item = Lost> {
 
 /// The benches that had more to say than a file can hold.
 fn too_long(cut: [bool; 2]) -> impl Iterator<Item = Lost> {
-    let why = "a WAV file can't hold more than 12 hours and 25 minutes";
-    Side::BOTH.into_iter().zip(cut).filter(|(_, cut)| *cut).map(move |(side, _)| ended(side, wav::MOST, why))
+    Side::BOTH.into_iter().zip(cut).filter(|(_, cut)| *cut).map(|(side, _)| ended(side, wav::MOST, wav::TOO_LONG))
 }
 
 /// Runs a job. What ends one bench leaves the other as it is; what was cleaned till then is kept, and told. Where
@@ -110,6 +144,9 @@ pub fn clean(job: &Job) -> Result<Report, Failure> {
     let model = model(&job.model, job.way)?;
     if let Some(file) = job.inputs.files().into_iter().find(|file| is_in_the_way(file, &job.out)) {
         return Err(told(file, "this would be written over; name another folder with --out").into());
+    }
+    if let (Inputs::Two { left, right }, false) = (&job.inputs, job.anyway) {
+        refuse_mix(left, right)?;
     }
     let mut files = Files::new(&job.out, &[], job.force, job.inputs.come_once())?;
     let mut recordings = job.inputs.recordings()?;

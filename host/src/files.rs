@@ -1,4 +1,4 @@
-//! What `host clean` writes, as it goes: for each bench the recording with its side sheet, and of both the table, the picture and the page.
+//! What `host clean` writes, as it goes: for each bench the recording with its seal and side sheet, and of both the table, the picture and the page.
 //! All that has come out of a bench is in its files before the next block is read, and on the disk a second later.
 
 use crate::about::About;
@@ -54,12 +54,14 @@ impl Bench {
         self.summary.samples == 0
     }
 
-    /// Closes the recording: its header, which says from then on where the audio ends, and then its sheet.
+    /// Closes the recording: its header, which says from then on where the audio ends, and then the chunk with its
+    /// seal and its sheet.
     fn finish(self) -> Result<Summary, String> {
         let why = |why: io::Error| told(&self.place, why);
-        let mut file = self.audio.finish().map_err(why)?;
+        let seal = self.audio.seal(self.summary.side);
+        let mut file = self.audio.finish(self.records.behind()).map_err(why)?;
         file.sync_data().map_err(why)?;
-        self.records.finish(&mut file)?;
+        self.records.finish(&mut file, seal)?;
         file.sync_all().map_err(why)?;
         Ok(self.summary)
     }

@@ -1,50 +1,59 @@
 //! The good records that stand in a row, read in parts: of a file of any length no more is in memory than a part.
 
+use crate::cleaned::is_gap;
 use crate::recorder::Side;
+use crate::records::Tally;
 use std::io::{self, Read};
 
 /// Records of a part.
 const PART: u64 = 8_192;
 
-/// A row of good records of one side, and the sum of their bytes.
+/// Where frames are missing, by their numbers: how often, and the frame in front of the first gap.
+#[derive(Clone, Copy, Debug, Default, PartialEq)]
+pub struct Gaps {
+    pub count: u64,
+    pub first: Option<u32>,
+}
+
+/// A row of good records of one side, with their number and the sum of their bytes.
 #[derive(Debug, Default, PartialEq)]
 pub struct Row {
     pub side: Option<Side>,
-    pub frames: u64,
     pub heard: u64,
-    /// The frames in front of a gap.
-    pub gaps: Vec<u32>,
-    pub sum: u32,
-    last: Option<u32>,
+    pub gaps: Gaps,
+    pub tally: Tally,
+    /// The numbers of the first frame and of the last.
+    pub ends: Option<[u32; 2]>,
 }
 
 fn number(record: &[u8]) -> u32 {
     u32::from_le_bytes([record[0], record[1], record[2], record[3]])
 }
 
-/// How many records of a part are good and of the first one's side, which that is, and their sum, as the library's
-/// mender has it. (Behind them stands a byte more, which is no record: so no part is taken for a sheet of its own.)
-fn good(part: &[u8]) -> Option<(usize, Side, u32)> {
-    let file = [part, &[0xFF]].concat();
-    let (mut out, mut numbers) = (vec![0; file.len() + 16], [0; 2]);
-    if tuppence::mend(&mut numbers, &mut out, &file, 0) != 0 {
-        return None;
-    }
-    let records = numbers[1] as usize;
-    let trailer = &out[8 * records..];
-    Some((records, Side::BOTH[usize::from(trailer[8])], number(&trailer[12..])))
+/// What a record says: its frame's number, and 2^32 more where it was heard.
+fn entry(record: &[u8]) -> Option<u64> {
+    (record[4] <= 1).then(|| u64::from(number(record)) | u64::from(record[4]) << 32)
+}
+
+/// The side of a record.
+fn side(record: &[u8]) -> Option<Side> {
+    Side::BOTH.get(usize::from(record[5])).copied()
 }
 
 impl Row {
-    /// The row that begins here, of so many records at most; where they are to be `counted`, only those that number
-    /// up from 0.
-    pub fn read(from: &mut impl Read, most: u64, counted: bool) -> io::Result<Row> {
-        let mut row = Row::default();
+    pub fn frames(&self) -> u64 {
+        self.tally[0]
+    }
+
+    /// The row that begins here, of so many records at most; of this side, or of the first one's; and where they are
+    /// to be `counted`, only those that number up from 0.
+    pub fn read(from: &mut impl Read, most: u64, side: Option<Side>, counted: bool) -> io::Result<Row> {
+        let mut row = Row { side, ..Row::default() };
         loop {
-            let (mut part, wanted) = (Vec::new(), PART.min(most - row.frames));
+            let (mut part, wanted) = (Vec::new(), PART.min(most - row.frames()));
             from.take(8 * wanted).read_to_end(&mut part)?;
             let counts = |(record, at): (&[u8], u64)| !counted || u64::from(number(record)) == at;
-            let records = part.chunks_exact(8).zip(row.frames..).take_while(|each| counts(*each)).count();
+            let records = part.chunks_exact(8).zip(row.frames()..).take_while(|each| counts(*each)).count();
             let added = row.add(&part[..8 * records]);
             if added < PART {
                 return Ok(row);
@@ -52,20 +61,32 @@ impl Row {
         }
     }
 
-    /// The good ones of a part, behind those that were read before. How many there are.
+    /// The good ones of a part, behind those that were read before: those that the library writes of what they say.
+    /// How many there are.
     fn add(&mut self, part: &[u8]) -> u64 {
-        let Some((records, side, sum)) = good(part) else { return 0 };
-        if *self.side.get_or_insert(side) != side {
+        let Some(side) = self.side.or(part.first_chunk::<8>().and_then(|record| side(record))) else { return 0 };
+        let entries: Vec<u64> = part.chunks_exact(8).map_while(entry).collect();
+        let mut written = vec![0; 8 * entries.len()];
+        if tuppence::sheet_records(&mut self.tally.clone(), &mut written, side as u32, &entries) != 0 {
             return 0;
         }
-        for record in part.chunks_exact(8).take(records) {
-            let (number, before) = (number(record), self.last);
-            self.gaps.extend(before.filter(|before| number != before.wrapping_add(1)));
-            self.heard += u64::from(record[4]);
-            self.last = Some(number);
+        let alike = |(ours, theirs): &(&[u8], &[u8])| ours == theirs;
+        let good = written.chunks_exact(8).zip(part.chunks_exact(8)).take_while(alike).count();
+        if good == 0 || tuppence::sheet_records(&mut self.tally, &mut written, side as u32, &entries[..good]) != 0 {
+            return 0;
         }
-        self.frames += records as u64;
-        self.sum = self.sum.wrapping_add(sum);
-        records as u64
+        self.side = Some(side);
+        part.chunks_exact(8).take(good).for_each(|record| self.note(number(record), record[4] == 1));
+        good as u64
+    }
+
+    /// A frame behind the last one.
+    fn note(&mut self, number: u32, heard: bool) {
+        if let Some([_, before]) = self.ends.filter(|[_, last]| is_gap([*last, number])) {
+            self.gaps.count += 1;
+            self.gaps.first.get_or_insert(before);
+        }
+        self.heard += u64::from(heard);
+        self.ends = Some([self.ends.map_or(number, |[first, _]| first), number]);
     }
 }

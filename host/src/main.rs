@@ -1,5 +1,5 @@
 use host::clean::{clean, Inputs, Job};
-use host::recorder::Way;
+use host::recorder::{Side, Way};
 use host::status::{Failure, UNDONE};
 use std::ffi::OsString;
 use std::path::{Path, PathBuf};
@@ -14,10 +14,10 @@ host: cleans two dictations, one for each bench
       Recordings of 48 kHz, 16-bit or 24-bit PCM or 32-bit float; of a stereo file
       the left channel is the left bench. Writes left.wav, right.wav, frames.csv,
       benches.svg and index.html, a page with all of it, into DIR. Each recording
-      carries its side sheet behind the audio.
+      carries its seal and its side sheet behind the audio.
       - is a stereo WAV stream on standard input, or with --raw one without a header:
       16 bits, little end first, left and right in turn. A stream may be of any
-      length up to 12 hours and 25 minutes, which is what a WAV file can hold.
+      length up to 12 hours and 19 minutes, which is what a WAV file can hold.
       All recordings are cleaned as they are read, and written as they are cleaned:
       it takes no more memory for ten hours than for a minute. On their way the files
       are called left.wav.part and so on, and the records of the side sheets lie in
@@ -34,12 +34,16 @@ host: cleans two dictations, one for each bench
       this program's: that gives nnnoiseless's very numbers. (--lag own is the same
       as none.)
       A long recording's progress is told, unless -q stands there.
+      One file for both benches is refused, and so is a recording whose own seal or
+      side sheet says the other bench; --anyway takes them all the same.
   host demo DIR [--lag crate] [--force]
       The same with two dictations over a grinder and the house model, which come
       with the program; the recordings before cleaning are written too.
-  host side FILE..
-      The side sheet behind each recording's audio: its side, how many frames it has
-      and how many of them were heard, and where a frame is missing.
+  host side [--quick] FILE..
+      Of each sealed recording its side, how many frames it has and how many of them
+      were heard. Sealed is one whose seal is whole, is of this very audio and of its
+      side sheet, and whose frames number up and fit the audio. Of any other no side
+      is told, but why not. --quick does not read the audio, and says so.
   host pack --layers FOLDER --out M.rnn [--force]
       A model from loose arrays: FOLDER has layers.txt, a line for each layer with its
       name, inputs, neurons and activation, and a file of signed bytes for each array
@@ -57,9 +61,10 @@ host: cleans two dictations, one for each bench
       then nothing is written; nor over a file that stands there, but with --force.
   host export M.rnn --as rnnn --out FILE [--force]
       A model in that text form, for ffmpeg's filter arnndn.
-  host mend FILE --out FILE2
-      A recording whose side sheet was torn: what follows the audio in whole records
-      is kept, and the sheet closed again. FILE2 must not exist.
+  host mend FILE --out FILE2 [--as left|right]
+      A recording whose side sheet was torn, closed and sealed again as far as its
+      audio and its records both go. The side is the seal's, which must be of this
+      audio; of a recording without one, --as says it. FILE2 must not exist.
   host bench
       Frames a second in pieces, as clean runs them, and in four calls each, as with
       --lag crate; these beside the Rust text; and where a frame's time goes.
@@ -84,7 +89,9 @@ Examples:
   host export house.rnn --as rnnn --out house.rnnn
 
 Exit status: 0 done as asked; 1 it could not be done; 2 what was given is not right: the
-command line, or a recording that is not all there, of which the rest is cleaned.
+command line, or a recording that is not all there, of which the rest is cleaned. Of side,
+3 no side sheet, or one without frames; 4 a side sheet without a seal; 5 not of this
+audio, or damaged; 6 a name that says another side. Of several files the highest.
 ";
 
 /// The values of the named options, each once; `None` where another word, half an option, or an empty value stands.
@@ -112,6 +119,15 @@ fn way(words: &mut Vec<OsString>) -> Option<Way> {
     }
 }
 
+/// Takes `--as SIDE` out, by which a person says a side.
+fn said(words: &[OsString]) -> Option<(Option<Side>, Vec<OsString>)> {
+    let mut words = words.to_vec();
+    let Some(at) = words.iter().position(|word| word == "--as") else { return Some((None, words)) };
+    let name = words.drain(at..(at + 2).min(words.len())).nth(1)?;
+    let side = Side::BOTH.into_iter().find(|side| name == side.name())?;
+    Some((Some(side), words))
+}
+
 fn demo(words: &[OsString]) -> Option<(PathBuf, Way, bool)> {
     let mut words = words.to_vec();
     let (way, force) = (way(&mut words)?, flag(&mut words, "--force"));
@@ -132,7 +148,7 @@ fn job(words: &[OsString]) -> Option<Job> {
     let mut words = words.to_vec();
     let way = way(&mut words)?;
     let (quiet, stream, raw) = (flag(&mut words, "-q"), flag(&mut words, "-"), flag(&mut words, "--raw"));
-    let force = flag(&mut words, "--force");
+    let (force, anyway) = (flag(&mut words, "--force"), flag(&mut words, "--anyway"));
     let named = |names: &[&str]| options(&words, &[names, &["--model", "--out"]].concat());
     let (inputs, mut rest) = if stream {
         (Inputs::Stream { raw }, named(&[])?)
@@ -146,7 +162,7 @@ fn job(words: &[OsString]) -> Option<Job> {
         let rest = paths.split_off(1);
         (Inputs::Stereo(paths.pop()?), rest)
     };
-    Some(Job { inputs, way, quiet, force, out: rest.pop()?, model: rest.pop()? })
+    Some(Job { inputs, way, quiet, force, anyway, out: rest.pop()?, model: rest.pop()? })
 }
 
 fn wrong(command: &str) -> Failure {
@@ -179,7 +195,12 @@ fn run(words: &[OsString]) -> Result<(), Failure> {
             host::say!("Look at {dir}/index.html, and listen to {dir}/left-before.wav and {dir}/left.wav.");
         }
         [word, files @ ..] if word == "side" && !files.is_empty() => {
-            host::side::side(&files.iter().map(PathBuf::from).collect::<Vec<_>>()).map_err(Failure::wrong)?;
+            let mut files = files.to_vec();
+            let quick = flag(&mut files, "--quick");
+            if files.is_empty() {
+                return Err(wrong("side"));
+            }
+            host::side::side(&files.iter().map(PathBuf::from).collect::<Vec<_>>(), quick)?;
         }
         [word, rest @ ..] if word == "pack" => {
             let (paths, force) = forced(rest, &["--layers", "--out"]).ok_or_else(|| wrong("pack"))?;
@@ -204,8 +225,9 @@ fn run(words: &[OsString]) -> Result<(), Failure> {
             host::say!("{}: {bytes} bytes", paths[1].display());
         }
         [word, file, rest @ ..] if word == "mend" => {
-            let paths = options(rest, &["--out"]).ok_or_else(|| wrong("mend"))?;
-            host::mend::mend(file.as_ref(), &paths[0])?;
+            let (said, rest) = said(rest).ok_or_else(|| wrong("mend"))?;
+            let paths = options(&rest, &["--out"]).ok_or_else(|| wrong("mend"))?;
+            host::mend::mend(file.as_ref(), &paths[0], said)?;
         }
         [word, rest @ ..] if word == "clean" => {
             run_job(&job(rest).ok_or_else(|| wrong("clean"))?)?;

@@ -1,112 +1,141 @@
-//! `host mend FILE --out FILE2`: a recording whose side sheet was torn, with its sheet closed again. It is read and
-//! written in parts, and gives what the library's mender gives of the whole file.
+//! `host mend FILE --out FILE2`: a recording whose side sheet was torn, closed again. The side must stand in its seal,
+//! or a person says it. It is read and written in parts.
 
 use crate::folder::told;
+use crate::found::{is_of, sealed, Found, OTHER_AUDIO};
 use crate::kept::Row;
 use crate::place::new_file;
 use crate::recorder::Side;
-use crate::records::trailer;
 use crate::refusal::Refusal;
+use crate::run::frames_of;
+use crate::seal::Seal;
 use crate::side::Sheet;
-use crate::{unfinished, wav};
+use crate::wav::{self, Audio, Summed};
+use crate::{records, unfinished, FRAME, RATE};
 use std::fs::{self, File};
 use std::io::{self, Read, Seek, SeekFrom, Write};
 use std::path::Path;
 
-/// So many records or more have no sheet.
-const TOO_MANY: u64 = 536_870_912;
-
-/// What mending gives: the file up to the last record that is kept, and a trailer.
+/// What mending gives: as much of the audio as there are records of, sealed.
 #[derive(Debug)]
 pub struct Mended {
-    kept: u64,
-    trailer: Vec<u8>,
     pub sheet: Sheet,
-    /// How many bytes behind the records are lost.
-    pub lost: u64,
+    /// Whether the side was told by a person.
+    pub said: bool,
+    /// Where the audio is, and where its records start.
+    audio: Audio,
+    start: u64,
+    row: Row,
     /// The file was good as it was.
     pub whole: bool,
 }
 
-fn sheet(row: Row) -> Option<Sheet> {
-    Some(Sheet { side: row.side?, frames: row.frames as usize, heard: row.heard as usize, gaps: row.gaps })
+fn unreadable(why: io::Error) -> String {
+    why.to_string()
 }
 
-/// The records from a place on, up to the last whole one in front of the end.
-fn row(file: &mut (impl Read + Seek), place: u64, end: u64) -> io::Result<Row> {
-    file.seek(SeekFrom::Start(place))?;
-    Row::read(file, (end - place) / 8, false)
+/// The side that the seal says, or why it says none.
+fn side_of(found: &Found, file: &mut (impl Read + Seek)) -> Result<Side, String> {
+    let (chunk, seal) = found.seal().map_err(|failure| failure.why)?;
+    let is_ours = is_of(seal, chunk.audio, file).map_err(unreadable)?;
+    is_ours.then_some(seal.side).ok_or_else(|| OTHER_AUDIO.into())
 }
 
-/// The sheet of a file that is good as it is, with its records starting at the place.
-fn whole(file: &mut (impl Read + Seek), place: u64, size: u64) -> io::Result<Option<Sheet>> {
-    let Some(end) = size.checked_sub(16).filter(|end| place <= *end && (end - place).is_multiple_of(8)) else {
-        return Ok(None);
-    };
-    let mut last = [0; 16];
-    file.seek(SeekFrom::Start(end))?;
-    file.read_exact(&mut last)?;
-    let mut row = row(file, place, end)?;
-    // a sheet without records has its side in the trailer alone
-    row.side = row.side.or(Side::BOTH.get(usize::from(last[8])).copied());
-    let is_all = row.frames == (end - place) / 8 && row.frames < TOO_MANY;
-    let is_closed = |side: Side| last[..] == trailer(side as u32, row.frames as u32, row.sum);
-    Ok(if is_all && row.side.is_some_and(is_closed) { sheet(row) } else { None })
-}
-
-fn mended(file: &mut (impl Read + Seek), place: u64) -> io::Result<Result<Mended, Refusal>> {
-    let size = file.seek(SeekFrom::End(0))?;
-    if place > size {
-        return Ok(Err(Refusal(37)));
-    }
-    if let Some(sheet) = whole(file, place, size)? {
-        return Ok(Ok(Mended { kept: size, trailer: vec![], sheet, lost: 0, whole: true }));
-    }
-    let row = row(file, place, size)?;
-    let (kept, sum, frames) = (place + 8 * row.frames, row.sum, row.frames as u32);
-    Ok(match sheet(row) {
-        None => Err(Refusal(38)),
-        Some(sheet) if sheet.frames as u64 >= TOO_MANY => Err(Refusal(32)),
-        Some(sheet) => {
-            let trailer = trailer(sheet.side as u32, frames, sum);
-            Ok(Mended { kept, trailer, sheet, lost: size - kept, whole: false })
+/// The side of a recording whose records are of one side, and whether a person told it.
+fn told_side(seal: Result<Side, String>, said: Option<Side>, records: Side) -> Result<(Side, bool), String> {
+    let (side, by_a_person) = match (seal, said) {
+        (Ok(side), _) => (side, false),
+        (Err(_), Some(side)) => (side, true),
+        (Err(why), None) => {
+            let side = records.name();
+            return Err(format!("{why}; who knows that it is the {side} side, as its records say, adds --as {side}"));
         }
-    })
+    };
+    match said.filter(|other| *other != side) {
+        Some(_) => Err(format!("its seal says {}, and is of this audio", side.name())),
+        None if records != side => Err(format!("its records are of the {} side", records.name())),
+        None => Ok((side, by_a_person)),
+    }
 }
 
 /// What mending gives of a file, or why it can't be mended.
-pub fn of(file: &mut (impl Read + Seek)) -> Result<Mended, String> {
-    let unreadable = |why: io::Error| why.to_string();
-    file.rewind().map_err(unreadable)?;
-    let place = wav::audio_end(&mut *file).map_err(|fault| fault.to_string())?;
-    mended(file, place).map_err(unreadable)?.map_err(|refusal| refusal.to_string())
+pub fn of(file: &mut (impl Read + Seek), said: Option<Side>) -> Result<Mended, String> {
+    let found = Found::of(file).map_err(unreadable)?;
+    let audio = *found.audio.as_ref().map_err(|fault| fault.to_string())?;
+    if audio.end() > found.size {
+        return Err(Refusal(37).to_string());
+    }
+    if !audio.is_ours {
+        return Err("one channel of 16 bits and 48,000 samples a second is wanted, as the box writes it".into());
+    }
+    let seal = side_of(&found, file);
+    // a file of before has records alone
+    let start = found.chunk.as_ref().map_or(audio.end(), |chunk| chunk.records());
+    file.seek(SeekFrom::Start(start)).map_err(unreadable)?;
+    let row = Row::read(file, frames_of(audio.size / 2), None, true).map_err(unreadable)?;
+    let Some(records) = row.side.filter(|_| row.frames() > 1) else {
+        return Err(seal.err().unwrap_or_else(|| "no records follow its seal, from frame 0 on".into()));
+    };
+    let (side, said) = told_side(seal, said, records)?;
+    let whole = sealed(file, false).is_ok();
+    Ok(Mended { sheet: Sheet::of_row(side, &row), said, audio, start, row, whole })
 }
 
 impl Mended {
+    /// How many bytes of the audio are kept.
+    fn kept(&self) -> u64 {
+        self.audio.size.min((self.row.frames() - 1) * 2 * FRAME as u64)
+    }
+
     pub fn write(&self, from: &mut (impl Read + Seek), to: &mut impl Write) -> io::Result<()> {
         from.rewind()?;
-        io::copy(&mut from.take(self.kept), to)?;
-        to.write_all(&self.trailer)
+        if self.whole {
+            return io::copy(from, to).map(|_| ());
+        }
+        let (bytes, behind) = (self.kept(), records::behind(self.row.frames()));
+        to.write_all(&wav::header(RATE, bytes as u32, behind))?;
+        from.seek(SeekFrom::Start(self.audio.place))?;
+        let mut summed = Summed::new(&mut *to);
+        let copied = io::copy(&mut from.take(bytes), &mut summed)?;
+        if copied < bytes {
+            return Err(io::ErrorKind::UnexpectedEof.into());
+        }
+        let seal = Seal { side: self.sheet.side, bytes, checksum: summed.sum };
+        from.seek(SeekFrom::Start(self.start))?;
+        records::write(to, seal, self.row.tally, from)
+    }
+
+    /// What a clerk is told of it.
+    fn told(&self) -> String {
+        let seconds = |bytes: u64| bytes as f64 / 2.0 / f64::from(RATE);
+        if self.whole {
+            return "It was sealed: the file is copied as it was.".into();
+        }
+        let mut text = format!("Kept {:.2} s.", seconds(self.kept()));
+        if self.kept() < self.audio.size {
+            let behind = seconds(self.audio.size - self.kept());
+            text += &format!(" The {behind:.2} s behind them have no records, and stand in the torn file alone.");
+        }
+        if self.said {
+            text += &format!(" That it is the {} side stands in no seal: you said it.", self.sheet.side.name());
+        }
+        text
     }
 }
 
 /// Tells what was kept and what was lost. The file that is read is never written: what is written is a new file.
-pub fn mend(path: &Path, out: &Path) -> Result<(), String> {
+pub fn mend(path: &Path, out: &Path, said: Option<Side>) -> Result<(), String> {
     if path.to_string_lossy().ends_with(unfinished::PART) {
         let folder = path.parent().filter(|folder| *folder != Path::new("")).unwrap_or(Path::new("."));
         return Err(told(path, format!("this was not finished; {} closes it", unfinished::command(folder))));
     }
     let mut file = File::open(path).map_err(|why| told(path, why))?;
-    let mended = of(&mut file).map_err(|why| told(path, why))?;
+    let mended = of(&mut file, said).map_err(|why| told(path, why))?;
     let mut new = new_file(out).map_err(|why| told(out, why))?;
     mended.write(&mut file, &mut new).and_then(|()| new.sync_all()).map_err(|why| {
         let _ = fs::remove_file(out);
         told(out, why)
     })?;
-    crate::say!("{}: {}", out.display(), mended.sheet);
-    match (mended.whole, mended.lost) {
-        (true, _) => crate::say!("The sheet was whole: the file is copied as it was."),
-        (false, lost) => crate::say!("Kept {} frames, and lost the {lost} bytes behind them.", mended.sheet.frames),
-    }
+    crate::say!("{}: {}\n{}", out.display(), mended.sheet, mended.told());
     Ok(())
 }

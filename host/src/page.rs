@@ -67,21 +67,19 @@ fn share(frames: u64, all: u64) -> String {
     format!("{} {what}, {percent} %", grouped(frames))
 }
 
-/// Whether a recording is sealed, and why not: what its side sheet says.
+/// Whether a recording is sealed, and as what.
 fn seal(bench: &Summary) -> String {
-    if bench.samples == 0 {
-        return "<p class=\"seal\">There is no recording of this bench.</p>".into();
-    }
-    let gaps = match bench.gaps {
-        0 => "no gap".into(),
-        1 => "1 gap".into(),
-        gaps => format!("{} gaps", grouped(gaps)),
-    };
     let (side, frames, heard) = (bench.side.name(), grouped(bench.frames), grouped(bench.heard));
-    format!(
-        "<p class=\"seal\"><strong>Not sealed:</strong> behind the audio stands a side sheet without a seal. \
-         It says: {side} side, {frames} frames, {heard} heard, {gaps}.</p>"
-    )
+    let text = match (bench.samples, bench.gaps) {
+        (0, _) => "There is no recording of this bench.".into(),
+        (_, 0) => format!(
+            "<strong>Sealed</strong> as the {side} side, with this audio: {frames} frames, {heard} heard, no gap. \
+             Whether it still is, the command <code>side</code> tells."
+        ),
+        (_, 1) => "<strong>Not to be relied on:</strong> frames are missing, in 1 gap.".into(),
+        (_, gaps) => format!("<strong>Not to be relied on:</strong> frames are missing, in {} gaps.", grouped(gaps)),
+    };
+    format!("<p class=\"seal\">{text}</p>")
 }
 
 /// What is not as it should be.

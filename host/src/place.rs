@@ -27,6 +27,15 @@ pub fn new_file(place: &Path) -> io::Result<fs::File> {
     fs::File::options().read(true).write(true).create_new(true).open(place)
 }
 
+/// A new file without a name, which goes with the last who has it open.
+pub fn without_name() -> io::Result<fs::File> {
+    let folder = std::env::temp_dir();
+    let place = free(|number| folder.join(format!("host-{}-{}", std::process::id(), number.unwrap_or(1))));
+    let file = new_file(&place)?;
+    fs::remove_file(place)?;
+    Ok(file)
+}
+
 /// What a folder lists is written through to the disk, where it has a way to do that.
 pub fn write_through(folder: &Path) {
     let folder = if folder == Path::new("") { Path::new(".") } else { folder };

@@ -1,38 +1,46 @@
-//! The records of a side sheet as they come: they lie in a file of their own until the audio in front of them is at its end.
+//! The records of a side sheet as they come: they lie in a file of their own until the audio in front of them is at
+//! its end.
 
 use crate::folder::told;
 use crate::recorder::Side;
 use crate::refusal::Refusal;
-use crate::seal;
+use crate::seal::{self, Seal};
 use std::fs::File;
 use std::io::{self, Read, Seek, SeekFrom, Write};
 use std::path::PathBuf;
 
 /// So many entries are written at a time.
 const ENTRIES: usize = 1_024;
+/// The bytes of a record, of a trailer, and of a chunk's name and size.
+pub const RECORD: u64 = 8;
+pub const TRAILER: usize = 16;
+pub const CHUNK: u64 = 8;
+/// The chunk behind the audio: a seal, records and their trailer.
+pub const NAME: &[u8; 4] = b"side";
 
-/// The library writes each part, as a sheet of its own. The records of these sheets in a row, and a trailer with the sum of their sums, are the whole sheet.
+/// How many records there are so far, and the sum of their bytes, as the library carries them on.
+pub type Tally = [u64; 2];
+
+/// The library writes each part, and carries their number and their sum on to the trailer.
 /// In front of them stand the seal's first words, so that the file says by itself which side it is.
 pub struct Records {
     path: PathBuf,
     file: File,
-    side: u32,
+    side: Side,
     entries: Vec<u64>,
-    /// What the trailer says: how many there are, and the sum of their bytes.
-    count: u32,
-    sum: u32,
+    tally: Tally,
 }
 
 impl Records {
     /// In a new file.
     pub fn new(path: PathBuf, mut file: File, side: Side) -> Result<Records, String> {
         file.write_all(&seal::under_way(side)).map_err(|why| told(&path, why))?;
-        Ok(Records::of(path, file, side, 0, 0))
+        Ok(Records::of(path, file, side, [0; 2]))
     }
 
-    /// Those that lie in a file already, so many with this sum.
-    pub fn of(path: PathBuf, file: File, side: Side, count: u32, sum: u32) -> Records {
-        Records { path, file, side: tuppence::side_of(side as u32), entries: Vec::new(), count, sum }
+    /// Those that lie in a file already.
+    pub fn of(path: PathBuf, file: File, side: Side, tally: Tally) -> Records {
+        Records { path, file, side, entries: Vec::new(), tally }
     }
 
     pub fn push(&mut self, entry: u64) -> Result<(), String> {
@@ -45,42 +53,64 @@ impl Records {
 
     /// Lays down what there is.
     pub fn put(&mut self) -> Result<(), String> {
-        if self.entries.is_empty() {
-            return Ok(());
-        }
-        let mut sheet = vec![0; 8 * self.entries.len() + 16];
-        match tuppence::sheet_write(&mut sheet, self.side, &self.entries) {
+        let mut records = vec![0; RECORD as usize * self.entries.len()];
+        match tuppence::sheet_records(&mut self.tally, &mut records, self.side as u32, &self.entries) {
             0 => (),
             refused => return Err(told(&self.path, Refusal(refused))),
         }
-        let (records, trailer) = sheet.split_at(8 * self.entries.len());
-        self.file.write_all(records).map_err(|why| told(&self.path, why))?;
-        let sum = u32::from_le_bytes([trailer[12], trailer[13], trailer[14], trailer[15]]);
-        self.sum = self.sum.wrapping_add(sum);
-        self.count += self.entries.len() as u32;
         self.entries.clear();
-        Ok(())
+        self.file.write_all(&records).map_err(|why| told(&self.path, why))
     }
 
     pub fn inner(&self) -> &File {
         &self.file
     }
 
-    /// Writes the sheet behind the audio.
-    pub fn finish(mut self, to: &mut impl Write) -> Result<(), String> {
+    /// How many bytes the chunk has that `finish` writes.
+    pub fn behind(&self) -> u32 {
+        behind(self.tally[0] + self.entries.len() as u64)
+    }
+
+    /// Writes the chunk behind the audio.
+    pub fn finish(mut self, to: &mut impl Write, seal: Seal) -> Result<(), String> {
         self.put()?;
         let mut copy = || -> io::Result<()> {
             self.file.seek(SeekFrom::Start(seal::LENGTH as u64))?;
-            io::copy(&mut Read::by_ref(&mut self.file).take(8 * u64::from(self.count)), to)?;
-            to.write_all(&trailer(self.side, self.count, self.sum))
+            write(to, seal, self.tally, &mut self.file)
         };
         copy().map_err(|why| told(&self.path, why))
     }
 }
 
-/// The end of a sheet with so many records, whose bytes have this sum.
-pub fn trailer(side: u32, count: u32, sum: u32) -> Vec<u8> {
-    [count.wrapping_mul(8), count, side, sum].map(u32::to_le_bytes).concat()
+/// How many bytes the chunk of so many records has behind its name and size.
+pub fn contents(records: u64) -> u64 {
+    seal::LENGTH as u64 + RECORD * records + TRAILER as u64
+}
+
+/// The same with its name and size. (A recording of which a WAV file can say how long it is has fewer than 2^23.)
+pub fn behind(records: u64) -> u32 {
+    (CHUNK + contents(records)) as u32
+}
+
+/// The chunk behind the audio: its seal, records that are copied, and their trailer.
+pub fn write(to: &mut impl Write, seal: Seal, tally: Tally, records: &mut impl Read) -> io::Result<()> {
+    to.write_all(NAME)?;
+    to.write_all(&(contents(tally[0]) as u32).to_le_bytes())?;
+    to.write_all(&seal.written())?;
+    let copied = io::copy(&mut records.take(RECORD * tally[0]), to)?;
+    if copied < RECORD * tally[0] {
+        return Err(io::ErrorKind::UnexpectedEof.into());
+    }
+    to.write_all(&trailer(seal.side, tally).map_err(|refused| io::Error::other(refused.to_string()))?)
+}
+
+/// The end of a sheet.
+pub fn trailer(side: Side, [count, sum]: Tally) -> Result<[u8; TRAILER], Refusal> {
+    let mut trailer = [0; TRAILER];
+    match tuppence::sheet_trailer(&mut trailer, side as u32, count, sum) {
+        0 => Ok(trailer),
+        refused => Err(Refusal(refused)),
+    }
 }
 
 #[cfg(test)]
@@ -100,10 +130,13 @@ mod tests {
                 entries.push(u64::from(number) | u64::from(heard) << 32);
                 records.push(entries[i as usize]).unwrap();
             }
-            let (mut parts, mut whole) = (vec![], vec![0; 8 * count + 16]);
-            records.finish(&mut parts).unwrap();
+            let seal = Seal { side, bytes: 960, checksum: 7 };
+            let (mut chunk, mut whole, behind) = (vec![], vec![0; 8 * count + 16], records.behind());
+            records.finish(&mut chunk, seal).unwrap();
             assert_eq!(tuppence::sheet_write(&mut whole, side as u32, &entries), 0);
-            assert!(parts == whole, "{count} records");
+            let size = (chunk.len() as u32 - 8).to_le_bytes();
+            assert!(chunk == [b"side", &size[..], &seal.written(), &whole].concat(), "{count} records");
+            assert_eq!(chunk.len(), behind as usize);
             let bytes = std::fs::read(&path).unwrap();
             assert_eq!(seal::side(&bytes[..seal::LENGTH]), Some(side));
             assert!(bytes[seal::LENGTH..] == whole[..8 * count], "{count} records");

@@ -35,6 +35,14 @@ fn of_sheet(number: u32) -> &'static str {
     }
 }
 
+fn of_seal(number: u32) -> &'static str {
+    match number {
+        51 => "it is none",
+        52 => "its own checksum does not fit it",
+        _ => "it names neither the left nor the right side",
+    }
+}
+
 impl fmt::Display for Refusal {
     fn fmt(&self, f: &mut fmt::Formatter) -> fmt::Result {
         let (number, of, layer) = (self.0 % 256, self.0 / 256 % 256, self.0 / 65_536);
@@ -48,6 +56,7 @@ impl fmt::Display for Refusal {
             31..=35 => write!(f, "no side sheet: {} (refusal {number})", of_sheet(number)),
             37 => write!(f, "the file ends within its audio (refusal 37)"),
             38 => write!(f, "no whole record follows the audio (refusal 38)"),
+            51..=53 => write!(f, "its seal is damaged: {} (refusal {number})", of_seal(number)),
             _ => write!(f, "the library refused a call with {number}"),
         }
     }

@@ -3,9 +3,9 @@
 
 use crate::files::{recording, TABLE};
 use crate::folder::{told, Folder};
+use crate::found::sealed;
 use crate::place::{beside, free, is_taken, put, write_through};
 use crate::recorder::Side;
-use crate::side::{tail, Sheet};
 use crate::unfinished::{left_over, of_others, open, Unfinished, PART, SHEET};
 use std::fs::{self, File};
 use std::io::{self, ErrorKind, Read, Seek, SeekFrom};
@@ -47,7 +47,7 @@ fn mend_part(folder: &Path, part: &Path, sheet: &Path) -> Result<Option<String>,
 
 /// Records whose recording has its place already, since the run ended just before it would have removed them.
 fn mend_sheet(place: &Path, sheet: &Path) -> Result<(), String> {
-    let good = File::open(place).and_then(tail).is_ok_and(|end| Sheet::of(&end).is_ok());
+    let good = File::open(place).is_ok_and(|mut file| sealed(&mut file, true).is_ok());
     if !good {
         return Err(told(sheet, "there is no recording beside it"));
     }

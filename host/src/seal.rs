@@ -1,33 +1,42 @@
-//! The first words of a seal, with which the records of a recording that is under way begin: so its side is in the
-//! bytes, and not in a name.
+//! The seal of a recording: its side, and of which audio it is. The library writes it and reads it.
 
 use crate::recorder::Side;
+use crate::refusal::Refusal;
 
 /// `TUPP`, the side's word, how many bytes of audio there are (64 bits), their checksum, and the checksum of these 20
 /// bytes; little end first.
 pub const LENGTH: usize = 24;
 
-fn word(side: Side) -> &'static [u8; 4] {
-    match side {
-        Side::Left => b"LEFT",
-        Side::Right => b"RGHT",
+#[derive(Clone, Copy, Debug, PartialEq)]
+pub struct Seal {
+    pub side: Side,
+    /// How many bytes of audio there are, and their checksum.
+    pub bytes: u64,
+    pub checksum: u32,
+}
+
+impl Seal {
+    pub fn written(&self) -> [u8; LENGTH] {
+        let mut seal = [0; LENGTH];
+        let refused = tuppence::seal_write(&mut seal, self.side as u32, self.bytes, self.checksum);
+        assert_eq!(refused, 0, "24 bytes, and one of two sides");
+        seal
+    }
+
+    /// The seal in front of some bytes.
+    pub fn read(bytes: &[u8]) -> Result<Seal, Refusal> {
+        let mut numbers = [0; 3];
+        match tuppence::seal_read(&mut numbers, bytes) {
+            0 => Ok(Seal { side: Side::BOTH[numbers[0] as usize], bytes: numbers[1], checksum: numbers[2] as u32 }),
+            refused => Err(Refusal(refused)),
+        }
     }
 }
 
-/// CRC-32, as zip and PNG have it.
-fn checksum(bytes: &[u8]) -> u32 {
-    let step = |sum: u32| if sum & 1 == 1 { sum >> 1 ^ 0xEDB8_8320 } else { sum >> 1 };
-    !bytes.iter().fold(u32::MAX, |sum, byte| (0..8).fold(sum ^ u32::from(*byte), |sum, _| step(sum)))
-}
-
-/// The seal of a recording under way: of no audio yet.
+/// The seal with which the records of a recording begin that is under way: of no audio yet. So its side is in the
+/// bytes, and not in a name.
 pub fn under_way(side: Side) -> [u8; LENGTH] {
-    let mut seal = [0; LENGTH];
-    seal[..4].copy_from_slice(b"TUPP");
-    seal[4..8].copy_from_slice(word(side));
-    let sum = checksum(&seal[..20]);
-    seal[20..].copy_from_slice(&sum.to_le_bytes());
-    seal
+    Seal { side, bytes: 0, checksum: 0 }.written()
 }
 
 /// The side of a recording under way, where these bytes are its seal.
@@ -39,22 +48,20 @@ pub fn side(seal: &[u8]) -> Option<Side> {
 mod tests {
     use super::*;
 
-    /// The example that every description of CRC-32 has.
-    #[test]
-    fn nine_digits() {
-        assert_eq!(checksum(b"123456789"), 0xCBF4_3926);
-    }
-
     #[test]
     fn no_byte_of_a_seal_may_change() {
         for of in Side::BOTH {
+            let seal = Seal { side: of, bytes: 0x1_2345_6789, checksum: 0xCBF4_3926 };
+            assert_eq!(Seal::read(&seal.written()), Ok(seal));
             assert_eq!(side(&under_way(of)), Some(of));
             for at in 0..LENGTH {
-                let mut seal = under_way(of);
-                seal[at] ^= 1;
-                assert_eq!(side(&seal), None, "byte {at}");
+                let (mut seal, mut begun) = (seal.written(), under_way(of));
+                (seal[at], begun[at]) = (seal[at] ^ 1, begun[at] ^ 1);
+                assert_eq!(Seal::read(&seal), Err(Refusal(if at < 4 { 51 } else { 52 })), "byte {at}");
+                assert_eq!(side(&begun), None, "byte {at}");
             }
             assert_eq!(side(&under_way(of)[..LENGTH - 1]), None);
+            assert_eq!(side(&seal.written()), None);
         }
     }
 }

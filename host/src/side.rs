@@ -1,12 +1,16 @@
-//! `host side FILE..`: the side sheet behind a recording's audio, told to a clerk.
+//! `host side FILE..`: whose recording it is, told to a clerk where that can be relied on.
 
-use crate::cleaned::gaps;
-use crate::folder::told;
+use crate::found::sealed;
+use crate::kept::{Gaps, Row};
+use crate::names::says_another;
+use crate::place::without_name;
 use crate::recorder::Side;
+use crate::records::{trailer, RECORD, TRAILER};
 use crate::refusal::Refusal;
+use crate::status::{Failure, MISNAMED};
 use std::fmt;
 use std::fs::File;
-use std::io::{self, Read, Seek, SeekFrom};
+use std::io::{self, Cursor, Read, Seek, SeekFrom};
 use std::path::{Path, PathBuf};
 
 /// A sheet in short. A gap stands where a frame's number does not follow the one before it.
@@ -15,81 +19,101 @@ pub struct Sheet {
     pub side: Side,
     pub frames: usize,
     pub heard: usize,
-    /// The frames in front of a gap.
-    pub gaps: Vec<u32>,
+    pub gaps: Gaps,
+    /// The number of the first frame.
+    first: Option<u32>,
 }
 
 impl Sheet {
+    /// The sheet of a row of records.
+    pub fn of_row(side: Side, row: &Row) -> Sheet {
+        let first = row.ends.map(|[first, _]| first);
+        Sheet { side, frames: row.frames() as usize, heard: row.heard as usize, gaps: row.gaps, first }
+    }
+
+    /// The sheet behind some bytes.
     pub fn of(file: &[u8]) -> Result<Sheet, Refusal> {
-        let mut numbers = [0; 3];
-        match tuppence::sheet_read(&mut numbers, file) {
-            0 => (),
-            refused => return Err(Refusal(refused)),
+        let read = Sheet::read(&mut Cursor::new(file)).expect("memory is read");
+        read.map(|(sheet, _)| sheet)
+    }
+
+    /// The sheet at the end of a file, and where its records start: what the library's reader finds there, in parts.
+    pub fn read(file: &mut (impl Read + Seek)) -> io::Result<Result<(Sheet, u64), Refusal>> {
+        let Some(end) = file.seek(SeekFrom::End(0))?.checked_sub(TRAILER as u64) else {
+            return Ok(Err(Refusal(31)));
+        };
+        let mut last = [0; TRAILER];
+        file.seek(SeekFrom::Start(end))?;
+        file.read_exact(&mut last)?;
+        let number = |at: usize| u64::from(u32::from_le_bytes([last[at], last[at + 1], last[at + 2], last[at + 3]]));
+        let (distance, count) = (number(0), number(4));
+        let Some(start) = end.checked_sub(distance).filter(|_| distance == RECORD * count) else {
+            return Ok(Err(Refusal(32)));
+        };
+        let Some(side) = Side::BOTH.into_iter().find(|side| number(8) == *side as u64) else {
+            return Ok(Err(Refusal(33)));
+        };
+        file.seek(SeekFrom::Start(start))?;
+        let row = Row::read(file, count, Some(side), false)?;
+        if row.frames() < count {
+            return Ok(Err(Refusal(34)));
         }
-        let [start, records, side] = numbers.map(|n| n as usize);
-        // the library has looked at every record: frame number, then 0 silent or 1 heard
-        let records = file[start..start + 8 * records].chunks_exact(8);
-        let frames: Vec<u32> = records.clone().map(|r| u32::from_le_bytes([r[0], r[1], r[2], r[3]])).collect();
-        Ok(Sheet {
-            side: Side::BOTH[side],
-            heard: records.filter(|r| r[4] == 1).count(),
-            gaps: gaps(&frames).into_iter().map(|[before, _]| before).collect(),
-            frames: frames.len(),
-        })
+        let is_closed = trailer(side, row.tally) == Ok(last);
+        Ok(if is_closed { Ok((Sheet::of_row(side, &row), start)) } else { Err(Refusal(35)) })
+    }
+
+    /// Whether the frames are 0, 1, 2 and so on.
+    pub fn numbers_up(&self) -> bool {
+        self.gaps.count == 0 && self.first.unwrap_or(0) == 0
     }
 }
 
 impl fmt::Display for Sheet {
     fn fmt(&self, f: &mut fmt::Formatter) -> fmt::Result {
         write!(f, "{} side, {} frames, {} heard, ", self.side.name(), self.frames, self.heard)?;
-        match &self.gaps[..] {
-            [] => write!(f, "no gap"),
-            [frame] => write!(f, "1 gap, behind frame {frame}"),
-            [frame, ..] => write!(f, "{} gaps, the first behind frame {frame}", self.gaps.len()),
+        match self.gaps {
+            Gaps { first: None, .. } => write!(f, "no gap"),
+            Gaps { count: 1, first: Some(frame) } => write!(f, "1 gap, behind frame {frame}"),
+            Gaps { count, first: Some(frame) } => write!(f, "{count} gaps, the first behind frame {frame}"),
         }
     }
 }
 
-/// The end of a file, from where its trailer points back to: all that a sheet is read from, without the hours of audio in front of it. A pipe,
-/// where there is no going back, is read whole.
-pub fn tail(mut file: impl Read + Seek) -> io::Result<Vec<u8>> {
-    let mut bytes = Vec::new();
-    if let Ok(size) = file.seek(SeekFrom::End(0)) {
-        let trailer = size.saturating_sub(16);
-        file.seek(SeekFrom::Start(trailer))?;
-        file.read_to_end(&mut bytes)?;
-        let distance = bytes.first_chunk().map_or(0, |word| u32::from_le_bytes(*word));
-        file.seek(SeekFrom::Start(trailer.saturating_sub(distance.into())))?;
-        bytes.clear();
+/// A file in which one can go back. A pipe is laid into a file without a name first.
+fn open(path: &Path) -> io::Result<File> {
+    let mut file = File::open(path)?;
+    if file.stream_position().is_ok() {
+        return Ok(file);
     }
-    file.read_to_end(&mut bytes)?;
-    Ok(bytes)
+    let mut copy = without_name()?;
+    io::copy(&mut file, &mut copy)?;
+    Ok(copy)
 }
 
-/// Whether a file's name has the other side's name in it, and not its own.
-fn misnamed(path: &Path, sheet: &Sheet) -> bool {
-    let name = path.file_name().unwrap_or_default().to_string_lossy().to_lowercase();
-    let has = |side: Side| name.contains(side.name());
-    !has(sheet.side) && Side::BOTH.into_iter().any(has)
+/// The sheet of a sealed recording whose name says no other side.
+pub fn of(path: &Path, quick: bool) -> Result<Sheet, Failure> {
+    let mut file = open(path).map_err(|why| Failure::from(why.to_string()))?;
+    let sheet = sealed(&mut file, quick)?;
+    match says_another(path, sheet.side) {
+        Some(what) => Err(Failure { status: MISNAMED, why: format!("{what} says another side: {sheet}") }),
+        None => Ok(sheet),
+    }
 }
 
-/// A line for each file. The files without a good sheet come back, each with the reason.
-pub fn side(paths: &[PathBuf]) -> Result<(), String> {
-    let one = |path: &Path| {
-        let end = File::open(path).and_then(tail).map_err(|why| why.to_string())?;
-        Sheet::of(&end).map_err(|refused| refused.to_string())
-    };
-    let mut bad = vec![];
+/// A line for each file that is sealed. The others come back, each with the reason, and with the highest status.
+pub fn side(paths: &[PathBuf], quick: bool) -> Result<(), Failure> {
+    let how = if quick { "; sealed, but its audio was not looked at" } else { "; sealed" };
+    let mut bad: Vec<Failure> = vec![];
     for path in paths {
-        match one(path) {
-            Ok(sheet) if misnamed(path, &sheet) => bad.push(told(path, format!("the name says another side: {sheet}"))),
-            Ok(sheet) => crate::say!("{}: {sheet}", path.display()),
-            Err(why) => bad.push(told(path, why)),
+        match of(path, quick) {
+            Ok(sheet) => crate::say!("{}: {sheet}{how}", path.display()),
+            Err(failure) => bad.push(failure.of(path)),
         }
     }
-    if bad.is_empty() {
-        Ok(())
-    } else {
-        Err(bad.join("\nhost: "))
+    match bad.iter().map(|failure| failure.status).max() {
+        None => Ok(()),
+        Some(status) => {
+            Err(Failure { status, why: bad.into_iter().map(|f| f.why).collect::<Vec<_>>().join("\nhost: ") })
+        }
     }
 }

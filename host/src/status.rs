@@ -1,9 +1,20 @@
 //! How a command ends (docs/BOX.md has the table).
 
+use crate::folder::told;
+use std::path::Path;
+
 /// What was asked could not be done.
 pub const UNDONE: u8 = 1;
 /// What was given is not right: the command line, or a recording that is not all there.
 pub const WRONG: u8 = 2;
+/// No side sheet, or none with frames.
+pub const NO_SHEET: u8 = 3;
+/// A side sheet without a seal.
+pub const UNSEALED: u8 = 4;
+/// A seal that is not of this audio, or is damaged, or whose sheet is.
+pub const DAMAGED: u8 = 5;
+/// A name that says another side.
+pub const MISNAMED: u8 = 6;
 
 /// Why a command ends otherwise than it was asked, and with which exit status.
 #[derive(Debug)]
@@ -15,6 +26,11 @@ pub struct Failure {
 impl Failure {
     pub fn wrong(why: impl Into<String>) -> Failure {
         Failure { status: WRONG, why: why.into() }
+    }
+
+    /// The same, of this file.
+    pub fn of(self, path: &Path) -> Failure {
+        Failure { why: told(path, self.why), ..self }
     }
 }
 

@@ -126,31 +126,32 @@ impl Unfinished {
         let stays = |why: &str| told(sheet, format!("{why} {}, which stays until you move it", part.display()));
         let no_seal = "it does not begin with a seal, so nothing tells the side of";
         let side = seal::side(&seal).ok_or_else(|| stays(no_seal))?;
-        let row = Row::read(&mut records, frames_of(there), true).map_err(why)?;
-        if row.side != Some(side) || row.frames < 2 {
+        let row = Row::read(&mut records, frames_of(there), Some(side), true).map_err(why)?;
+        if row.frames() < 2 {
             return Err(stays("no record in it is of the sound in"));
         }
-        let kept = there.min((row.frames - 1) * FRAME as u64);
+        let kept = there.min((row.frames() - 1) * FRAME as u64);
         Ok(Some(Unfinished { side, audio, sheet: records, row, kept, there }))
     }
 
-    /// Closes the recording as `host clean` does: header, audio, sheet. From the first step on the header says where
-    /// the audio ends.
+    /// Closes the recording as `host clean` does: header, audio, seal, sheet. From the first step on the header says
+    /// where the audio ends.
     pub fn close(self, part: &Path, sheet: &Path) -> Result<(), String> {
         let why = |why: io::Error| told(part, why);
         let size = 2 * self.kept as u32;
-        let mut file = Writer::resume(self.audio, RATE, size).finish().map_err(why)?;
+        let audio = Writer::resume(self.audio, RATE, size).map_err(why)?;
+        let records = Records::of(sheet.to_owned(), self.sheet, self.side, self.row.tally);
+        let seal = audio.seal(self.side);
+        let mut file = audio.finish(records.behind()).map_err(why)?;
         file.sync_data().and_then(|()| file.set_len(wav::HEAD as u64 + u64::from(size))).map_err(why)?;
-        let records = Records::of(sheet.to_owned(), self.sheet, self.side, self.row.frames as u32, self.row.sum);
-        records.finish(&mut file)?;
+        records.finish(&mut file, seal)?;
         file.sync_all().map_err(why)
     }
 
     /// What a clerk is told of it.
     pub fn told(&mut self) -> io::Result<String> {
         let seconds = |samples: u64| samples as f64 / f64::from(RATE);
-        let (frames, heard) = (self.row.frames as usize, self.row.heard as usize);
-        let sheet = Sheet { side: self.side, frames, heard, gaps: vec![] };
+        let sheet = Sheet::of_row(self.side, &self.row);
         let mut text = format!("{sheet}\nKept {:.2} s.", seconds(self.kept));
         if self.there > self.kept {
             let behind = seconds(self.there - self.kept);

@@ -2,16 +2,22 @@
 //! the library's.
 
 use crate::block::{packed, Block, Layout};
+use crate::head::{self, Head};
+use crate::recorder::Side;
+use crate::seal::Seal;
+use crate::{FRAME, RATE};
 use std::fmt;
-use std::io::{self, ErrorKind, Read, Seek, SeekFrom, Write};
+use std::io::{self, BufReader, ErrorKind, Read, Seek, SeekFrom, Write};
 use std::rc::Rc;
 
 /// What a header says of a length that is not known yet.
 const UNKNOWN: u32 = u32::MAX;
 /// Programs that write a stream don't know its length: they say 0, or 2 GiB or 4 GiB, or a little less.
 const OPEN: [std::ops::RangeInclusive<u64>; 3] = [0..=0, 0x7FFF_F000..=0x8000_0000, 0xFFFF_F000..=0xFFFF_FFFF];
-/// The most samples that a file can hold: its sizes have 32 bits, and that of the whole counts 36 bytes more.
-pub const MOST: u64 = (UNKNOWN as u64 - 37) / 2;
+/// The most samples that a file can hold: its sizes have 32 bits, and that of the whole counts 8 bytes more of each
+/// frame, and 92 besides: of the header, the seal, the last frame and the trailer.
+pub const MOST: u64 = (UNKNOWN as u64 - 1 - 92) / (2 * FRAME as u64 + 8) * FRAME as u64;
+pub const TOO_LONG: &str = "a WAV file can't hold more than 12 hours and 19 minutes";
 /// The bytes of the header that is written.
 pub const HEAD: usize = 44;
 
@@ -60,11 +66,7 @@ impl fmt::Display for Fault {
 
 impl From<io::Error> for Fault {
     fn from(why: io::Error) -> Fault {
-        match why.kind() {
-            // the end, where a chunk should be
-            ErrorKind::UnexpectedEof => Fault::NotWav("it has no `data` chunk"),
-            _ => Fault::Unreadable(why.to_string()),
-        }
+        Fault::Unreadable(why.to_string())
     }
 }
 
@@ -77,12 +79,12 @@ enum Sample {
 }
 
 impl Sample {
-    fn of(tag: u16, bits: u16) -> Result<Sample, Fault> {
-        match (tag, bits) {
-            (1, 16) => Ok(Sample::Pcm16),
-            (1, 24) => Ok(Sample::Pcm24),
-            (3, 32) => Ok(Sample::Float),
-            _ => Err(Fault::Format { tag, bits }),
+    /// By the library's number.
+    fn of(format: u32) -> Sample {
+        match format {
+            16 => Sample::Pcm16,
+            24 => Sample::Pcm24,
+            _ => Sample::Float,
         }
     }
 
@@ -97,7 +99,8 @@ impl Sample {
 
 /// A recording that is read block by block.
 pub struct Reader<R> {
-    from: io::Take<R>,
+    /// What was read with the head, and then what comes.
+    from: io::Take<io::Chain<io::Cursor<Vec<u8>>, R>>,
     pub rate: u32,
     pub channels: usize,
     sample: Sample,
@@ -111,78 +114,21 @@ pub struct Reader<R> {
     pub ended: bool,
 }
 
-/// What a format's chunk says that matters.
-struct Format {
-    rate: u32,
-    channels: usize,
-    sample: Sample,
-}
-
-impl Format {
-    fn of(bytes: &[u8]) -> Result<Format, Fault> {
-        let at = |i: usize| bytes.get(i..i + 2).map_or(0, |b| u16::from_le_bytes([b[0], b[1]]));
-        if bytes.len() < 16 {
-            return Err(Fault::NotWav("its `fmt ` chunk is too short"));
-        }
-        let channels = at(2).into();
-        if channels != 1 && channels != 2 {
-            return Err(Fault::Channels(at(2)));
-        }
-        // an extensible format has its own tag in front of the identifier's rest
-        let tag = if at(0) == 0xFFFE { at(24) } else { at(0) };
-        let sample = Sample::of(tag, at(14))?;
-        let (bytes, wanted) = (at(12).into(), sample.size() * channels);
-        if bytes != wanted {
-            return Err(Fault::Block { bytes, wanted });
-        }
-        Ok(Format { rate: u32::from(at(4)) | u32::from(at(6)) << 16, channels, sample })
-    }
-}
-
 /// The header of a chunk: its name and its size.
-fn chunk(from: &mut impl Read) -> Result<([u8; 4], u32), Fault> {
+fn chunk(from: &mut impl Read) -> io::Result<([u8; 4], u32)> {
     let mut bytes = [0; 8];
     from.read_exact(&mut bytes)?;
     let [a, b, c, d, size @ ..] = bytes;
     Ok(([a, b, c, d], u32::from_le_bytes(size)))
 }
 
-/// The first bytes of a chunk, which takes `whole` bytes of the file; the others are passed over.
-fn head(from: &mut impl Read, size: u32, whole: u64) -> Result<Vec<u8>, Fault> {
-    let mut head = Vec::new();
-    from.by_ref().take(size.min(40).into()).read_to_end(&mut head)?;
-    let read = head.len() as u64;
-    let passed = io::copy(&mut from.by_ref().take(whole - read), &mut io::sink())?;
-    if read + passed < size.into() {
-        return Err(Fault::NotWav("a chunk in front of its audio goes beyond its end"));
-    }
-    Ok(head)
-}
-
 impl<R: Read> Reader<R> {
     /// Reads on to the first sample. The format stands in front of the audio, as WAV has it.
     pub fn new(mut from: R) -> Result<Reader<R>, Fault> {
-        let mut riff = [0; 12];
-        from.read_exact(&mut riff)?;
-        match (&riff[..4], &riff[8..]) {
-            (b"RIFF", b"WAVE") => (),
-            (b"RF64", b"WAVE") => return Err(Fault::NotWav("it is RF64")),
-            _ => return Err(Fault::NotWav("it does not start as one")),
-        }
-        let (mut at, mut seen) = (12, None);
-        loop {
-            let (name, size) = chunk(&mut from)?;
-            at += 8;
-            if &name == b"data" {
-                let format = seen.ok_or(Fault::NotWav("it has no `fmt ` chunk in front of its audio"))?;
-                return Ok(Reader::of(from, format, [at, size.into()]));
-            }
-            let whole = u64::from(size) + u64::from(size % 2);
-            let head = head(&mut from, size, whole)?;
-            if &name == b"fmt " && seen.is_none() {
-                seen = Some(Format::of(&head)?);
-            }
-            at += whole;
+        let (head, read) = head::read(&mut from)?;
+        match head.channels {
+            1 | 2 => Ok(Reader::of(from, read, head)),
+            many => Err(Fault::Channels(many as u16)),
         }
     }
 
@@ -209,14 +155,15 @@ impl<R: Read> Reader<R> {
 
     /// Samples of 16 bits, little end first, without a header, up to the end.
     pub fn raw(from: R, rate: u32, channels: usize) -> Reader<R> {
-        Reader::of(from, Format { rate, channels, sample: Sample::Pcm16 }, [0, UNKNOWN.into()])
+        Reader::of(from, vec![], Head { place: 0, format: 16, channels, rate, size: UNKNOWN.into() })
     }
 
-    fn of(from: R, Format { rate, channels, sample }: Format, place: [u64; 2]) -> Self {
+    fn of(from: R, read: Vec<u8>, Head { place, format, channels, rate, size }: Head) -> Self {
         // A stream that does not know its length says so, and a recorder that lost power leaves a size that is too large: what is there counts.
-        let most = if place[1] == UNKNOWN.into() { u64::MAX } else { place[1] };
+        let most = if size == UNKNOWN.into() { u64::MAX } else { size };
+        let (from, sample) = (io::Cursor::new(read).chain(from).take(most), Sample::of(format));
         let (carried, given, ended) = (Vec::new(), 0, false);
-        Reader { from: from.take(most), rate, channels, sample, place, carried, given, ended }
+        Reader { from, rate, channels, sample, place: [place, size], carried, given, ended }
     }
 
     /// How its samples stand in its bytes.
@@ -288,9 +235,27 @@ pub fn are_chunks(mut from: impl Read + Seek, mut at: u64) -> io::Result<bool> {
     Ok(at == end)
 }
 
-/// Where the audio ends, as the header says.
-pub fn audio_end(from: impl Read) -> Result<u64, Fault> {
-    Ok(Reader::new(from)?.end())
+/// Where the audio of a file is, as its header says.
+#[derive(Clone, Copy, Debug, PartialEq)]
+pub struct Audio {
+    pub place: u64,
+    pub size: u64,
+    /// Whether it is what the box writes: one channel of 16 bits, at 48 kHz.
+    pub is_ours: bool,
+}
+
+impl Audio {
+    /// Behind the samples, and the byte that an odd number of them is filled up with.
+    pub fn end(&self) -> u64 {
+        self.place + self.size + self.size % 2
+    }
+}
+
+pub fn audio(from: impl Read) -> Result<Audio, Fault> {
+    let reader = Reader::new(from)?;
+    let is_mono = reader.channels == 1 && matches!(reader.sample, Sample::Pcm16);
+    let [place, size] = reader.place;
+    Ok(Audio { place, size, is_ours: is_mono && reader.rate == RATE && size % 2 == 0 })
 }
 
 /// A whole file, where no sample is broken.
@@ -315,57 +280,82 @@ pub fn read(bytes: &[u8]) -> Result<Wav, Fault> {
 /// Samples that are read at a time.
 const BLOCK: usize = 4_096;
 
-/// The header of one channel of 16-bit PCM, with so many bytes of audio.
-fn header(rate: u32, size: u32) -> Vec<u8> {
-    let mut bytes = Vec::with_capacity(44);
-    bytes.extend(b"RIFF");
-    bytes.extend(size.saturating_add(36).to_le_bytes());
-    bytes.extend(b"WAVEfmt ");
-    bytes.extend(16u32.to_le_bytes());
-    bytes.extend([1, 0, 1, 0]);
-    bytes.extend(rate.to_le_bytes());
-    bytes.extend((2 * rate).to_le_bytes());
-    bytes.extend([2, 0, 16, 0]);
-    bytes.extend(b"data");
-    bytes.extend(size.to_le_bytes());
+/// The header of one channel of 16-bit PCM, with so many bytes of audio and of chunks behind it.
+pub fn header(rate: u32, size: u32, behind: u32) -> [u8; HEAD] {
+    let mut bytes = [0; HEAD];
+    assert_eq!(tuppence::wav_head(&mut bytes, rate, size, behind), 0, "a header has 44 bytes");
     bytes
 }
 
 /// The header of a recording that is under way.
-pub fn open_head(rate: u32) -> Vec<u8> {
-    header(rate, UNKNOWN)
+pub fn open_head(rate: u32) -> [u8; HEAD] {
+    header(rate, UNKNOWN, 0)
 }
 
 /// How many bytes of audio the header of a file of ours says, where it was known when that was written.
 pub fn said(head: &[u8; HEAD], rate: u32) -> Option<u32> {
-    let size = u32::from_le_bytes([head[40], head[41], head[42], head[43]]);
-    (size != UNKNOWN && head[..] == header(rate, size)).then_some(size)
+    let number = |at: usize| u32::from_le_bytes([head[at], head[at + 1], head[at + 2], head[at + 3]]);
+    let size = number(40);
+    let behind = number(4).checked_sub(36)?.checked_sub(size)?;
+    (size != UNKNOWN && *head == header(rate, size, behind)).then_some(size)
+}
+
+/// Writes on, and keeps up the checksum of what went through.
+pub struct Summed<W> {
+    to: W,
+    pub sum: u32,
+}
+
+impl<W: Write> Summed<W> {
+    pub fn new(to: W) -> Summed<W> {
+        Summed { to, sum: 0 }
+    }
+}
+
+impl<W: Write> Write for Summed<W> {
+    fn write(&mut self, bytes: &[u8]) -> io::Result<usize> {
+        let written = self.to.write(bytes)?;
+        self.sum = tuppence::checksum(self.sum, &bytes[..written]);
+        Ok(written)
+    }
+
+    fn flush(&mut self) -> io::Result<()> {
+        self.to.flush()
+    }
+}
+
+/// How many bytes there are, of so many at most, and their checksum.
+pub fn checksum(from: &mut impl Read, most: u64) -> io::Result<(u64, u32)> {
+    let mut summed = Summed::new(io::sink());
+    let bytes = io::copy(&mut BufReader::with_capacity(65_536, from.take(most)), &mut summed)?;
+    Ok((bytes, summed.sum))
 }
 
 /// One channel as 16-bit PCM, written as it comes. Until its end is known the header says that the audio goes on to the
-/// end of the file.
+/// end of the file. Its checksum is kept up.
 pub struct Writer<W: Write + Seek> {
     to: W,
     rate: u32,
     size: u32,
+    checksum: u32,
 }
 
 impl<W: Write + Seek> Writer<W> {
     pub fn new(mut to: W, rate: u32) -> io::Result<Writer<W>> {
-        to.write_all(&header(rate, UNKNOWN))?;
-        Ok(Writer { to, rate, size: 0 })
+        to.write_all(&open_head(rate))?;
+        Ok(Writer { to, rate, size: 0, checksum: 0 })
     }
 
     pub fn write(&mut self, bytes: &[u8]) -> io::Result<()> {
         let more = u32::try_from(bytes.len()).ok().and_then(|more| self.size.checked_add(more));
-        // the sizes of a WAV file have 32 bits, and that of the whole counts 36 more
-        let Some(size) = more.filter(|size| *size < UNKNOWN - 36) else {
-            return Err(io::Error::other("a WAV file can't hold more than 12 hours and 25 minutes"));
+        let Some(size) = more.filter(|size| u64::from(*size) <= 2 * MOST) else {
+            return Err(io::Error::other(TOO_LONG));
         };
         if bytes.is_empty() {
             return Ok(());
         }
         self.to.write_all(bytes)?;
+        self.checksum = tuppence::checksum(self.checksum, bytes);
         self.size = size;
         Ok(())
     }
@@ -374,17 +364,30 @@ impl<W: Write + Seek> Writer<W> {
         &self.to
     }
 
-    /// A file that was left with so many bytes of audio.
-    pub fn resume(to: W, rate: u32, size: u32) -> Writer<W> {
-        Writer { to, rate, size }
+    /// The seal of what was written, as one side's.
+    pub fn seal(&self, side: Side) -> Seal {
+        Seal { side, bytes: self.size.into(), checksum: self.checksum }
     }
 
-    /// Mends the header. What follows is written behind the audio.
-    pub fn finish(mut self) -> io::Result<W> {
+    /// Mends the header, which says from then on how many bytes of chunks stand behind the audio. What follows is
+    /// written there.
+    pub fn finish(mut self, behind: u32) -> io::Result<W> {
         self.to.seek(SeekFrom::Start(0))?;
-        self.to.write_all(&header(self.rate, self.size))?;
+        self.to.write_all(&header(self.rate, self.size, behind))?;
         self.to.seek(SeekFrom::Start(HEAD as u64 + u64::from(self.size)))?;
         Ok(self.to)
+    }
+}
+
+impl<W: Read + Write + Seek> Writer<W> {
+    /// A file that was left with so many bytes of audio, which are read once more.
+    pub fn resume(mut to: W, rate: u32, size: u32) -> io::Result<Writer<W>> {
+        to.seek(SeekFrom::Start(HEAD as u64))?;
+        let (read, checksum) = self::checksum(&mut to, size.into())?;
+        if read < size.into() {
+            return Err(ErrorKind::UnexpectedEof.into());
+        }
+        Ok(Writer { to, rate, size, checksum })
     }
 }
 
@@ -392,7 +395,7 @@ impl<W: Write + Seek> Writer<W> {
 pub fn write(rate: u32, samples: &[f32]) -> Vec<u8> {
     let mut writer = Writer::new(io::Cursor::new(Vec::new()), rate).expect("memory takes it");
     writer.write(&packed(samples)).expect("memory takes it");
-    writer.finish().expect("memory takes it").into_inner()
+    writer.finish(0).expect("memory takes it").into_inner()
 }
 
 #[cfg(test)]
@@ -410,10 +413,12 @@ mod tests {
     #[test]
     fn more_than_a_file_can_hold() {
         let mut writer = Writer::new(io::Cursor::new(Vec::new()), 48_000).unwrap();
-        writer.size = UNKNOWN - 36 - 5;
+        writer.size = 2 * MOST as u32 - 4;
         assert!(writer.write(&[1; 6]).is_err() && writer.write(&[1; 4]).is_ok() && writer.write(&[1; 2]).is_err());
-        let file = writer.finish().unwrap().into_inner();
-        assert_eq!((file.len(), &file[4..8]), (44 + 4, &(UNKNOWN - 1).to_le_bytes()[..]));
+        let whole = |samples: u64| 36 + 2 * samples + u64::from(crate::records::behind(crate::run::frames_of(samples)));
+        assert!(whole(MOST) < UNKNOWN.into() && whole(MOST + FRAME as u64) >= UNKNOWN.into());
+        let file = writer.finish(crate::records::behind(crate::run::frames_of(MOST))).unwrap().into_inner();
+        assert_eq!((file.len(), &file[4..8]), (44 + 4, &(whole(MOST) as u32).to_le_bytes()[..]));
     }
 
     /// Until the end is known, what is there counts.

@@ -100,12 +100,12 @@ fn each_recording_carries_its_sheet() {
         let rows: Vec<&str> = table.lines().filter(|line| line.starts_with(side)).collect();
         let heard = rows.iter().filter(|row| row.contains(",heard,")).count();
         let sheet = host::side::Sheet::of(&file).unwrap();
-        assert_eq!((sheet.side.name(), sheet.frames, sheet.heard, &sheet.gaps[..]), (side, rows.len(), heard, &[][..]));
+        assert_eq!((sheet.side.name(), sheet.frames, sheet.heard, sheet.gaps.count), (side, rows.len(), heard, 0));
         assert!(heard > 0);
-        // behind the audio, where `mend` looks for it
+        // behind the audio and its seal
         let mut start = [0; 3];
         assert_eq!(tuppence::sheet_read(&mut start, &file), 0);
-        assert_eq!(start[0], wav::audio_end(&file[..]).unwrap());
+        assert_eq!(start[0], wav::audio(&file[..]).unwrap().end() + 8 + 24);
     }
 }
 
@@ -259,8 +259,8 @@ fn a_folder_for_a_file() {
 #[test]
 fn strange_recordings() {
     let given = Given::new("strange");
-    given.put("one.wav", &wav::write(48_000, &[5.0]));
-    assert!(given.clean("one.wav", "one.wav", "house.rnn", "out").status.success());
+    ["one.wav", "two.wav"].iter().for_each(|name| given.put(name, &wav::write(48_000, &[5.0])));
+    assert!(given.clean("one.wav", "two.wav", "house.rnn", "out").status.success());
     let read = |name: &str| wav::read(&fs::read(given.path.join(name)).unwrap()).unwrap().channels[0].len();
     assert_eq!((read("out/left.wav"), read("out/right.wav")), (1, 1));
     fs::remove_dir_all(given.path.join("out")).unwrap();

@@ -9,7 +9,6 @@ use host::{seal, wav};
 use std::fs::{self, File};
 use std::io::Write;
 use std::path::{Path, PathBuf};
-use std::process::Command;
 use std::sync::atomic::{AtomicU64, Ordering};
 use std::sync::OnceLock;
 use std::thread::{scope, sleep, spawn};
@@ -257,8 +256,8 @@ fn closing_that_was_cut_short() {
     copy(&path.join("out"), &once.join("out"));
     assert_eq!(mend(&once).status, Some(0));
     let whole = fs::read(once.join("out/left.wav")).unwrap();
-    let audio = wav::audio_end(&whole[..]).unwrap() as usize;
-    for there in [audio, audio + 3, audio + 400, whole.len() - 1, whole.len()] {
+    let audio = wav::audio(&whole[..]).unwrap().end() as usize;
+    for there in [audio, audio + 3, audio + 8, audio + 20, audio + 32, audio + 400, whole.len() - 1, whole.len()] {
         copy(&path.join("out"), &again.join("out"));
         fs::write(part(&again, "left", ".part"), &whole[..there]).unwrap();
         assert_eq!(mend(&again).status, Some(0));
@@ -316,16 +315,6 @@ fn records(side: u32, count: u32) -> Vec<u8> {
     sheet
 }
 
-/// The program in no more memory than this, in MB.
-fn in_memory(path: &Path, most: u32, words: &[&str]) -> Ended {
-    let mut shell = Command::new("sh");
-    let limit = format!("ulimit -v {} && exec \"$0\" \"$@\"", 1_024 * most);
-    run({
-        shell.args(["-c", &limit, env!("CARGO_BIN_EXE_host")]).args(words).current_dir(path);
-        shell
-    })
-}
-
 /// Ten hours, whose audio takes no room on the disk since nothing was ever written there.
 #[test]
 fn ten_hours_in_64_mb() {
@@ -343,8 +332,8 @@ fn ten_hours_in_64_mb() {
     assert_eq!(ended.status, Some(0), "{}", ended.why);
     let told = "out/right.wav: right side, 3600001 frames, 1200001 heard, no gap\nKept 36000.00 s.";
     assert!(ended.said.starts_with(told), "{}", ended.said);
-    let ended = run(host(&path, &["side", "out/right.wav"]));
-    assert_eq!(ended.said, "out/right.wav: right side, 3600001 frames, 1200001 heard, no gap\n");
+    let ended = in_memory(&path, 16, &["side", "out/right.wav"]);
+    assert_eq!(ended.said, "out/right.wav: right side, 3600001 frames, 1200001 heard, no gap; sealed\n");
     fs::remove_dir_all(path).unwrap();
 }
 
@@ -353,15 +342,17 @@ fn ten_hours_in_64_mb() {
 fn a_long_torn_sheet_in_64_mb() {
     let path = folder("crash-torn");
     let samples = 480 * 100_000u32;
-    let mut head = wav::write(48_000, &[]);
-    head[40..].copy_from_slice(&(2 * samples).to_le_bytes());
-    fs::write(path.join("torn.wav"), head).unwrap();
-    let mut file = File::options().append(true).open(path.join("torn.wav")).unwrap();
-    file.set_len(HEADER as u64 + 2 * u64::from(samples)).unwrap();
-    file.write_all(&records(0, 100_001)).unwrap();
+    let (zeros, torn) = (File::open("/dev/zero").unwrap(), path.join("torn.wav"));
+    let (bytes, checksum) = wav::checksum(&mut &zeros, 2 * u64::from(samples)).unwrap();
+    let seal = seal::Seal { side: host::recorder::Side::Left, bytes, checksum };
+    fs::write(&torn, wav::header(48_000, 2 * samples, 0)).unwrap();
+    let mut file = File::options().append(true).open(&torn).unwrap();
+    file.set_len(HEADER as u64 + bytes).unwrap();
+    file.write_all(&[b"side", &[0; 4], &seal.written()[..], &records(0, 100_001)].concat()).unwrap();
     let ended = in_memory(&path, 64, &["mend", "torn.wav", "--out", "mended.wav"]);
     assert_eq!(ended.status, Some(0), "{}", ended.why);
     assert!(ended.said.starts_with("mended.wav: left side, 100001 frames, 33334 heard, no gap\n"), "{}", ended.said);
-    assert_eq!(size(&path.join("mended.wav")), size(&path.join("torn.wav")) + 16);
+    assert_eq!(size(&path.join("mended.wav")), size(&torn) + 16);
+    assert_eq!(run(host(&path, &["side", "mended.wav"])).status, Some(0));
     fs::remove_dir_all(path).unwrap();
 }

@@ -1,8 +1,9 @@
 //! Randomly damaged recordings, sheets and models through the readers: each is read or refused, and none ends in a panic.
 
 use host::demo::{Rng, HOUSE};
+use host::found::sealed;
 use host::recorder::{Recorder, Side};
-use host::side::{tail, Sheet};
+use host::side::Sheet;
 use host::{mend, wav};
 use std::io::Cursor;
 
@@ -57,21 +58,29 @@ fn damage(rng: &mut Rng, file: &mut Vec<u8>) {
     }
 }
 
-/// A file as the box mends it, in parts, and the sheet that it then has.
-fn mended(file: &[u8]) -> Option<Vec<u8>> {
-    let mended = mend::of(&mut Cursor::new(file)).ok()?;
-    let mut out = vec![];
-    mended.write(&mut Cursor::new(file), &mut out).unwrap();
-    assert_eq!(Sheet::of(&out), Ok(mended.sheet));
-    assert!(mended.whole == (out == file) && (mended.whole || mended.lost as usize == file.len() - (out.len() - 16)));
-    Some(out)
+/// What the library's reader says of a file that it is lent whole: the start of the records, their number and the side.
+fn read_at_once(file: &[u8]) -> Result<[u64; 3], u32> {
+    let mut numbers = [0; 3];
+    match tuppence::sheet_read(&mut numbers, file) {
+        0 => Ok(numbers),
+        refused => Err(refused),
+    }
 }
 
-/// The same as the library gives it, which is lent the whole file.
-fn mended_at_once(file: &[u8]) -> Option<Vec<u8>> {
-    let place = wav::audio_end(file).ok()?;
-    let (mut out, mut numbers) = (vec![0; file.len() + 16], [0; 2]);
-    (tuppence::mend(&mut numbers, &mut out, file, place) == 0).then(|| out[..numbers[0] as usize].to_vec())
+/// The same as the box reads it, in parts.
+fn read_in_parts(file: &[u8]) -> Result<[u64; 3], u32> {
+    let read = Sheet::read(&mut Cursor::new(file)).unwrap();
+    read.map(|(sheet, start)| [start, sheet.frames as u64, sheet.side as u64]).map_err(|refusal| refusal.0)
+}
+
+/// Mends a file. What it becomes is sealed.
+fn is_mended(file: &[u8]) -> bool {
+    let Ok(mended) = mend::of(&mut Cursor::new(file), Some(Side::Right)) else { return false };
+    let mut out = vec![];
+    mended.write(&mut Cursor::new(file), &mut out).unwrap();
+    assert_eq!(sealed(&mut Cursor::new(&out), false).ok(), Some(mended.sheet));
+    assert_eq!(mended.whole, out == file);
+    true
 }
 
 #[test]
@@ -81,17 +90,12 @@ fn recordings_and_sheets() {
     for i in 0..100_000 {
         let mut file = good[i % good.len()].clone();
         damage(rng, &mut file);
-        let results = [
-            wav::read(&file).is_ok(),
-            wav::audio_end(&file[..]).is_ok(),
-            Sheet::of(&file).is_ok(),
-            mended(&file).is_some(),
-        ];
+        let results =
+            [wav::read(&file).is_ok(), wav::audio(&file[..]).is_ok(), Sheet::of(&file).is_ok(), is_mended(&file)];
         for (count, ok) in read.iter_mut().zip(results) {
             *count += u32::from(ok);
         }
-        assert_eq!(Sheet::of(&tail(Cursor::new(&file)).unwrap()), Sheet::of(&file));
-        assert!(mended(&file) == mended_at_once(&file), "{file:?}");
+        assert_eq!(read_in_parts(&file), read_at_once(&file), "{file:?}");
     }
     // some of each are read still, and some of each are not
     assert!(read.iter().all(|n| (1_000..99_000).contains(n)), "{read:?}");

@@ -104,7 +104,8 @@ fn broken_from_the_start() {
     assert!(same(&path, "out/left.wav", "whole/left.wav"));
     let page = fs::read_to_string(path.join("out/index.html")).unwrap();
     assert!(page.contains("There is no recording of this bench") && !page.contains("right.wav"));
-    let ended = two(&path, "broken.wav", "broken.wav", "none");
+    fs::copy(path.join("broken.wav"), path.join("too.wav")).unwrap();
+    let ended = two(&path, "broken.wav", "too.wav", "none");
     assert!(ended.status == Some(2) && ended.why.contains("left, at 0.00 s"), "{}", ended.why);
     assert!(!path.join("none").exists());
 }
@@ -166,7 +167,8 @@ fn a_header_alone() {
         assert_eq!(ended.why, "host: header.wav: no audio follows its header\n");
         assert!(same(&path, "out/left.wav", "whole/left.wav") && !path.join("out/right.wav").exists());
         fs::remove_dir_all(path.join("out")).unwrap();
-        let ended = two(&path, "header.wav", "header.wav", "out");
+        fs::copy(path.join("header.wav"), path.join("too.wav")).unwrap();
+        let ended = two(&path, "header.wav", "too.wav", "out");
         assert!(ended.status == Some(2) && ended.why.contains("no audio follows its header"), "{}", ended.why);
         assert!(!path.join("out").exists());
     }

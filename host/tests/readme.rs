@@ -61,6 +61,14 @@ fn tear(folder: &Path, name: &str) {
     fs::write(folder.join(name), &whole[..whole.len() - 10]).unwrap();
 }
 
+/// A recording with its side sheet alone, as those of before have it.
+fn unseal(folder: &Path, name: &str) {
+    let mut file = fs::read(folder.join("DIR/left.wav")).unwrap();
+    let end = wav::audio(&file[..]).unwrap().end() as usize;
+    file.drain(end..end + 32);
+    fs::write(folder.join(name), file).unwrap();
+}
+
 /// A run that the power cut short.
 fn cut_short(folder: &Path, dir: &str) {
     let words = ["clean", "-", "--raw", "--model", "M.rnn", "--out", dir];
@@ -87,6 +95,7 @@ fn run(folder: &Path, command: &str) {
     match words[..] {
         ["clean", "-", ..] => _ = host.stdin(File::open(folder.join("stream")).unwrap()),
         ["mend", torn, "--out", _] => tear(folder, torn),
+        ["mend", old, "--as", _, "--out", _] => unseal(folder, old),
         ["mend", dir] => cut_short(folder, dir),
         _ => {}
     }

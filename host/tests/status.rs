@@ -1,9 +1,11 @@
 //! The exit statuses are those of the table in docs/BOX.md: a case for each of its rows, and a row for each case.
 
 mod common;
+mod made;
 
 use common::*;
 use host::wav;
+use made::{entries, noise, riff, sealed, sheet};
 use std::collections::BTreeMap;
 use std::fs::{self, File};
 use std::io::Write;
@@ -77,6 +79,13 @@ fn of_full_disk() -> i32 {
     fed(shell, &raw(2.0)).status.unwrap()
 }
 
+/// Of telling this file's side.
+fn of_side(name: &str, bytes: &[u8]) -> i32 {
+    let path = given("told");
+    fs::write(path.join(name), bytes).unwrap();
+    run(host(&path, &["side", name])).status.unwrap()
+}
+
 fn of_answer(to: impl Into<Stdio>) -> i32 {
     let mut command = Command::new(env!("CARGO_BIN_EXE_host"));
     command.arg("--version").stdout(to).stderr(Stdio::null()).status().unwrap().code().unwrap()
@@ -89,6 +98,8 @@ fn cases() -> Vec<(&'static str, i32)> {
     let mut broken = good.clone();
     (broken[20], broken[32], broken[34]) = (3, 4, 32);
     broken[HEADER + 40..HEADER + 44].fill(0xFF);
+    let (audio, left) = (noise(480, 1), sealed(0, &noise(480, 1)));
+    let changed = [&left[..60], &[left[60] ^ 1], &left[61..]].concat();
     let asked = [&TWO[..], &["r.wav", "--out", "out"]].concat();
     let mut another = 0;
     let mut while_it_runs = |path: &Path, _: &std::process::Child| another = run(host(path, &asked)).status.unwrap();
@@ -126,7 +137,14 @@ fn cases() -> Vec<(&'static str, i32)> {
         ("a recording breaks off, or no audio follows its header", of_right("header", &good[..HEADER])),
         ("the header says that there is no audio where there is", of_right("says-none", &with_size(0))),
         ("a signal ended the reading of a file", of_file_that_is_stopped()),
-        ("`side` finds no good sheet, or a name that says the other side", of("side", &["side", "l.wav"])),
+        ("a recording is given for the other bench than its own, or for both", {
+            of("both", &[&TWO[..], &["./l.wav", "--out", "out"]].concat())
+        }),
+        ("a recording is given for the other bench than its own, or for both", of_right("other", &left)),
+        ("`side` finds no side sheet, or one without frames", of("side", &["side", "l.wav"])),
+        ("`side` finds a side sheet without a seal", of_side("1.wav", &riff(&audio, &sheet(0, &entries(2))))),
+        ("`side` finds a recording that is not the one that was sealed, or is damaged", of_side("1.wav", &changed)),
+        ("`side` finds a name, or a folder's, that says another side", of_side("right.wav", &left)),
     ]
 }
 

@@ -2,10 +2,11 @@
 #![allow(dead_code)]
 
 use host::demo::{dictation, HOUSE};
+use host::found::sealed;
 use host::side::Sheet;
 use host::wav;
 use std::fs;
-use std::io::Write;
+use std::io::{Cursor, Write};
 use std::path::{Path, PathBuf};
 use std::process::{Child, Command, Output, Stdio};
 use std::sync::OnceLock;
@@ -70,6 +71,16 @@ pub fn fed(mut command: Command, bytes: &[u8]) -> Ended {
     ended(child.wait_with_output().unwrap())
 }
 
+/// The program in no more memory than this, in MB.
+pub fn in_memory(path: &Path, most: u32, words: &[&str]) -> Ended {
+    let mut shell = Command::new("sh");
+    let limit = format!("ulimit -v {} && exec \"$0\" \"$@\"", 1_024 * most);
+    run({
+        shell.args(["-c", &limit, env!("CARGO_BIN_EXE_host")]).args(words).current_dir(path);
+        shell
+    })
+}
+
 /// The names in a folder.
 pub fn names(path: &Path) -> Vec<String> {
     let mut names: Vec<String> =
@@ -91,17 +102,19 @@ pub fn raw(seconds: f64) -> Vec<u8> {
     (0..2 * n).map(|i| sides[i % 2][i / 2 % sides[i % 2].len()] as i16).flat_map(i16::to_le_bytes).collect()
 }
 
-/// The audio of a recording of one channel, and what its sheet says.
+/// The audio of a sealed recording of one channel, and what its sheet says.
 pub fn recording(path: &Path) -> (Vec<f32>, Sheet) {
     let bytes = fs::read(path).unwrap_or_else(|why| panic!("{}: {why}", path.display()));
-    (wav::read(&bytes).unwrap().channels.remove(0), Sheet::of(&bytes).unwrap())
+    let sheet =
+        sealed(&mut Cursor::new(&bytes), false).unwrap_or_else(|failure| panic!("{}: {failure:?}", path.display()));
+    (wav::read(&bytes).unwrap().channels.remove(0), sheet)
 }
 
 /// A recording, its sheet that of its side and of its length, and no gap in it.
 pub fn sound(path: &Path, side: &str) -> Vec<f32> {
     let (audio, sheet) = recording(path);
     let frames = host::run::frames_of(audio.len() as u64) as usize;
-    assert_eq!((sheet.side.name(), sheet.frames, &sheet.gaps[..]), (side, frames, &[][..]), "{}", path.display());
+    assert_eq!((sheet.side.name(), sheet.frames, sheet.gaps.count), (side, frames, 0), "{}", path.display());
     audio
 }
 
