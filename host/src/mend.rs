@@ -1,4 +1,4 @@
-//! `host mend FILE --out FILE2`: a recording whose side sheet was torn, with its sheet closed again. It is read and
+//! `box mend FILE --out FILE2`: a recording whose side sheet was torn, with its sheet closed again. It is read and
 //! written in parts, and gives what the library's mender gives of the whole file.
 
 use crate::folder::told;
@@ -88,10 +88,19 @@ impl Mended {
         io::copy(&mut from.take(self.kept), to)?;
         to.write_all(&self.trailer)
     }
+
+    /// Tells what was kept and what was lost.
+    pub fn tell(&self, out: &Path) {
+        crate::say!("{}", told(out, &self.sheet));
+        match (self.whole, self.lost) {
+            (true, _) => crate::say!("The sheet was whole: the file is copied as it was."),
+            (false, lost) => crate::say!("Kept {} frames, and lost the {lost} bytes behind them.", self.sheet.frames),
+        }
+    }
 }
 
-/// Tells what was kept and what was lost. The file that is read is never written: what is written is a new file.
-pub fn mend(path: &Path, out: &Path) -> Result<(), String> {
+/// The file that is read is never written: what is written is a new file.
+pub fn mend(path: &Path, out: &Path) -> Result<Mended, String> {
     if path.to_string_lossy().ends_with(unfinished::PART) {
         let folder = path.parent().filter(|folder| *folder != Path::new("")).unwrap_or(Path::new("."));
         return Err(told(path, format!("this was not finished; {} closes it", unfinished::command(folder))));
@@ -103,10 +112,5 @@ pub fn mend(path: &Path, out: &Path) -> Result<(), String> {
         let _ = fs::remove_file(out);
         told(out, why)
     })?;
-    crate::say!("{}: {}", out.display(), mended.sheet);
-    match (mended.whole, mended.lost) {
-        (true, _) => crate::say!("The sheet was whole: the file is copied as it was."),
-        (false, lost) => crate::say!("Kept {} frames, and lost the {lost} bytes behind them.", mended.sheet.frames),
-    }
-    Ok(())
+    Ok(mended)
 }

@@ -37,6 +37,8 @@ pub struct Pauses {
     before: Powers,
     after: Powers,
     begun: bool,
+    /// Whether each frame has a voice whose powers are not both there yet.
+    voices: VecDeque<bool>,
     /// How many frames without a voice are softer by so many tenths.
     softer: Vec<u64>,
 }
@@ -44,7 +46,7 @@ pub struct Pauses {
 impl Default for Pauses {
     fn default() -> Pauses {
         let [before, after] = [Powers::default(), Powers::default()];
-        Pauses { memory: [0.0; 2], before, after, begun: false, softer: vec![0; TENTHS] }
+        Pauses { memory: [0.0; 2], before, after, begun: false, voices: VecDeque::new(), softer: vec![0; TENTHS] }
     }
 }
 
@@ -61,21 +63,25 @@ impl Pauses {
 
     pub fn after(&mut self, samples: &[f32]) {
         self.after.add(samples.iter().map(|x| f64::from(*x)));
+        self.count();
     }
 
     /// The next frame. What comes out of it belongs to the one before it, so that the first has none.
     pub fn frame(&mut self, voice: bool) {
-        if !std::mem::replace(&mut self.begun, true) {
-            return;
+        if std::mem::replace(&mut self.begun, true) {
+            self.voices.push_back(voice);
         }
-        if self.before.frames.is_empty() || self.after.frames.is_empty() {
-            return;
-        }
-        let [before, after] =
-            [&mut self.before, &mut self.after].map(|powers| powers.frames.pop_front().unwrap_or(0.0));
-        if !voice && before > 0.0 {
+        self.count();
+    }
+
+    /// Counts the frames of which all is known, in whatever order it came.
+    fn count(&mut self) {
+        let Pauses { before, after, voices, softer, .. } = self;
+        let known = voices.len().min(before.frames.len()).min(after.frames.len());
+        let each = voices.drain(..known).zip(before.frames.drain(..known)).zip(after.frames.drain(..known));
+        for ((_, before), after) in each.filter(|((voice, before), _)| !voice && *before > 0.0) {
             let tenths = (100.0 * (before / after).log10() + BELOW).round();
-            self.softer[(tenths.max(0.0) as usize).min(TENTHS - 1)] += 1;
+            softer[(tenths.max(0.0) as usize).min(TENTHS - 1)] += 1;
         }
     }
 
@@ -110,6 +116,22 @@ mod tests {
         let taken = pauses.taken().unwrap();
         assert!((19.8..20.2).contains(&taken), "{taken}");
         assert_eq!((pauses.before.frames.len(), pauses.after.frames.len()), (1, 0));
+    }
+
+    /// A frame may be told of before its samples come out, as in a block of many.
+    #[test]
+    fn in_any_order() {
+        let counted = |of: usize| {
+            let mut pauses = Pauses::default();
+            for block in (0..200).collect::<Vec<usize>>().chunks(of) {
+                let tone = |loud: f32| [loud, -loud].repeat(FRAME / 2);
+                block.iter().for_each(|_| pauses.before(&tone(100.0)));
+                block.iter().for_each(|number| pauses.frame(number % 3 == 0));
+                block.iter().for_each(|number| pauses.after(&tone(*number as f32 + 1.0)));
+            }
+            pauses.softer
+        };
+        assert!(counted(1) == counted(9) && counted(9) == counted(200));
     }
 
     #[test]

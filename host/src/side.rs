@@ -1,4 +1,4 @@
-//! `host side FILE..`: the side sheet behind a recording's audio, told to a clerk.
+//! `box side FILE..`: the side sheet behind a recording's audio, told to a clerk.
 
 use crate::cleaned::gaps;
 use crate::folder::told;
@@ -73,23 +73,45 @@ fn misnamed(path: &Path, sheet: &Sheet) -> bool {
     !has(sheet.side) && Side::BOTH.into_iter().any(has)
 }
 
+/// What was found behind a file's audio, and what is wrong with it.
+pub struct Looked {
+    pub sheet: Option<Sheet>,
+    pub wrong: Option<String>,
+}
+
+/// The end of a file, or of standard input where it is called `-`.
+fn end(path: &Path) -> io::Result<Vec<u8>> {
+    if path != Path::new("-") {
+        return File::open(path).and_then(tail);
+    }
+    let mut bytes = Vec::new();
+    io::stdin().lock().read_to_end(&mut bytes)?;
+    Ok(bytes)
+}
+
+pub fn look(path: &Path) -> Looked {
+    let sheet = end(path).map_err(|why| why.to_string()).and_then(|end| Sheet::of(&end).map_err(|why| why.to_string()));
+    match sheet {
+        Ok(sheet) => {
+            let wrong = misnamed(path, &sheet).then(|| format!("the name says another side: {sheet}"));
+            Looked { sheet: Some(sheet), wrong }
+        }
+        Err(why) => Looked { sheet: None, wrong: Some(why) },
+    }
+}
+
 /// A line for each file. The files without a good sheet come back, each with the reason.
 pub fn side(paths: &[PathBuf]) -> Result<(), String> {
-    let one = |path: &Path| {
-        let end = File::open(path).and_then(tail).map_err(|why| why.to_string())?;
-        Sheet::of(&end).map_err(|refused| refused.to_string())
-    };
     let mut bad = vec![];
     for path in paths {
-        match one(path) {
-            Ok(sheet) if misnamed(path, &sheet) => bad.push(told(path, format!("the name says another side: {sheet}"))),
-            Ok(sheet) => crate::say!("{}: {sheet}", path.display()),
-            Err(why) => bad.push(told(path, why)),
+        match look(path) {
+            Looked { wrong: Some(why), .. } => bad.push(told(path, why)),
+            Looked { sheet, .. } => sheet.into_iter().for_each(|sheet| crate::say!("{}", told(path, sheet))),
         }
     }
     if bad.is_empty() {
         Ok(())
     } else {
-        Err(bad.join("\nhost: "))
+        Err(bad.join("\n"))
     }
 }

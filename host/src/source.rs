@@ -173,8 +173,9 @@ impl Lost {
     }
 }
 
-/// A file for each bench, or both benches as the channels of one recording.
+/// A file for one bench or for each, or both benches as the channels of one recording.
 pub enum Recordings {
+    One(Side, Recording),
     Two([Recording; 2]),
     Stereo(Recording),
 }
@@ -195,6 +196,10 @@ fn raw(mut from: Until, name: &Path) -> Result<Reader<Box<dyn Read>>, Failure> {
 }
 
 impl Recordings {
+    pub fn one(side: Side, path: &Path) -> Result<Recordings, String> {
+        Ok(Recordings::One(side, Recording::file(path, 1)?))
+    }
+
     pub fn two(left: &Path, right: &Path) -> Result<Recordings, String> {
         Ok(Recordings::Two([Recording::file(left, 1)?, Recording::file(right, 1)?]))
     }
@@ -215,7 +220,7 @@ impl Recordings {
     fn all(&self) -> &[Recording] {
         match self {
             Recordings::Two(both) => both,
-            Recordings::Stereo(one) => std::slice::from_ref(one),
+            Recordings::One(_, one) | Recordings::Stereo(one) => std::slice::from_ref(one),
         }
     }
 
@@ -232,11 +237,13 @@ impl Recordings {
     /// What is missing of what should have been read.
     pub fn lost(&self) -> Vec<Lost> {
         let broken = |side: Side| match self {
+            Recordings::One(its, one) => one.broken(side, 0).filter(|_| *its == side),
             Recordings::Two(both) => both[side as usize].broken(side, 0),
             Recordings::Stereo(one) => one.broken(side, side as usize),
         };
         let broken = |side: Side| broken(side).map(|why| Lost::of(side, why));
         let sides = match self {
+            Recordings::One(side, _) => vec![vec![*side]],
             Recordings::Two(_) => Side::BOTH.map(|side| vec![side]).to_vec(),
             Recordings::Stereo(_) => vec![Side::BOTH.to_vec()],
         };
@@ -248,6 +255,11 @@ impl Recordings {
 impl Source for Recordings {
     fn next(&mut self) -> [Vec<f32>; 2] {
         match self {
+            Recordings::One(side, one) => {
+                let mut blocks = [vec![], vec![]];
+                blocks[*side as usize] = one.block().remove(0);
+                blocks
+            }
             Recordings::Two(both) => both.each_mut().map(|one| one.block().remove(0)),
             Recordings::Stereo(one) => {
                 let mut channels = one.block().into_iter();

@@ -3,11 +3,11 @@
 
 mod models;
 
-use host::demo::{dictation, minutes, HOUSE};
-use host::recorder::{Heard, Recorder, Side, Way, PIECE};
-use host::reference::Reference;
-use host::run::{frames_of, in_memory};
-use host::FRAME;
+use tuppencehop::demo::{dictation, minutes, HOUSE};
+use tuppencehop::recorder::{Heard, Recorder, Side, Way, PIECE};
+use tuppencehop::reference::Reference;
+use tuppencehop::run::{frames_of, in_memory};
+use tuppencehop::FRAME;
 
 /// One bench by the text: its output, and the voice of each frame.
 fn by_the_text(recording: &[f32], model: &[u8]) -> (Vec<f32>, Vec<f32>) {
@@ -75,7 +75,7 @@ fn cut(way: Way, samples: &[f32], lengths: &[usize]) -> (Vec<f32>, Vec<(u32, Hea
     recorder.open(Side::Right, &model).unwrap();
     for length in lengths.iter().cycle() {
         let (piece, behind) = rest.split_at(rest.len().min(*length));
-        let each = |frame: host::recorder::Frame, out: &[f32]| {
+        let each = |frame: tuppencehop::recorder::Frame, out: &[f32]| {
             frames.push((frame.number, frame.heard, frame.heard_so_far));
             output.extend(out);
         };

@@ -1,10 +1,10 @@
-//! `host mend`: what is kept and what is lost, and that the file that is read stays as it is.
+//! `box mend`: what is kept and what is lost, and that the file that is read stays as it is.
 
-use host::wav;
 use std::fs;
 use std::io::Cursor;
 use std::path::{Path, PathBuf};
 use std::process::{Command, Output};
+use tuppencehop::wav;
 
 const HEARD: u64 = 1 << 32;
 
@@ -25,7 +25,8 @@ fn folder(name: &str) -> PathBuf {
 }
 
 fn mend(path: &Path, words: &[&str]) -> (Output, String, String) {
-    let output = Command::new(env!("CARGO_BIN_EXE_host")).arg("mend").args(words).current_dir(path).output().unwrap();
+    let output =
+        Command::new(env!("CARGO_BIN_EXE_tuppencehop")).arg("mend").args(words).current_dir(path).output().unwrap();
     let text = |bytes: &[u8]| String::from_utf8(bytes.to_vec()).unwrap();
     let (said, why) = (text(&output.stdout), text(&output.stderr));
     (output, said, why)
@@ -82,10 +83,10 @@ fn a_long_sheet_in_parts() {
     let agree = |file: &[u8]| {
         let (mut out, mut numbers) = (vec![0; file.len() + 16], [0; 2]);
         let refused = tuppence::mend(&mut numbers, &mut out, file, audio as u64);
-        let mended = host::mend::of(&mut Cursor::new(file)).map(|mended| {
+        let mended = tuppencehop::mend::of(&mut Cursor::new(file)).map(|mended| {
             let mut bytes = vec![];
             mended.write(&mut Cursor::new(file), &mut bytes).unwrap();
-            assert_eq!(host::side::Sheet::of(&bytes), Ok(mended.sheet));
+            assert_eq!(tuppencehop::side::Sheet::of(&bytes), Ok(mended.sheet));
             bytes
         });
         assert_eq!(mended.is_ok(), refused == 0);
@@ -115,8 +116,11 @@ fn no_room() {
     let path = folder("room");
     fs::write(path.join("whole.wav"), recording(0, &[1]).0).unwrap();
     let limited = "trap '' XFSZ; ulimit -f 1; exec \"$0\" mend whole.wav --out copy.wav";
-    let output =
-        Command::new("sh").args(["-c", limited, env!("CARGO_BIN_EXE_host")]).current_dir(&path).output().unwrap();
+    let output = Command::new("sh")
+        .args(["-c", limited, env!("CARGO_BIN_EXE_tuppencehop")])
+        .current_dir(&path)
+        .output()
+        .unwrap();
     let why = String::from_utf8(output.stderr).unwrap();
     assert!(output.status.code() == Some(1) && why.contains("copy.wav: File too large"), "{why}");
     assert!(!path.join("copy.wav").exists());

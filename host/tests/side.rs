@@ -1,11 +1,11 @@
-//! `host side`: a line for each recording, and exit status 2 where one has no good sheet.
+//! `box side`: a line for each recording, and exit status 2 where one has no good sheet.
 
-use host::side::tail;
-use host::wav;
 use std::fs;
 use std::io::Cursor;
 use std::path::Path;
 use std::process::{Command, Output};
+use tuppencehop::side::tail;
+use tuppencehop::wav;
 
 const HEARD: u64 = 1 << 32;
 
@@ -25,7 +25,8 @@ fn side(folder: &str, files: &[(&str, &[u8])]) -> (Output, String, String) {
         fs::write(path.join(name), bytes).unwrap();
     }
     let names = files.iter().map(|(name, _)| name);
-    let output = Command::new(env!("CARGO_BIN_EXE_host")).arg("side").args(names).current_dir(&path).output().unwrap();
+    let output =
+        Command::new(env!("CARGO_BIN_EXE_tuppencehop")).arg("side").args(names).current_dir(&path).output().unwrap();
     let text = |bytes: &[u8]| String::from_utf8(bytes.to_vec()).unwrap();
     let (said, why) = (text(&output.stdout), text(&output.stderr));
     (output, said, why)
@@ -120,7 +121,7 @@ fn a_recording_through_a_pipe() {
     let path = Path::new(env!("CARGO_TARGET_TMPDIR")).join("piped.wav");
     fs::write(&path, recording(0, &[0, 1 + HEARD])).unwrap();
     let words = "cat \"$1\" | \"$0\" side /dev/stdin";
-    let output = Command::new("sh").args(["-c", words, env!("CARGO_BIN_EXE_host")]).arg(&path).output().unwrap();
+    let output = Command::new("sh").args(["-c", words, env!("CARGO_BIN_EXE_tuppencehop")]).arg(&path).output().unwrap();
     assert_eq!(output.stdout, b"/dev/stdin: left side, 2 frames, 1 heard, no gap\n");
 }
 
