@@ -143,6 +143,16 @@ fn installed(prefix: &Path, words: &[&str]) -> Ended {
     ended(command.args(words).current_dir(prefix).env_clear().env("PATH", "").output().unwrap())
 }
 
+/// What bash offers behind these words.
+fn offered(prefix: &Path, words: &[&str]) -> String {
+    let script = prefix.join("share/bash-completion/completions/box");
+    let text = "source \"$0\"; COMP_WORDS=(\"$@\"); COMP_CWORD=$(($# - 1)); _box; echo \"${COMPREPLY[*]}\"";
+    ended(Command::new("bash").args(["-c", text]).arg(script).args(words).current_dir(prefix).output().unwrap())
+        .said
+        .trim()
+        .into()
+}
+
 #[test]
 fn an_installed_program_runs_alone() {
     let prefix = folder("box-installed").join("empty");
@@ -165,26 +175,20 @@ fn an_installed_program_runs_alone() {
         assert_eq!(ended(groff).why, "");
     }
     assert!(fs::read_to_string(prefix.join("share/doc/tuppencehop/NOTICE")).unwrap().contains("Redistribution"));
-}
-
-/// What bash offers behind these words.
-fn offered(script: &Path, words: &[&str]) -> String {
-    let text = "source \"$0\"; COMP_WORDS=(\"$@\"); COMP_CWORD=$(($# - 1)); _box; echo \"${COMPREPLY[*]}\"";
-    ended(Command::new("bash").args(["-c", text]).arg(script).args(words).output().unwrap()).said.trim().into()
-}
-
-#[test]
-fn completion() {
-    let script = folder("box-completion").join("box");
-    let told = ended(Command::new(env!("CARGO_BIN_EXE_tuppencehop")).args(["dev", "completion"]).output().unwrap());
-    fs::write(&script, told.said).unwrap();
-    assert_eq!(offered(&script, &["box", "cl"]), "clean");
-    assert_eq!(offered(&script, &["box", "clean", "--l"]), "--left --lag");
-    assert_eq!(offered(&script, &["box", "clean", "--lag", ""]), "own crate");
-    assert_eq!(offered(&script, &["box", "side", "-"]), "--json --help");
-    assert_eq!(offered(&script, &["box", "dev", "b"]), "bench");
-    assert_eq!(offered(&script, &["box", "dev", "bench", "--j"]), "--json");
-    assert_eq!(offered(&script, &["box", "help", "de"]), "demo dev");
+    for (words, offer) in [
+        (&["box", "cl"][..], "clean"),
+        (&["box", "clean", "--l"], "--left --lag"),
+        (&["box", "clean", "--lag", ""], "own crate"),
+        (&["box", "export", "--as", ""], "rnnn"),
+        (&["box", "side", "-"], "--json --help"),
+        (&["box", "side", "again/l"], "again/left.wav"),
+        (&["box", "clean", "--name", ""], ""),
+        (&["box", "dev", "b"], "bench"),
+        (&["box", "dev", "bench", "--j"], "--json"),
+        (&["box", "help", "de"], "demo dev"),
+    ] {
+        assert_eq!(offered(&prefix, words), offer, "{words:?}");
+    }
 }
 
 #[test]

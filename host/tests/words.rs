@@ -105,7 +105,7 @@ fn errors_name_what_is_wrong() {
         (of(&["--out", "out", "l.wav"]), 2, "clean: l.wav is one recording too many"),
         (of(&["--out", "out", "--raw"]), 2, "clean: --raw is for a stream, and - is missing"),
         (of(&["--out", "out", "--both", "l.wav"]), 2, "clean: --both stands for both benches"),
-        (of(&["--out", "out", "--name", "a/b"]), 2, "clean: --name a/b: a name without /"),
+        (of(&["--out", "out", "--name", "a/b"]), 2, "clean: --name a/b: a short name without /"),
         (vec!["clean", "--out", "out"], 2, "clean: no recording is named"),
         (vec!["clean", "l.wav", "--out", "out"], 2, "clean: l.wav: its name says neither left nor right; --side left"),
         (vec!["claen"], 2, "unknown command claen; did you mean clean?"),
@@ -121,6 +121,8 @@ fn errors_name_what_is_wrong() {
         (vec!["mend", "l.wav"], 2, "mend: --out FILE2 is missing"),
         (vec!["mend", ".", "--out", "out"], 2, "mend: --out is for a file; a folder is mended where it is"),
         (vec!["export", "house.rnn", "--as", "c", "--out", "out"], 2, "export: --as c: rnnn is wanted"),
+        (vec!["unpack", "none.rnn", "--out", "out"], 1, "unpack: none.rnn: no such file"),
+        (vec!["mend", "none", "--out", "out"], 1, "mend: none: no such file"),
         (vec!["pack", "--layers", "none", "--out", "out"], 1, "pack: --layers none: no such file"),
     ];
     for (words, status, why) in cases {

@@ -6,7 +6,7 @@ use crate::cli::words::Given;
 use crate::folder::told;
 use crate::json::{rounded, Json};
 use crate::recorder::{Side, Way};
-use crate::shown::shown;
+use crate::shown::{shown, steers};
 use crate::status::Failure;
 use crate::stop;
 use std::path::{Path, PathBuf};
@@ -44,10 +44,11 @@ fn side_of(file: &Path, asked: Option<Side>) -> Result<Side, String> {
 /// What stands in front of the names of what is written.
 fn prefix(given: &Given) -> Result<String, Failure> {
     let Some(name) = given.word("--name") else { return Ok(String::new()) };
-    let is_one = !name.contains('/') && !name.starts_with('.') && !name.chars().any(crate::shown::steers);
-    if !is_one {
+    // of unicode, and so short that what is put behind it fits too
+    let is_plain = !name.chars().any(|c| c == '/' || c == char::REPLACEMENT_CHARACTER || steers(c));
+    if !is_plain || name.starts_with('.') || name.len() > 200 {
         let name = shown(Path::new(&name));
-        return Err(given.wrong(format!("--name {name}: a name without / and control characters is wanted")));
+        return Err(given.wrong(format!("--name {name}: a short name without / and control characters is wanted")));
     }
     Ok(name + "-")
 }

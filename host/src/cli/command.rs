@@ -48,22 +48,31 @@ impl Opt {
     }
 }
 
-/// How many words a command takes besides its options, and what they are called.
+/// How many words a command takes besides its options, what they are called, and whether all must be there: where each
+/// has a result of its own, a missing one has too.
 pub struct Files {
     pub name: &'static str,
     pub least: usize,
     pub most: usize,
+    pub there: bool,
 }
 
 impl Files {
-    pub const NONE: Files = Files { name: "", least: 0, most: 0 };
+    pub const NONE: Files = Files { name: "", least: 0, most: 0, there: false };
 
+    /// One that is read.
     pub const fn one(name: &'static str) -> Files {
-        Files { name, least: 1, most: 1 }
+        Files { name, least: 1, most: 1, there: true }
     }
 
+    /// One that is written.
+    pub const fn place(name: &'static str) -> Files {
+        Files { name, least: 1, most: 1, there: false }
+    }
+
+    /// So many or more, each with a result of its own.
     pub const fn from(least: usize, name: &'static str) -> Files {
-        Files { name, least, most: usize::MAX }
+        Files { name, least, most: usize::MAX, there: false }
     }
 }
 

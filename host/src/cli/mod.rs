@@ -19,11 +19,12 @@ use command::{is_help, Command};
 use commands::{COMMANDS, DEV};
 use std::ffi::OsString;
 
-/// A command by its name, and whether it is one of the developers'.
+/// A command by its name.
 fn find(name: &str) -> Option<&'static Command> {
     COMMANDS.iter().find(|command| command.name == name)
 }
 
+/// One of the developers'.
 fn find_dev(name: &str) -> Option<&'static Command> {
     DEV.iter().find(|command| command.short() == name)
 }
@@ -87,7 +88,7 @@ fn run_words(words: &[OsString]) -> Result<(), Failure> {
     match &*first.to_string_lossy() {
         "help" => tell_help(rest),
         word if is_help(word) => tell_help(rest),
-        "--version" | "-V" => {
+        "--version" => {
             crate::say!("{}", version::told());
             Ok(())
         }

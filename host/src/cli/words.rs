@@ -6,6 +6,7 @@ use crate::cli::near;
 use crate::shown::shown;
 use crate::status::Failure;
 use std::ffi::{OsStr, OsString};
+use std::io::ErrorKind;
 use std::os::unix::ffi::OsStrExt;
 use std::path::{Path, PathBuf};
 
@@ -59,18 +60,23 @@ fn parts(word: &OsStr) -> (OsString, Option<OsString>) {
     }
 }
 
+/// A file that must be there.
+fn look_for(given: &Given, what: &str, path: &Path) -> Result<(), Failure> {
+    match path.symlink_metadata() {
+        Err(why) if why.kind() == ErrorKind::NotFound => {
+            Err(Failure::from(format!("{}: {what}{}: no such file", given.command.name, shown(path))))
+        }
+        _ => Ok(()),
+    }
+}
+
 /// What an option takes must be there, or be one of its words; no name is not the current folder's.
 fn look(given: &Given, option: &Opt, value: &OsStr) -> Result<(), Failure> {
     let (name, told) = (option.name, shown(Path::new(value)));
     match &option.takes {
         Takes::Nothing => Ok(()),
         _ if value.is_empty() => Err(given.wrong(format!("{name}: what stands behind it is empty"))),
-        Takes::There(_) => match Path::new(value).symlink_metadata() {
-            Err(why) if why.kind() == std::io::ErrorKind::NotFound => {
-                Err(Failure::from(format!("{}: {name} {told}: no such file", given.command.name)))
-            }
-            _ => Ok(()),
-        },
+        Takes::There(_) => look_for(given, &format!("{name} "), Path::new(value)),
         Takes::OneOf(words) if !words.iter().any(|word| value == *word) => {
             Err(given.wrong(format!("{name} {told}: {} is wanted", words.join(" or "))))
         }
@@ -156,6 +162,9 @@ pub fn read(command: &'static Command, words: &[OsString]) -> Result<Option<Give
     count(&given)?;
     for (option, value) in &given.options {
         look(&given, option, value)?;
+    }
+    for file in given.files.iter().filter(|_| command.files.there) {
+        look_for(&given, "", file)?;
     }
     Ok(Some(given))
 }
