@@ -71,8 +71,15 @@ impl Folder {
     /// Opens a folder, and makes it where there is none. With `force` files may take the place of others.
     pub fn new(path: &Path, force: bool) -> Result<Folder, String> {
         let made: Vec<_> = path.ancestors().take_while(|path| !path.exists()).map(Path::to_owned).collect();
-        let (path_, prefix) = (path.to_owned(), String::new());
-        let folder = Folder { path: path_, prefix, made, files: Vec::new(), scratch: Vec::new(), force, lock: None };
+        let folder = Folder {
+            path: path.to_owned(),
+            prefix: String::new(),
+            made,
+            files: Vec::new(),
+            scratch: Vec::new(),
+            force,
+            lock: None,
+        };
         fs::create_dir_all(path).map_err(|why| told(path, why))?;
         folder.made.iter().filter_map(|made| made.parent()).for_each(write_through);
         Ok(folder)

@@ -12,7 +12,8 @@ use tuppencehop::demo::{dictation, Rng, HOUSE};
 use tuppencehop::layers::Layers;
 use tuppencehop::wav;
 
-/// The commands of a page: what follows `./box` in a line of code, or between backticks, up to two spaces.
+/// The commands of a page: what follows `./box` in a line of code, or between backticks, up to two spaces. What stands
+/// behind them is a comment, so that the line can be pasted as it is.
 fn commands(page: &str) -> Vec<String> {
     let mut found = Vec::new();
     for line in page.lines() {
@@ -20,7 +21,9 @@ fn commands(page: &str) -> Vec<String> {
         let spans = line.split('`').skip(1).step_by(2).filter(|_| !line.starts_with("    "));
         for code in blocks.chain(spans) {
             if let Some((_, command)) = code.split_once("./box ") {
-                found.push(command.split("  ").next().unwrap().trim().to_string());
+                let (command, comment) = command.split_once("  ").unwrap_or((command, ""));
+                assert!(comment.is_empty() || comment.trim_start().starts_with("# "), "{line}");
+                found.push(command.trim().to_string());
             }
         }
     }
@@ -36,7 +39,8 @@ fn bench() -> PathBuf {
     for (names, samples) in [(["L.wav", "monday-left.wav"], &left), (["R.wav", "monday-right.wav"], &right)] {
         names.iter().for_each(|name| fs::write(path.join(name), wav::write(48_000, samples)).unwrap());
     }
-    fs::write(path.join("M.rnn"), HOUSE).unwrap();
+    fs::create_dir_all(path.join("host/model")).unwrap();
+    ["M.rnn", "host/model/house.rnn"].iter().for_each(|name| fs::write(path.join(name), HOUSE).unwrap());
     fs::write(path.join("rnn_data.c"), models::as_c(&Layers::of(HOUSE).unwrap(), &mut Rng(7))).unwrap();
     let both: Vec<f32> = left.iter().zip(&right).flat_map(|(l, r)| [*l, *r]).collect();
     let mut stereo = wav::write(48_000, &both);
@@ -60,7 +64,7 @@ fn make_room(folder: &Path, words: &[&str]) {
 
 /// A recording whose last bytes are missing.
 fn tear(folder: &Path, name: &str) {
-    let whole = fs::read(folder.join("DIR/left.wav")).unwrap();
+    let whole = fs::read(folder.join("out/cleaned/left.wav")).unwrap();
     fs::write(folder.join(name), &whole[..whole.len() - 10]).unwrap();
 }
 
@@ -85,8 +89,9 @@ fn cut_short(folder: &Path, dir: &str) {
 fn run(folder: &Path, command: &str) {
     let words: Vec<&str> = command.split_whitespace().collect();
     make_room(folder, &words);
-    let mut host = Command::new(env!("CARGO_BIN_EXE_tuppencehop"));
-    host.args(&words).current_dir(folder);
+    // by a shell, as it would be pasted
+    let mut host = Command::new("sh");
+    host.args(["-c", &format!("\"$0\" {command}"), env!("CARGO_BIN_EXE_tuppencehop")]).current_dir(folder);
     match words[..] {
         ["clean", "-", ..] => _ = host.stdin(File::open(folder.join("stream")).unwrap()),
         ["mend", torn, "--out", _] => tear(folder, torn),
@@ -104,7 +109,7 @@ fn every_command_of_the_pages() {
     let (folder, shown) = (bench(), commands(&(page("README.md") + &page("docs/BOX.md"))));
     assert!(shown.len() > 10, "{shown:?}");
     for command in &shown {
-        // these take a minute and change nothing; and tests/box.rs installs
+        // these take their time and change nothing; and tests/box.rs installs
         let measures = ["dev bench", "dev lags", "dev logs"].contains(&&**command);
         if !measures && !["install", "package"].iter().any(|word| command.starts_with(word)) {
             run(&folder, command);

@@ -239,6 +239,7 @@ fn many_recordings() {
     assert!(ended.why.contains("box: torn-left.wav: not a WAV file"), "{}", ended.why);
     assert!(ended.why.contains("box: none-left.wav: "), "{}", ended.why);
     assert_eq!(names(&path.join("more")), ["tuesday-right"]);
+    assert_eq!(said(&path, &["clean", "torn-left.wav", "--out", "none"]).said, "");
 }
 
 /// A name of its own for what is written: several in one folder, and the page finds its files.
@@ -320,6 +321,13 @@ fn answers_as_json() {
     assert!(ended.said.contains("\"recording\": \"l.wav\"") && ended.said.contains("refusal 38"), "{}", ended.said);
 }
 
+#[test]
+fn speed_as_json() {
+    let told = good(&given("speed"), &["dev", "bench", "--json"]);
+    let fields: Vec<&str> = told.split('"').skip(1).step_by(2).collect();
+    assert_eq!((&fields[..], told.lines().count()), (&["pieces", "calls", "rust", "calls_to_rust"][..], 1), "{told}");
+}
+
 /// What can't be cleaned has an object too, and the status is that without `--json`.
 #[test]
 fn faults_as_json() {
@@ -336,6 +344,13 @@ fn faults_as_json() {
     assert_eq!((ended.status, &*ended.why), (Some(2), ""));
     let line = ended.said.lines().nth(1).unwrap();
     assert!(line.ends_with("\"error\": \"r.wav: ends after 0.0 of 0.1 s, as its header has it\"}"), "{line}");
+    // nothing came of one bench
+    fs::write(path.join("r.wav"), &whole[..HEADER]).unwrap();
+    let ended = said(&path, &[&words[..], &["--force"]].concat());
+    assert_eq!((ended.status, &*ended.why, ended.said.lines().count()), (Some(2), "", 2));
+    let line = ended.said.lines().nth(1).unwrap();
+    assert!(line.starts_with("{\"file\": \"out\", \"recording\": \"r.wav\", \"side\": null"), "{line}");
+    assert!(line.ends_with("\"error\": \"r.wav: no audio follows its header\"}"), "{line}");
     // many: an object for each
     fs::rename(path.join("l.wav"), path.join("a-left.wav")).unwrap();
     fs::write(path.join("b-left.wav"), b"no sound").unwrap();

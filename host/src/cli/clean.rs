@@ -7,8 +7,9 @@ use crate::folder::told;
 use crate::json::{rounded, Json};
 use crate::recorder::{Side, Way};
 use crate::shown::{shown, steers};
-use crate::status::Failure;
+use crate::status::{Failure, WRONG};
 use crate::stop;
+use std::cell::Cell;
 use std::path::{Path, PathBuf};
 
 fn way(given: &Given) -> Way {
@@ -111,14 +112,18 @@ fn written(report: &Report) -> impl Iterator<Item = &Summary> {
     report.benches.iter().filter(|bench| bench.samples > 0)
 }
 
-/// An object for each recording that was written; or where there is none, for each that was read.
+/// An object for each recording that was written, and for each that was read where nothing came of it.
 fn tell_as_json(job: &Job, outcome: &Result<Report, Failure>) {
     let model = job.model.as_deref().map_or(HOUSE_NAME.into(), shown);
     match outcome {
         Ok(report) => {
-            for bench in written(report) {
-                let (file, recording) = (job.place(bench.side), job.inputs.named(bench.side));
-                crate::say!("{}", json(&file, recording, Some(bench), &model, bench.about.fault.as_deref()));
+            for bench in report.benches.iter().filter(|bench| !bench.about.absent) {
+                let (recording, fault) = (job.inputs.named(bench.side), bench.about.fault.as_deref());
+                let object = match bench.samples {
+                    0 => json(&job.out, recording, None, &model, fault.or(Some("no sound came"))),
+                    _ => json(&job.place(bench.side), recording, Some(bench), &model, fault),
+                };
+                crate::say!("{object}");
             }
         }
         Err(failure) => {
@@ -160,16 +165,17 @@ fn tell_house(given: &Given) {
 fn many(given: &Given, out: &Path) -> Result<(), Failure> {
     let asked = given.word("--side").map(|side| if side == "left" { Side::Left } else { Side::Right });
     let sides: Result<Vec<Side>, String> = given.files.iter().map(|file| side_of(file, asked)).collect();
-    let (mut worst, mut bad) = (0, vec![]);
+    let (mut worst, mut bad, cleaned) = (0, vec![], Cell::new(false));
     for (file, side) in given.files.iter().zip(sides.map_err(|why| given.wrong(why))?) {
         if stop::asked() {
             bad.push(told(file, "stopped before it"));
-            worst = worst.max(Failure::wrong("").status);
+            worst = worst.max(WRONG);
             continue;
         }
         let folder = out.join(file.file_stem().unwrap_or(file.as_os_str()));
         let job = job(given, Inputs::One { side, file: file.clone() }, folder)?;
         let tell = |report: &Report| {
+            cleaned.set(true);
             for bench in written(report) {
                 let place = shown(&job.place(side));
                 crate::say!("{}", told(file, format!("{} side, {} frames, in {place}", side.name(), bench.frames)));
@@ -180,7 +186,9 @@ fn many(given: &Given, out: &Path) -> Result<(), Failure> {
             bad.extend(Some(failure.why).filter(|why| !why.is_empty()));
         }
     }
-    tell_house(given);
+    if cleaned.get() {
+        tell_house(given);
+    }
     match worst {
         0 => Ok(()),
         status => Err(Failure { status, why: bad.join("\n") }),

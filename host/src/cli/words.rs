@@ -36,7 +36,7 @@ impl Given {
         self.value(name).map(PathBuf::from)
     }
 
-    /// A word, shown where it is not unicode.
+    /// A word, with U+FFFD in the place of what is no unicode.
     pub fn word(&self, name: &str) -> Option<String> {
         self.value(name).map(|value| value.to_string_lossy().into())
     }
