@@ -36,9 +36,9 @@ pub struct Pauses {
     memory: [f64; 2],
     before: Powers,
     after: Powers,
-    begun: bool,
-    /// Whether each frame has a voice whose powers are not both there yet.
+    /// Whether a voice was likely, of the frames whose samples did not come yet.
     voices: VecDeque<bool>,
+    begun: bool,
     /// How many frames without a voice are softer by so many tenths.
     softer: Vec<u64>,
 }
@@ -46,7 +46,7 @@ pub struct Pauses {
 impl Default for Pauses {
     fn default() -> Pauses {
         let [before, after] = [Powers::default(), Powers::default()];
-        Pauses { memory: [0.0; 2], before, after, begun: false, voices: VecDeque::new(), softer: vec![0; TENTHS] }
+        Pauses { memory: [0.0; 2], before, after, voices: VecDeque::new(), begun: false, softer: vec![0; TENTHS] }
     }
 }
 
@@ -70,18 +70,22 @@ impl Pauses {
     pub fn frame(&mut self, voice: bool) {
         if std::mem::replace(&mut self.begun, true) {
             self.voices.push_back(voice);
+            self.count();
         }
-        self.count();
     }
 
-    /// Counts the frames of which all is known, in whatever order it came.
+    /// Counts the frames of which all has come: how likely a voice is, and the samples before and after.
     fn count(&mut self) {
-        let Pauses { before, after, voices, softer, .. } = self;
-        let known = voices.len().min(before.frames.len()).min(after.frames.len());
-        let each = voices.drain(..known).zip(before.frames.drain(..known)).zip(after.frames.drain(..known));
-        for ((_, before), after) in each.filter(|((voice, before), _)| !voice && *before > 0.0) {
-            let tenths = (100.0 * (before / after).log10() + BELOW).round();
-            softer[(tenths.max(0.0) as usize).min(TENTHS - 1)] += 1;
+        while let (Some(voice), Some(before), Some(after)) =
+            (self.voices.front(), self.before.frames.front(), self.after.frames.front())
+        {
+            if !voice && *before > 0.0 {
+                let tenths = (100.0 * (before / after).log10() + BELOW).round();
+                self.softer[(tenths.max(0.0) as usize).min(TENTHS - 1)] += 1;
+            }
+            self.voices.pop_front();
+            self.before.frames.pop_front();
+            self.after.frames.pop_front();
         }
     }
 
@@ -118,20 +122,31 @@ mod tests {
         assert_eq!((pauses.before.frames.len(), pauses.after.frames.len()), (1, 0));
     }
 
-    /// A frame may be told of before its samples come out, as in a block of many.
+    /// Whatever comes first, and in whatever blocks, it is the same.
     #[test]
     fn in_any_order() {
-        let counted = |of: usize| {
-            let mut pauses = Pauses::default();
-            for block in (0..200).collect::<Vec<usize>>().chunks(of) {
-                let tone = |loud: f32| [loud, -loud].repeat(FRAME / 2);
-                block.iter().for_each(|_| pauses.before(&tone(100.0)));
-                block.iter().for_each(|number| pauses.frame(number % 3 == 0));
-                block.iter().for_each(|number| pauses.after(&tone(*number as f32 + 1.0)));
+        let blocks = |frames: usize, frames_first: bool| {
+            let (mut pauses, mut rng) = (Pauses::default(), crate::demo::Rng(5));
+            for block in 0..240 / frames {
+                let voices = (frames * block..frames * (block + 1)).map(|number| number % 3 == 0);
+                let samples: Vec<f32> = (0..frames * FRAME).map(|_| 300.0 * rng.number() as f32).collect();
+                let softer: Vec<f32> = samples.iter().map(|x| x * x / 3_000.0).collect();
+                pauses.before(&samples);
+                if frames_first {
+                    voices.for_each(|voice| pauses.frame(voice));
+                    pauses.after(&softer);
+                } else {
+                    pauses.after(&softer);
+                    voices.for_each(|voice| pauses.frame(voice));
+                }
             }
             pauses.softer
         };
-        assert!(counted(1) == counted(9) && counted(9) == counted(200));
+        let wanted = blocks(1, false);
+        assert_eq!(wanted.iter().sum::<u64>(), 160);
+        for frames in [1, 2, 8, 240] {
+            assert!(blocks(frames, true) == wanted && blocks(frames, false) == wanted, "{frames} frames at a time");
+        }
     }
 
     #[test]
