@@ -24,9 +24,15 @@ fn two(path: &Path, out: &str, more: &[&str]) -> Ended {
     run(clean(path, &[&words[..], more].concat()))
 }
 
-/// Every file in a folder, and what is in it.
+/// Every file in a folder, and what is in it, but for the minute that a page names.
 fn contents(path: &Path) -> Vec<(String, Vec<u8>)> {
-    names(path).into_iter().map(|name| (name.clone(), fs::read(path.join(name)).unwrap())).collect()
+    let read = |name: String| {
+        let bytes = fs::read(path.join(&name)).unwrap();
+        let page = (name == "index.html").then(|| String::from_utf8_lossy(&bytes).into_owned());
+        let timeless = page.map(|page| page.lines().filter(|line| !line.contains(">date<")).collect::<String>().into());
+        (name, timeless.unwrap_or(bytes))
+    };
+    names(path).into_iter().map(read).collect()
 }
 
 #[test]
