@@ -1,10 +1,10 @@
 #!/usr/bin/env bash
-# The memory of `host clean -`: the most that a short stream takes, and a long one, in KiB. They must be alike within 512.
+# The memory of `box clean -`: the most that a short stream takes, and a long one, in KiB. They must be alike within 512.
 #   tools/flat_memory.sh [SECONDS [SECONDS]]      60 and 3600 where none are named; an hour of both benches takes some five minutes
 # Needs the box built (./box --version does it), and Linux, whose /proc tells the most memory that a process had.
 set -euo pipefail
 root=$(cd "$(dirname "$0")/.." && pwd)
-host=$root/target/host/release/host
+host=$root/target/host/release/tuppencehop
 [ -x "$host" ] || { echo "$host is not there: ./box --version builds it"; exit 1; }
 short=${1:-60} long=${2:-3600}
 scratch=$(mktemp -d)

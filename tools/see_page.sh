@@ -6,7 +6,7 @@
 # Needs the box built (./box --version does it), Python, and Chromium, which Debian has as the package `chromium`; with `pngquant` the PNGs are small.
 set -euo pipefail
 root=$(cd "$(dirname "$0")/.." && pwd)
-host=$root/target/host/release/host model=$root/host/model/house.rnn
+host=$root/target/host/release/tuppencehop model=$root/host/model/house.rnn
 out=${1:?tools/see_page.sh FOLDER [MINUTES]} minutes=${2:-20}
 browser=$(command -v chromium || command -v chromium-browser || command -v google-chrome) ||
     { echo "no Chromium is at hand: apt-get install chromium"; exit 1; }

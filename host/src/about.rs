@@ -13,6 +13,8 @@ pub struct About {
     pub model: String,
     /// Why it is not whole, where it is not.
     pub fault: Option<String>,
+    /// Whether nobody asked for this bench.
+    pub absent: bool,
 }
 
 fn name(path: &Path) -> String {
@@ -22,12 +24,17 @@ fn name(path: &Path) -> String {
 impl About {
     pub fn file(path: &Path, model: &Path) -> About {
         let when = path.metadata().and_then(|file| file.modified()).ok();
-        About { name: name(path), when, model: name(model), fault: None }
+        About { name: name(path), when, model: name(model), ..About::default() }
+    }
+
+    /// A bench that nobody asked for.
+    pub fn nothing() -> About {
+        About { absent: true, ..About::default() }
     }
 
     /// What begins now.
     pub fn stream(what: &str, model: &Path) -> About {
-        About { name: what.into(), when: Some(SystemTime::now()), model: name(model), fault: None }
+        About { name: what.into(), when: Some(SystemTime::now()), model: name(model), ..About::default() }
     }
 }
 

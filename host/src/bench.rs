@@ -1,4 +1,4 @@
-//! `host bench`: how fast the box is, beside the Rust text's `process_frame` with the same transforms.
+//! `box dev bench`: how fast the box is, beside the Rust text's `process_frame` with the same transforms.
 
 use crate::block::Block;
 use crate::demo::{grinder, HOUSE};
@@ -28,14 +28,34 @@ fn per_second(time: Duration) -> f64 {
     FRAMES as f64 / time.as_secs_f64()
 }
 
-fn tell(way: &str, time: Duration) {
-    let times = per_second(time) / 100.0;
-    crate::say!("{way}: {:.0} frames a second, {times:.0} times as fast as it is spoken", per_second(time));
+fn tell(way: &str, per_second: f64) {
+    let times = per_second / 100.0;
+    crate::say!("{way}: {per_second:.0} frames a second, {times:.0} times as fast as it is spoken");
     // a bench speaks a frame every 10 ms
     crate::say!("  one core serves {:.0} benches in real time", times.floor());
 }
 
-pub fn bench() {
+/// Frames of one bench a second: in pieces, in four calls each, and by the Rust text; and where their time goes.
+pub struct Speed {
+    pub pieces: f64,
+    pub calls: f64,
+    pub rust: f64,
+    of_pieces: [(&'static str, Duration); 2],
+    of_calls: [(&'static str, Duration); 7],
+}
+
+impl Speed {
+    pub fn tell(&self) {
+        tell("one bench in pieces, all by the library", self.pieces);
+        tell("one bench in four calls a frame, the text's lag, this program's transforms and logarithms", self.calls);
+        crate::say!("process_frame of the Rust text with the same three: {:.0} frames a second", self.rust);
+        crate::say!("time of the four calls, the Rust = 1: {:.2}", self.rust / self.calls);
+        parts_of("of a frame in pieces", &self.of_pieces);
+        parts_of("of a frame in four calls", &self.of_calls);
+    }
+}
+
+pub fn measure() -> Speed {
     let samples: Vec<f32> = grinder(FRAMES * FRAME, 7, 100.0, 340.0).iter().map(|x| (1_000.0 * x) as f32).collect();
     let mut out = [0.0; FRAME];
     let (mut in_pieces, mut in_calls, mut text) = (Vec::new(), Vec::new(), Vec::new());
@@ -57,14 +77,14 @@ pub fn bench() {
         text.push(start.elapsed());
     }
     let beside = in_pieces.iter().sum::<Duration>() - pieces.spent.pieces;
-    let (in_pieces, in_calls, text) = (median(in_pieces), median(in_calls), median(text));
-    tell("one bench in pieces, all by the library", in_pieces);
-    tell("one bench in four calls a frame, the text's lag, this program's transforms and logarithms", in_calls);
-    crate::say!("process_frame of the Rust text with the same three: {:.0} frames a second", per_second(text));
-    crate::say!("time of the four calls, the Rust = 1: {:.2}", in_calls.as_secs_f64() / text.as_secs_f64());
-
-    parts_of("of a frame in pieces", &[("the library", pieces.spent.pieces), ("the rest", beside)]);
-    parts_of("of a frame in four calls", &of_calls(&calls.spent));
+    let [in_pieces, in_calls, rust] = [in_pieces, in_calls, text].map(median).map(per_second);
+    Speed {
+        pieces: in_pieces,
+        calls: in_calls,
+        rust,
+        of_pieces: [("the library", pieces.spent.pieces), ("the rest", beside)],
+        of_calls: of_calls(&calls.spent),
+    }
 }
 
 fn of_calls(spent: &Spent) -> [(&'static str, Duration); 7] {

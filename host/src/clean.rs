@@ -1,12 +1,13 @@
-//! `host clean`: two recordings, one for each bench, cleaned as they come.
+//! `box clean`: two recordings, one for each bench, cleaned as they come.
 
 use crate::about::About;
 use crate::cleaned::Summary;
+use crate::demo::HOUSE;
 use crate::files::{recording, Files};
 use crate::folder::told;
 use crate::found::Found;
 use crate::import;
-use crate::progress::progress_of;
+use crate::progress::Watched;
 use crate::recorder::{Recorder, Side, Way};
 use crate::run::{run, Refused};
 use crate::source::{Limited, Lost, Recordings};
@@ -19,7 +20,8 @@ use std::path::{Path, PathBuf};
 /// What to read, and where to write.
 pub struct Job {
     pub inputs: Inputs,
-    pub model: PathBuf,
+    /// The house model where none is named.
+    pub model: Option<PathBuf>,
     pub way: Way,
     /// Whether no progress is told.
     pub quiet: bool,
@@ -28,9 +30,27 @@ pub struct Job {
     /// Whether a recording is taken that says itself that it is the other bench's.
     pub anyway: bool,
     pub out: PathBuf,
+    /// What stands in front of the name of each file that is written.
+    pub prefix: String,
+}
+
+/// What the house model is called.
+pub const HOUSE_NAME: &str = "house.rnn";
+
+impl Job {
+    fn model_name(&self) -> &Path {
+        self.model.as_deref().unwrap_or(HOUSE_NAME.as_ref())
+    }
+
+    /// Where a bench's recording comes to stand.
+    pub fn place(&self, side: Side) -> PathBuf {
+        self.out.join(self.prefix.clone() + &recording(side))
+    }
 }
 
 pub enum Inputs {
+    /// A file for one bench alone.
+    One { side: Side, file: PathBuf },
     /// A file for each bench.
     Two { left: PathBuf, right: PathBuf },
     /// One file whose left channel is the left bench.
@@ -42,6 +62,7 @@ pub enum Inputs {
 impl Inputs {
     fn recordings(&self) -> Result<Recordings, Failure> {
         match self {
+            Inputs::One { side, file } => Ok(Recordings::one(*side, file)?),
             Inputs::Two { left, right } => Ok(Recordings::two(left, right)?),
             Inputs::Stereo(both) => Ok(Recordings::stereo(both)?),
             Inputs::Stream { raw } => Recordings::stream(*raw),
@@ -51,6 +72,8 @@ impl Inputs {
     /// What the page says of a bench's recording.
     fn about(&self, side: Side, model: &Path) -> About {
         match (self, side) {
+            (Inputs::One { side: its, .. }, side) if *its != side => About::nothing(),
+            (Inputs::One { file, .. }, _) => About::file(file, model),
             (Inputs::Two { left, .. }, Side::Left) => About::file(left, model),
             (Inputs::Two { right, .. }, Side::Right) => About::file(right, model),
             (Inputs::Stereo(both), _) => About::file(both, model),
@@ -58,11 +81,21 @@ impl Inputs {
         }
     }
 
-    fn files(&self) -> Vec<&Path> {
+    pub fn files(&self) -> Vec<&Path> {
         match self {
+            Inputs::One { file, .. } => vec![file],
             Inputs::Two { left, right } => vec![left, right],
             Inputs::Stereo(both) => vec![both],
             Inputs::Stream { .. } => vec![],
+        }
+    }
+
+    /// What a bench's recording is called.
+    pub fn named(&self, side: Side) -> &Path {
+        match (self, side) {
+            (Inputs::Two { right, .. }, Side::Right) => right,
+            (Inputs::One { file, .. } | Inputs::Stereo(file) | Inputs::Two { left: file, .. }, _) => file,
+            (Inputs::Stream { .. }, _) => Path::new("standard input"),
         }
     }
 
@@ -79,9 +112,10 @@ pub struct Report {
 }
 
 /// Whether a file stands where a recording is written.
-fn is_in_the_way(file: &Path, out: &Path) -> bool {
-    let (Ok(file), Ok(out)) = (file.canonicalize(), out.canonicalize()) else { return false };
-    Side::BOTH.iter().any(|side| file == out.join(recording(*side)))
+fn is_in_the_way(file: &Path, job: &Job) -> bool {
+    let (Ok(file), Ok(out)) = (file.canonicalize(), job.out.canonicalize()) else { return false };
+    let names = Side::BOTH.map(|side| job.place(side));
+    names.iter().filter_map(|name| name.file_name()).any(|name| file == out.join(name))
 }
 
 /// What in a recording says that it is the other bench's. (A pipe is not looked at: what is read of it is gone.)
@@ -97,27 +131,31 @@ fn is_one(left: &Path, right: &Path) -> bool {
 }
 
 /// Refuses one file for both benches, and a recording whose seal or side sheet says the other bench.
-fn refuse_mix(left: &Path, right: &Path) -> Result<(), Failure> {
+fn refuse_mix(inputs: &Inputs) -> Result<(), Failure> {
     let refused =
         |path: &Path, why: String| Failure::wrong(told(path, why + "; with --anyway it is taken all the same"));
-    if is_one(left, right) {
-        return Err(refused(left, "one recording can't be both benches'".into()));
-    }
-    for (path, side) in [left, right].into_iter().zip(Side::BOTH) {
+    let given: Vec<(&Path, Side)> = match inputs {
+        Inputs::One { side, file } => vec![(file, *side)],
+        Inputs::Two { left, right } if is_one(left, right) => {
+            return Err(refused(left, "one recording can't be both benches'".into()));
+        }
+        Inputs::Two { left, right } => vec![(left, Side::Left), (right, Side::Right)],
+        _ => vec![],
+    };
+    for (path, side) in given {
         if let Some((what, other)) = says_another(path, side) {
-            return Err(refused(
-                path,
-                format!("{what} says {}, and it is given for the {} bench", other.name(), side.name()),
-            ));
+            let why = format!("{what} says {}, and it is given for the {} bench", other.name(), side.name());
+            return Err(refused(path, why));
         }
     }
     Ok(())
 }
 
 /// The model, which the library must take.
-fn model(path: &Path, way: Way) -> Result<Vec<u8>, String> {
+fn model(job: &Job) -> Result<Vec<u8>, String> {
+    let Some(path) = &job.model else { return Ok(HOUSE.into()) };
     let model = import::read(path)?;
-    Recorder::new(way).open(Side::Left, &model).map_err(|refusal| told(path, refusal))?;
+    Recorder::new(job.way).open(Side::Left, &model).map_err(|refusal| told(path, refusal))?;
     Ok(model)
 }
 
@@ -141,19 +179,21 @@ fn too_long(cut: [bool; 2]) -> impl Iterator<Item = Lost> {
 /// nothing was cleaned, nothing is written.
 pub fn clean(job: &Job) -> Result<Report, Failure> {
     stop::listen();
-    let model = model(&job.model, job.way)?;
-    if let Some(file) = job.inputs.files().into_iter().find(|file| is_in_the_way(file, &job.out)) {
+    let model = model(job)?;
+    if let Some(file) = job.inputs.files().into_iter().find(|file| is_in_the_way(file, job)) {
         return Err(told(file, "this would be written over; name another folder with --out").into());
     }
-    if let (Inputs::Two { left, right }, false) = (&job.inputs, job.anyway) {
-        refuse_mix(left, right)?;
+    if !job.anyway {
+        refuse_mix(&job.inputs)?;
     }
-    let mut files = Files::new(&job.out, &[], job.force, job.inputs.come_once())?;
+    let mut files = Files::new(&job.out, &job.prefix, &[], job.force, job.inputs.come_once())?;
     let mut recordings = job.inputs.recordings()?;
-    Side::BOTH.into_iter().for_each(|side| files.about(side, job.inputs.about(side, &job.model)));
-    let progress = progress_of(recordings.length(), job.quiet);
+    Side::BOTH.into_iter().for_each(|side| files.about(side, job.inputs.about(side, job.model_name())));
+    let length = recordings.length();
     let mut limited = Limited::new(&mut recordings, wav::MOST);
-    let outcome = run(&mut limited, [&model; 2], job.way, &mut files, progress);
+    let mut watched = Watched::new(&mut files, length, job.quiet);
+    let outcome = run(&mut limited, [&model; 2], job.way, &mut watched, |_| ());
+    drop(watched);
     let cut = limited.cut;
     recordings.tell();
     let benches = match outcome {
@@ -174,5 +214,5 @@ fn nothing(lost: Vec<String>) -> Failure {
     if lost.is_empty() {
         return Failure::from(String::from("no samples came: nothing is written"));
     }
-    Failure::wrong(lost.join("\nhost: ") + "; nothing is written")
+    Failure::wrong(lost.join("\n") + "; nothing is written")
 }

@@ -1,7 +1,8 @@
-//! `host demo`: two short dictations over a grinder, cleaned with the house model.
+//! `box demo`: two short dictations over a grinder, cleaned with the house model.
 
 use crate::about::About;
 use crate::block::packed;
+use crate::clean::HOUSE_NAME;
 use crate::cleaned::Cleaned;
 use crate::files::{before, Files};
 use crate::pauses::HIGH_PASS;
@@ -170,12 +171,12 @@ pub fn cleaned(dictations: &[Dictation; 2], way: Way) -> Result<[Cleaned; 2], St
     in_memory([&left.noisy, &right.noisy], HOUSE, way)
 }
 
-/// Writes both recordings, before and after, and all that `host clean` writes.
+/// Writes both recordings, before and after, and all that `box clean` writes.
 fn store([left, right]: &[Cleaned; 2], out: &Path, force: bool) -> Result<(), String> {
     let names = [left, right].map(|bench| before(bench.side));
-    let mut files = Files::new(out, &names, force, false)?;
+    let mut files = Files::new(out, "", &names, force, false)?;
     for (bench, name) in [left, right].into_iter().zip(&names) {
-        files.about(bench.side, About::stream(name, "house.rnn".as_ref()));
+        files.about(bench.side, About::stream(name, HOUSE_NAME.as_ref()));
         files.add(name, &wav::write(RATE, &bench.before))?;
         files.before(bench.side, &bench.before)?;
         files.after(bench.side, &packed(&bench.after))?;

@@ -1,4 +1,4 @@
-//! `host export`: a model in the text form of rnnoise-nu, so that ffmpeg's arnndn can run it. Behind each array ffmpeg
+//! `box export`: a model in the text form of rnnoise-nu, so that ffmpeg's arnndn can run it. Behind each array ffmpeg
 //! goes on to the end of the line, so that each stands on a line of its own.
 
 use crate::folder::told;

@@ -1,4 +1,4 @@
-//! What `host clean` writes, as it goes: for each bench the recording with its seal and side sheet, and of both the table, the picture and the page.
+//! What `box clean` writes, as it goes: for each bench the recording with its seal and side sheet, and of both the table, the picture and the page.
 //! All that has come out of a bench is in its files before the next block is read, and on the disk a second later.
 
 use crate::about::About;
@@ -86,11 +86,11 @@ pub struct Files {
 }
 
 impl Files {
-    /// `more` are the names of what will be added. What comes `once` can't be read again: where its files can't be
+    /// `prefix` stands in front of all names, and `more` are those of what will be added. What comes `once` can't be read again: where its files can't be
     /// finished, they stay beside their places. No other run may be writing into the folder, and none may have left
     /// such files there.
-    pub fn new(out: &Path, more: &[String], force: bool, once: bool) -> Result<Files, String> {
-        let mut folder = Folder::new(out, force)?;
+    pub fn new(out: &Path, prefix: &str, more: &[String], force: bool, once: bool) -> Result<Files, String> {
+        let mut folder = Folder::new(out, force)?.prefixed(prefix);
         folder.lock()?;
         unfinished::refuse(out)?;
         folder.claim(names().iter().chain(more))?;
@@ -160,7 +160,7 @@ fn close(
     let [left, right] = benches;
     let summaries = [left.finish()?, right.finish()?];
     folder.write(PICTURE, picture::svg(&summaries).as_bytes())?;
-    folder.write(PAGE, page::html(&summaries, before).as_bytes())?;
+    folder.write(PAGE, page::html(&summaries, before, folder.prefix()).as_bytes())?;
     Ok(summaries)
 }
 

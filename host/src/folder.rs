@@ -1,13 +1,15 @@
 //! Files that come to stand in a folder all together, or not at all.
 
 use crate::place::{beside, free, is_taken, new_file, put, write_through};
+use crate::shown::shown;
+use std::ffi::OsString;
 use std::fs::{self, TryLockError};
 use std::io::{self, ErrorKind, Write};
 use std::path::{Path, PathBuf};
 
 /// What went wrong, and with which file.
 pub fn told(path: &Path, why: impl std::fmt::Display) -> String {
-    format!("{}: {why}", path.display())
+    format!("{}: {why}", shown(path))
 }
 
 /// Why nothing is written there.
@@ -18,16 +20,13 @@ fn taken(place: &Path) -> String {
 /// A file on its way to its place.
 struct File {
     place: PathBuf,
+    part: PathBuf,
     /// Where what stood there before was set aside.
     aside: Option<PathBuf>,
     put: bool,
 }
 
 impl File {
-    fn part(&self) -> PathBuf {
-        beside(&self.place, ".part")
-    }
-
     /// A name that nobody has, for what stands in the place.
     fn old(&self) -> PathBuf {
         free(|number| beside(&self.place, &number.map_or(".old".into(), |n| format!(".old-{n}"))))
@@ -39,14 +38,14 @@ impl File {
             put(&self.place, &old)?;
             self.aside = Some(old);
         }
-        put(&self.part(), &self.place)?;
+        put(&self.part, &self.place)?;
         self.put = true;
         Ok(())
     }
 
     /// As if it had never been written.
     fn undo(&self) {
-        let _ = fs::remove_file(if self.put { self.place.clone() } else { self.part() });
+        let _ = fs::remove_file(if self.put { &self.place } else { &self.part });
         if let Some(old) = &self.aside {
             let _ = put(old, &self.place);
         }
@@ -56,6 +55,8 @@ impl File {
 /// Dropped before its files are kept or left, it leaves the folder as it was.
 pub struct Folder {
     path: PathBuf,
+    /// What stands in front of each file's name in its place, but not on its way there.
+    prefix: String,
     /// The folders that were not there, the innermost first.
     made: Vec<PathBuf>,
     files: Vec<File>,
@@ -70,14 +71,32 @@ impl Folder {
     /// Opens a folder, and makes it where there is none. With `force` files may take the place of others.
     pub fn new(path: &Path, force: bool) -> Result<Folder, String> {
         let made: Vec<_> = path.ancestors().take_while(|path| !path.exists()).map(Path::to_owned).collect();
-        let folder = Folder { path: path.to_owned(), made, files: Vec::new(), scratch: Vec::new(), force, lock: None };
+        let folder = Folder {
+            path: path.to_owned(),
+            prefix: String::new(),
+            made,
+            files: Vec::new(),
+            scratch: Vec::new(),
+            force,
+            lock: None,
+        };
         fs::create_dir_all(path).map_err(|why| told(path, why))?;
         folder.made.iter().filter_map(|made| made.parent()).for_each(write_through);
         Ok(folder)
     }
 
+    /// The same, with this in front of each file's name.
+    pub fn prefixed(mut self, prefix: &str) -> Folder {
+        self.prefix = prefix.into();
+        self
+    }
+
     pub fn path(&self) -> &Path {
         &self.path
+    }
+
+    pub fn prefix(&self) -> &str {
+        &self.prefix
     }
 
     /// Refuses the folder while another run writes into it. A run that is dead holds no lock.
@@ -104,13 +123,20 @@ impl Folder {
 
     /// Where a file comes to stand.
     pub fn place(&self, name: impl AsRef<Path>) -> PathBuf {
-        self.path.join(name)
+        let mut prefixed = OsString::from(&self.prefix);
+        prefixed.push(name.as_ref());
+        self.path.join(prefixed)
     }
 
-    /// A new file that is written beside its place, as `NAME.part`.
+    /// Where it is on its way there, as `NAME.part`.
+    fn part(&self, name: impl AsRef<Path>) -> PathBuf {
+        beside(&self.path.join(name), ".part")
+    }
+
+    /// A new file that is written beside its place.
     pub fn create(&mut self, name: impl AsRef<Path>) -> Result<fs::File, String> {
-        let file = File { place: self.place(name), aside: None, put: false };
-        let part = new_file(&file.part()).map_err(|why| told(&file.part(), why))?;
+        let file = File { place: self.place(&name), part: self.part(&name), aside: None, put: false };
+        let part = new_file(&file.part).map_err(|why| told(&file.part, why))?;
         self.files.push(file);
         Ok(part)
     }
@@ -123,7 +149,7 @@ impl Folder {
 
     /// A new file that lies beside another's place until the files are kept.
     pub fn scratch(&mut self, name: &str, ending: &str) -> Result<(PathBuf, fs::File), String> {
-        let path = beside(&self.place(name), ending);
+        let path = beside(&self.path.join(name), ending);
         let file = new_file(&path).map_err(|why| told(&path, why))?;
         self.scratch.push(path.clone());
         Ok((path, file))
@@ -131,7 +157,7 @@ impl Folder {
 
     /// What a file has that was written beside its place.
     pub fn read_back(&self, name: impl AsRef<Path>) -> Result<Vec<u8>, String> {
-        let part = beside(&self.place(name), ".part");
+        let part = self.part(name);
         fs::read(&part).map_err(|why| told(&part, why))
     }
 

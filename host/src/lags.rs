@@ -1,4 +1,4 @@
-//! `host lags`: how often our own lag (request 04) and the text's `PitchFinder` agree, and how often each is right.
+//! `box dev lags`: how often our own lag (request 04) and the text's `PitchFinder` agree, and how often each is right.
 
 use crate::demo::{cleaned, dictation, effect, filtered, power, Rng};
 use crate::recorder::Way;

@@ -1,4 +1,4 @@
-//! `host logs`: how far the sound moves where the library's own logarithms are lent, and not those of `f32::log10`.
+//! `box dev logs`: how far the sound moves where the library's own logarithms are lent, and not those of `f32::log10`.
 
 use crate::demo::{dictation, minutes, HOUSE};
 use crate::recorder::{Side, STORE};

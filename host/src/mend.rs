@@ -1,4 +1,4 @@
-//! `host mend FILE --out FILE2`: a recording whose side sheet was torn, closed again. The side must stand in its seal,
+//! `box mend FILE --out FILE2`: a recording whose side sheet was torn, closed again. The side must stand in its seal,
 //! or a person says it. It is read and written in parts.
 
 use crate::folder::told;
@@ -105,6 +105,11 @@ impl Mended {
         records::write(to, seal, self.row.tally, from)
     }
 
+    /// How many bytes of the audio have no records, and are not kept.
+    pub fn lost(&self) -> u64 {
+        self.audio.size - self.kept()
+    }
+
     /// What a clerk is told of it.
     fn told(&self) -> String {
         let seconds = |bytes: u64| bytes as f64 / 2.0 / f64::from(RATE);
@@ -112,8 +117,8 @@ impl Mended {
             return "It was sealed: the file is copied as it was.".into();
         }
         let mut text = format!("Kept {:.2} s.", seconds(self.kept()));
-        if self.kept() < self.audio.size {
-            let behind = seconds(self.audio.size - self.kept());
+        if self.lost() > 0 {
+            let behind = seconds(self.lost());
             text += &format!(" The {behind:.2} s behind them have no records, and stand in the torn file alone.");
         }
         if self.said {
@@ -121,10 +126,15 @@ impl Mended {
         }
         text
     }
+
+    /// Tells what was kept and what was lost.
+    pub fn tell(&self, out: &Path) {
+        crate::say!("{}\n{}", told(out, &self.sheet), self.told());
+    }
 }
 
-/// Tells what was kept and what was lost. The file that is read is never written: what is written is a new file.
-pub fn mend(path: &Path, out: &Path, said: Option<Side>) -> Result<(), String> {
+/// The file that is read is never written: what is written is a new file.
+pub fn mend(path: &Path, out: &Path, said: Option<Side>) -> Result<Mended, String> {
     if path.to_string_lossy().ends_with(unfinished::PART) {
         let folder = path.parent().filter(|folder| *folder != Path::new("")).unwrap_or(Path::new("."));
         return Err(told(path, format!("this was not finished; {} closes it", unfinished::command(folder))));
@@ -136,6 +146,5 @@ pub fn mend(path: &Path, out: &Path, said: Option<Side>) -> Result<(), String> {
         let _ = fs::remove_file(out);
         told(out, why)
     })?;
-    crate::say!("{}: {}\n{}", out.display(), mended.sheet, mended.told());
-    Ok(())
+    Ok(mended)
 }

@@ -1,4 +1,4 @@
-//! `host pack` and `host unpack`: a model file from a folder of loose arrays, and back. `layers.txt` has a line for each layer:
+//! `box pack` and `box unpack`: a model file from a folder of loose arrays, and back. `layers.txt` has a line for each layer:
 //! its name, inputs, neurons and activation (0 tanh, 1 sigmoid, 2 relu). Each array is a file of signed bytes.
 
 use crate::folder::{told, Folder};

@@ -21,6 +21,15 @@ fn escaped(text: &str) -> String {
     text.chars().map(one).collect()
 }
 
+/// A file's name as a link has it: but for letters, digits and `-._`, each byte by its number.
+fn in_a_link(name: &str) -> String {
+    let one = |byte: u8| match byte {
+        b'a'..=b'z' | b'A'..=b'Z' | b'0'..=b'9' | b'-' | b'.' | b'_' => char::from(byte).to_string(),
+        byte => format!("%{byte:02X}"),
+    };
+    name.bytes().map(one).collect()
+}
+
 /// A number with a comma between each three digits.
 fn grouped(number: u64) -> String {
     let digits = number.to_string();
@@ -109,7 +118,7 @@ fn player(bench: &Summary, strip: Strip, file: &str) -> String {
     format!(
         "<figure><figcaption>{when} cleaning</figcaption><audio id=\"{id}\" controls preload=\"metadata\" aria-label=\"{side} bench, {when} cleaning\" \
          src=\"{}\"></audio></figure>",
-        escaped(file)
+        in_a_link(file)
     )
 }
 
@@ -158,10 +167,10 @@ fn axis(text: &mut String, seconds: f64) {
 }
 
 /// Players and picture of a recording that has sound.
-fn sound(text: &mut String, bench: &Summary, before: Option<&str>) {
+fn sound(text: &mut String, bench: &Summary, before: Option<&str>, prefix: &str) {
     let side = bench.side.name();
     *text += "<div class=\"listen\">";
-    for (strip, file) in [(Strip::Before, before), (Strip::After, Some(&*format!("{side}.wav")))] {
+    for (strip, file) in [(Strip::Before, before), (Strip::After, Some(&*format!("{prefix}{side}.wav")))] {
         *text += &file.map_or(String::new(), |file| player(bench, strip, file));
     }
     *text += "</div>\n<figure class=\"picture\">\n";
@@ -229,7 +238,7 @@ fn facts(text: &mut String, bench: &Summary) {
     *text += "</table>\n";
 }
 
-fn card(text: &mut String, bench: &Summary, before: Option<&str>) {
+fn card(text: &mut String, bench: &Summary, before: Option<&str>, prefix: &str) {
     let side = bench.side.name();
     writeln!(
         text,
@@ -240,7 +249,7 @@ fn card(text: &mut String, bench: &Summary, before: Option<&str>) {
     )
     .unwrap();
     if bench.samples > 0 {
-        sound(text, bench, before);
+        sound(text, bench, before, prefix);
     }
     facts(text, bench);
     *text += "</section>\n";
@@ -262,20 +271,27 @@ fn key(text: &mut String) {
     *text += "</ul>\n";
 }
 
-/// `before` are the names of the recordings as they were, where these stand in the folder too.
-pub fn html(benches: &[Summary; 2], before: Option<[&str; 2]>) -> String {
+/// `before` are the names of the recordings as they were, where these stand in the folder too; `prefix` stands in front
+/// of the names of all other files.
+pub fn html(benches: &[Summary; 2], before: Option<[&str; 2]>, prefix: &str) -> String {
+    let file = |name: &str| in_a_link(&format!("{prefix}{name}"));
+    let asked = || benches.iter().filter(|bench| !bench.about.absent);
+    let title = match &asked().collect::<Vec<_>>()[..] {
+        [bench] => format!("The {} bench", bench.side.name()),
+        _ => "Both benches".into(),
+    };
     let mut text = format!(
         "<!DOCTYPE html>\n<html lang=\"en\">\n<head>\n<meta charset=\"utf-8\">\n<meta name=\"viewport\" content=\"width=device-width\">\n\
-         <meta name=\"color-scheme\" content=\"light dark\">\n<title>Both benches</title>\n<style>\n\
+         <meta name=\"color-scheme\" content=\"light dark\">\n<title>{title}</title>\n<style>\n\
          :root {{ color-scheme: light dark; {} }}\n@media (prefers-color-scheme: dark) {{ :root {{ {} }} }}\n{}{}</style>\n</head>\n<body>\n\
-         <h1>Both benches</h1>\n<main>\n",
+         <h1>{title}</h1>\n<main>\n",
         variables(&LIGHT),
         variables(&DARK),
         include_str!("page.css"),
         picture::RULES,
     );
-    for bench in benches {
-        card(&mut text, bench, before.map(|names| names[bench.side as usize]));
+    for bench in asked() {
+        card(&mut text, bench, before.map(|names| names[bench.side as usize]), prefix);
     }
     text += "</main>\n<footer>\n";
     key(&mut text);
@@ -284,9 +300,11 @@ pub fn html(benches: &[Summary; 2], before: Option<[&str; 2]>) -> String {
         "<p>A press in a picture plays from there; by keyboard the arrows move, and Enter plays. A frame is {} ms. It was heard where it is not \
          silent, steady noise too; voice are the frames in which a voice is likely. The noise taken away \
          is that of the others, the middle one of them. What each frame \
-         was stands in <a href=\"frames.csv\">frames.csv</a>, the picture of both in <a href=\"benches.svg\">benches.svg</a>.</p>\n</footer>\n\
+         was stands in <a href=\"{}\">frames.csv</a>, the picture of both in <a href=\"{}\">benches.svg</a>.</p>\n</footer>\n\
          <script>\n{}</script>\n</body>\n</html>",
         1000 * FRAME / RATE as usize,
+        file("frames.csv"),
+        file("benches.svg"),
         include_str!("page.js"),
     )
     .unwrap();
@@ -300,6 +318,7 @@ mod tests {
     #[test]
     fn in_words() {
         assert_eq!(escaped("a <b> & \"c\"\n\u{1b}[31m"), "a &lt;b&gt; &amp; &quot;c&quot;\\n\\u{1b}[31m");
+        assert_eq!(in_a_link("the \"1st\"-left.wav"), "the%20%221st%22-left.wav");
         assert_eq!([0, 999, 1_000, 1_234_567].map(grouped), ["0", "999", "1,000", "1,234,567"]);
         assert_eq!([0.0, 0.96, 1.0, 59.99, 3_725.0].map(length), ["0:00.0", "0:00.9", "0:01", "0:59", "1:02:05"]);
         assert_eq!(tenths(61.57), "1:01.5");

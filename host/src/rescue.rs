@@ -1,4 +1,4 @@
-//! `host mend DIR`: all that a run left unfinished in a folder is closed. It can be ended at any moment, and begun
+//! `box mend DIR`: all that a run left unfinished in a folder is closed. It can be ended at any moment, and begun
 //! again: what it has to know stands in the recording and in its records, until the recording has its place.
 
 use crate::files::{recording, TABLE};
@@ -6,7 +6,7 @@ use crate::folder::{told, Folder};
 use crate::found::sealed;
 use crate::place::{beside, free, is_taken, put, write_through};
 use crate::recorder::Side;
-use crate::unfinished::{left_over, of_others, open, Unfinished, PART, SHEET};
+use crate::unfinished::{left_over, of_others, open, Kept, Unfinished, PART, SHEET};
 use std::fs::{self, File};
 use std::io::{self, ErrorKind, Read, Seek, SeekFrom};
 use std::path::{Path, PathBuf};
@@ -28,21 +28,26 @@ fn remove(path: &Path) -> Result<(), String> {
     }
 }
 
-/// Closes a recording and puts it in its place, which its side names. What is told of it comes back; nothing where
-/// nothing was recorded.
-fn mend_part(folder: &Path, part: &Path, sheet: &Path) -> Result<Option<String>, String> {
+/// A recording that was closed, and where it stands.
+pub struct Closed {
+    pub place: PathBuf,
+    pub kept: Kept,
+}
+
+/// Closes a recording and puts it in its place, which its side names. Nothing comes back where nothing was recorded.
+fn mend_part(folder: &Path, part: &Path, sheet: &Path) -> Result<Option<Closed>, String> {
     let Some(mut unfinished) = Unfinished::find(part, sheet)? else {
         remove(part)?;
         remove(sheet)?;
         return Ok(None);
     };
     let place = folder.join(recording(unfinished.side));
-    let kept = unfinished.told().map_err(|why| told(part, why))?;
+    let kept = unfinished.kept().map_err(|why| told(part, why))?;
     unfinished.close(part, sheet)?;
     let place = put_free(part, &place)?;
     write_through(folder);
     remove(sheet)?;
-    Ok(Some(told(&place, kept)))
+    Ok(Some(Closed { place, kept }))
 }
 
 /// Records whose recording has its place already, since the run ended just before it would have removed them.
@@ -55,7 +60,7 @@ fn mend_sheet(place: &Path, sheet: &Path) -> Result<(), String> {
 }
 
 /// What a run left of a recording.
-fn mend_recording(folder: &Path, side: Side) -> Result<Option<String>, String> {
+fn mend_recording(folder: &Path, side: Side) -> Result<Option<Closed>, String> {
     let place = folder.join(recording(side));
     let (part, sheet) = (beside(&place, PART), beside(&place, SHEET));
     match (is_taken(&part), is_taken(&sheet)) {
@@ -89,31 +94,48 @@ fn mend_other(part: &Path) -> Result<(), String> {
     put_free(part, &place).map(|_| ())
 }
 
-/// Closes all that a run left unfinished in a folder, and tells what was kept.
-pub fn mend(path: &Path) -> Result<(), String> {
+/// What a folder's recordings have become.
+#[derive(Default)]
+pub struct Mended {
+    /// Whether a run had left anything.
+    pub was_left: bool,
+    pub closed: Vec<Closed>,
+    /// What could not be closed, and why.
+    pub bad: Vec<String>,
+}
+
+impl Mended {
+    /// Tells what was kept, and gives what could not be.
+    pub fn tell(&self, path: &Path) -> Result<(), String> {
+        for closed in &self.closed {
+            crate::say!("{}", told(&closed.place, &closed.kept));
+        }
+        if !self.bad.is_empty() {
+            return Err(self.bad.join("\n"));
+        }
+        match (self.was_left, &self.closed[..]) {
+            (false, _) => crate::say!("{}", told(path, "there is no unfinished recording")),
+            (true, []) => crate::say!("{}", told(path, "nothing was recorded yet")),
+            _ => {}
+        }
+        Ok(())
+    }
+}
+
+/// Closes all that a run left unfinished in a folder.
+pub fn mend(path: &Path) -> Result<Mended, String> {
     let mut folder = Folder::new(path, false)?;
     folder.lock()?;
-    if left_over(path).is_none() {
-        crate::say!("{}: there is no unfinished recording", path.display());
-        return Ok(());
-    }
-    let (mut kept, mut bad) = (0, vec![]);
-    for side in Side::BOTH {
-        match mend_recording(path, side) {
-            Ok(Some(told)) => {
-                crate::say!("{told}");
-                kept += 1;
+    let mut mended = Mended { was_left: left_over(path).is_some(), ..Mended::default() };
+    if mended.was_left {
+        for side in Side::BOTH {
+            match mend_recording(path, side) {
+                Ok(closed) => mended.closed.extend(closed),
+                Err(why) => mended.bad.push(why),
             }
-            Ok(None) => {}
-            Err(why) => bad.push(why),
         }
+        let others = of_others(path).filter(|part| is_taken(part));
+        mended.bad.extend(others.filter_map(|part| mend_other(&part).err()));
     }
-    bad.extend(of_others(path).filter(|part| is_taken(part)).filter_map(|part| mend_other(&part).err()));
-    if !bad.is_empty() {
-        return Err(bad.join("\nhost: "));
-    }
-    if kept == 0 {
-        crate::say!("{}: nothing was recorded yet", path.display());
-    }
-    Ok(())
+    Ok(mended)
 }

@@ -1,5 +1,6 @@
-//! `host side FILE..`: whose recording it is, told to a clerk where that can be relied on.
+//! `box side FILE..`: whose recording it is, told to a clerk where that can be relied on.
 
+use crate::folder::told;
 use crate::found::sealed;
 use crate::kept::{Gaps, Row};
 use crate::names::says_another;
@@ -79,8 +80,10 @@ impl fmt::Display for Sheet {
     }
 }
 
-/// A file in which one can go back. A pipe is laid into a file without a name first.
+/// A file in which one can go back, or standard input where it is called `-`. A pipe is laid into a file without a name
+/// first.
 fn open(path: &Path) -> io::Result<File> {
+    let path = if path == Path::new("-") { Path::new("/dev/stdin") } else { path };
     let mut file = File::open(path)?;
     if file.stream_position().is_ok() {
         return Ok(file);
@@ -106,14 +109,12 @@ pub fn side(paths: &[PathBuf], quick: bool) -> Result<(), Failure> {
     let mut bad: Vec<Failure> = vec![];
     for path in paths {
         match of(path, quick) {
-            Ok(sheet) => crate::say!("{}: {sheet}{how}", path.display()),
+            Ok(sheet) => crate::say!("{}", told(path, format!("{sheet}{how}"))),
             Err(failure) => bad.push(failure.of(path)),
         }
     }
     match bad.iter().map(|failure| failure.status).max() {
         None => Ok(()),
-        Some(status) => {
-            Err(Failure { status, why: bad.into_iter().map(|f| f.why).collect::<Vec<_>>().join("\nhost: ") })
-        }
+        Some(status) => Err(Failure { status, why: bad.into_iter().map(|f| f.why).collect::<Vec<_>>().join("\n") }),
     }
 }

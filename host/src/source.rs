@@ -206,8 +206,9 @@ impl Lost {
     }
 }
 
-/// A file for each bench, or both benches as the channels of one recording.
+/// A file for one bench or for each, or both benches as the channels of one recording.
 pub enum Recordings {
+    One(Side, Recording),
     Two([Recording; 2]),
     Stereo(Recording),
 }
@@ -228,6 +229,10 @@ fn raw(mut from: Until, name: &Path) -> Result<Reader<Box<dyn Read>>, Failure> {
 }
 
 impl Recordings {
+    pub fn one(side: Side, path: &Path) -> Result<Recordings, String> {
+        Ok(Recordings::One(side, Recording::file(path, 1)?))
+    }
+
     pub fn two(left: &Path, right: &Path) -> Result<Recordings, String> {
         Ok(Recordings::Two([Recording::file(left, 1)?, Recording::file(right, 1)?]))
     }
@@ -248,7 +253,7 @@ impl Recordings {
     fn all(&self) -> &[Recording] {
         match self {
             Recordings::Two(both) => both,
-            Recordings::Stereo(one) => std::slice::from_ref(one),
+            Recordings::One(_, one) | Recordings::Stereo(one) => std::slice::from_ref(one),
         }
     }
 
@@ -265,11 +270,13 @@ impl Recordings {
     /// What is missing of what should have been read.
     pub fn lost(&self) -> Vec<Lost> {
         let broken = |side: Side| match self {
+            Recordings::One(its, one) => one.broken(side, 0).filter(|_| *its == side),
             Recordings::Two(both) => both[side as usize].broken(side, 0),
             Recordings::Stereo(one) => one.broken(side, side as usize),
         };
         let broken = |side: Side| broken(side).map(|why| Lost::of(side, why));
         let sides = match self {
+            Recordings::One(side, _) => vec![vec![*side]],
             Recordings::Two(_) => Side::BOTH.map(|side| vec![side]).to_vec(),
             Recordings::Stereo(_) => vec![Side::BOTH.to_vec()],
         };
@@ -281,6 +288,11 @@ impl Recordings {
 impl Source for Recordings {
     fn next(&mut self) -> [Block; 2] {
         match self {
+            Recordings::One(side, one) => {
+                let mut blocks = Side::BOTH.map(|_| Block::silence(0));
+                blocks[*side as usize] = one.mono();
+                blocks
+            }
             Recordings::Two(both) => both.each_mut().map(Recording::mono),
             Recordings::Stereo(one) => one.stereo(),
         }

@@ -16,7 +16,7 @@ pub const DAMAGED: u8 = 5;
 /// A name that says another side.
 pub const MISNAMED: u8 = 6;
 
-/// Why a command ends otherwise than it was asked, and with which exit status.
+/// Why a command ends otherwise than it was asked, and with which exit status. Where all has been told, `why` is empty.
 #[derive(Debug)]
 pub struct Failure {
     pub status: u8,
@@ -31,6 +31,14 @@ impl Failure {
     /// The same, of this file.
     pub fn of(self, path: &Path) -> Failure {
         Failure { why: told(path, self.why), ..self }
+    }
+
+    /// A command line that is not right, and where it stands how it should be.
+    pub fn misused(command: &str, why: String) -> Failure {
+        if command.is_empty() {
+            return Failure::wrong(format!("{why}\nsee box --help"));
+        }
+        Failure::wrong(format!("{command}: {why}\nsee box {command} --help"))
     }
 }
 

@@ -8,9 +8,11 @@ use crate::place::{beside, is_taken};
 use crate::recorder::Side;
 use crate::records::Records;
 use crate::run::frames_of;
+use crate::shown::shown;
 use crate::side::Sheet;
 use crate::wav::{self, Writer};
 use crate::{seal, FRAME, RATE};
+use std::fmt;
 use std::fs::{self, File};
 use std::io::{self, ErrorKind, Read, Seek, SeekFrom};
 use std::path::{Path, PathBuf};
@@ -42,7 +44,7 @@ pub fn command(folder: &Path) -> String {
     let path = folder.display().to_string();
     let is_plain = path.chars().all(|c| c.is_alphanumeric() || "._/-+,:@%".contains(c)) && !path.starts_with('-');
     let word = if is_plain { path } else { format!("'{}'", path.replace('\'', r"'\''")) };
-    format!("`host mend {word}`")
+    format!("`box mend {word}`")
 }
 
 /// Refuses a folder with unfinished recordings, and tells how to close them.
@@ -123,7 +125,7 @@ impl Unfinished {
         let mut seal = Vec::new();
         let why = |why: io::Error| told(sheet, why);
         Read::by_ref(&mut records).take(seal::LENGTH as u64).read_to_end(&mut seal).map_err(why)?;
-        let stays = |why: &str| told(sheet, format!("{why} {}, which stays until you move it", part.display()));
+        let stays = |why: &str| told(sheet, format!("{why} {}, which stays until you move it", shown(part)));
         let no_seal = "it does not begin with a seal, so nothing tells the side of";
         let side = seal::side(&seal).ok_or_else(|| stays(no_seal))?;
         let row = Row::read(&mut records, frames_of(there), Some(side), true).map_err(why)?;
@@ -134,7 +136,7 @@ impl Unfinished {
         Ok(Some(Unfinished { side, audio, sheet: records, row, kept, there }))
     }
 
-    /// Closes the recording as `host clean` does: header, audio, seal, sheet. From the first step on the header says
+    /// Closes the recording as `box clean` does: header, audio, seal, sheet. From the first step on the header says
     /// where the audio ends.
     pub fn close(self, part: &Path, sheet: &Path) -> Result<(), String> {
         let why = |why: io::Error| told(part, why);
@@ -149,19 +151,36 @@ impl Unfinished {
     }
 
     /// What a clerk is told of it.
-    pub fn told(&mut self) -> io::Result<String> {
+    pub fn kept(&mut self) -> io::Result<Kept> {
         let seconds = |samples: u64| samples as f64 / f64::from(RATE);
         let sheet = Sheet::of_row(self.side, &self.row);
-        let mut text = format!("{sheet}\nKept {:.2} s.", seconds(self.kept));
-        if self.there > self.kept {
-            let behind = seconds(self.there - self.kept);
-            text += &format!(" The {behind:.2} s behind them have no records, and are lost.");
-        }
         let zeros = zeros(&mut self.audio, self.kept)?;
-        if zeros >= FRAME as u64 {
-            text += &format!(" The last {:.2} s are zeros, as a power cut may leave them.", seconds(zeros));
+        let zeros = if zeros >= FRAME as u64 { zeros } else { 0 };
+        let [kept, lost, zeros] = [self.kept, self.there - self.kept, zeros].map(seconds);
+        Ok(Kept { sheet, kept, lost, zeros })
+    }
+}
+
+/// What is kept of an unfinished recording; the rest in seconds.
+pub struct Kept {
+    pub sheet: Sheet,
+    pub kept: f64,
+    /// Those behind them, which have no records.
+    pub lost: f64,
+    /// The last of them that are zeros, where these are a frame or more.
+    pub zeros: f64,
+}
+
+impl fmt::Display for Kept {
+    fn fmt(&self, f: &mut fmt::Formatter) -> fmt::Result {
+        write!(f, "{}\nKept {:.2} s.", self.sheet, self.kept)?;
+        if self.lost > 0.0 {
+            write!(f, " The {:.2} s behind them have no records, and are lost.", self.lost)?;
         }
-        Ok(text)
+        if self.zeros > 0.0 {
+            write!(f, " The last {:.2} s are zeros, as a power cut may leave them.", self.zeros)?;
+        }
+        Ok(())
     }
 }
 
@@ -172,7 +191,7 @@ mod tests {
     #[test]
     fn a_command_that_can_be_pasted() {
         let told = |path: &str| command(Path::new(path));
-        assert_eq!(told("out/2024-11"), "`host mend out/2024-11`");
-        assert_eq!(told("the fitter's"), r"`host mend 'the fitter'\''s'`");
+        assert_eq!(told("out/2024-11"), "`box mend out/2024-11`");
+        assert_eq!(told("the fitter's"), r"`box mend 'the fitter'\''s'`");
     }
 }

@@ -101,6 +101,8 @@ impl Sample {
 pub struct Reader<R> {
     /// What was read with the head, and then what comes.
     from: io::Take<io::Chain<io::Cursor<Vec<u8>>, R>>,
+    /// How many bytes of the former were not handed out yet.
+    early: usize,
     pub rate: u32,
     pub channels: usize,
     sample: Sample,
@@ -161,9 +163,10 @@ impl<R: Read> Reader<R> {
     fn of(from: R, read: Vec<u8>, Head { place, format, channels, rate, size }: Head) -> Self {
         // A stream that does not know its length says so, and a recorder that lost power leaves a size that is too large: what is there counts.
         let most = if size == UNKNOWN.into() { u64::MAX } else { size };
-        let (from, sample) = (io::Cursor::new(read).chain(from).take(most), Sample::of(format));
+        let (early, sample) = (read.len(), Sample::of(format));
+        let from = io::Cursor::new(read).chain(from).take(most);
         let (carried, given, ended) = (Vec::new(), 0, false);
-        Reader { from, rate, channels, sample, place: [place, size], carried, given, ended }
+        Reader { from, early, rate, channels, sample, place: [place, size], carried, given, ended }
     }
 
     /// How its samples stand in its bytes.
@@ -205,7 +208,9 @@ impl<R: Read> Reader<R> {
     pub fn block(&mut self, most: usize) -> io::Result<Vec<u8>> {
         let one = self.layout().size();
         let mut bytes = std::mem::take(&mut self.carried);
-        while bytes.len() < one && self.more(&mut bytes, most * one)? > 0 {}
+        // a block is what one reading gives, with what had come before it
+        let enough = one.max(std::mem::take(&mut self.early) + 1);
+        while bytes.len() < enough && self.more(&mut bytes, most * one)? > 0 {}
         self.carried = bytes.split_off(bytes.len() - bytes.len() % one);
         self.given += (bytes.len() / one) as u64;
         Ok(bytes)

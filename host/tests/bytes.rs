@@ -4,10 +4,10 @@
 mod common;
 
 use common::*;
-use host::demo::{Rng, HOUSE};
-use host::{wav, FRAME};
 use std::fs;
 use std::path::Path;
+use tuppencehop::demo::{Rng, HOUSE};
+use tuppencehop::{wav, FRAME};
 
 const ENDS: [f32; 2] = [-32_768.0, 32_767.0];
 

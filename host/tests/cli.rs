@@ -1,10 +1,10 @@
 //! The command line: what it writes, and each error with its exit status and nothing left behind.
 
-use host::demo::{dictation, HOUSE};
-use host::wav;
 use std::fs;
 use std::path::{Path, PathBuf};
 use std::process::{Command, Output, Stdio};
+use tuppencehop::demo::{dictation, HOUSE};
+use tuppencehop::wav;
 
 /// A folder of its own for each test.
 fn folder(name: &str) -> PathBuf {
@@ -15,7 +15,7 @@ fn folder(name: &str) -> PathBuf {
 }
 
 fn host(words: &[&str]) -> Output {
-    Command::new(env!("CARGO_BIN_EXE_host")).args(words).output().unwrap()
+    Command::new(env!("CARGO_BIN_EXE_tuppencehop")).args(words).output().unwrap()
 }
 
 /// Both recordings and the model, as files.
@@ -99,7 +99,7 @@ fn each_recording_carries_its_sheet() {
         let file = fs::read(given.path.join(format!("out/{side}.wav"))).unwrap();
         let rows: Vec<&str> = table.lines().filter(|line| line.starts_with(side)).collect();
         let heard = rows.iter().filter(|row| row.contains(",heard,")).count();
-        let sheet = host::side::Sheet::of(&file).unwrap();
+        let sheet = tuppencehop::side::Sheet::of(&file).unwrap();
         assert_eq!((sheet.side.name(), sheet.frames, sheet.heard, sheet.gaps.count), (side, rows.len(), heard, 0));
         assert!(heard > 0);
         // behind the audio and its seal
@@ -189,28 +189,10 @@ fn with_the_lag_of_the_crate() {
     }
 }
 
-/// Over a minute of sound the progress is told, but not where `-q` stands.
-#[test]
-fn a_long_recording_tells_its_progress() {
-    let given = Given::new("long");
-    given.put("long.wav", &wav::write(48_000, &vec![0.0; 61 * 48_000]));
-    let [l, r, m, o] = ["long.wav", "right.wav", "house.rnn", "out"].map(|name| given.at(name));
-    let words = ["clean", "--left", &l, "--right", &r, "--model", &m, "--out", &o, "-q"];
-    let told = |words: &[&str]| {
-        let output = host(words);
-        assert!(output.status.success());
-        String::from_utf8(output.stderr).unwrap()
-    };
-    assert_eq!(told(&words), "");
-    fs::remove_dir_all(&o).unwrap();
-    let lines = told(&words[..9]);
-    assert!(lines.lines().count() == 9 && lines.starts_with("10 %, ") && lines.ends_with(" s left\n"), "{lines}");
-}
-
 #[test]
 fn nobody_reads_what_is_said() {
     let given = Given::new("nobody");
-    let mut run = Command::new(env!("CARGO_BIN_EXE_host"));
+    let mut run = Command::new(env!("CARGO_BIN_EXE_tuppencehop"));
     let mut run = run.args(["demo", &given.at("out")]).stdout(Stdio::piped()).stderr(Stdio::piped()).spawn().unwrap();
     drop(run.stdout.take());
     let output = run.wait_with_output().unwrap();
@@ -219,16 +201,11 @@ fn nobody_reads_what_is_said() {
 }
 
 #[test]
-fn the_version_is_told() {
-    let output = host(&["--version"]);
-    assert!(output.status.success() && output.stdout.starts_with(b"host "));
-}
-
-#[test]
 fn a_missing_file() {
     let given = Given::new("missing");
     given.fails(given.clean("none.wav", "right.wav", "house.rnn", "out"), &["none.wav"]);
-    given.fails(given.clean("left.wav", "right.wav", "none.rnn", "out"), &["none.rnn"]);
+    given
+        .fails(given.clean("left.wav", "right.wav", "none.rnn", "out"), &["clean: --model ", "none.rnn: no such file"]);
 }
 
 /// A name in any bytes is taken as it is.
@@ -240,7 +217,7 @@ fn a_name_that_is_not_unicode() {
     let name = given.path.join(std::ffi::OsStr::from_bytes(b"left-\xff.wav"));
     fs::rename(given.path.join("left.wav"), &name).unwrap();
     let clean = |model: &str| {
-        let mut host = Command::new(env!("CARGO_BIN_EXE_host"));
+        let mut host = Command::new(env!("CARGO_BIN_EXE_tuppencehop"));
         host.args(["clean", "--right", &given.at("right.wav"), "--model", &given.at(model), "--out", &given.at("out")]);
         host.arg("--left").arg(&name).output().unwrap()
     };
@@ -325,23 +302,4 @@ fn full_scale_is_clipped() {
         let told = String::from_utf8(output.stderr).unwrap();
         assert!(told.contains(&format!("loud.wav: {words} beyond full scale")), "{told}");
     }
-}
-
-#[test]
-fn other_words() {
-    let given = Given::new("words");
-    for words in [
-        &[][..],
-        &["clean"],
-        &["clean", "--own"],
-        &["clean", "--left", "x"],
-        &["clean", "-"],
-        &["demo"],
-        &["wash", "x"],
-    ] {
-        given.is_wrong(host(words), &["--help"]);
-    }
-    given.is_wrong(host(&["mend", "x", "--to", "y"]), &["mend: ", "--help"]);
-    let help = host(&["--help"]);
-    assert!(help.status.success() && String::from_utf8(help.stdout).unwrap().contains("host clean --left"));
 }

@@ -1,11 +1,9 @@
-//! A crash and a power cut: `kill -9` at any moment, and files whose last blocks are gone or zeros. `host mend DIR`
+//! A crash and a power cut: `kill -9` at any moment, and files whose last blocks are gone or zeros. `box mend DIR`
 //! closes what is there. So many kills as the variable KILLS says, or 20.
 
 mod common;
 
 use common::*;
-use host::demo::Rng;
-use host::{seal, wav};
 use std::fs::{self, File};
 use std::io::Write;
 use std::path::{Path, PathBuf};
@@ -13,6 +11,8 @@ use std::sync::atomic::{AtomicU64, Ordering};
 use std::sync::OnceLock;
 use std::thread::{scope, sleep, spawn};
 use std::time::{Duration, Instant};
+use tuppencehop::demo::Rng;
+use tuppencehop::{seal, wav};
 
 const SIDES: [&str; 2] = ["left", "right"];
 /// What a power cut may cost.
@@ -178,11 +178,11 @@ fn what_is_told() {
     for words in [&["-", "--raw", "--out", "out"][..], &["-", "--raw", "--out", "out", "--force"]] {
         let ended = fed(clean(&path, words), &known().0);
         assert_eq!(ended.status, Some(1));
-        assert!(ended.why.contains("`host mend out`"), "{}", ended.why);
+        assert!(ended.why.contains("`box mend out`"), "{}", ended.why);
         assert_eq!(names(&path.join("out")), before);
     }
     let ended = run(host(&path, &["mend", "out/left.wav.part", "--out", "new.wav"]));
-    assert!(ended.status == Some(1) && ended.why.contains("`host mend out`"), "{}", ended.why);
+    assert!(ended.status == Some(1) && ended.why.contains("`box mend out`"), "{}", ended.why);
     let ended = mend(&path);
     let [left, right] = begins_well(&path, [usize::MAX; 2]);
     let line = |side: &str, n: usize| {
@@ -233,7 +233,10 @@ fn a_side_that_can_not_be_told() {
     bad(b"", "out/left.wav.sheet: it does not begin with a seal, so nothing tells the side of out/left.wav.part, which stays");
     bad(&[&good[..4], b"RGHT", &good[8..]].concat(), "it does not begin with a seal");
     // right in the seal, left in the records
-    bad(&[&seal::under_way(host::recorder::Side::Right), &good[24..]].concat(), "no record in it is of the sound");
+    bad(
+        &[&seal::under_way(tuppencehop::recorder::Side::Right), &good[24..]].concat(),
+        "no record in it is of the sound",
+    );
     bad(&good[..seal::LENGTH], "no record in it is of the sound");
     // the other bench was closed all the same
     assert!(sound(&path.join("out/right.wav"), "right").len() > 40_000);
@@ -326,7 +329,7 @@ fn ten_hours_in_64_mb() {
     fs::write(part(&path, "right", ".part"), head).unwrap();
     let audio = File::options().write(true).open(part(&path, "right", ".part")).unwrap();
     audio.set_len(HEADER as u64 + 2 * samples).unwrap();
-    let sheet = [&seal::under_way(host::recorder::Side::Right)[..], &records(1, count)].concat();
+    let sheet = [&seal::under_way(tuppencehop::recorder::Side::Right)[..], &records(1, count)].concat();
     fs::write(part(&path, "right", ".sheet"), sheet).unwrap();
     let ended = in_memory(&path, 64, &["mend", "out"]);
     assert_eq!(ended.status, Some(0), "{}", ended.why);
@@ -344,7 +347,7 @@ fn a_long_torn_sheet_in_64_mb() {
     let samples = 480 * 100_000u32;
     let (zeros, torn) = (File::open("/dev/zero").unwrap(), path.join("torn.wav"));
     let (bytes, checksum) = wav::checksum(&mut &zeros, 2 * u64::from(samples)).unwrap();
-    let seal = seal::Seal { side: host::recorder::Side::Left, bytes, checksum };
+    let seal = seal::Seal { side: tuppencehop::recorder::Side::Left, bytes, checksum };
     fs::write(&torn, wav::header(48_000, 2 * samples, 0)).unwrap();
     let mut file = File::options().append(true).open(&torn).unwrap();
     file.set_len(HEADER as u64 + bytes).unwrap();

@@ -1,11 +1,11 @@
 //! Randomly damaged recordings, sheets and models through the readers: each is read or refused, and none ends in a panic.
 
-use host::demo::{Rng, HOUSE};
-use host::found::sealed;
-use host::recorder::{Recorder, Side};
-use host::side::Sheet;
-use host::{mend, wav};
 use std::io::Cursor;
+use tuppencehop::demo::{Rng, HOUSE};
+use tuppencehop::found::sealed;
+use tuppencehop::recorder::{Recorder, Side};
+use tuppencehop::side::Sheet;
+use tuppencehop::{mend, wav};
 
 /// The same in an EXTENSIBLE header, where the samples' form stands in front of fourteen fixed bytes.
 fn extended(file: &[u8]) -> Vec<u8> {
@@ -17,7 +17,7 @@ fn extended(file: &[u8]) -> Vec<u8> {
     file
 }
 
-/// A short recording with a sheet behind it, as `host clean` writes it, in each of the forms that are read.
+/// A short recording with a sheet behind it, as `box clean` writes it, in each of the forms that are read.
 fn recordings() -> Vec<Vec<u8>> {
     // two of these, read as one f32, lie between 0 and 1
     let samples: Vec<f32> = (0..24).map(|i| 16_000.0 + 10.0 * i as f32).collect();

@@ -3,12 +3,12 @@
 
 mod models;
 
-use host::block::Block;
-use host::demo::{dictation, minutes, HOUSE};
-use host::recorder::{Frame, Heard, Recorder, Side, Way, PIECE};
-use host::reference::Reference;
-use host::run::{frames_of, in_memory};
-use host::FRAME;
+use tuppencehop::block::Block;
+use tuppencehop::demo::{dictation, minutes, HOUSE};
+use tuppencehop::recorder::{Frame, Heard, Recorder, Side, Way, PIECE};
+use tuppencehop::reference::Reference;
+use tuppencehop::run::{frames_of, in_memory};
+use tuppencehop::FRAME;
 
 /// One bench by the text: its output, and the voice of each frame.
 fn by_the_text(recording: &[f32], model: &[u8]) -> (Vec<f32>, Vec<f32>) {

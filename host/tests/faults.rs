@@ -4,15 +4,15 @@
 mod common;
 
 use common::*;
-use host::cleaned::Cleaned;
-use host::demo::HOUSE;
-use host::recorder::{Side, Way};
-use host::refusal::Refusal;
-use host::run::{run as run_benches, Refused};
-use host::source::{Limited, Memory};
-use host::wav;
 use std::fs;
 use std::path::{Path, PathBuf};
+use tuppencehop::cleaned::Cleaned;
+use tuppencehop::demo::HOUSE;
+use tuppencehop::recorder::{Side, Way};
+use tuppencehop::refusal::Refusal;
+use tuppencehop::run::{run as run_benches, Refused};
+use tuppencehop::source::{Limited, Memory};
+use tuppencehop::wav;
 
 /// A recording of so many channels, as 32-bit floats.
 fn floats(channels: u8, samples: &[f32]) -> Vec<u8> {
@@ -61,7 +61,7 @@ fn a_broken_sample_in_one_of_two_files() {
     fs::write(path.join("broken.wav"), floats(1, &right)).unwrap();
     let ended = two(&path, "l.wav", "broken.wav", "out");
     assert_eq!(ended.status, Some(2));
-    assert_eq!(ended.why, "host: broken.wav: right, at 3.15 s: not a finite number\n");
+    assert_eq!(ended.why, "box: broken.wav: right, at 3.15 s: not a finite number\n");
     assert_eq!(ended.said, "left: 401 frames\nright: 316 frames\n");
     ends_there(&path, &right);
 }
@@ -74,7 +74,7 @@ fn a_broken_sample_in_one_channel() {
         let mixed: Vec<f32> = (0..2 * LENGTH).map(|i| [&left, &right][i % 2][i / 2]).collect();
         let ended = fed(clean(&path, &["-", "--out", "out"]), &floats(2, &mixed));
         assert_eq!(ended.status, Some(2));
-        assert_eq!(ended.why, "host: standard input: right, at 3.15 s: not a finite number\n");
+        assert_eq!(ended.why, "box: standard input: right, at 3.15 s: not a finite number\n");
         ends_there(&path, &right);
         for folder in ["out", "short"] {
             fs::remove_dir_all(path.join(folder)).unwrap();
@@ -98,7 +98,7 @@ fn broken_from_the_start() {
     fs::write(path.join("broken.wav"), floats(1, &right)).unwrap();
     let ended = two(&path, "l.wav", "broken.wav", "out");
     assert_eq!(ended.status, Some(2));
-    assert_eq!(ended.why, "host: broken.wav: right, at 0.00 s: not a finite number\n");
+    assert_eq!(ended.why, "box: broken.wav: right, at 0.00 s: not a finite number\n");
     assert_eq!(ended.said, "left: 401 frames\n");
     assert_eq!(names(&path.join("out")), ["benches.svg", "frames.csv", "index.html", "left.wav"]);
     assert!(same(&path, "out/left.wav", "whole/left.wav"));
@@ -118,19 +118,19 @@ fn a_recording_that_breaks_off() {
     fs::write(path.join("half.wav"), &whole[..HEADER + 4 * BROKEN + 3]).unwrap();
     let ended = two(&path, "l.wav", "half.wav", "out");
     assert_eq!(ended.status, Some(2));
-    assert_eq!(ended.why, "host: half.wav: ends after 3.1 of 4.0 s, as its header has it\n");
+    assert_eq!(ended.why, "box: half.wav: ends after 3.1 of 4.0 s, as its header has it\n");
     ends_there(&path, &right);
     // the last sample alone
     fs::write(path.join("half.wav"), &whole[..whole.len() - 1]).unwrap();
     let ended = two(&path, "l.wav", "half.wav", "last");
     assert_eq!(ended.status, Some(2));
-    assert_eq!(ended.why, "host: half.wav: ends after 3.99998 of 4.00000 s, as its header has it\n");
+    assert_eq!(ended.why, "box: half.wav: ends after 3.99998 of 4.00000 s, as its header has it\n");
     // a stream that knows its length
     let mut stereo = wav::write(48_000, &vec![9.0; 2 * 48_000]);
     (stereo[22], stereo[32]) = (2, 4);
     let ended = fed(clean(&path, &["-", "--out", "stream"]), &stereo[..HEADER + 4 * 24_000]);
     assert_eq!(ended.status, Some(2));
-    assert_eq!(ended.why, "host: standard input: ends after 0.5 of 1.0 s, as its header has it\n");
+    assert_eq!(ended.why, "box: standard input: ends after 0.5 of 1.0 s, as its header has it\n");
     assert_eq!(sound(&path.join("stream/right.wav"), "right").len(), 24_000);
 }
 
@@ -164,7 +164,7 @@ fn a_header_alone() {
         fs::write(path.join("header.wav"), &header).unwrap();
         let ended = two(&path, "l.wav", "header.wav", "out");
         assert_eq!(ended.status, Some(2), "{size}");
-        assert_eq!(ended.why, "host: header.wav: no audio follows its header\n");
+        assert_eq!(ended.why, "box: header.wav: no audio follows its header\n");
         assert!(same(&path, "out/left.wav", "whole/left.wav") && !path.join("out/right.wav").exists());
         fs::remove_dir_all(path.join("out")).unwrap();
         fs::copy(path.join("header.wav"), path.join("too.wav")).unwrap();
@@ -187,14 +187,14 @@ fn a_header_that_says_none() {
     fs::write(path.join("none.wav"), &none).unwrap();
     let ended = two(&path, "l.wav", "none.wav", "out");
     assert_eq!(ended.status, Some(2));
-    let why = "host: none.wav: its header says that there is no audio; the 4.0 s behind it are cleaned\n";
+    let why = "box: none.wav: its header says that there is no audio; the 4.0 s behind it are cleaned\n";
     assert_eq!(ended.why, why);
     assert!(same(&path, "out/right.wav", "whole/right.wav"));
     // other chunks are no audio
     let chunks = [&none[..HEADER], b"LIST\x04\0\0\0INFOnote\x03\0\0\0abc\0"].concat();
     fs::write(path.join("none.wav"), chunks).unwrap();
     let ended = two(&path, "l.wav", "none.wav", "chunks");
-    assert_eq!((ended.status, &ended.why[..]), (Some(2), "host: none.wav: no audio follows its header\n"));
+    assert_eq!((ended.status, &ended.why[..]), (Some(2), "box: none.wav: no audio follows its header\n"));
 }
 
 /// What begins as another file does is not taken for samples.
@@ -215,7 +215,7 @@ fn raw_that_is_none() {
     for (bytes, form) in files {
         let ended = fed(clean(&path, &["-", "--raw", "--out", "out"]), bytes);
         assert_eq!(ended.status, Some(2));
-        assert_eq!(ended.why, format!("host: standard input: this is {form}, and not samples alone as --raw says\n"));
+        assert_eq!(ended.why, format!("box: standard input: this is {form}, and not samples alone as --raw says\n"));
         assert!(!path.join("out").exists());
     }
     // one sample that looks like the start of MP3 is a sample

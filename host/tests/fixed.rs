@@ -1,10 +1,10 @@
 //! Fixed cases, through the static library and the box.
 
-use host::block::Block;
-use host::demo::HOUSE;
-use host::recorder::{Recorder, Side, Way};
-use host::refusal::Refusal;
-use host::FRAME;
+use tuppencehop::block::Block;
+use tuppencehop::demo::HOUSE;
+use tuppencehop::recorder::{Recorder, Side, Way};
+use tuppencehop::refusal::Refusal;
+use tuppencehop::FRAME;
 
 /// Hidden counts of 1, all weights and biases 0: 392 bytes.
 fn smallest() -> Vec<u8> {

@@ -5,9 +5,9 @@
 mod common;
 
 use common::*;
-use host::demo::Rng;
 use std::fs;
 use std::path::Path;
+use tuppencehop::demo::Rng;
 
 /// Seeded noise, a buzz over it and silence in turn, in 24 bits. (Of whole numbers alone every machine makes the same.)
 fn sound(seed: u64, length: usize) -> Vec<i32> {
@@ -261,7 +261,7 @@ fn a_broken_sample() {
     audio[8 * 20_001 + 4..][..4].copy_from_slice(&f32::NAN.to_le_bytes());
     fs::write(path.join("both.wav"), wav(Float, 2, false, &audio)).unwrap();
     let ended = run(clean(&path, &["--both", "both.wav", "--out", "out"]));
-    let why = "host: both.wav: right, at 0.42 s: not a finite number\n";
+    let why = "box: both.wav: right, at 0.42 s: not a finite number\n";
     same(
         "a broken sample",
         &[after(&path, ended, 2, why)],

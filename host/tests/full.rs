@@ -44,7 +44,7 @@ fn a_full_disk() {
     let ended = fed(clean(&path, &["-", "--raw", "--out", "disk/out"]), &raw(10.0));
     assert_eq!(ended.status, Some(1));
     assert!(ended.why.contains("No space left on device"), "{}", ended.why);
-    assert!(ended.why.contains("`host mend disk/out`"), "{}", ended.why);
+    assert!(ended.why.contains("`box mend disk/out`"), "{}", ended.why);
     let left = names(&disk.join("out"));
     assert!(left.contains(&"left.wav.part".into()) && left.contains(&"left.wav.sheet".into()), "{left:?}");
     let there = size(&disk.join("out/left.wav.part"));
@@ -72,7 +72,7 @@ fn a_full_disk_for_files() {
     let Some(_disk) = Disk::new(&disk) else {
         return skipped();
     };
-    let recording = host::wav::write(48_000, &vec![100.0; 480_000]);
+    let recording = tuppencehop::wav::write(48_000, &vec![100.0; 480_000]);
     ["l.wav", "r.wav"].iter().for_each(|name| fs::write(path.join(name), &recording).unwrap());
     let ended = run(clean(&path, &["--left", "l.wav", "--right", "r.wav", "--out", "disk/out"]));
     assert!(ended.status == Some(1) && ended.why.contains("No space left on device"), "{}", ended.why);
@@ -83,7 +83,7 @@ fn a_full_disk_for_files() {
 fn limited(path: &Path, blocks: u32, words: &[&str]) -> Command {
     let mut shell = Command::new("sh");
     let limit = format!("trap '' XFSZ; ulimit -f {blocks}; exec \"$0\" \"$@\"");
-    shell.args(["-c", &limit, env!("CARGO_BIN_EXE_host")]).args(words).current_dir(path);
+    shell.args(["-c", &limit, env!("CARGO_BIN_EXE_tuppencehop")]).args(words).current_dir(path);
     shell.stdin(Stdio::null()).stdout(Stdio::piped()).stderr(Stdio::piped());
     shell
 }
@@ -94,7 +94,7 @@ fn a_file_that_can_not_grow() {
     let words = ["clean", "-", "--raw", "--model", "house.rnn", "--out", "out"];
     let ended = fed(limited(&path, 400, &words), &raw(4.0));
     assert_eq!(ended.status, Some(1));
-    assert!(ended.why.contains("File too large") && ended.why.contains("`host mend out`"), "{}", ended.why);
+    assert!(ended.why.contains("File too large") && ended.why.contains("`box mend out`"), "{}", ended.why);
     assert_eq!(run(host(&path, &["mend", "out"])).status, Some(0));
     for side in ["left", "right"] {
         assert!(sound(&path.join(format!("out/{side}.wav")), side).len() > 90_000, "{side}");

@@ -1,9 +1,9 @@
 //! The house model: it reads, and on the demo it takes the noise and leaves the voice. (The gate looks at its checksum
 //! besides.)
 
-use host::demo::{cleaned, dictation, effect, HOUSE};
-use host::layers::Layers;
-use host::recorder::Way;
+use tuppencehop::demo::{cleaned, dictation, effect, HOUSE};
+use tuppencehop::layers::Layers;
+use tuppencehop::recorder::Way;
 
 #[test]
 fn it_has_the_usual_shape() {

@@ -3,12 +3,12 @@
 
 mod models;
 
-use host::block::Block;
-use host::demo::filtered;
-use host::recorder::{Heard, Recorder, Side, Way};
-use host::reference::Reference;
-use host::transform::{Transform, SPECTRUM, WINDOW};
-use host::FRAME;
+use tuppencehop::block::Block;
+use tuppencehop::demo::filtered;
+use tuppencehop::recorder::{Heard, Recorder, Side, Way};
+use tuppencehop::reference::Reference;
+use tuppencehop::transform::{Transform, SPECTRUM, WINDOW};
+use tuppencehop::FRAME;
 
 /// A frame that begins with this sample and has no other.
 fn frame(sample: f32) -> [f32; FRAME] {
@@ -21,7 +21,7 @@ fn frame(sample: f32) -> [f32; FRAME] {
 fn energy(way: Way, sample: f32) -> Option<f32> {
     let (mut recorder, model, mut found) = (Recorder::new(way), models::model(), None);
     recorder.open(Side::Left, &model).unwrap();
-    let each = |frame: host::recorder::Frame, _: &[u8]| {
+    let each = |frame: tuppencehop::recorder::Frame, _: &[u8]| {
         if let Heard::Voice { energy, .. } = frame.heard {
             found = Some(energy);
         }

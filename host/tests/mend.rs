@@ -1,17 +1,17 @@
-//! `host mend FILE`: whose side is told, what is kept and what is lost, and that the file that is read stays as it is.
+//! `box mend FILE`: whose side is told, what is kept and what is lost, and that the file that is read stays as it is.
 
 mod common;
 mod made;
 
 use common::{folder, host, run, Ended};
-use host::found::sealed as told;
-use host::kept::Row;
-use host::recorder::Side;
 use made::*;
 use std::fs;
 use std::io::Cursor;
 use std::path::Path;
 use std::process::Command;
+use tuppencehop::found::sealed as told;
+use tuppencehop::kept::Row;
+use tuppencehop::recorder::Side;
 
 fn mend(path: &Path, words: &[&str]) -> Ended {
     run(host(path, &[&["mend"], words].concat()))
@@ -35,7 +35,7 @@ fn closed(bytes: &[u8], more: &[&str], said: &str, wanted: &[u8]) {
 
 fn refused(bytes: &[u8], more: &[&str], why: &str) {
     let (ended, new) = mended(bytes, more);
-    let why = format!("host: 1.wav: {why}\n");
+    let why = format!("box: 1.wav: {why}\n");
     assert_eq!((ended, new), (Ended { status: Some(1), said: String::new(), why }, None));
 }
 
@@ -138,7 +138,7 @@ fn a_long_row_in_parts() {
         assert_eq!(row.side.is_some(), refused == 0);
         assert_eq!(row.frames(), numbers[1]);
         let trailer = &out[8 * numbers[1] as usize..][..16];
-        assert!(row.side.is_none_or(|side| host::records::trailer(side, row.tally).unwrap() == trailer));
+        assert!(row.side.is_none_or(|side| tuppencehop::records::trailer(side, row.tally).unwrap() == trailer));
     };
     agree(&whole);
     for record in
@@ -167,8 +167,11 @@ fn no_room() {
     let path = folder("mend-room");
     fs::write(path.join("whole.wav"), sealed(0, &noise(480, 1))).unwrap();
     let limited = "trap '' XFSZ; ulimit -f 1; exec \"$0\" mend whole.wav --out copy.wav";
-    let output =
-        Command::new("sh").args(["-c", limited, env!("CARGO_BIN_EXE_host")]).current_dir(&path).output().unwrap();
+    let output = Command::new("sh")
+        .args(["-c", limited, env!("CARGO_BIN_EXE_tuppencehop")])
+        .current_dir(&path)
+        .output()
+        .unwrap();
     let why = String::from_utf8(output.stderr).unwrap();
     assert!(output.status.code() == Some(1) && why.contains("copy.wav: File too large"), "{why}");
     assert!(!path.join("copy.wav").exists());

@@ -1,10 +1,10 @@
-//! `host pack` and `host unpack`: round both ways, and each error with exit status 1 and nothing left behind.
+//! `box pack` and `box unpack`: round both ways, and each error with exit status 1 and nothing left behind.
 
-use host::demo::HOUSE;
 use std::collections::BTreeMap;
 use std::fs;
 use std::path::{Path, PathBuf};
 use std::process::{Command, Output};
+use tuppencehop::demo::HOUSE;
 
 /// A folder of its own for each test, with the house model in it and taken apart.
 fn folder(name: &str) -> PathBuf {
@@ -17,7 +17,7 @@ fn folder(name: &str) -> PathBuf {
 }
 
 fn host(words: &[&str]) -> Output {
-    Command::new(env!("CARGO_BIN_EXE_host")).args(words).output().unwrap()
+    Command::new(env!("CARGO_BIN_EXE_tuppencehop")).args(words).output().unwrap()
 }
 
 fn unpack(path: &Path, model: &str, out: &str) -> Output {
@@ -112,7 +112,7 @@ fn missing_files() {
     let path = folder("missing");
     fs::remove_file(path.join("loose/noise_gru.recurrent")).unwrap();
     fails(&path, pack(&path, "loose", "new.rnn"), &["noise_gru.recurrent"]);
-    fails(&path, pack(&path, "none", "new.rnn"), &["none", "layers.txt"]);
+    fails(&path, pack(&path, "none", "new.rnn"), &["pack: --layers ", "none: no such file"]);
     fails(&path, pack(&path, "loose", "none/new.rnn"), &["noise_gru.recurrent"]);
     fails(&path, unpack(&path, "none.rnn", "new"), &["none.rnn"]);
     fails(&path, unpack(&path, "house.rnn", "house.rnn/new"), &["house.rnn/new"]);

@@ -1,17 +1,17 @@
 //! The page's structure, read without a browser: names, roles, references, the contrasts of its colours, and what it says of recordings that are not
 //! whole. (How it looks is seen by tools/see_page.sh.)
 
-use host::about::About;
-use host::cleaned::Summary;
-use host::colours::{DARK, LIGHT};
-use host::demo::{dictation, HOUSE};
-use host::recorder::{Frame, Heard, Side};
-use host::{page, wav};
 use std::collections::HashMap;
 use std::fs;
 use std::io::Write;
 use std::path::{Path, PathBuf};
 use std::process::{Command, Stdio};
+use tuppencehop::about::About;
+use tuppencehop::cleaned::Summary;
+use tuppencehop::colours::{DARK, LIGHT};
+use tuppencehop::demo::{dictation, HOUSE};
+use tuppencehop::recorder::{Frame, Heard, Side};
+use tuppencehop::{page, wav};
 
 /// A tag, and what stands between it and the next one.
 #[derive(Debug)]
@@ -93,7 +93,7 @@ fn benches() -> [Summary; 2] {
 }
 
 fn the_page() -> String {
-    page::html(&benches(), Some(["left-before.wav", "right-before.wav"]))
+    page::html(&benches(), Some(["left-before.wav", "right-before.wav"]), "")
 }
 
 fn all<'a>(tags: &'a [Tag], name: &str) -> Vec<&'a Tag> {
@@ -225,7 +225,7 @@ fn what_a_clerk_wants_is_on_top() {
     assert_eq!((row(&page, "right", "gaps"), row(&page, "right", "clipped samples")), (&*bad("1"), &*bad("3")));
     assert_eq!(row(&page, "right", "peak"), "0.0 dB of full scale");
     // without the recordings as they were, the cleaned ones are played
-    let alone = page::html(&benches(), None);
+    let alone = page::html(&benches(), None, "");
     assert!(!alone.contains("left-before.wav") && alone.matches("<audio").count() == 2);
     assert_eq!(alone.matches("data-player=\"left-after\"").count(), 3);
 }
@@ -323,7 +323,7 @@ fn a_long_recording_has_as_large_a_page() {
             }
             summary
         });
-        let page = page::html(&benches, None);
+        let page = page::html(&benches, None, "");
         assert_eq!(page.contains(">10:00</span>"), seconds == 1_300);
         page.len()
     });
@@ -345,7 +345,7 @@ fn an_empty_recording_says_so() {
     fs::write(path.join("none.wav"), wav::write(48_000, &[])).unwrap();
     fs::write(path.join("some.wav"), wav::write(48_000, &dictation(1).noisy)).unwrap();
     let words = ["clean", "--left", "none.wav", "--right", "some.wav", "--model", "house.rnn", "--out", "out"];
-    let status = Command::new(env!("CARGO_BIN_EXE_host")).args(words).current_dir(&path).status().unwrap();
+    let status = Command::new(env!("CARGO_BIN_EXE_tuppencehop")).args(words).current_dir(&path).status().unwrap();
     assert_eq!(status.code(), Some(2));
     let page = fs::read_to_string(path.join("out/index.html")).unwrap();
     let empty = "Broken, and empty.</strong> none.wav: no audio follows its header";
@@ -365,12 +365,13 @@ fn a_broken_recording_says_so() {
     let mut file = wav::write(48_000, &[0.0; 4 * 60_000]);
     (file[20], file[22], file[32], file[34]) = (3, 2, 8, 32);
     file[44 + 8 * 55_000..][..4].copy_from_slice(&f32::NAN.to_le_bytes());
-    let mut host = Command::new(env!("CARGO_BIN_EXE_host"));
+    let mut host = Command::new(env!("CARGO_BIN_EXE_tuppencehop"));
     host.args(["clean", "-", "--model", "house.rnn", "--out", "out"]).current_dir(&path);
     let mut host = host.stdin(Stdio::piped()).stderr(Stdio::null()).spawn().unwrap();
     let _ = host.stdin.take().unwrap().write_all(&file);
     assert_eq!(host.wait().unwrap().code(), Some(2));
     let page = fs::read_to_string(path.join("out/index.html")).unwrap();
+    // the other bench goes on to its end
     assert_eq!(page.matches("Broken off after 0:01.").count(), 1);
     assert!(words(&page).contains("standard input: left, at 1.15 s: not a finite number"), "{}", words(&page));
 }

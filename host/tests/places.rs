@@ -4,11 +4,11 @@
 mod common;
 
 use common::*;
-use host::wav;
 use std::fs;
 use std::os::unix::fs::symlink;
 use std::path::{Path, PathBuf};
 use std::process::Stdio;
+use tuppencehop::wav;
 
 /// A folder with two recordings in it.
 fn given(name: &str) -> PathBuf {
@@ -24,9 +24,16 @@ fn two(path: &Path, out: &str, more: &[&str]) -> Ended {
     run(clean(path, &[&words[..], more].concat()))
 }
 
-/// Every file in a folder, and what is in it.
+/// Every file in a folder, and what is in it; of a page all but its date, which goes by the minute.
 fn contents(path: &Path) -> Vec<(String, Vec<u8>)> {
-    names(path).into_iter().map(|name| (name.clone(), fs::read(path.join(name)).unwrap())).collect()
+    let read = |name: &str| {
+        let file = fs::read(path.join(name)).unwrap();
+        match String::from_utf8(file) {
+            Ok(text) => text.split('\n').filter(|line| !line.contains(">date<")).collect::<Vec<_>>().join("\n").into(),
+            Err(file) => file.into_bytes(),
+        }
+    };
+    names(path).into_iter().map(|name| (name.clone(), read(&name))).collect()
 }
 
 #[test]
@@ -119,7 +126,7 @@ fn no_samples() {
         assert!(contents(&path.join("out")) == before);
     }
     let ended = run(clean(&path, &["-", "--raw", "--out", "none"]));
-    assert_eq!((ended.status, &ended.why[..]), (Some(1), "host: no samples came: nothing is written\n"));
+    assert_eq!((ended.status, &ended.why[..]), (Some(1), "box: no samples came: nothing is written\n"));
     assert!(!path.join("none").exists());
 }
 
@@ -127,6 +134,7 @@ fn no_samples() {
 #[test]
 fn an_empty_name() {
     let path = given("places-name");
+    fs::write(path.join("layers"), b"").unwrap();
     let before = contents(&path);
     let words: [&[&str]; 7] = [
         &["clean", "--left", "l.wav", "--right", "r.wav", "--model", "house.rnn", "--out", ""],
@@ -186,7 +194,7 @@ fn two_runs_in_one_folder() {
     soon("nothing is written", || size(&path.join("out/left.wav.part")) > 20_000);
     let refused = |ended: Ended| {
         assert_eq!(ended.status, Some(1));
-        assert_eq!(ended.why, "host: out: another run is writing into this folder\n");
+        assert_eq!(ended.why, "box: out: another run is writing into this folder\n");
     };
     refused(fed(clean(&path, &["-", "--raw", "--out", "out"]), &samples));
     refused(two(&path, "out", &["--force"]));
@@ -223,7 +231,7 @@ fn a_place_that_is_taken_meanwhile() {
     let ended = ended(child.wait_with_output().unwrap());
     assert_eq!(ended.status, Some(1));
     assert!(ended.why.contains("out/right.wav: it stands there already"), "{}", ended.why);
-    assert!(ended.why.contains("`host mend out`"), "{}", ended.why);
+    assert!(ended.why.contains("`box mend out`"), "{}", ended.why);
     assert_eq!(run(host(&path, &["mend", "out"])).status, Some(0));
     assert_eq!(fs::read(path.join("out/right.wav")).unwrap(), b"somebody's");
     assert_eq!(sound(&path.join("out/left.wav"), "left").len(), 48_000);

@@ -2,17 +2,18 @@
 
 mod models;
 
-use host::demo::{dictation, Rng, HOUSE};
-use host::layers::Layers;
-use host::wav;
 use std::fs::{self, File};
 use std::io::Write;
 use std::path::{Path, PathBuf};
 use std::process::{Command, Stdio};
 use std::thread::sleep;
 use std::time::Duration;
+use tuppencehop::demo::{dictation, Rng, HOUSE};
+use tuppencehop::layers::Layers;
+use tuppencehop::wav;
 
-/// The commands of a page: what follows `./box` in a line of code, or between backticks, up to two spaces.
+/// The commands of a page: what follows `./box` in a line of code, or between backticks, up to two spaces. What stands
+/// behind them is a comment, so that the line can be pasted as it is.
 fn commands(page: &str) -> Vec<String> {
     let mut found = Vec::new();
     for line in page.lines() {
@@ -20,7 +21,9 @@ fn commands(page: &str) -> Vec<String> {
         let spans = line.split('`').skip(1).step_by(2).filter(|_| !line.starts_with("    "));
         for code in blocks.chain(spans) {
             if let Some((_, command)) = code.split_once("./box ") {
-                found.push(command.split("  ").next().unwrap().trim().to_string());
+                let (command, comment) = command.split_once("  ").unwrap_or((command, ""));
+                assert!(comment.is_empty() || comment.trim_start().starts_with("# "), "{line}");
+                found.push(command.trim().to_string());
             }
         }
     }
@@ -33,31 +36,35 @@ fn bench() -> PathBuf {
     let _ = fs::remove_dir_all(&path);
     fs::create_dir_all(&path).unwrap();
     let [left, right] = [0, 1].map(|bench| dictation(bench).noisy);
-    fs::write(path.join("L.wav"), wav::write(48_000, &left)).unwrap();
-    fs::write(path.join("R.wav"), wav::write(48_000, &right)).unwrap();
-    fs::write(path.join("M.rnn"), HOUSE).unwrap();
+    for (names, samples) in [(["L.wav", "monday-left.wav"], &left), (["R.wav", "monday-right.wav"], &right)] {
+        names.iter().for_each(|name| fs::write(path.join(name), wav::write(48_000, samples)).unwrap());
+    }
+    fs::create_dir_all(path.join("host/model")).unwrap();
+    ["M.rnn", "host/model/house.rnn"].iter().for_each(|name| fs::write(path.join(name), HOUSE).unwrap());
     fs::write(path.join("rnn_data.c"), models::as_c(&Layers::of(HOUSE).unwrap(), &mut Rng(7))).unwrap();
-    let raw: Vec<u8> =
-        left.iter().zip(&right).flat_map(|(l, r)| [*l as i16, *r as i16]).flat_map(i16::to_le_bytes).collect();
-    fs::write(path.join("stream"), raw).unwrap();
+    let both: Vec<f32> = left.iter().zip(&right).flat_map(|(l, r)| [*l, *r]).collect();
+    let mut stereo = wav::write(48_000, &both);
+    (stereo[22], stereo[32]) = (2, 4);
+    fs::write(path.join("stream"), &stereo[44..]).unwrap();
+    fs::write(path.join("STEREO.wav"), stereo).unwrap();
     path
 }
 
 /// Makes room for what a command writes, as if it were the first of the day.
 fn make_room(folder: &Path, words: &[&str]) {
     let place = match words {
-        ["demo", dir, ..] => dir,
-        [.., "--out", place] => place,
-        _ => return,
+        ["demo", dir, ..] => Some(dir),
+        words if words.contains(&"--force") => None,
+        words => words.iter().position(|word| *word == "--out").and_then(|at| words.get(at + 1)),
     };
-    let place = folder.join(place);
+    let Some(place) = place.map(|place| folder.join(place)) else { return };
     let _ = fs::remove_file(&place);
     let _ = fs::remove_dir_all(&place);
 }
 
 /// A recording whose last bytes are missing.
 fn tear(folder: &Path, name: &str) {
-    let whole = fs::read(folder.join("DIR/left.wav")).unwrap();
+    let whole = fs::read(folder.join("out/cleaned/left.wav")).unwrap();
     fs::write(folder.join(name), &whole[..whole.len() - 10]).unwrap();
 }
 
@@ -73,7 +80,7 @@ fn unseal(folder: &Path, name: &str) {
 fn cut_short(folder: &Path, dir: &str) {
     let words = ["clean", "-", "--raw", "--model", "M.rnn", "--out", dir];
     make_room(folder, &words);
-    let mut host = Command::new(env!("CARGO_BIN_EXE_host"));
+    let mut host = Command::new(env!("CARGO_BIN_EXE_tuppencehop"));
     let mut child = host.args(words).current_dir(folder).stdin(Stdio::piped()).spawn().unwrap();
     let mut to = child.stdin.take().unwrap();
     to.write_all(&fs::read(folder.join("stream")).unwrap()[..400_000]).unwrap();
@@ -90,8 +97,9 @@ fn cut_short(folder: &Path, dir: &str) {
 fn run(folder: &Path, command: &str) {
     let words: Vec<&str> = command.split_whitespace().collect();
     make_room(folder, &words);
-    let mut host = Command::new(env!("CARGO_BIN_EXE_host"));
-    host.args(&words).current_dir(folder);
+    // by a shell, as it would be pasted
+    let mut host = Command::new("sh");
+    host.args(["-c", &format!("\"$0\" {command}"), env!("CARGO_BIN_EXE_tuppencehop")]).current_dir(folder);
     match words[..] {
         ["clean", "-", ..] => _ = host.stdin(File::open(folder.join("stream")).unwrap()),
         ["mend", torn, "--out", _] => tear(folder, torn),
@@ -110,8 +118,9 @@ fn every_command_of_the_pages() {
     let (folder, shown) = (bench(), commands(&(page("README.md") + &page("docs/BOX.md"))));
     assert!(shown.len() > 10, "{shown:?}");
     for command in &shown {
-        // it takes a minute, and changes nothing
-        if command != "bench" {
+        // these take their time and change nothing; and tests/box.rs installs
+        let measures = ["dev bench", "dev lags", "dev logs"].contains(&&**command);
+        if !measures && !["install", "package"].iter().any(|word| command.starts_with(word)) {
             run(&folder, command);
         }
     }
@@ -120,16 +129,34 @@ fn every_command_of_the_pages() {
         "clean",
         "clean -",
         "side",
-        "mend FILE",
+        "mend torn.wav",
         "mend DIR",
         "pack",
         "unpack",
         "import",
         "export",
-        "bench",
+        "dev bench",
+        "install",
+        "package",
         "--help",
     ];
     for word in words {
         assert!(shown.iter().any(|command| command.starts_with(word)), "no page shows {word}");
+    }
+}
+
+/// The README is short: it can be read on one screen's width, and to its end.
+#[test]
+fn the_readme_is_short() {
+    let root = Path::new(env!("CARGO_MANIFEST_DIR")).parent().unwrap();
+    let page = fs::read_to_string(root.join("README.md")).unwrap();
+    assert!(page.lines().count() <= 120, "{} lines", page.lines().count());
+    for line in page.lines() {
+        assert!(line.chars().count() <= 100, "{line}");
+    }
+    // each word is explained where it first stands
+    for word in ["frame", "heard", "side sheet", "seal", "lag", "refusal", "gate"] {
+        let (explained, first) = (page.find(&format!("*{word}*")), page.find(&format!(" {word}")));
+        assert!(explained.is_some_and(|at| first.is_none_or(|first| at <= first)), "{word}");
     }
 }

@@ -5,13 +5,13 @@ mod common;
 mod made;
 
 use common::{folder, host, run, stream, Ended};
-use host::demo::{Rng, HOUSE};
-use host::found::sealed as told;
-use host::{mend, wav};
 use made::*;
 use std::fs;
 use std::io::{Cursor, Write};
 use std::path::{Path, PathBuf};
+use tuppencehop::demo::{Rng, HOUSE};
+use tuppencehop::found::sealed as told;
+use tuppencehop::{mend, wav};
 
 /// What the box writes, made by hand of its audio and its table.
 #[test]
@@ -180,7 +180,7 @@ fn the_other_bench() {
     assert_eq!(fs::read(path.join("house.rnn")).unwrap(), HOUSE);
     let refused = |words: &[&str], why: &str| {
         let ended = clean(&path, words, "new");
-        let why = format!("host: {why}; with --anyway it is taken all the same\n");
+        let why = format!("box: {why}; with --anyway it is taken all the same\n");
         assert_eq!(ended, Ended { status: Some(2), said: String::new(), why });
         assert!(!path.join("new").exists());
     };

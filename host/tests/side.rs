@@ -1,4 +1,4 @@
-//! `host side`: a line for each sealed recording; of any other no side, but a reason and an exit status of its own.
+//! `box side`: a line for each sealed recording; of any other no side, but a reason and an exit status of its own.
 
 mod common;
 mod made;
@@ -25,7 +25,7 @@ fn side(name: &str, files: &[(&str, &[u8])]) -> Ended {
 fn untold(bytes: &[u8], status: i32, why: &str) {
     static NEXT: AtomicU32 = AtomicU32::new(0);
     let ended = side(&NEXT.fetch_add(1, Ordering::SeqCst).to_string(), &[("1.wav", bytes)]);
-    assert_eq!(ended, Ended { status: Some(status), said: String::new(), why: format!("host: 1.wav: {why}\n") });
+    assert_eq!(ended, Ended { status: Some(status), said: String::new(), why: format!("box: 1.wav: {why}\n") });
 }
 
 #[test]
@@ -164,7 +164,7 @@ fn a_name_that_says_the_other_side() {
         [("RIGHT-2.wav", "right"), ("left-or-right.wav", "left"), ("Wright 2024.wav", "left"), ("a-L.wav", "left")];
     let good = good.map(|(name, side)| said(name, side)).concat() + &said("bright.wav", "left");
     let bad = [("left.wav", "right"), ("Wright left foot.wav", "right"), ("a_R.wav", "left")];
-    let bad = bad.map(|(name, side)| format!("host: {name}: the name says another side: {}\n", told(side))).concat();
+    let bad = bad.map(|(name, side)| format!("box: {name}: the name says another side: {}\n", told(side))).concat();
     assert_eq!(ended, Ended { status: Some(6), said: good, why: bad });
 }
 
@@ -177,7 +177,7 @@ fn a_folder_that_says_the_other_side() {
     fs::write(path.join("right.wav"), sealed(1, &noise(480, 2))).unwrap();
     let ended = run(host(&path, &["side", "1.wav", "2.wav", "right.wav"]));
     assert_eq!((ended.status, ended.said.lines().count()), (Some(6), 2));
-    assert!(ended.why.starts_with("host: 1.wav: the folder's name says another side: right side"), "{}", ended.why);
+    assert!(ended.why.starts_with("box: 1.wav: the folder's name says another side: right side"), "{}", ended.why);
     assert_eq!(run(host(path.parent().unwrap(), &["side", "left bench/1.wav"])).status, Some(6));
 }
 
@@ -201,7 +201,7 @@ fn a_recording_through_a_pipe() {
     let path = Path::new(env!("CARGO_TARGET_TMPDIR")).join("piped.wav");
     fs::write(&path, sealed(0, &noise(480, 1))).unwrap();
     let words = "cat \"$1\" | \"$0\" side /dev/stdin";
-    let output = Command::new("sh").args(["-c", words, env!("CARGO_BIN_EXE_host")]).arg(&path).output().unwrap();
+    let output = Command::new("sh").args(["-c", words, env!("CARGO_BIN_EXE_tuppencehop")]).arg(&path).output().unwrap();
     assert_eq!(output.stdout, b"/dev/stdin: left side, 2 frames, 1 heard, no gap; sealed\n");
 }
 
@@ -226,9 +226,9 @@ fn what_is_claimed_takes_no_memory() {
         (ended.status, ended.why)
     };
     // records of the other side, and eight million silent frames 0 of the left one
-    let why = "host: 1.wav: no side sheet: a record is broken or of the other side (refusal 34)\n";
+    let why = "box: 1.wav: no side sheet: a record is broken or of the other side (refusal 34)\n";
     assert_eq!(looked("told-claims-right", &claims(536_870_911, 1)), (Some(3), why.into()));
-    let why = "host: 1.wav: a side sheet without a seal says: left side, 8000000 frames, 0 heard, 7999999 gaps, \
+    let why = "box: 1.wav: a side sheet without a seal says: left side, 8000000 frames, 0 heard, 7999999 gaps, \
          the first behind frame 0\n";
     assert_eq!(looked("told-claims-left", &claims(8_000_000, 0)), (Some(4), why.into()));
 }

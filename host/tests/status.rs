@@ -4,13 +4,13 @@ mod common;
 mod made;
 
 use common::*;
-use host::wav;
 use made::{entries, noise, riff, sealed, sheet};
 use std::collections::BTreeMap;
 use std::fs::{self, File};
 use std::io::Write;
 use std::path::{Path, PathBuf};
 use std::process::{Command, Stdio};
+use tuppencehop::wav;
 
 const TWO: [&str; 6] = ["clean", "--model", "house.rnn", "--left", "l.wav", "--right"];
 
@@ -75,7 +75,7 @@ fn of_full_disk() -> i32 {
     let path = given("full");
     let mut shell = Command::new("sh");
     let words = "trap '' XFSZ; ulimit -f 100; exec \"$0\" clean - --raw --model house.rnn --out out";
-    shell.args(["-c", words, env!("CARGO_BIN_EXE_host")]).current_dir(&path).stderr(Stdio::null());
+    shell.args(["-c", words, env!("CARGO_BIN_EXE_tuppencehop")]).current_dir(&path).stderr(Stdio::null());
     fed(shell, &raw(2.0)).status.unwrap()
 }
 
@@ -87,7 +87,7 @@ fn of_side(name: &str, bytes: &[u8]) -> i32 {
 }
 
 fn of_answer(to: impl Into<Stdio>) -> i32 {
-    let mut command = Command::new(env!("CARGO_BIN_EXE_host"));
+    let mut command = Command::new(env!("CARGO_BIN_EXE_tuppencehop"));
     command.arg("--version").stdout(to).stderr(Stdio::null()).status().unwrap().code().unwrap()
 }
 

@@ -4,7 +4,6 @@
 mod common;
 
 use common::*;
-use host::wav;
 use std::ffi::{c_char, c_int, CStr};
 use std::fs::{self, File};
 use std::io::{pipe, Read, Write};
@@ -16,6 +15,7 @@ use std::sync::atomic::{AtomicUsize, Ordering};
 use std::sync::Arc;
 use std::thread::{sleep, spawn};
 use std::time::Duration;
+use tuppencehop::wav;
 
 /// What these samples give, cleaned to their end, in a folder `whole`.
 fn whole(path: &Path, samples: &[u8]) {
@@ -69,7 +69,7 @@ fn a_signal_that_is_ignored() {
     whole(&path, &samples);
     let words = "trap '' HUP; exec \"$0\" clean - --raw --model house.rnn --out out";
     let mut shell = Command::new("sh");
-    shell.args(["-c", words, env!("CARGO_BIN_EXE_host")]).current_dir(&path);
+    shell.args(["-c", words, env!("CARGO_BIN_EXE_tuppencehop")]).current_dir(&path);
     shell.stdin(Stdio::piped()).stdout(Stdio::null());
     let mut child = shell.spawn().unwrap();
     let mut to = child.stdin.take().unwrap();
@@ -101,7 +101,7 @@ fn a_signal_before_a_file_is_read_to_its_end() {
     let kept = sound(&path.join("out/left.wav"), "left").len();
     assert_eq!(sound(&path.join("out/right.wav"), "right").len(), kept);
     assert!((100_000..5_000_000).contains(&kept));
-    let told = format!("host: both.wav: stopped after {:.1} of 120.0 s\n", kept as f64 / 48_000.0);
+    let told = format!("box: both.wav: stopped after {:.1} of 120.0 s\n", kept as f64 / 48_000.0);
     assert_eq!(ended.why, told);
 }
 
@@ -167,7 +167,7 @@ fn control_c_at_a_terminal() {
          while cat second.raw; do sleep 0.05; done | \"$0\" clean - --raw --model house.rnn --out out; echo $? >status"
     );
     let mut shell = Command::new("sh");
-    shell.args(["-c", &words, env!("CARGO_BIN_EXE_host")]).current_dir(&path);
+    shell.args(["-c", &words, env!("CARGO_BIN_EXE_tuppencehop")]).current_dir(&path);
     shell.stdin(Stdio::null()).stdout(Stdio::null()).stderr(Stdio::null());
     // SAFETY: setsid may be called between fork and exec; the terminal that is opened then is the session's own
     unsafe { shell.pre_exec(|| if setsid() > 0 { Ok(()) } else { Err(std::io::Error::last_os_error()) }) };

@@ -1,11 +1,11 @@
-//! `host clean -`: what comes of a stream is what comes of the same file, however it is delivered; and it takes no more memory for a long one.
+//! `box clean -`: what comes of a stream is what comes of the same file, however it is delivered; and it takes no more memory for a long one.
 
-use host::demo::{dictation, Rng, HOUSE};
-use host::wav;
 use std::fs;
 use std::io::Write;
 use std::path::{Path, PathBuf};
 use std::process::{Child, Command, Output, Stdio};
+use tuppencehop::demo::{dictation, Rng, HOUSE};
+use tuppencehop::wav;
 
 /// A folder of its own for each test, with the house model in it.
 fn folder(name: &str) -> PathBuf {
@@ -17,7 +17,7 @@ fn folder(name: &str) -> PathBuf {
 }
 
 fn clean(path: &Path, words: &[&str]) -> Child {
-    let mut command = Command::new(env!("CARGO_BIN_EXE_host"));
+    let mut command = Command::new(env!("CARGO_BIN_EXE_tuppencehop"));
     command.arg("clean").args(words).args(["--model", "house.rnn"]).current_dir(path);
     command.stdin(Stdio::piped()).stdout(Stdio::piped()).stderr(Stdio::piped()).spawn().unwrap()
 }

@@ -1,4 +1,4 @@
-//! `host import`, and what `--model` takes: models in the forms in which people have them. A `.rnn` is what the library
+//! `box import`, and what `--model` takes: models in the forms in which people have them. A `.rnn` is what the library
 //! reads; the text form of rnnoise-nu (`.rnnn`) and RNNoise's `rnn_data.c` hold the same arrays in the same order. They
 //! are told apart by their first words.
 

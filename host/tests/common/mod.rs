@@ -1,10 +1,6 @@
 //! What the tests of the running program share: a folder for each, the program in it, sound, and signals.
 #![allow(dead_code)]
 
-use host::demo::{dictation, HOUSE};
-use host::found::sealed;
-use host::side::Sheet;
-use host::wav;
 use std::fs;
 use std::io::{Cursor, Write};
 use std::path::{Path, PathBuf};
@@ -12,6 +8,10 @@ use std::process::{Child, Command, Output, Stdio};
 use std::sync::OnceLock;
 use std::thread::sleep;
 use std::time::{Duration, Instant};
+use tuppencehop::demo::{dictation, HOUSE};
+use tuppencehop::found::sealed;
+use tuppencehop::side::Sheet;
+use tuppencehop::wav;
 
 pub const HEADER: usize = 44;
 pub const WRITTEN: [&str; 5] = ["benches.svg", "frames.csv", "index.html", "left.wav", "right.wav"];
@@ -27,12 +27,12 @@ pub fn folder(name: &str) -> PathBuf {
 
 /// The program, to be run in the folder.
 pub fn host(path: &Path, words: &[&str]) -> Command {
-    let mut command = Command::new(env!("CARGO_BIN_EXE_host"));
+    let mut command = Command::new(env!("CARGO_BIN_EXE_tuppencehop"));
     command.args(words).current_dir(path).stdin(Stdio::null()).stdout(Stdio::piped()).stderr(Stdio::piped());
     command
 }
 
-/// `host clean` with the house model.
+/// `box clean` with the house model.
 pub fn clean(path: &Path, words: &[&str]) -> Command {
     let mut command = host(path, &["clean", "--model", "house.rnn"]);
     command.args(words);
@@ -76,7 +76,7 @@ pub fn in_memory(path: &Path, most: u32, words: &[&str]) -> Ended {
     let mut shell = Command::new("sh");
     let limit = format!("ulimit -v {} && exec \"$0\" \"$@\"", 1_024 * most);
     run({
-        shell.args(["-c", &limit, env!("CARGO_BIN_EXE_host")]).args(words).current_dir(path);
+        shell.args(["-c", &limit, env!("CARGO_BIN_EXE_tuppencehop")]).args(words).current_dir(path);
         shell
     })
 }
@@ -113,7 +113,7 @@ pub fn recording(path: &Path) -> (Vec<f32>, Sheet) {
 /// A recording, its sheet that of its side and of its length, and no gap in it.
 pub fn sound(path: &Path, side: &str) -> Vec<f32> {
     let (audio, sheet) = recording(path);
-    let frames = host::run::frames_of(audio.len() as u64) as usize;
+    let frames = tuppencehop::run::frames_of(audio.len() as u64) as usize;
     assert_eq!((sheet.side.name(), sheet.frames, sheet.gaps.count), (side, frames, 0), "{}", path.display());
     audio
 }

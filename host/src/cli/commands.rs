@@ -1,0 +1,216 @@
+//! The commands. An option is a line of its command's table.
+
+use crate::cli::command::{Command, Files, Opt, Takes};
+use crate::cli::{clean, dev, models, sheets};
+
+const FORCE: Opt = Opt::flag("--force", "Write over what stands there.");
+const JSON: Opt = Opt::flag("--json", "The answer as JSON: an object on a line for each file.");
+const LAG: Opt = Opt::of(
+    "--lag",
+    Takes::OneOf(&["own", "crate"]),
+    "Whose pitch finder: the library's own, or the Rust crate's, with this program's transforms and logarithms, which \
+     gives nnnoiseless's very numbers.",
+);
+
+pub const COMMANDS: &[Command] = &[
+    Command {
+        name: "clean",
+        what: "Clean recordings of one bench, of both, of many, or a stream.",
+        usage: &[
+            "--left L.wav --right R.wav --out DIR",
+            "--both STEREO.wav --out DIR",
+            "FILE.. [--side left|right] --out DIR",
+            "- [--raw] --out DIR",
+        ],
+        files: Files::from(0, "FILE"),
+        options: &[
+            Opt::of("--left", Takes::There("FILE"), "The left bench's recording; alone, that bench's alone."),
+            Opt::of("--right", Takes::There("FILE"), "The right bench's."),
+            Opt::of("--both", Takes::There("FILE"), "Both in one: the left channel is the left bench."),
+            Opt::of("--side", Takes::OneOf(&["left", "right"]), "The side of the files whose name says none."),
+            Opt::flag("--raw", "The stream has no header: 16 bits, little end first, left and right in turn."),
+            Opt::of("--out", Takes::Place("DIR"), "Where the files are written. Of several FILEs each has a folder there."),
+            Opt::of("--name", Takes::Text("NAME"), "Call what is written NAME-left.wav and so on."),
+            Opt::of("--model", Takes::There("FILE"), "The model: .rnn, .rnnn or rnn_data.c. The house model where none is named."),
+            LAG,
+            FORCE,
+            Opt::flag("--anyway", "Take a recording that says the other side, or one file for both benches."),
+            Opt::flag("-q", "No progress."),
+            JSON,
+        ],
+        about: "\
+Recordings of 48 kHz, 16-bit or 24-bit PCM or 32-bit float. Writes left.wav and right.wav, frames.csv, benches.svg and
+index.html, a page with all of it, into DIR. Each recording is sealed: behind its audio stands its side, with each frame's
+number. One file for both benches, and a recording whose own seal or side sheet says the other bench, are refused.
+
+FILE.. are recordings of one bench each, every one with a folder of its own in DIR that is called like the file. Its
+side is the word left or right in its name, or what --side says where the name has neither.
+
+- is a stereo WAV stream on standard input, of any length up to 12 hours and 19 minutes, which is what a WAV file can
+hold. All recordings are cleaned as they are read, and written as they are cleaned: it takes no more memory for ten hours
+than for a minute. On their way the files are called left.wav.part and so on, and the records of the side sheets lie in
+left.wav.sheet and right.wav.sheet; at the end all is closed and put in its place. Ctrl-C, TERM or HUP is the end of
+what is read: what came is closed and kept. A second one ends the program at once.
+
+What is wrong with one bench ends that bench there and leaves the other as it is. A recording that breaks off is cleaned
+as far as it goes. Both are told. Where the files of a stream can't be written, as on a full disk, or the power fails,
+they stay as they are, and box mend DIR closes them.",
+        examples: &[
+            "box clean --left l.wav --right r.wav --out monday",
+            "box clean *.wav --out monday",
+            "arecord -f S16_LE -c 2 -r 48000 -t raw | box clean - --raw --out monday",
+        ],
+        run: clean::clean,
+    },
+    Command {
+        name: "side",
+        what: "Tell whose recording a file is.",
+        usage: &["FILE.."],
+        files: Files::from(1, "FILE"),
+        options: &[Opt::flag("--quick", "Look at seal and sheet, and not at the audio."), JSON],
+        about: "\
+Of a sealed recording, whose audio is the one that it was sealed with: its side, how many frames it has and how many of
+them were heard. Of any other no side is told, but the reason, with an exit status of its own: 3 no side sheet, or none
+with frames; 4 a sheet without a seal; 5 a seal that is not of this audio, or damage; 6 a name or a folder that says
+another side. Of several files the highest. - is a recording on standard input.",
+        examples: &["box side monday/left.wav monday/right.wav", "box side --json *.wav"],
+        run: sheets::side,
+    },
+    Command {
+        name: "mend",
+        what: "Close what a crash left, or a sheet that was torn.",
+        usage: &["DIR", "FILE --out FILE2 [--as left|right]"],
+        files: Files::one("DIR or FILE"),
+        options: &[
+            Opt::of("--out", Takes::Place("FILE2"), "Where the mended recording is written; it must not exist."),
+            Opt::of("--as", Takes::OneOf(&["left", "right"]), "The side of a recording in which no seal says it."),
+            JSON,
+        ],
+        about: "\
+Of a folder: what a run left unfinished, since the power failed or the disk was full. Each recording is closed as far as
+its audio and its records both go, and put in its place, or where that is taken under the next free name.
+
+Of a file: a recording whose side sheet was torn. The side must stand in its seal; of a recording without one --as says
+it, and the answer says that you did. As much of the audio is kept as there are records of, and it is sealed again.",
+        examples: &["box mend monday", "box mend torn.wav --out left.wav"],
+        run: sheets::mend,
+    },
+    Command {
+        name: "demo",
+        what: "Two dictations over a grinder, cleaned with the house model.",
+        usage: &["DIR"],
+        files: Files::place("DIR"),
+        options: &[LAG, FORCE],
+        about: "They come with the program. Writes what clean writes, and the recordings before cleaning too.",
+        examples: &["box demo out"],
+        run: clean::demo,
+    },
+    Command {
+        name: "import",
+        what: "A model as a .rnn, from RNNoise's own forms.",
+        usage: &["FILE --out M.rnn"],
+        files: Files::one("FILE"),
+        options: &[Opt::of("--out", Takes::Place("M.rnn"), "Where the model is written."), FORCE],
+        about: "\
+From RNNoise's rnn_data.c or from rnnoise-nu's text form (.rnnn), which are told apart by their first words. --model and
+unpack take both as they are, too. What is wrong is said by layer, array and line, and then nothing is written.",
+        examples: &["box import rnn_data.c --out rnnoise.rnn"],
+        run: models::import,
+    },
+    Command {
+        name: "export",
+        what: "A model in the text form that ffmpeg's filter arnndn reads.",
+        usage: &["M.rnn --as rnnn --out FILE"],
+        files: Files::one("M.rnn"),
+        options: &[
+            Opt::of("--as", Takes::OneOf(&["rnnn"]), "The form."),
+            Opt::of("--out", Takes::Place("FILE"), "Where the text is written."),
+            FORCE,
+        ],
+        about: "",
+        examples: &["box export house.rnn --as rnnn --out house.rnnn"],
+        run: models::export,
+    },
+    Command {
+        name: "pack",
+        what: "A model from loose arrays.",
+        usage: &["--layers FOLDER --out M.rnn"],
+        files: Files::NONE,
+        options: &[
+            Opt::of("--layers", Takes::There("FOLDER"), "Where the arrays are."),
+            Opt::of("--out", Takes::Place("M.rnn"), "Where the model is written."),
+            FORCE,
+        ],
+        about: "\
+FOLDER has layers.txt, a line for each layer with its name, inputs, neurons and activation, and a file of signed bytes
+for each array (input_dense.weights, input_dense.bias, vad_gru.recurrent ...).",
+        examples: &["box pack --layers layers --out mine.rnn"],
+        run: models::pack,
+    },
+    Command {
+        name: "unpack",
+        what: "A model taken apart into loose arrays.",
+        usage: &["M.rnn --out FOLDER"],
+        files: Files::one("M.rnn"),
+        options: &[Opt::of("--out", Takes::Place("FOLDER"), "Where the arrays are written."), FORCE],
+        about: "The other way round than pack.",
+        examples: &["box unpack house.rnn --out layers"],
+        run: models::unpack,
+    },
+];
+
+/// What serves developers.
+pub const DEV: &[Command] = &[
+    Command {
+        name: "dev bench",
+        what: "How fast the box is.",
+        usage: &[""],
+        files: Files::NONE,
+        options: &[JSON],
+        about: "\
+Frames a second in pieces, as clean runs them, and in four calls each, as with --lag crate; these beside the Rust text;
+and where a frame's time goes.",
+        examples: &[],
+        run: dev::bench,
+    },
+    Command {
+        name: "dev lags",
+        what: "How often our own lag and that of the Rust text agree.",
+        usage: &[""],
+        files: Files::NONE,
+        options: &[],
+        about: "On the demo's voices and on seeded ones of known pitch.",
+        examples: &[],
+        run: dev::lags,
+    },
+    Command {
+        name: "dev logs",
+        what: "How far the sound moves with the library's own logarithms.",
+        usage: &[""],
+        files: Files::NONE,
+        options: &[],
+        about: "Against those of this machine: on the demo and on ten minutes of noise and speech.",
+        examples: &[],
+        run: dev::logs,
+    },
+    Command {
+        name: "dev man",
+        what: "The man page, as `box install` puts it in its place.",
+        usage: &[""],
+        files: Files::NONE,
+        options: &[],
+        about: "",
+        examples: &[],
+        run: dev::man,
+    },
+    Command {
+        name: "dev completion",
+        what: "The completion for bash.",
+        usage: &[""],
+        files: Files::NONE,
+        options: &[],
+        about: "",
+        examples: &[],
+        run: dev::completion,
+    },
+];

@@ -1,0 +1,45 @@
+//! `box dev`, from the words.
+
+use crate::bench::{self, Speed};
+use crate::cli::words::Given;
+use crate::cli::{completion, man};
+use crate::json::{rounded, Json};
+use crate::status::Failure;
+
+fn json(speed: &Speed) -> Json {
+    let numbers = [
+        ("pieces", speed.pieces),
+        ("calls", speed.calls),
+        ("rust", speed.rust),
+        ("calls_to_rust", speed.rust / speed.calls),
+    ];
+    Json::Object(numbers.map(|(name, number)| (name, rounded(number, 3).into())).into())
+}
+
+pub fn bench(given: &Given) -> Result<(), Failure> {
+    let speed = bench::measure();
+    match given.has("--json") {
+        true => crate::say!("{}", json(&speed)),
+        false => speed.tell(),
+    }
+    Ok(())
+}
+
+pub fn lags(_: &Given) -> Result<(), Failure> {
+    Ok(crate::lags::lags()?)
+}
+
+pub fn logs(_: &Given) -> Result<(), Failure> {
+    crate::logs::logs();
+    Ok(())
+}
+
+pub fn man(_: &Given) -> Result<(), Failure> {
+    crate::say!("{}", man::page().trim_end());
+    Ok(())
+}
+
+pub fn completion(_: &Given) -> Result<(), Failure> {
+    crate::say!("{}", completion::script().trim_end());
+    Ok(())
+}

@@ -1,0 +1,80 @@
+//! Help, written from the table.
+
+use crate::cli::command::{Command, Opt};
+use crate::cli::commands::{COMMANDS, DEV};
+use std::fmt::Write;
+
+const WIDE: usize = 90;
+
+/// A text in lines, each behind so many spaces.
+fn wrapped(text: &str, behind: usize) -> String {
+    let mut lines: Vec<String> = vec![String::new()];
+    for word in text.split_whitespace() {
+        let line = lines.last_mut().expect("there is one");
+        if line.is_empty() {
+            *line = word.into();
+        } else if behind + line.len() + 1 + word.len() <= WIDE {
+            *line += " ";
+            *line += word;
+        } else {
+            lines.push(word.into());
+        }
+    }
+    lines.join(&format!("\n{:behind$}", ""))
+}
+
+const EXIT: &str = "\
+Exit status: 0 done as asked; 1 it could not be done; 2 what was given is not right: the
+command line, or a recording that is not all there, of which the rest is cleaned.
+";
+
+/// What each does, in a line.
+fn list(text: &mut String, commands: &[Command]) {
+    for command in commands {
+        writeln!(text, "  {:14}  {}", command.name, command.what).unwrap();
+    }
+}
+
+pub fn whole() -> String {
+    let mut text =
+        String::from("box: cleans dictations over a grinder, and tells whose each is\n\n  box COMMAND ..\n\n");
+    list(&mut text, COMMANDS);
+    text += "\n  box COMMAND --help, box help COMMAND: all about one\n  box dev --help: what serves developers\n";
+    text += "  box --help, box --version\n\n";
+    text +=
+        "Options may stand in front of files or behind them; --out=DIR is --out DIR; behind -- are files\nalone.\n\n";
+    text += "Examples:\n";
+    for example in COMMANDS.iter().flat_map(|command| command.examples) {
+        writeln!(text, "  {example}").unwrap();
+    }
+    text + "\n" + EXIT
+}
+
+pub fn dev() -> String {
+    let mut text = String::from("box dev: what serves developers\n\n");
+    list(&mut text, DEV);
+    text
+}
+
+fn option(text: &mut String, option: &Opt) {
+    writeln!(text, "  {:20}  {}", option.shown(), wrapped(option.what, 24)).unwrap();
+}
+
+pub fn of(command: &Command) -> String {
+    let mut text = format!("box {}: {}\n\n", command.name, command.what);
+    for usage in command.usage {
+        writeln!(text, "  {}", format!("box {} {usage}", command.name).trim_end()).unwrap();
+    }
+    if !command.options.is_empty() {
+        text += "\nOptions:\n";
+        command.options.iter().for_each(|one| option(&mut text, one));
+    }
+    for paragraph in command.about.split("\n\n").filter(|paragraph| !paragraph.is_empty()) {
+        write!(text, "\n{}\n", wrapped(paragraph, 0)).unwrap();
+    }
+    if !command.examples.is_empty() {
+        text += "\nExamples:\n";
+        command.examples.iter().for_each(|example| writeln!(text, "  {example}").unwrap());
+    }
+    text
+}

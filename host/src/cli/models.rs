@@ -1,0 +1,34 @@
+//! `box import`, `export`, `pack` and `unpack`, from the words.
+
+use crate::cli::words::Given;
+use crate::shown::shown;
+use crate::status::Failure;
+
+pub fn import(given: &Given) -> Result<(), Failure> {
+    let out = given.wanted("--out")?;
+    let told = crate::import::import(&given.files[0], &out, given.has("--force"))?;
+    crate::say!("{}: {told}", shown(&out));
+    Ok(())
+}
+
+pub fn export(given: &Given) -> Result<(), Failure> {
+    given.wanted("--as")?;
+    let out = given.wanted("--out")?;
+    let bytes = crate::export::export(&given.files[0], &out, given.has("--force"))?;
+    crate::say!("{}: {bytes} bytes", shown(&out));
+    Ok(())
+}
+
+pub fn pack(given: &Given) -> Result<(), Failure> {
+    let (layers, out) = (given.wanted("--layers")?, given.wanted("--out")?);
+    let bytes = crate::pack::pack(&layers, &out, given.has("--force"))?;
+    crate::say!("{}: {bytes} bytes", shown(&out));
+    Ok(())
+}
+
+pub fn unpack(given: &Given) -> Result<(), Failure> {
+    let out = given.wanted("--out")?;
+    crate::pack::unpack(&given.files[0], &out, given.has("--force"))?;
+    crate::say!("{}: sixteen files", shown(&out));
+    Ok(())
+}

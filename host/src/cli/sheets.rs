@@ -1,0 +1,109 @@
+//! `box side` and `box mend`, from the words, told in words or as JSON.
+
+use crate::cli::words::Given;
+use crate::json::{rounded, Json};
+use crate::recorder::Side;
+use crate::rescue;
+use crate::side::{self, Sheet};
+use crate::status::{Failure, UNDONE};
+use std::path::Path;
+
+type Fields = Vec<(&'static str, Json)>;
+
+/// What a sheet says; nothing of one that is not there.
+fn of_sheet(sheet: Option<&Sheet>) -> Fields {
+    vec![
+        ("side", sheet.map(|sheet| sheet.side.name()).into()),
+        ("frames", sheet.map(|sheet| sheet.frames).into()),
+        ("heard", sheet.map(|sheet| sheet.heard).into()),
+        ("gaps", sheet.map(|sheet| sheet.gaps.count).into()),
+    ]
+}
+
+fn object(file: &Path, fields: Fields, wrong: Option<&str>) -> Json {
+    let (file, error) = (("file", file.into()), ("error", wrong.into()));
+    Json::Object([file].into_iter().chain(fields).chain([error]).collect())
+}
+
+/// An object for each file; and the highest status where one is bad.
+fn side_as_json(given: &Given) -> Result<(), Failure> {
+    let mut worst = 0;
+    for path in &given.files {
+        let looked = side::of(path, given.has("--quick"));
+        let wrong = looked.as_ref().err().map(|failure| failure.why.as_str());
+        crate::say!("{}", object(path, of_sheet(looked.as_ref().ok()), wrong));
+        worst = worst.max(looked.err().map_or(0, |failure| failure.status));
+    }
+    match worst {
+        0 => Ok(()),
+        status => Err(Failure { status, why: String::new() }),
+    }
+}
+
+pub fn side(given: &Given) -> Result<(), Failure> {
+    match given.has("--json") {
+        true => side_as_json(given),
+        false => side::side(&given.files, given.has("--quick")),
+    }
+}
+
+/// An object for each recording that was closed, and for each that could not be.
+fn mend_folder_as_json(folder: &Path) -> Result<(), Failure> {
+    let mended = rescue::mend(folder).unwrap_or_else(|why| rescue::Mended { bad: vec![why], ..Default::default() });
+    let of = |seconds: [Option<f64>; 3]| {
+        let seconds = seconds.map(|seconds| seconds.map(|seconds| rounded(seconds, 5)).into());
+        ["seconds", "lost", "zeros"].into_iter().zip(seconds)
+    };
+    for closed in &mended.closed {
+        let kept = &closed.kept;
+        let seconds = of([kept.kept, kept.lost, kept.zeros].map(Some));
+        crate::say!(
+            "{}",
+            object(&closed.place, of_sheet(Some(&kept.sheet)).into_iter().chain(seconds).collect(), None)
+        );
+    }
+    for why in &mended.bad {
+        crate::say!("{}", object(folder, of_sheet(None).into_iter().chain(of([None; 3])).collect(), Some(why)));
+    }
+    mended.bad.is_empty().then_some(()).ok_or(Failure { status: UNDONE, why: String::new() })
+}
+
+fn mend_folder(given: &Given, folder: &Path) -> Result<(), Failure> {
+    if given.has("--out") {
+        return Err(given.wrong("--out is for a file; a folder is mended where it is"));
+    }
+    if given.has("--as") {
+        return Err(given.wrong("--as is for a file; the sides of a folder's recordings stand in their seals"));
+    }
+    match given.has("--json") {
+        true => mend_folder_as_json(folder),
+        false => Ok(rescue::mend(folder)?.tell(folder)?),
+    }
+}
+
+pub fn mend(given: &Given) -> Result<(), Failure> {
+    let file = &given.files[0];
+    if file.is_dir() {
+        return mend_folder(given, file);
+    }
+    let out = given.wanted("--out")?;
+    let said = given.word("--as").map(|side| if side == "left" { Side::Left } else { Side::Right });
+    let mended = crate::mend::mend(file, &out, said);
+    if !given.has("--json") {
+        mended?.tell(&out);
+        return Ok(());
+    }
+    let of = |lost: Json, whole: Json| vec![("recording", Json::from(&**file)), ("lost", lost), ("whole", whole)];
+    match mended {
+        Ok(mended) => {
+            let fields = of_sheet(Some(&mended.sheet)).into_iter().chain(of(mended.lost().into(), mended.whole.into()));
+            crate::say!("{}", object(&out, fields.collect(), None));
+            Ok(())
+        }
+        Err(why) => {
+            let fields = of_sheet(None).into_iter().chain(of(Json::Null, Json::Null));
+            crate::say!("{}", object(&out, fields.collect(), Some(&why)));
+            Err(Failure { status: UNDONE, why: String::new() })
+        }
+    }
+}
