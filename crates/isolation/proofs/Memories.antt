@@ -30,11 +30,11 @@ use Rattle.memory.specs.Brought.{recalledIn, isHeard, Noted, unnoted, brought}
 use Rattle.memory.proofs.Heard.{notedIn}
 use Rattle.memory.proofs.Calls.{Remembers, remembers, opens, either}
 use Rattle.memory.proofs.Gains.{stays-number, at-least}
-use Rattle.isolation.specs.Run.{Kind, On, State, recordAt, after, ended, desks, replied, Made, itself, expand, Expands}
-use Rattle.isolation.specs.Numbering.{hears, howMany, Unopened, openingOf, Opened}
-use Rattle.isolation.specs.Memory.{recalled, frames, SilentLeaves, MadeOfHeard, Since, Faded, NeverNan, HeardHolds, Counts, DeskCounts}
+use Rattle.isolation.specs.Run.{Kind, On, State, recordAt, after, ended, desks, Made, expand, Expands}
+use Rattle.isolation.specs.Numbering.{hears, replied, howMany, Unopened, openingOf, Opened}
+use Rattle.isolation.specs.Memory.{recalled, frames, SilentLeaves, MadeOfHeard, Since, Faded, NeverNan, HeardHolds, Counts, itself, DeskCounts}
 use Rattle.isolation.proofs.Numberings.{numbering}
-use Rattle.isolation.proofs.Runs.{record-after, store-after, expands-itself}
+use Rattle.isolation.proofs.Runs.{record-after, store-after, expanding}
 
 -- one run of frames behind another
 heard-append : (m : Recalled) (xs ys : List HeardFrame) → heardAll m (xs ++ ys) ≡ heardAll (heardAll m xs) ys
@@ -237,4 +237,5 @@ module _ {C O : Type 0} (serve : Kind C O) (asksOf : Made C) (n : ℕ) (expanded
   counts = (numbering serve asksOf n expanded, made-of-heard, faded-gains, never-nan, heard-holds)
 
 pub desk-counts : (n : ℕ) → DeskCounts n
-desk-counts n = counts desks itself n (expands-itself n)
+unfolding ended
+desk-counts n = counts desks itself n (expanding desks itself n (λ st side a. refl))

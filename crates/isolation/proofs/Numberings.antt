@@ -36,8 +36,8 @@ use Rattle.desk.specs.declared.Record.{Record}
 use Rattle.desk.specs.Gate.{gate, shareOf}
 use Rattle.desk.specs.Desk.{Ask, opening, call1, call2, call2Own, call3, call4, firstHalf, secondHalf, piece, resume, callOf, lastOf, carried, started, answered, opened, onShare, desk}
 use Rattle.desk.proofs.Leaves.{carried-leaves}
-use Rattle.isolation.specs.Run.{Kind, On, State, recordAt, after, ended, desks, replied, Made, expand, Expands}
-use Rattle.isolation.specs.Numbering.{endsFrame, hears, howMany, Unopened, openingOf, Opened, Numbering}
+use Rattle.isolation.specs.Run.{Kind, On, State, recordAt, after, ended, desks, Made, expand, Expands}
+use Rattle.isolation.specs.Numbering.{endsFrame, hears, replied, howMany, Unopened, openingOf, Opened, Numbering}
 use Rattle.isolation.proofs.Runs.{record-after}
 
 -- ---- one call

@@ -1,7 +1,7 @@
 -- Runs, of any kind of calls and of the desk's.
 --     joined           one run after the other
 --     record-after     a side's record behind a call of the desk; store-after, the store
---     expanding        where each call is made of the desk's calls, any run is; expands-itself, one of the desk's calls
+--     expanding        where each call is made of the desk's calls, any run is
 -- Assumes nothing.
 use Prim.Native.Nat.{ℕ}
 use mathlib.Core.Bool.{Bool, true, false, cond}
@@ -15,7 +15,7 @@ use Rattle.desk.specs.declared.Record.{Record}
 use Rattle.desk.specs.Desk.{Ask, desk}
 use Rattle.desk.specs.Surface.{numbersOf, recordIn, handedBack, hosted}
 use Rattle.desk.proofs.Settled.{refused-keeps}
-use Rattle.isolation.specs.Run.{Kind, On, on, State, recordAt, after, ended, desks, Made, itself, expand, Expands}
+use Rattle.isolation.specs.Run.{Kind, On, on, State, recordAt, after, ended, desks, Made, expand, Expands}
 
 pub joined : {C O : Type 0} (serve : Kind C O) (n : ℕ) (first rest : List (On C)) (st : State)
     → ended serve n st (first ++ rest) ≡ ended serve n (ended serve n st first) rest
@@ -67,7 +67,3 @@ module _ {C O : Type 0} (serve : Kind C O) (asksOf : Made C) (n : ℕ) where
       expanding made (after serve n st c) calls
       ∙ ap (λ (x : State). ended desks n x rest) (made st (c .side) (c .call))
       ∙ sym (joined desks n first rest st)
-
-pub expands-itself : (n : ℕ) → Expands desks itself n
-unfolding ended
-expands-itself n = expanding desks itself n (λ st side a. refl)

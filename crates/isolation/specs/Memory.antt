@@ -19,8 +19,8 @@ use Rattle.desk.specs.Gate.{shareOf}
 use Rattle.desk.specs.Desk.{Ask, callOf}
 use Rattle.memory.specs.Hear.{Recalled, blank, HeardFrame, heardAll, faded}
 use Rattle.memory.specs.Brought.{recalledIn, Noted, unnoted, brought}
-use Rattle.isolation.specs.Run.{Kind, On, State, recordAt, after, ended, desks, replied, Made, itself, expand}
-use Rattle.isolation.specs.Numbering.{hears, howMany, Unopened, Opened, Numbering}
+use Rattle.isolation.specs.Run.{Kind, On, State, recordAt, after, ended, desks, Made, expand}
+use Rattle.isolation.specs.Numbering.{hears, replied, howMany, Unopened, Opened, Numbering}
 
 -- what side s remembers, in its share and in its record
 abbrev pub recalled : ℕ → State → Recalled
@@ -91,6 +91,9 @@ module _ {C O : Type 0} (serve : Kind C O) (asksOf : Made C) (n : ℕ) where
   abbrev pub Counts : Type 0
   Counts = Numbering serve asksOf n × MadeOfHeard × Faded × NeverNan × HeardHolds
 
--- over the desk's own calls
+-- over the desk's own calls, each made of itself
+abbrev pub itself : Made Ask
+itself n side rec store a = a ∷ []
+
 abbrev pub DeskCounts : ℕ → Type 0
 DeskCounts n = Counts desks itself n

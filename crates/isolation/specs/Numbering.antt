@@ -11,9 +11,9 @@ use lib.ListN.{length}
 use Rattle.frame.specs.Reply.{passed}
 use Rattle.frame.specs.Share.{SHARE}
 use Rattle.frame.specs.declared.Reply.{Reply}
-use Rattle.desk.specs.Desk.{Ask, opening, callOf, lastOf}
+use Rattle.desk.specs.Desk.{Ask, opening, callOf, lastOf, desk}
 use Rattle.memory.specs.Brought.{isHeard}
-use Rattle.isolation.specs.Run.{Kind, On, on, State, recordAt, after, ended, desks, replied, Made, expand}
+use Rattle.isolation.specs.Run.{Kind, On, on, State, recordAt, after, ended, desks, Made, expand}
 
 -- a call 4 that is done, by itself, in a second half or in a resume
 abbrev pub endsFrame : Ask → Reply → Bool
@@ -22,6 +22,10 @@ endsFrame ask reply = eqb (lastOf ask) 4 && passed reply
 -- a heard call 3, by itself, in a second half or in a resume; nothing else is answered so
 abbrev pub hears : Ask → Reply → Bool
 hears ask reply = isHeard reply
+
+-- what is replied to a call of the desk
+abbrev pub replied : ℕ → State → On Ask → Reply
+replied n st c = desk n (c .side) (recordAt (c .side) st) (st .store) (c .call) .answer .reply
 
 -- how many of side s's calls in a run are answered so
 unfoldable pub howMany : (Ask → Reply → Bool) → ℕ → ℕ → State → List (On Ask) → ℕ

@@ -1,4 +1,4 @@
--- Runs of calls of any kind on n sides of one store, and what one side receives in a run. The desk's own calls are such a kind, and others are made of them.
+-- Runs of calls of any kind on n sides of one store, and what one side receives in a run. The desk's own calls are a kind, and others are made of them.
 use Prim.Native.Nat.{ℕ}
 use mathlib.Core.Bool.{cond, _&&_}
 use mathlib.Core.List.{List, [], _∷_, _++_, map}
@@ -6,10 +6,9 @@ use mathlib.Core.Path.{_≡_}
 use lib.Dec.{eqb}
 use lib.Ieee.{Float}
 use Rattle.rules.specs.Written.{Written}
-use Rattle.frame.specs.declared.Reply.{Reply}
 use Rattle.desk.specs.declared.Answer.{Answer}
 use Rattle.desk.specs.declared.Record.{Record}
-use Rattle.desk.specs.Desk.{Ask, desk}
+use Rattle.desk.specs.Desk.{Ask}
 use Rattle.desk.specs.Surface.{recordIn, replyNumber, handedBack, hosted}
 
 -- what a side receives of a call: the number returned, its record as numbers, and what is told besides, as what was written to each lent buffer
@@ -73,16 +72,9 @@ module _ {C O : Type 0} (serve : Kind C O) (n : ℕ) where
 abbrev pub desks : Kind Ask (List Written)
 desks n side ns store a = let o = hosted n side ns store a in gives ns (o .answer) (o .written) (o .store)
 
--- what is replied to one
-abbrev pub replied : ℕ → State → On Ask → Reply
-replied n st c = desk n (c .side) (recordAt (c .side) st) (st .store) (c .call) .answer .reply
-
 -- the calls of the desk that a call is made of, all on its side
 abbrev pub Made : Type 0 → Type 0
 Made C = ℕ → ℕ → Record → List Float → C → List Ask
-
-abbrev pub itself : Made Ask
-itself n side rec store a = a ∷ []
 
 module _ {C O : Type 0} (serve : Kind C O) (asksOf : Made C) (n : ℕ) where
   unfoldable pub expand : State → List (On C) → List (On Ask)

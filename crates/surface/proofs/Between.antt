@@ -39,10 +39,10 @@ use Rattle.dictation.proofs.Joins.{first, second, shareAfter, recAfter, dictate
 use Rattle.dictation.proofs.Taken.{onward, ends, pauses, piece-passed, resume-passed}
 use Rattle.dictation.proofs.Follows.{place, following, follows}
 use Rattle.whole.specs.Taking.{Told, answersOf}
-use Rattle.isolation.specs.Run.{On, State, recordAt, given, after, ended, done, desks, replied, expand}
+use Rattle.isolation.specs.Run.{On, State, recordAt, given, after, ended, done, desks, expand}
 use Rattle.isolation.proofs.Runs.{record-after, store-after}
 use Rattle.surface.specs.Surface.{ask, surface, madeOf}
-use Rattle.surface.specs.Between.{resumes, Row, lastPiece, morePieces, inBuffer, sumsOf, Between}
+use Rattle.surface.specs.Between.{resumes, Row, lastPiece, morePieces, inBuffer, sumsTold, Between}
 use Rattle.surface.proofs.Expanded.{expands}
 use Rattle.surface.proofs.Numbers.{zero-is-done}
 use Rattle.surface.proofs.Outputs.{column, wrote, first-written, piece-none, piece-unheard, resume-heard, row-hands, outputs-are, answers-are}
@@ -198,7 +198,7 @@ module _ (store : List Float) (size : length store ≡ 1 * SHARE) (samples : Lis
     rec : left (o .answer .rec) (o .store) (resumes samples room ls) .rec ≡ d .rec
     share : left (o .answer .rec) (o .store) (resumes samples room ls) .share ≡ put (shareOf 0) store (d .store)
     out : written 0 (o .answer .rec) (o .store) (resumes samples room ls) ≡ d .out
-    sums : numbersIn (getD (o .written ++ us) 1 nothing) ++ written 1 (o .answer .rec) (o .store) (resumes samples room ls) ≡ sumsOf (d .told)
+    sums : numbersIn (getD (o .written ++ us) 1 nothing) ++ written 1 (o .answer .rec) (o .store) (resumes samples room ls) ≡ sumsTold (d .told)
     heard : written 2 (o .answer .rec) (o .store) (resumes samples room ls) ≡ answersOf (d .told)
     count : length ls ≡ length rest / 480
 
@@ -217,7 +217,7 @@ module _ (store : List Float) (size : length store ≡ 1 * SHARE) (samples : Lis
         rec = ap (λ (g : Given). g .answer .rec) q ∙ sym (ap (λ (x : Dictated). x .rec) none);
         share = ap (λ (g : Given). g .store) q ∙ sym (ap (λ (x : Dictated). put (shareOf 0) store (x .store)) none);
         out = sym (ap (λ (x : Dictated). x .out) none);
-        sums = ap (λ (g : Given). numbersIn (getD (g .written ++ us) 1 nothing) ++ []) q ∙ sym (ap (λ (x : Dictated). sumsOf (x .told)) none);
+        sums = ap (λ (g : Given). numbersIn (getD (g .written ++ us) 1 nothing) ++ []) q ∙ sym (ap (λ (x : Dictated). sumsTold (x .told)) none);
         heard = sym (ap (λ (x : Dictated). answersOf (x .told)) none);
         count = omega arith;
       }
@@ -249,7 +249,7 @@ module _ (store : List Float) (size : length store ≡ 1 * SHARE) (samples : Lis
         out = ap₂ (λ (x y : List Float). x ++ y) samples-out (ih .out) ∙ sym (ap (λ (x : Dictated). x .out) d);
         sums =
             ap₂ (λ (x y : List Float). x ++ y) (ap (λ (x : Given). numbersIn (getD (x .written ++ us) 1 nothing)) q) (ih .sums)
-            ∙ sym (ap (λ (x : Dictated). sumsOf (x .told)) d);
+            ∙ sym (ap (λ (x : Dictated). sumsTold (x .told)) d);
         heard = ap₂ (λ (x y : List Float). x ++ y) answered (ih .heard) ∙ sym (ap (λ (x : Dictated). answersOf (x .told)) d);
         count = omega (arith, ih .count, length-drop 480 rest, enough);
       }
@@ -274,7 +274,7 @@ record Is (b : Record) (xs : List Float) (asks : List Ask) (d : Dictated) : Type
   rec : left b xs asks .rec ≡ d .rec
   share : left b xs asks .share ≡ d .store
   out : written 0 b xs asks ≡ d .out
-  sums : written 1 b xs asks ≡ sumsOf (d .told)
+  sums : written 1 b xs asks ≡ sumsTold (d .told)
   heard : written 2 b xs asks ≡ answersOf (d .told)
 
 -- one piece, resumed to its end
@@ -303,7 +303,7 @@ module _ (x : List Float) (room : ℕ) (ls : List Lent) (b : Record) (xs : List 
           rec = r .rec ∙ ap (λ (d : Dictated). d .rec) clean;
           share = r .share ∙ put-whole xs SHARE full _ ∙ ap (λ (d : Dictated). d .store) clean;
           out = ap (λ (u : List Float). u ++ behind 0) (piece-none 1 0 b xs x room (all .0)) ∙ r .out ∙ ap (λ (d : Dictated). d .out) clean;
-          sums = r .sums ∙ ap (λ (d : Dictated). sumsOf (d .told)) clean;
+          sums = r .sums ∙ ap (λ (d : Dictated). sumsTold (d .told)) clean;
           heard = ap (λ (u : List Float). u ++ behind 2) (piece-unheard 1 0 b xs x room (all .0)) ∙ r .heard ∙ ap (λ (d : Dictated). answersOf (d .told)) clean;
         },
         r .count ∙ ap (λ (t : List Float). length (waitingIn (b .waiting) t ++ x) / 480) its,
@@ -316,9 +316,9 @@ begins (lastPiece x o ls) b xs all = at-rest 1 0 b (length xs) (piece-passed 1 0
 begins (morePieces x o ls r) b xs all = at-rest 1 0 b (length xs) (piece-passed 1 0 b xs x o 22 (all .0) .0)
 
 -- what is told of frames, and of others behind them
-sums-both : (fs gs : List Told) → sumsOf (fs ++ gs) ≡ sumsOf fs ++ sumsOf gs
+sums-both : (fs gs : List Told) → sumsTold (fs ++ gs) ≡ sumsTold fs ++ sumsTold gs
 sums-both [] gs = refl
-sums-both (f ∷ fs) gs = ap (λ (x : List Float). f .0 ++ x) (sums-both fs gs) ∙ sym (append-assoc (f .0) (sumsOf fs) (sumsOf gs))
+sums-both (f ∷ fs) gs = ap (λ (x : List Float). f .0 ++ x) (sums-both fs gs) ∙ sym (append-assoc (f .0) (sumsTold fs) (sumsTold gs))
 
 pub answers-both : (fs gs : List Told) → answersOf (fs ++ gs) ≡ answersOf fs ++ answersOf gs
 answers-both [] gs = refl
@@ -348,8 +348,8 @@ rows (morePieces x room ls {asks} {ys} {ms} r) b xs full all z =
           s .writes 0 ∙ ap₂ (λ (u v : List Float). u ++ v) (k .out) (ih .out ∙ ap (λ (e : Dictated). e .out) on)
           ∙ ap (λ (e : Dictated). e .out) joined;
       sums =
-          s .writes 1 ∙ ap₂ (λ (u v : List Float). u ++ v) (k .sums) (ih .sums ∙ ap (λ (e : Dictated). sumsOf (e .told)) on)
-          ∙ sym (sums-both (d .told) (more .told)) ∙ ap (λ (e : Dictated). sumsOf (e .told)) joined;
+          s .writes 1 ∙ ap₂ (λ (u v : List Float). u ++ v) (k .sums) (ih .sums ∙ ap (λ (e : Dictated). sumsTold (e .told)) on)
+          ∙ sym (sums-both (d .told) (more .told)) ∙ ap (λ (e : Dictated). sumsTold (e .told)) joined;
       heard =
           s .writes 2 ∙ ap₂ (λ (u v : List Float). u ++ v) (k .heard) (ih .heard ∙ ap (λ (e : Dictated). answersOf (e .told)) on)
           ∙ sym (answers-both (d .told) (more .told)) ∙ ap (λ (e : Dictated). answersOf (e .told)) joined;

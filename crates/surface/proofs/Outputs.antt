@@ -36,7 +36,7 @@ use Rattle.whole.proofs.Dictations.{take-done}
 use Rattle.whole.proofs.Halves.{two-halves, refused-is}
 use Rattle.isolation.specs.Run.{Kind, On, on, State, recordAt, given, after, ended, done, desks, expand}
 use Rattle.surface.specs.Surface.{Request, ask, frame, take, called, surface, madeOf}
-use Rattle.surface.specs.Between.{resumes, Row, lastPiece, morePieces, inBuffer, output, answers}
+use Rattle.surface.specs.Between.{resumes, Row, lastPiece, morePieces, inBuffer, answersAt}
 use Rattle.surface.proofs.Expanded.{leaving, map-more, stands, resumed, steps, one-call}
 
 abbrev pub column : ℕ → ℕ → ℕ → State → List (On Ask) → List Float
@@ -307,9 +307,9 @@ module _ (which : Request → ℕ) (k : ℕ) (asked : (a : Ask) → which (ask a
       go false t h = sym (none-out n s (c .side) k t (madeOf n (c .side) (recordAt (c .side) st) (st .store) (c .call)) st)
 
 pub outputs-are : (n s : ℕ) (calls : List (On Request)) (st : State) → AllHands (done desks n s st (expand surface madeOf n st calls))
-    → inBuffer surface output n s st calls ≡ column 0 n s st (expand surface madeOf n st calls)
-outputs-are n s = received-is output 0 (λ a. refl) n s (λ side mine st x m o a p. take-outputs n s side mine st x m o a p)
+    → inBuffer surface (λ _. 0) n s st calls ≡ column 0 n s st (expand surface madeOf n st calls)
+outputs-are n s = received-is (λ _. 0) 0 (λ a. refl) n s (λ side mine st x m o a p. take-outputs n s side mine st x m o a p)
 
 pub answers-are : (n s : ℕ) (calls : List (On Request)) (st : State) → AllHands (done desks n s st (expand surface madeOf n st calls))
-    → inBuffer surface answers n s st calls ≡ column 2 n s st (expand surface madeOf n st calls)
-answers-are n s = received-is answers 2 (λ a. refl) n s (λ side mine st x m o a p. take-answers n s side mine st x m o a p)
+    → inBuffer surface answersAt n s st calls ≡ column 2 n s st (expand surface madeOf n st calls)
+answers-are n s = received-is answersAt 2 (λ a. refl) n s (λ side mine st x m o a p. take-answers n s side mine st x m o a p)

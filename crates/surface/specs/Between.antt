@@ -34,24 +34,18 @@ inBuffer serve which n s st (c ∷ cs) =
     cond (eqb (c .side) s) (numbersIn (getD (given serve n st c .returned .told) (which (c .call)) nothing)) []
     ++ inBuffer serve which n s (after serve n st c) cs
 
--- the output is the first; a frame and a take have their answers in the second, and a resume in the third, behind its sums
-abbrev pub output : {C : Type 0} → C → ℕ
-output c = 0
+-- the first is the output. Answers stand in the second of a frame and a take, and in the third of a resume, behind its sums
+abbrev pub answersAt : Request → ℕ
+answersAt (ask a) = 2
+answersAt (frame x m o) = 1
+answersAt (take x m o a) = 1
 
-abbrev pub answers : Request → ℕ
-answers (ask a) = 2
-answers (frame x m o) = 1
-answers (take x m o a) = 1
+abbrev pub sumsTold : List Told → List Float
+sumsTold [] = []
+sumsTold (f ∷ fs) = f .0 ++ sumsTold fs
 
-abbrev pub sums : Ask → ℕ
-sums a = 1
-
-abbrev pub sumsOf : List Told → List Float
-sumsOf [] = []
-sumsOf (f ∷ fs) = f .0 ++ sumsOf fs
-
--- where side s's calls that are done are such, and no piece is unfinished at the end: its record, its share, and the samples and the answers that it
--- received are those of one dictation; and so are the sums that its pieces and resumes were told, a take's own among them, which it keeps to itself
+-- where side s's calls that are done are such, and no piece is unfinished at the end: its record, its share, and the samples and answers that it received
+-- are those of one dictation. So are the sums that its pieces and resumes tell: those that it made itself tell it, and those of a take the take alone
 abbrev pub Between : ℕ → Type 0
 Between n =
     (s : ℕ) → s < n
@@ -64,5 +58,5 @@ Between n =
     → let b = recordAt s st in
     let share = get (shareOf s) (st .store) in
     let d = dictate b share (waitingIn (b .waiting) share ++ samples) lent in
-    (recordAt s end ≡ d .rec) × (get (shareOf s) (end .store) ≡ d .store) × (inBuffer surface output n s st calls ≡ d .out)
-    × (inBuffer surface answers n s st calls ≡ answersOf (d .told)) × (inBuffer desks sums n s st asks ≡ sumsOf (d .told))
+    (recordAt s end ≡ d .rec) × (get (shareOf s) (end .store) ≡ d .store) × (inBuffer surface (λ _. 0) n s st calls ≡ d .out)
+    × (inBuffer surface answersAt n s st calls ≡ answersOf (d .told)) × (inBuffer desks (λ _. 1) n s st asks ≡ sumsTold (d .told))
