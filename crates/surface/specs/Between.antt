@@ -48,8 +48,7 @@ sumsTold (f ∷ fs) = f .0 ++ sumsTold fs
 -- are those of one dictation. So are the sums that its pieces and resumes tell: those that it made itself tell it, and those of a take the take alone
 abbrev pub Between : ℕ → Type 0
 Between n =
-    (s : ℕ) → s < n
-    → (st : State) → length (st .store) ≡ n * SHARE
+    (s : ℕ) → s < n → (st : State) → length (st .store) ≡ n * SHARE
     → (calls : List (On Request)) (samples : List Float) (lent : List Lent)
     → let asks = expand surface madeOf n st calls in
     Row (done desks n s st asks) samples lent
