@@ -21,7 +21,6 @@ use Rattle.frame.specs.Share.{SHARE}
 use Rattle.frame.specs.declared.Reply.{Reply}
 use Rattle.frame.specs.declared.Reply.the-variants.{Done, Silent, Heard, Numbered, Refused, Misread}
 use Rattle.desk.specs.declared.Answer.{Answer}
-use Rattle.desk.specs.declared.Record.{Record}
 use Rattle.desk.specs.Gate.{shareOf}
 use Rattle.desk.specs.Desk.{Ask, callOf, Given, desk}
 use Rattle.desk.proofs.Apart.{its-own, own-share, other-share, same-length}

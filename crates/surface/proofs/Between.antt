@@ -29,7 +29,7 @@ use Rattle.pieces.proofs.Shares.{waiting-length, waits-length}
 use Rattle.desk.specs.declared.Record.{Record}
 use Rattle.desk.specs.Gate.{PIECE, shareOf, gate, isDue, inRange, inPieces, underWay}
 use Rattle.desk.specs.Desk.{Ask, piece, resume, holding, Given, desk}
-use Rattle.desk.specs.Surface.{replyNumber, heardOf, besides, hosted}
+use Rattle.desk.specs.Surface.{heardOf, besides, hosted}
 use Rattle.desk.proofs.Apart.{placed, its-own, own-share, other-share, same-length}
 use Rattle.desk.proofs.Ranged.{open-range}
 use Rattle.desk.proofs.Settled.{refused-keeps}

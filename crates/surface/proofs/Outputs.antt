@@ -34,7 +34,7 @@ use Rattle.whole.specs.Whole as whole
 use Rattle.whole.specs.Surface.{hostedFrame, hostedTake}
 use Rattle.whole.proofs.Dictations.{take-done}
 use Rattle.whole.proofs.Halves.{two-halves, refused-is}
-use Rattle.isolation.specs.Run.{Kind, On, on, State, recordAt, given, after, ended, done, desks, expand}
+use Rattle.isolation.specs.Run.{On, on, State, recordAt, given, after, ended, done, desks, expand}
 use Rattle.surface.specs.Surface.{Request, ask, frame, take, called, surface, madeOf}
 use Rattle.surface.specs.Between.{resumes, Row, lastPiece, morePieces, inBuffer, answersAt}
 use Rattle.surface.proofs.Expanded.{leaving, map-more, stands, resumed, steps, one-call}
