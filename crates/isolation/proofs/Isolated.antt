@@ -1,4 +1,5 @@
 -- The law of isolation, once over the kind of calls and the number of benches.
+--     beside         a call leaves every other share
 --     in-any-run     in any run, what a side receives is what its own record, share and calls alone give
 --     closed-same    from closed, what the share held is never received
 --     isolated, undisturbed     what specs/Isolation.antt claims
@@ -25,7 +26,8 @@ use Rattle.desk.specs.Desk.{closed}
 use Rattle.desk.specs.Surface.{numbersOf, recordIn}
 use Rattle.desk.proofs.Apart.{apart}
 use Rattle.isolation.specs.Plan.{Came, perform}
-use Rattle.isolation.specs.Isolation.{Returned, Gives, givenBy, Kind, On, State, allZeros, own, lonely, given, after, received, alone, Isolated, Undisturbed, Planned}
+use Rattle.isolation.specs.Run.{Returned, Gives, Kind, On, on, State, given, after, received}
+use Rattle.isolation.specs.Isolation.{givenBy, allZeros, own, alone, Isolated, Undisturbed, Planned}
 use Rattle.isolation.proofs.Performed.{sized, its-own, no-side, unseen}
 
 reads : (b : Record) → recordIn (numbersOf b) ≡ b
@@ -53,7 +55,7 @@ module _ {C O : Type 0} (serve : Kind C O) (planned : Planned serve) where
   kept ns xs c l = rw (planned .does 1 0 ns xs c) (sized (planned .plan c) (recordIn ns) xs l)
 
   -- every other share stays, and the length of the store
-  beside : (n side : ℕ) (ns : List ℕ) (store : List Float) (c : C) → length store ≡ n * SHARE
+  pub beside : (n side : ℕ) (ns : List ℕ) (store : List Float) (c : C) → length store ≡ n * SHARE
       → (length (serve n side ns store c .store) ≡ n * SHARE)
       × ((s : ℕ) → (side ≡ s → ⊥) → get (shareOf s) (serve n side ns store c .store) ≡ get (shareOf s) store)
   beside n side ns store c l = go (ltb side n) refl
@@ -148,7 +150,7 @@ module _ {C O : Type 0} (serve : Kind C O) (planned : Planned serve) where
       ∙ ap (λ (r : Returned O). lone (r .numbers) (u .store) more) (like .returned))
       (like .store))
 
-  own-lonely : (cs : List C) → own 0 (map lonely cs) ≡ cs
+  own-lonely : (cs : List C) → own 0 (map (on 0) cs) ≡ cs
   unfolding own
   own-lonely [] = refl
   own-lonely (c ∷ more) = ap (λ (xs : List C). c ∷ xs) (own-lonely more)
@@ -156,7 +158,7 @@ module _ {C O : Type 0} (serve : Kind C O) (planned : Planned serve) where
   pub alone-lone : (cs : List C) → alone serve cs ≡ lone (numbersOf closed) (zeros SHARE) cs
   unfolding alone
   alone-lone cs =
-      in-any-run 1 0 (omega arith) (map lonely cs) (allZeros (zeros SHARE)) refl
+      in-any-run 1 0 (omega arith) (map (on 0) cs) (allZeros (zeros SHARE)) refl
       ∙ ap₂ (lone (numbersOf closed)) (get-whole (zeros SHARE) SHARE refl) (own-lonely cs)
 
   -- ---- what is claimed
