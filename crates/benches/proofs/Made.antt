@@ -86,5 +86,5 @@ unfolding desks.ended
 our-feeds = (
   expands BENCHES,
   mixed every asksIn BENCHES (expands BENCHES),
-  λ s st model l p. record { before = inDesk st; sized = l; model = model; done = p; now = made BENCHES st s (one (ask (opening model))) },
+  λ s st way model l p. record { before = inDesk st; sized = l; way = way; model = model; done = p; now = made BENCHES st s (one (ask (opening way model))) },
 )

@@ -14,6 +14,7 @@ use Rattle.rules.specs.Place.{get}
 use Rattle.rules.specs.Refusals.{refusing}
 use Rattle.rules.specs.Written.{firstIn}
 use Rattle.frame.specs.declared.Reply.{Reply}
+use Rattle.frame.specs.declared.Way.{Way}
 use Rattle.frame.specs.Reply.{passed}
 use Rattle.frame.specs.Share.{SHARE}
 use Rattle.pieces.specs.Pieces.{waitingIn, completes}
@@ -47,9 +48,9 @@ asksIn n side rec store (feed b model cleaned entries answers) =
 abbrev pub OurFeeds : Type 0
 OurFeeds =
     Expands every asksIn BENCHES × Mixed every asksIn BENCHES
-    × ((s : ℕ) (st : State) (model : List ℕ) → length (st .store) ≡ BENCHES * SHARE
-    → passed (desks.given BENCHES (inDesk st) (openingOf s model) .answer .reply) ≡ true
-    → Opened every asksIn BENCHES s (after every BENCHES st (on s (one (ask (opening model))))))
+    × ((s : ℕ) (st : State) (way : Way) (model : List ℕ) → length (st .store) ≡ BENCHES * SHARE
+    → passed (desks.given BENCHES (inDesk st) (openingOf s way model) .answer .reply) ≡ true
+    → Opened every asksIn BENCHES s (after every BENCHES st (on s (one (ask (opening way model))))))
 
 -- ---- what a bench has of a run
 

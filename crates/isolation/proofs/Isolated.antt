@@ -10,7 +10,7 @@ use mathlib.Core.List.{List, [], _∷_, map}
 use mathlib.Core.Logic.{_⊎_, inl, inr, ⊎-elim}
 use mathlib.Core.Path.{_≡_, refl, sym, ap, ap₂, _∙_}
 use borrow.Author.Tests.{eqb-true, eqb-false, ltb-true, ltb-false}
-use lib.Dec.{eqb, ltb}
+use lib.Dec.{eqb, ltb, leb}
 use lib.ListN.{length}
 use lib.Ieee.{Float}
 use Rattle.rules.specs.F32.{zeros}
@@ -19,18 +19,24 @@ use Rattle.rules.proofs.Places.{length-get, length-put, get-put, get-put-apart}
 use Rattle.rules.proofs.Wholes.{get-whole}
 use Rattle.frame.specs.Reply.{passed}
 use Rattle.frame.specs.Share.{SHARE}
+use Rattle.frame.specs.declared.Way.{Way}
+use Rattle.frame.specs.declared.Way.the-variants.{Asked, Crate}
 use Rattle.desk.specs.declared.Record.{Record}
-use Rattle.desk.specs.Gate.{shareOf}
+use Rattle.desk.specs.Gate.{wayNumber, shareOf}
 use Rattle.desk.specs.Desk.{closed}
-use Rattle.desk.specs.Surface.{numbersOf, recordIn}
+use Rattle.desk.specs.Surface.{numbersOf, wayIn, recordIn}
 use Rattle.desk.proofs.Apart.{apart}
 use Rattle.isolation.specs.Plan.{Came, perform}
 use Rattle.isolation.specs.Isolation.{Returned, Gives, givenBy, Kind, On, State, allZeros, own, lonely, given, after, received, alone, Isolated, Undisturbed, Planned}
 use Rattle.isolation.proofs.Performed.{sized, its-own, no-side, unseen}
 
-reads : (b : Record) → recordIn (numbersOf b) ≡ b
+way-back : (w : Way) → (leb (wayNumber w) 1 ≡ true) × (wayIn (wayNumber w) ≡ w)
+way-back Asked = (refl, refl)
+way-back Crate = (refl, refl)
+
+pub reads : (b : Record) → recordIn (numbersOf b) ≡ b
 unfolding recordIn
-reads b = refl
+reads b = let k = way-back (b .hearing .way) in rw (k .0, k .1)
 
 -- in the store that a share is a part of
 abbrev inStore : {O : Type 0} → ℕ → List Float → Gives O → Gives O

@@ -20,6 +20,7 @@ use Rattle.frame.specs.Reply.{passed}
 use Rattle.frame.specs.Share.{SHARE}
 use Rattle.frame.specs.declared.Reply.{Reply}
 use Rattle.frame.specs.declared.Reply.the-variants.{Done, Silent, Heard, Numbered, Refused, Misread}
+use Rattle.frame.specs.declared.Way.{Way}
 use Rattle.desk.specs.declared.Answer.{Answer}
 use Rattle.desk.specs.Gate.{shareOf}
 use Rattle.desk.specs.Desk.{callOf, Given, desk}
@@ -74,10 +75,10 @@ module _ (n s : ℕ) (inside : s < n) where
     replied : given n st c .answer ≡ lone .answer
     replied = rw e (ap (λ (o : Given). o .answer) (its-own n s (st .rec s) (st .store) (c .ask) l inside))
 
-    recorded : after n st c .rec s .index ≡ lone .answer .rec .index
-    recorded = rw (eq-eqb (c .side) s e) (ap (λ (a : Answer). a .rec .index) replied)
+    recorded : after n st c .rec s .hearing .index ≡ lone .answer .rec .hearing .index
+    recorded = rw (eq-eqb (c .side) s e) (ap (λ (a : Answer). a .rec .hearing .index) replied)
 
-    recalled-then : recalled s (after n st c) ≡ recalledIn (lone .answer .rec .index) (lone .store)
+    recalled-then : recalled s (after n st c) ≡ recalledIn (lone .answer .rec .hearing .index) (lone .store)
     recalled-then = ap₂ recalledIn recorded own
 
   abbrev brings : State → Call → Noted × List HeardFrame
@@ -102,7 +103,7 @@ module _ (n s : ℕ) (inside : s < n) where
     unfolding heardAll
     other-moves f =
         let same = other-share n (c .side) (st .rec (c .side)) (st .store) (c .ask) l s (eqb-false (c .side) s f) in
-        rw f (record { recalls = rw f (ap (recalledIn (st .rec s .index)) same); notes = ap notedIn same; counts = refl })
+        rw f (record { recalls = rw f (ap (recalledIn (st .rec s .hearing .index)) same); notes = ap notedIn same; counts = refl })
 
     one : (c .side ≡ s → callOf (c .ask) ≡ 0 → passed (given n st c .answer .reply) ≡ false) → Moves st c (brings st c) (counted st c)
     one shut = go (eqb (c .side) s) refl
@@ -137,11 +138,11 @@ module _ (n s : ℕ) (inside : s < n) where
   Numbers st = (i : ℕ) → i < 22 → isNan (at (recalled s st .gains) i) ≡ false
 
   -- an opening that is done leaves nothing remembered, nor noted
-  fresh : (st : State) → Whole st → (model : List ℕ) → passed (given n st (openingOf s model) .answer .reply) ≡ true
-      → (recalled s (after n st (openingOf s model)) ≡ blank) × (notedIn (share (after n st (openingOf s model))) ≡ unnoted)
-  fresh st l model done =
-      let c = openingOf s model in
-      let o = opens (st .rec s) (share st) (fits st l) model (rw (replied st l c refl) at done) in
+  fresh : (st : State) → Whole st → (way : Way) (model : List ℕ) → passed (given n st (openingOf s way model) .answer .reply) ≡ true
+      → (recalled s (after n st (openingOf s way model)) ≡ blank) × (notedIn (share (after n st (openingOf s way model))) ≡ unnoted)
+  fresh st l way model done =
+      let c = openingOf s way model in
+      let o = opens (st .rec s) (share st) (fits st l) way model (rw (replied st l c refl) at done) in
       (recalled-then st l c refl ∙ o .forgets, ap notedIn (own st l c refl) ∙ o .unnotes)
 
   blank-number : (i : ℕ) → i < 22 → isNan (at (blank .gains) i) ≡ false
@@ -170,17 +171,17 @@ module _ (n s : ℕ) (inside : s < n) where
   since : (st : State) → Since n s st → Numbers st × Whole st
   unfolding ended
   since st h =
-      let c = openingOf s (h .model) in
-      let f = fresh (h .start) (h .sized) (h .model) (h .opened) in
+      let c = openingOf s (h .way) (h .model) in
+      let f = fresh (h .start) (h .sized) (h .way) (h .model) (h .opened) in
       rw (← h .led) (numbers-run (h .calls) (after n (h .start) c) (kept (h .start) (h .sized) c) (λ i band. rw (gains (f .0)) (blank-number i band)))
 
 -- ---- what is claimed
 
 pub made-of-heard : (n : ℕ) → MadeOfHeard n
-made-of-heard n s inside st l model done calls u =
-    let opened = after n st (openingOf s model) in
-    let f = fresh n s inside st l model done in
-    run n s inside calls opened (kept n s inside st l (openingOf s model)) u .recalls
+made-of-heard n s inside st l way model done calls u =
+    let opened = after n st (openingOf s way model) in
+    let f = fresh n s inside st l way model done in
+    run n s inside calls opened (kept n s inside st l (openingOf s way model)) u .recalls
     ∙ ap₂ (λ m k. heardAll m (frames n s k opened calls)) (f .0) (f .1)
 
 pub faded-gains : (n : ℕ) → Faded n

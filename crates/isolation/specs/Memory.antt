@@ -15,6 +15,7 @@ use Rattle.rules.specs.F32.{_⊗_, at, f32}
 use Rattle.rules.specs.Place.{get}
 use Rattle.frame.specs.Reply.{passed}
 use Rattle.frame.specs.declared.Reply.the-variants.{Heard}
+use Rattle.frame.specs.declared.Way.{Way}
 use Rattle.frame.specs.Share.{SHARE}
 use Rattle.desk.specs.Gate.{shareOf}
 use Rattle.desk.specs.Desk.{callOf}
@@ -25,7 +26,7 @@ use Rattle.isolation.specs.Numbering.{hears, howMany, Unopened}
 
 -- what side s remembers, in its share and in its record
 abbrev pub recalled : ℕ → State → Recalled
-recalled s st = recalledIn (st .rec s .index) (get (shareOf s) (st .store))
+recalled s st = recalledIn (st .rec s .hearing .index) (get (shareOf s) (st .store))
 
 -- ---- what it is made of
 
@@ -41,9 +42,9 @@ abbrev pub MadeOfHeard : ℕ → Type 0
 MadeOfHeard n =
     (s : ℕ) → s < n
     → (st : State) → length (st .store) ≡ n * SHARE
-    → (model : List ℕ) → passed (given n st (openingOf s model) .answer .reply) ≡ true
+    → (way : Way) (model : List ℕ) → passed (given n st (openingOf s way model) .answer .reply) ≡ true
     → (calls : List Call)
-    → let opened = after n st (openingOf s model) in
+    → let opened = after n st (openingOf s way model) in
     Unopened n s opened calls
     → recalled s (ended n opened calls) ≡ heardAll blank (frames n s unnoted opened calls)
 
@@ -51,10 +52,11 @@ MadeOfHeard n =
 pub record Since (n s : ℕ) (st : State) : Type 0 where
   pub start : State
   pub sized : length (start .store) ≡ n * SHARE
+  pub way : Way
   pub model : List ℕ
-  pub opened : passed (given n start (openingOf s model) .answer .reply) ≡ true
+  pub opened : passed (given n start (openingOf s way model) .answer .reply) ≡ true
   pub calls : List Call
-  pub led : ended n start (openingOf s model ∷ calls) ≡ st
+  pub led : ended n start (openingOf s way model ∷ calls) ≡ st
 
 -- after k heard frames; with none all is as it was
 abbrev pub Faded : ℕ → Type 0

@@ -11,6 +11,7 @@ use lib.ListN.{length}
 use Rattle.frame.specs.Reply.{passed}
 use Rattle.frame.specs.Share.{SHARE}
 use Rattle.frame.specs.declared.Reply.{Reply}
+use Rattle.frame.specs.declared.Way.{Way}
 use Rattle.desk.specs.Desk.{Ask, callOf, lastOf}
 use Rattle.memory.specs.Brought.{isHeard}
 use Rattle.isolation.specs.Run.{Call, openingOf, State, given, after, ended}
@@ -38,9 +39,9 @@ abbrev pub Numbering : ℕ → Type 0
 Numbering n =
     (s : ℕ) → s < n
     → (st : State) → length (st .store) ≡ n * SHARE
-    → (model : List ℕ) → passed (given n st (openingOf s model) .answer .reply) ≡ true
+    → (way : Way) (model : List ℕ) → passed (given n st (openingOf s way model) .answer .reply) ≡ true
     → (calls : List Call)
-    → let opened = after n st (openingOf s model) in
+    → let opened = after n st (openingOf s way model) in
     let last = ended n opened calls .rec s in
     Unopened n s opened calls
     → (last .frame ≡ howMany endsFrame n s opened calls % 4294967296) × (last .heard ≡ howMany hears n s opened calls % 4294967296)

@@ -4,6 +4,7 @@ use mathlib.Core.Bool.{cond}
 use mathlib.Core.List.{List, [], _∷_}
 use lib.Dec.{eqb}
 use lib.Ieee.{Float}
+use Rattle.frame.specs.declared.Way.{Way}
 use Rattle.desk.specs.declared.Record.{Record}
 use Rattle.desk.specs.Desk.{Ask, opening, Given, desk}
 
@@ -12,8 +13,8 @@ pub record Call : Type 0 where
   pub side : ℕ
   pub ask : Ask
 
-abbrev pub openingOf : ℕ → List ℕ → Call
-openingOf side model = record { side = side; ask = opening model }
+abbrev pub openingOf : ℕ → Way → List ℕ → Call
+openingOf side way model = record { side = side; ask = opening way model }
 
 -- each side's record as it was last received, and the store
 pub record State : Type 0 where

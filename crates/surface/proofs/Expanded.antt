@@ -36,6 +36,7 @@ use Rattle.isolation.specs.Run.{Call, openingOf}
 use Rattle.isolation.specs.Run as desks
 use Rattle.isolation.specs.Numbering.{endsFrame, hears, howMany, Unopened}
 use Rattle.isolation.specs.Memory.{recalled, frames, Since}
+use Rattle.isolation.proofs.Isolated.{reads}
 use Rattle.isolation.proofs.Memories as memories
 use Rattle.isolation.proofs.Numberings as numberings
 use Rattle.isolation.specs.Isolation.{Kind, On, State, on, after, ended}
@@ -162,11 +163,10 @@ abbrev Keeps : List ℕ → Answer → Type 0
 Keeps ns a = passed (a .reply) ≡ false → a .rec ≡ recordIn ns
 
 handed : (ns : List ℕ) (a : Answer) → Keeps ns a → recordIn (handedBack a ns) ≡ a .rec
-unfolding recordIn
 handed ns a keeps = go (passed (a .reply)) refl
   where
     go : (t : Bool) → passed (a .reply) ≡ t → recordIn (cond t (numbersOf (a .rec)) ns) ≡ a .rec
-    go true p = refl
+    go true p = reads (a .rec)
     go false p = sym (keeps p)
 
 noted : (side s : ℕ) (new : List ℕ) (rec : Record) (old : List ℕ) → recordIn new ≡ rec
@@ -220,6 +220,7 @@ module _ {C O : Type 0} (serve : Kind C O) (asksOf : ℕ → ℕ → Record → 
       record {
         start = k .before;
         sized = k .sized;
+        way = k .way;
         model = k .model;
         opened = k .done;
         calls = expand serve asksOf n st calls;
@@ -228,7 +229,7 @@ module _ {C O : Type 0} (serve : Kind C O) (asksOf : ℕ → ℕ → Record → 
 
   -- what holds of the desk's run, from its state behind the opening to its last
   carried : (P : desks.State → desks.State → Type 0) (s : ℕ) (st : State) (k : Opened serve asksOf n s st) (calls : List (On C))
-      → (let opened = desks.after n (k .before) (openingOf s (k .model)) in P opened (desks.ended n opened (expand serve asksOf n st calls)))
+      → (let opened = desks.after n (k .before) (openingOf s (k .way) (k .model)) in P opened (desks.ended n opened (expand serve asksOf n st calls)))
       → P (inDesk st) (inDesk (ended serve n st calls))
   carried P s st k calls p =
       let made = expand serve asksOf n st calls in
@@ -241,18 +242,18 @@ module _ {C O : Type 0} (serve : Kind C O) (asksOf : ℕ → ℕ → Record → 
       let then = expand serve asksOf n last more in
       let here = recalled s (inDesk last) in
       let heard = howMany hears n s (inDesk last) then in
-      let shut : Unopened n s (inDesk st) made → Unopened n s (desks.after n (k .before) (openingOf s (k .model))) made =
+      let shut : Unopened n s (inDesk st) made → Unopened n s (desks.after n (k .before) (openingOf s (k .way) (k .model))) made =
       subst (λ (x : desks.State). Unopened n s x made) (k .now) in
       record {
         numbering =
             λ u.
             carried
             (λ x y. (y .rec s .frame ≡ howMany endsFrame n s x made % 4294967296) × (y .rec s .heard ≡ howMany hears n s x made % 4294967296))
-            s st k calls (numberings.numbering n s h (k .before) (k .sized) (k .model) (k .done) made (shut u));
+            s st k calls (numberings.numbering n s h (k .before) (k .sized) (k .way) (k .model) (k .done) made (shut u));
         memory =
             λ u.
             carried (λ x y. recalled s y ≡ heardAll blank (frames n s unnoted x made)) s st k calls
-            (memories.made-of-heard n s h (k .before) (k .sized) (k .model) (k .done) made (shut u));
+            (memories.made-of-heard n s h (k .before) (k .sized) (k .way) (k .model) (k .done) made (shut u));
         neverNan = memories.never-nan n s h (inDesk last) (since s st k calls);
         fading =
             λ u.
@@ -267,5 +268,5 @@ unfolding desks.ended
 our-calls = (
   expands BENCHES,
   mixed surface madeOf BENCHES (expands BENCHES),
-  λ s st model l p. record { before = inDesk st; sized = l; model = model; done = p; now = one-call BENCHES st s (ask (opening model)) },
+  λ s st way model l p. record { before = inDesk st; sized = l; way = way; model = model; done = p; now = one-call BENCHES st s (ask (opening way model)) },
 )

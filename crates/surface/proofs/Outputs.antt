@@ -51,7 +51,7 @@ cleaned n s st (c ∷ cs) =
 -- ---- pieces and resumes
 
 abbrev Hands : Ask → Type 0
-Hands (opening m) = ⊥
+Hands (opening w m) = ⊥
 Hands (call1 x w) = ⊥
 Hands (call2 x l w s) = ⊥
 Hands (call2Own x w s) = ⊥
@@ -128,7 +128,7 @@ mute : (n side : ℕ) (b : Record) (store : List Float) (a : Ask) → passed (de
 mute n side b store a p = to-none (desk n side b store a .written) (rw p at (buffers n side b store a))
 
 besides-none : (a : Ask) (r : Reply) → passed r ≡ false → besides a r ≡ []
-besides-none (opening m) r p = refl
+besides-none (opening w m) r p = refl
 besides-none (call1 x w) r p = refl
 besides-none (call2 x l w s) r p = refl
 besides-none (call2Own x w s) r p = refl
@@ -146,7 +146,7 @@ in-front (w ∷ ws) us k l = refl
 -- what is told besides stands behind
 first-kept : (n side : ℕ) (b : Record) (store : List Float) (a : Ask) → Hands a
     → let o = desk n side b store a in passed (o .answer .reply) ≡ true → firstIn (o .written ++ besides a (o .answer .reply)) ≡ firstIn (o .written)
-first-kept n side b store (opening m) h p = absurd h
+first-kept n side b store (opening w m) h p = absurd h
 first-kept n side b store (call1 x w) h p = absurd h
 first-kept n side b store (call2 x l w s) h p = absurd h
 first-kept n side b store (call2Own x w s) h p = absurd h
@@ -165,7 +165,7 @@ pub first-written : (side : ℕ) (store : List Float) (rec : Record) (reply : Re
 unfolding further
 first-written side store rec reply share rest size progress k ys = go (ltb (length rest) 480)
   where
-    go : (t : Bool) → firstIn (cond t (pieces.atEnd reply share rest (from k ys)) (pieces.paused reply share rest (from k ys)) .written) ≡ ys
+    go : (t : Bool) → firstIn (cond t (pieces.atEnd reply share rest (from k ys)) (pieces.paused reply share (rec .hearing .way) rest (from k ys)) .written) ≡ ys
     go true = refl
     go false = refl
 

@@ -11,6 +11,7 @@ use Rattle.rules.specs.Tab.{tab}
 use Rattle.rules.specs.Written.{firstIn}
 use Rattle.logs.specs.Log10.{logsOf}
 use Rattle.frame.specs.Reply.{passed}
+use Rattle.frame.specs.declared.Way.{Way}
 use Rattle.frame.specs.Share.{SHARE}
 use Rattle.pieces.specs.Pieces.{completes}
 use Rattle.desk.specs.declared.Record.{Record}
@@ -47,9 +48,10 @@ module _ {C O : Type 0} (serve : Kind C O) (asksOf : ℕ → ℕ → Record → 
   pub record Opened (s : ℕ) (st : State) : Type 0 where
     pub before : desks.State
     pub sized : length (before .store) ≡ n * SHARE
+    pub way : Way
     pub model : List ℕ
-    pub done : passed (desks.given n before (openingOf s model) .answer .reply) ≡ true
-    pub now : inDesk st ≡ desks.after n before (openingOf s model)
+    pub done : passed (desks.given n before (openingOf s way model) .answer .reply) ≡ true
+    pub now : inDesk st ≡ desks.after n before (openingOf s way model)
 
   -- what is then so after any calls, and after more of them
   pub record Holds (s : ℕ) (st : State) (calls more : List (On C)) : Type 0 where
@@ -87,6 +89,6 @@ madeOf n side rec store (take x m o a) =
 abbrev pub OurCalls : Type 0
 OurCalls =
     Expands surface madeOf BENCHES × Mixed surface madeOf BENCHES
-    × ((s : ℕ) (st : State) (model : List ℕ) → length (st .store) ≡ BENCHES * SHARE
-    → passed (desks.given BENCHES (inDesk st) (openingOf s model) .answer .reply) ≡ true
-    → Opened surface madeOf BENCHES s (after surface BENCHES st (on s (ask (opening model)))))
+    × ((s : ℕ) (st : State) (way : Way) (model : List ℕ) → length (st .store) ≡ BENCHES * SHARE
+    → passed (desks.given BENCHES (inDesk st) (openingOf s way model) .answer .reply) ≡ true
+    → Opened surface madeOf BENCHES s (after surface BENCHES st (on s (ask (opening way model)))))

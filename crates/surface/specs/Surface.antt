@@ -7,6 +7,7 @@ use lib.ListN.{length}
 use lib.Ieee.{Float}
 use Rattle.rules.specs.Written.{Written}
 use Rattle.frame.specs.Reply.{passed}
+use Rattle.frame.specs.declared.Way.{Way}
 use Rattle.frame.specs.Share.{SHARE}
 use Rattle.desk.specs.Gate.{BENCHES}
 use Rattle.desk.specs.Desk.{Ask, opening, Given}
@@ -42,6 +43,6 @@ abbrev pub Anew : ℕ → Type 0
 Anew n =
     (s : ℕ) → s < n
     → (st : State) → length (st .store) ≡ n * SHARE
-    → (model : List ℕ) → passed (hosted n s (st .numbers s) (st .store) (opening model) .answer .reply) ≡ true
+    → (way : Way) (model : List ℕ) → passed (hosted n s (st .numbers s) (st .store) (opening way model) .answer .reply) ≡ true
     → (calls : List (On Request))
-    → received surface n s st (on s (ask (opening model)) ∷ calls) ≡ alone surface (ask (opening model) ∷ own s calls)
+    → received surface n s st (on s (ask (opening way model)) ∷ calls) ≡ alone surface (ask (opening way model) ∷ own s calls)
