@@ -4,3 +4,4 @@ pub mod Kept
 pub mod Lagged
 pub mod Onward
 pub mod Sister
+pub mod Ways

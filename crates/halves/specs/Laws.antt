@@ -8,7 +8,7 @@ use lib.Ieee.{Float}
 use Rattle.rules.specs.Place.{get}
 use Rattle.rules.specs.Refusals.{_when_, wrong}
 use Rattle.lag.specs.Lag.{ownLag}
-use Rattle.transforms.specs.Transform.{forwardOf}
+use Rattle.transforms.specs.Transform.{forwardOf, inverseOf}
 use Rattle.frame.specs.declared.Hearing.{Hearing}
 use Rattle.frame.specs.declared.Reply.{Reply}
 use Rattle.frame.specs.declared.Way.{Way}
@@ -65,11 +65,19 @@ SecondIsCalls =
     let half = secondHalf share hearing logs model out in
     passed (half .reply) ≡ true → Both three four half (three .reply) (four .written)
 
--- the way that requests 04 and 08 ask is the sister with the plain sums
-abbrev pub AskedIsSister : Type 0
-AskedIsSister =
+-- the way that requests 04 and 08 ask: call 2's sister, and the plain sums
+abbrev pub AskedFirst : Type 0
+AskedFirst =
     (share samples : List Float) (sums : ℕ)
     → let one = call1 share samples 960 in
     let two = call2Own (one .share) (forwardOf (buffer one)) 960 sums in
     let half = firstHalf share Asked samples sums in
     passed (half .reply) ≡ true → Both one two half (two .reply) (drop 1 (two .written))
+
+abbrev pub AskedSecond : Type 0
+AskedSecond =
+    (share : List Float) (hearing : Hearing) (logs : List Float) (model : List ℕ) (out frame heard : ℕ) → hearing .way ≡ Asked
+    → let three = call3 share hearing (forwardOf (lookedBack share)) logs model 961 in
+    let four = call4 (three .share) frame heard (inverseOf (buffer three)) out in
+    let half = secondHalf share hearing logs model out in
+    passed (half .reply) ≡ true → Both three four half (three .reply) (four .written)
