@@ -24,6 +24,7 @@ use Rattle.model.specs.declared.Reading.the-variants.{Good, Refused as Unread}
 use Rattle.frame.specs.Share.{SHARE}
 use Rattle.frame.specs.Reply.{passed}
 use Rattle.frame.specs.declared.Reply.the-variants.{Refused}
+use Rattle.frame.specs.declared.Way.{Way}
 use Rattle.pieces.specs.Pieces.{Outcome, refused}
 use Rattle.desk.specs.declared.Record.{Record}
 use Rattle.desk.specs.Gate.{shareOf, gate, inRange, allZero, idle}
@@ -129,13 +130,13 @@ module _ (b : Record) (xs ys : List Float) (l : length xs ≡ SHARE) (k : length
       number : ℕ
       number = gate 1 0 b SHARE (callOf ask)
 
-      opens : (read : Reading) (m : List ℕ) → Alike (givenOf b (opening m) (opened xs read)) (givenOf b (opening m) (opened ys read))
-      opens (Good m) _ = record { answer = refl; written = refl; store = inl refl }
-      opens (Unread n l) _ = record { answer = refl; written = refl; store = inr z }
+      opens : (read : Reading) (w : Way) (m : List ℕ) → Alike (givenOf b (opening w m) (opened xs read)) (givenOf b (opening w m) (opened ys read))
+      opens (Good m) _ _ = record { answer = refl; written = refl; store = inl refl }
+      opens (Unread n l) _ _ = record { answer = refl; written = refl; store = inr z }
 
       -- of a closed side only an opening gets through
       admit : (a : Ask) → callOf a ≡ 0 → Alike (givenOf b a (onShare b xs a)) (givenOf b a (onShare b ys a))
-      admit (opening m) e = opens (readOf m) m
+      admit (opening w m) e = opens (readOf m) w m
       admit (call1 x w) e = absurd (omega arith)
       admit (call2 x g w s) e = absurd (omega arith)
       admit (call2Own x w s) e = absurd (omega arith)
@@ -151,19 +152,19 @@ module _ (b : Record) (xs ys : List Float) (l : length xs ≡ SHARE) (k : length
       go false e = rw e (record { answer = refl; written = refl; store = inr z })
 
   -- the closed record, too, gets through
-  pub anew : (m : List ℕ) → passed (desk 1 0 b xs (opening m) .answer .reply) ≡ true → desk 1 0 b xs (opening m) ≡ desk 1 0 closed ys (opening m)
+  pub anew : (w : Way) (m : List ℕ) → passed (desk 1 0 b xs (opening w m) .answer .reply) ≡ true → desk 1 0 b xs (opening w m) ≡ desk 1 0 closed ys (opening w m)
   unfolding gate inRange allZero idle
-  anew m = rw (one-bench b xs (opening m) l, one-bench closed ys (opening m) k) (go (eqb number 0))
+  anew w m = rw (one-bench b xs (opening w m) l, one-bench closed ys (opening w m) k) (go (eqb number 0))
     where
       number : ℕ
       number = gate 1 0 b SHARE 0
 
       opens : (read : Reading) → readOf m ≡ read → passed (opened xs read .reply) ≡ true
-          → givenOf b (opening m) (opened xs read) ≡ givenOf closed (opening m) (opened ys read)
+          → givenOf b (opening w m) (opened xs read) ≡ givenOf closed (opening w m) (opened ys read)
       opens (Good m) e h = rw e
       opens (Unread n l) e h = let one : _≡_ {A = ℕ} 0 1 = cc in absurd (omega arith)
 
       go : (t : Bool) → passed (cond t (opened xs (readOf m)) (refused (Refused number) xs) .reply) ≡ true
-          → givenOf b (opening m) (cond t (opened xs (readOf m)) (refused (Refused number) xs)) ≡ givenOf closed (opening m) (admitted closed ys (opening m) (gate 1 0 closed SHARE 0))
+          → givenOf b (opening w m) (cond t (opened xs (readOf m)) (refused (Refused number) xs)) ≡ givenOf closed (opening w m) (admitted closed ys (opening w m) (gate 1 0 closed SHARE 0))
       go true h = opens (readOf m) refl h
       go false h = let one : _≡_ {A = ℕ} 0 1 = cc in absurd (omega arith)

@@ -14,18 +14,20 @@ use Rattle.rules.specs.Written.{Written, all, firstIn}
 use Rattle.rules.proofs.Places.{Within, length-get, length-put, get-put, put-put}
 use Rattle.rules.proofs.Refused.{clear}
 use Rattle.rules.proofs.Truth.{both}
-use Rattle.transforms.specs.Transform.{forwardOf, inverseOf}
+use Rattle.transforms.specs.Transform.{forwardOf}
 use Rattle.frame.specs.Reply.{passed, oneMore}
 use Rattle.frame.specs.Share.{SHARE, PART}
 use Rattle.frame.specs.Frame.{Effect}
 use Rattle.frame.specs.Frame as frame
 use Rattle.frame.specs.declared.Reply.{Reply}
 use Rattle.frame.specs.declared.Reply.the-variants.{Done, Numbered, Refused}
+use Rattle.frame.specs.declared.Way.the-variants.{Asked}
 use Rattle.frame.proofs.Cases.{call1-by, call4-by}
 use Rattle.frame.proofs.Keeps.{call1-keeps, call3-keeps}
 use Rattle.halves.specs.Halves.{lookedBack}
 use Rattle.halves.specs.Halves as halves
-use Rattle.halves.proofs.Joined.{first-half-is, second-half-is}
+use Rattle.halves.specs.Ways.{forwardBy, inverseBy}
+use Rattle.halves.proofs.Joined.{asked-is-sister, second-half-is}
 use Rattle.halves.proofs.Sister.{call2-own-by}
 use Rattle.pieces.specs.Pieces.{Outcome, framePart, refused, inPart}
 use Rattle.desk.specs.declared.Record.{Record}
@@ -192,14 +194,14 @@ module _ (n side : ℕ) (b : Record) (store : List Float) where
     abbrev two : Given
     two = desk n side (one .answer .rec) (one .store) (call2Own (forwardOf (firstIn (one .written))) 960 sums)
 
-    pub first-half-in-turn : let half = desk n side b store (firstHalf samples sums) in passed (half .answer .reply) ≡ true → InTurn one two half (two .answer .reply) (drop 1 (two .written))
-    first-half-in-turn p =
+    pub first-half-in-turn : let half = desk n side b store (firstHalf samples sums) in b .hearing .way ≡ Asked → passed (half .answer .reply) ≡ true → InTurn one two half (two .answer .reply) (drop 1 (two .written))
+    first-half-in-turn asked p =
         let e = was-let-in n side b store (firstHalf samples sums) p in
         let right = through n side b (length store) 1 e in
-        let h = let-in n side b store (firstHalf samples sums) e in
+        let h = rw asked at (let-in n side b store (firstHalf samples sums) e) in
         let o = let-in n side b store (call1 samples 960) e in
         let a = frame.call1 part samples 960 in
-        let both = first-half-is part samples sums (ap (λ (g : Given). passed (g .answer .reply)) (sym h) ∙ p) in
+        let both = asked-is-sister part samples sums (ap (λ (g : Given). passed (g .answer .reply)) (sym h) ∙ p) in
         let spectrum = forwardOf (halves.buffer a) in
         let w =
         ap (λ (g : Given). desk n side (g .answer .rec) (g .store) (call2Own (forwardOf (firstIn (g .written))) 960 sums)) o
@@ -225,29 +227,29 @@ module _ (n side : ℕ) (b : Record) (store : List Float) where
 
   module _ (logs : List Float) (model : List ℕ) (out : ℕ) where
     abbrev three : Given
-    three = desk n side b store (call3 (forwardOf (lookedBack part)) logs model 961)
+    three = desk n side b store (call3 (forwardBy (b .hearing .way) (lookedBack part)) logs model 961)
 
     abbrev four : Given
-    four = desk n side (three .answer .rec) (three .store) (call4 (inverseOf (firstIn (three .written))) out)
+    four = desk n side (three .answer .rec) (three .store) (call4 (inverseBy (b .hearing .way) (firstIn (three .written))) out)
 
     pub second-half-in-turn : let half = desk n side b store (secondHalf logs model out) in passed (half .answer .reply) ≡ true → InTurn three four half (three .answer .reply) (four .written) × (four .answer .reply ≡ Numbered (half .answer .rec .frame) (half .answer .rec .heard))
     second-half-in-turn p =
         let e = was-let-in n side b store (secondHalf logs model out) p in
         let right = through n side b (length store) 3 e in
         let h = let-in n side b store (secondHalf logs model out) e in
-        let spectrum = forwardOf (lookedBack part) in
+        let spectrum = forwardBy (b .hearing .way) (lookedBack part) in
         let o = let-in n side b store (call3 spectrum logs model 961) e in
-        let a = frame.call3 part (b .index) (b .vad) (b .noise) (b .denoise) spectrum logs model 961 in
+        let a = frame.call3 part (b .hearing) spectrum logs model 961 in
         let next = advanced b (a .reply) in
         let both =
-        second-half-is part (b .index) (b .vad) (b .noise) (b .denoise) logs model out (next .frame) (next .heard)
+        second-half-is part (b .hearing) logs model out (next .frame) (next .heard)
         (ap (λ (g : Given). passed (g .answer .reply)) (sym h) ∙ p) in
-        let inverse = inverseOf (halves.buffer a) in
+        let inverse = inverseBy (b .hearing .way) (halves.buffer a) in
         let w =
-        ap (λ (g : Given). desk n side (g .answer .rec) (g .store) (call4 (inverseOf (firstIn (g .written))) out)) o
-        ∙ ap (λ (xs : List Float). desk n side (cond (passed (a .reply)) next b) (put (shareOf side) store (put framePart mine (a .share))) (call4 (inverseOf xs) out)) (the-first (a .written))
+        ap (λ (g : Given). desk n side (g .answer .rec) (g .store) (call4 (inverseBy (b .hearing .way) (firstIn (g .written))) out)) o
+        ∙ ap (λ (xs : List Float). desk n side (cond (passed (a .reply)) next b) (put (shareOf side) store (put framePart mine (a .share))) (call4 (inverseBy (b .hearing .way) xs) out)) (the-first (a .written))
         ∙ ap (λ (r : Record). desk n side r (put (shareOf side) store (put framePart mine (a .share))) (call4 inverse out)) (done-record b (a .reply) (both .first))
-        ∙ part-in right next (a .share) (call3-keeps part (b .index) (b .vad) (b .noise) (b .denoise) spectrum logs model 961 .size)
+        ∙ part-in right next (a .share) (call3-keeps part (b .hearing) spectrum logs model 961 .size)
         (λ xs. frame.call4 xs (next .frame) (next .heard) inverse out) (call4 inverse out) (λ s. refl)
         (gate-next n side b (length store) 3 (a .reply) (omega arith) (omega arith) e) in
         let last = done-4 (a .share) (next .frame) (next .heard) inverse out (both .last) in

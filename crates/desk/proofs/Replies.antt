@@ -60,22 +60,22 @@ module _ (b : Record) (share : List Float) where
   part = get framePart share
 
   frames : (ask : Ask) → Small (onShare b share ask .reply)
-  frames (opening m) = opens m (readOf m) share refl
+  frames (opening w m) = opens m (readOf m) share refl
   frames (call1 x w) = call1-by part SmallOf (λ _. tt) x w (λ _ _. tt)
   frames (call2 x l w s) = call2-by part SmallOf (λ _. tt) x l w s (λ _. tt)
   frames (call2Own x w s) = call2-own-by part SmallOf (λ _. tt) x w s (λ _. tt)
-  frames (call3 x l m o) = call3-by part SmallOf (λ _. tt) (b .index) (b .vad) (b .noise) (b .denoise) x l m o (misread m) tt (λ _ _ _ _ _. tt)
+  frames (call3 x l m o) = call3-by part SmallOf (λ _. tt) (b .hearing) x l m o (misread m) tt (λ _ _ _ _ _. tt)
   frames (call4 x o) = call4-by part SmallOf (λ _. tt) (b .frame) (b .heard) x o (λ _. tt)
-  frames (firstHalf x s) = first-half-by part SmallOf (λ _. tt) x s (λ _ _. tt)
-  frames (secondHalf l m o) = second-half-by part SmallOf (λ _. tt) (b .index) (b .vad) (b .noise) (b .denoise) l m o (misread m) (λ _. tt) (λ _ _ _ _ _. tt)
+  frames (firstHalf x s) = first-half-by part SmallOf (λ _. tt) (b .hearing .way) x s (λ _ _. tt)
+  frames (secondHalf l m o) = second-half-by part SmallOf (λ _. tt) (b .hearing) l m o (misread m) (λ _. tt) (λ _ _ _ _ _. tt)
   frames (piece x o s) =
-      piece-by share Small-after (λ _. tt) (b .waiting) x o s (λ _. rw (further-reply Done (waits share []) (waitingIn (b .waiting) share ++ x) nothing) tt)
+      piece-by share Small-after (λ _. tt) (b .hearing .way) (b .waiting) x o s (λ _. rw (further-reply Done (waits share []) (b .hearing .way) (waitingIn (b .waiting) share ++ x) nothing) tt)
   frames (resume x l m o s) =
-      resume-by share Small-after (λ _. tt) (b .index) (b .vad) (b .noise) (b .denoise) (b .piece) (b .progress) x l m o s (misread m)
+      resume-by share Small-after (λ _. tt) (b .hearing) (b .piece) (b .progress) x l m o s (misread m)
       (λ _.
-      let h = halves.secondHalf part (b .index) (b .vad) (b .noise) (b .denoise) l m 480 in
-      rw (further-reply (h .reply) (put framePart share (h .share)) (drop (b .progress) x) (from (480 * (frameAt (b .progress) - 1)) (halves.buffer h)))
-      (second-half-by part SmallOf (λ _. tt) (b .index) (b .vad) (b .noise) (b .denoise) l m 480 (misread m) (λ _. tt) (λ _ _ _ _ _. tt)))
+      let h = halves.secondHalf part (b .hearing) l m 480 in
+      rw (further-reply (h .reply) (put framePart share (h .share)) (b .hearing .way) (drop (b .progress) x) (from (480 * (frameAt (b .progress) - 1)) (halves.buffer h)))
+      (second-half-by part SmallOf (λ _. tt) (b .hearing) l m 480 (misread m) (λ _. tt) (λ _ _ _ _ _. tt)))
 
 pub small : (benches side : ℕ) (b : Record) (store : List Float) (ask : Ask) → Small (desk benches side b store ask .answer .reply)
 unfolding desk
@@ -112,14 +112,14 @@ module _ (benches side : ℕ) (b : Record) (store : List Float) where
   pub no-out : (spectrum logs : List Float) (model : List ℕ) → passed (desk benches side b store (call3 spectrum logs model 0) .answer .reply) ≡ false
   no-out spectrum logs model =
       shut-out (call3 spectrum logs model 0)
-      (ap (λ (f : Effect). passed (f .reply)) (call3-no-out lent (b .index) (b .vad) (b .noise) (b .denoise) spectrum logs model))
+      (ap (λ (f : Effect). passed (f .reply)) (call3-no-out lent (b .hearing) spectrum logs model))
 
   pub no-half-out : (logs : List Float) (model : List ℕ) → passed (desk benches side b store (secondHalf logs model 0) .answer .reply) ≡ false
   no-half-out logs model =
       shut-out (secondHalf logs model 0)
-      (ap (λ (f : Effect). passed (f .reply)) (second-half-no-out lent (b .index) (b .vad) (b .noise) (b .denoise) logs model))
+      (ap (λ (f : Effect). passed (f .reply)) (second-half-no-out lent (b .hearing) logs model))
 
   pub no-resume-out : (samples logs : List Float) (model : List ℕ) (sums : ℕ) → passed (desk benches side b store (resume samples logs model 0 sums) .answer .reply) ≡ false
   no-resume-out samples logs model sums =
       shut-out (resume samples logs model 0 sums)
-      (resume-no-out mine (b .index) (b .vad) (b .noise) (b .denoise) (b .piece) (b .progress) samples logs model sums)
+      (resume-no-out mine (b .hearing) (b .piece) (b .progress) samples logs model sums)

@@ -63,17 +63,17 @@ module _ (b : Record) (share : List Float) where
   admitted-kept ask number = go (eqb number 0)
     where
       kept : (a : Ask) → Kept share (onShare b share a)
-      kept (opening m) = opened-kept (readOf m)
+      kept (opening w m) = opened-kept (readOf m)
       kept (call1 x w) = frame-kept (call1-keeps part x w)
       kept (call2 x l w s) = frame-kept (call2-keeps part x l w s)
       kept (call2Own x w s) = frame-kept (call2-own-keeps part x w s)
-      kept (call3 x l m o) = frame-kept (call3-keeps part (b .index) (b .vad) (b .noise) (b .denoise) x l m o)
+      kept (call3 x l m o) = frame-kept (call3-keeps part (b .hearing) x l m o)
       kept (call4 x o) = frame-kept (call4-keeps part (b .frame) (b .heard) x o)
-      kept (firstHalf x s) = frame-kept (first-half-keeps part x s)
-      kept (secondHalf l m o) = frame-kept (second-half-keeps part (b .index) (b .vad) (b .noise) (b .denoise) l m o)
-      kept (piece x o s) = let k = piece-kept share (b .waiting) x o s in record { size = k .size; still = k .still }
+      kept (firstHalf x s) = frame-kept (first-half-keeps part (b .hearing .way) x s)
+      kept (secondHalf l m o) = frame-kept (second-half-keeps part (b .hearing) l m o)
+      kept (piece x o s) = let k = piece-kept share (b .hearing .way) (b .waiting) x o s in record { size = k .size; still = k .still }
       kept (resume x l m o s) =
-          let k = resume-kept share (b .index) (b .vad) (b .noise) (b .denoise) (b .piece) (b .progress) x l m o s in
+          let k = resume-kept share (b .hearing) (b .piece) (b .progress) x l m o s in
           record { size = k .size; still = k .still }
 
       go : (t : Bool) → Kept share (cond t (onShare b share ask) (refused (Refused number) share))

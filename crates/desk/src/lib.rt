@@ -73,9 +73,10 @@ pub fn record_of(due: usize, hearing: Hearing, frame: u32, heard: u32) -> Record
 pub fn holding(due: usize, rec: Record, waiting: usize, size: usize, progress: usize) -> Record
     ensures { λ r. ⌜ r ≡ holding due rec waiting size progress ⌝ }
 {
+    let hearing = rec.hearing;
     Record {
         due,
-        hearing: rec.hearing,
+        hearing,
         frame: rec.frame,
         heard: rec.heard,
         waiting,
@@ -132,7 +133,9 @@ fn all_zero(rec: Record) -> bool
     if rec.progress != 0 {
         return false;
     }
-    way_number(rec.hearing.way) == 0
+    let hearing = rec.hearing;
+    let way = hearing.way;
+    way_number(way) == 0
 }
 
 // Whether the GRU counts of an open record are in range.
@@ -323,12 +326,13 @@ fn next_index(index: usize, reply: Reply) -> usize
 fn next_hearing(hearing: Hearing, reply: Reply) -> Hearing
     ensures { λ r. ⌜ r ≡ nextHearing hearing reply ⌝ }
 {
+    let way = hearing.way;
     Hearing {
         index: next_index(hearing.index, reply),
         vad: hearing.vad,
         noise: hearing.noise,
         denoise: hearing.denoise,
-        way: hearing.way,
+        way,
     }
 }
 
@@ -662,7 +666,9 @@ pub fn first_half(
     if number != 0 {
         return turned_away(rec, number);
     }
-    let reply = halves::first_half(&mut store[start..part], rec.hearing.way, samples, sums);
+    let hearing = rec.hearing;
+    let way = hearing.way;
+    let reply = halves::first_half(&mut store[start..part], way, samples, sums);
     told_first(rec, reply)
 }
 
@@ -722,9 +728,11 @@ pub fn piece(
     if number != 0 {
         return turned_away(rec, number);
     }
+    let hearing = rec.hearing;
+    let way = hearing.way;
     let reply = pieces::piece(
         &mut store[start..end],
-        rec.hearing.way,
+        way,
         rec.waiting,
         samples,
         out,
