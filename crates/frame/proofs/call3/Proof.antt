@@ -34,7 +34,7 @@ returns-5 c = search tests
 returns-6 : tie.Need-returns-6
 returns-6 c =
     let k = c .before .before in
-    let a = k .before .before .before .before .before .before .before .before .before .before .before .args in
+    let a = k .before .before .before .before .before .before .before .before .before .before .before .before .args in
     rw
     (call3-done (now (a .share)) (omega arith) (a .hearing) (now (a .spectrum)) (now (a .logs)) (now (a .model))
     (length (now (a .out))) (omega arith) (omega arith) (omega arith) (omega arith))
@@ -46,7 +46,7 @@ returns-7 c =
     let l = c .before .before .before .before in
     let i = l .before .before .before in
     let k = i .before .before in
-    let a = k .before .before .before .before .before .before .before .before .before .before .before .args in
+    let a = k .before .before .before .before .before .before .before .before .before .before .before .before .args in
     rw
     (call3-done (now (a .share)) (omega arith) (a .hearing) (now (a .spectrum)) (now (a .logs)) (now (a .model))
     (length (now (a .out))) (omega arith) (omega arith) (omega arith) (omega arith))
