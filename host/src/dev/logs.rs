@@ -1,11 +1,8 @@
 //! `box dev logs`: how far the sound moves where the library's own logarithms are lent, and not those of `f32::log10`.
 
 use crate::demo::{dictation, minutes, HOUSE};
-use crate::recorder::{Side, STORE};
+use crate::recorder::{Side, Way, RECORD, STORE};
 use crate::FRAME;
-
-/// A record's numbers.
-const RECORD: usize = 10;
 
 /// The 22 logarithms of a frame.
 type Logs = [f32; 22];
@@ -20,7 +17,7 @@ fn ours(sums: &Logs) -> Logs {
     logs
 }
 
-/// A bench with our own lag and transforms, to which the logarithms are lent.
+/// A bench as the box opens it, to which the logarithms are lent.
 struct Bench {
     lend: fn(&Logs) -> Logs,
     record: [u32; RECORD],
@@ -30,7 +27,7 @@ struct Bench {
 impl Bench {
     fn opened(lend: fn(&Logs) -> Logs) -> Bench {
         let mut bench = Bench { lend, record: [0; RECORD], store: vec![0.0; STORE] };
-        assert_eq!(tuppence::open(&mut bench.record, &mut bench.store, 0, HOUSE), 0, "the house model");
+        Way::Crate.open(&mut bench.record, &mut bench.store, 0, HOUSE).expect("the house model");
         bench
     }
 

@@ -79,13 +79,13 @@ fn seeded(pitch: [f64; 2], below: f64) -> Vec<([f64; 2], f64)> {
         .collect()
 }
 
-/// What either lag makes of the demo.
+/// What either way makes of the demo.
 fn effects() -> Result<(), String> {
     let dictations = [dictation(0), dictation(1)];
-    crate::say!("\nthe demo, cleaned with either lag:\n");
-    crate::say!("| bench | lag | noise in the pauses | voice | signal to noise, after |");
+    crate::say!("\nthe demo, cleaned in either way:\n");
+    crate::say!("| bench | `--lag` | noise in the pauses | voice | signal to noise, after |");
     crate::say!("|---|---|---|---|---|");
-    for (name, way) in [("the text's", Way::Text), ("ours", Way::OwnLag)] {
+    for (name, way) in [("crate", Way::Crate), ("own", Way::Own)] {
         for (bench, dictation) in cleaned(&dictations, way)?.iter().zip(&dictations) {
             let e = effect(dictation, &bench.after);
             crate::say!(
