@@ -21,13 +21,14 @@ use Rattle.frame.specs.Frame.{Effect}
 use Rattle.frame.specs.Frame as frame
 use Rattle.frame.specs.declared.Reply.{Reply}
 use Rattle.frame.specs.declared.Reply.the-variants.{Done, Numbered, Refused}
+use Rattle.frame.specs.declared.Way.{Way}
 use Rattle.frame.specs.declared.Way.the-variants.{Asked}
 use Rattle.frame.proofs.Cases.{call1-by, call4-by}
 use Rattle.frame.proofs.Keeps.{call1-keeps, call3-keeps}
 use Rattle.halves.specs.Halves.{lookedBack}
 use Rattle.halves.specs.Halves as halves
 use Rattle.halves.specs.Ways.{forwardBy, inverseBy}
-use Rattle.halves.proofs.Joined.{asked-is-sister, second-half-is}
+use Rattle.halves.proofs.Joined.{asked-first, second-half-is}
 use Rattle.halves.proofs.Sister.{call2-own-by}
 use Rattle.pieces.specs.Pieces.{Outcome, framePart, refused, inPart}
 use Rattle.desk.specs.declared.Record.{Record}
@@ -198,10 +199,12 @@ module _ (n side : ℕ) (b : Record) (store : List Float) where
     first-half-in-turn asked p =
         let e = was-let-in n side b store (firstHalf samples sums) p in
         let right = through n side b (length store) 1 e in
-        let h = rw asked at (let-in n side b store (firstHalf samples sums) e) in
+        let h =
+        let-in n side b store (firstHalf samples sums) e
+        ∙ ap (λ (w : Way). of n side b store (firstHalf samples sums) (inPart mine (halves.firstHalf part w samples sums))) asked in
         let o = let-in n side b store (call1 samples 960) e in
         let a = frame.call1 part samples 960 in
-        let both = asked-is-sister part samples sums (ap (λ (g : Given). passed (g .answer .reply)) (sym h) ∙ p) in
+        let both = asked-first part samples sums (ap (λ (g : Given). passed (g .answer .reply)) (sym h) ∙ p) in
         let spectrum = forwardOf (halves.buffer a) in
         let w =
         ap (λ (g : Given). desk n side (g .answer .rec) (g .store) (call2Own (forwardOf (firstIn (g .written))) 960 sums)) o

@@ -18,6 +18,6 @@ all-zero-spec =
     (λ c. search tests)  -- returns-6
     (λ c κs. search needs)  -- idle-requires
     (λ c. search (tests, answered-no (c .before .idle .ensures) (c .if7 .taken)))  -- returns-7
-    (λ c. search (tests, answered-yes (c .before .before .idle .ensures) (c .before .if7 .left)))  -- returns-8
+    (λ c. search (tests, answered-yes (c .before .before .before .idle .ensures) (c .before .before .if7 .left)))  -- returns-8
     (λ c κs. search needs)  -- way-number-requires
-    (λ c. let i = c .before .before in search (tests, c .way-number .ensures, answered-yes (i .before .idle .ensures) (i .if7 .left))))  -- returns-9
+    (λ c. let i = c .before .before .before .before in search (tests, c .way-number .ensures, answered-yes (i .before .idle .ensures) (i .if7 .left))))  -- returns-9
