@@ -46,6 +46,7 @@ use Rattle.halves.specs.Halves as halves
 use Rattle.halves.proofs.Sister.{call2-own-by, call2-own-keeps}
 use Rattle.halves.proofs.Cases.{doneFirst, doneSecond, whole-after-1, first-half-by, second-half-by}
 use Rattle.halves.proofs.Kept.{done-first-beside, done-second-beside, first-half-keeps, second-half-keeps}
+use Rattle.halves.proofs.EitherWay.{whole-remembered}
 use Rattle.pieces.specs.Pieces.{framePart, waitingIn, waits, frameAt, Outcome, refused, inPart, atEnd, paused, further}
 use Rattle.pieces.specs.Pieces as pieces
 use Rattle.pieces.proofs.Cases.{piece-by, resume-by}
@@ -107,7 +108,7 @@ module _ (part : List Float) (way : Way) (x : List Float) (whole : length part �
   first-noted : notedIn (doneFirst part way x .share) ≡ firstNotes way part x
   first-noted =
       let a = done1 part x in
-      kept-noted (remembered way (a .share)) (forwardBy way (buffer a)) (lagBy way (a .share)) (whole-remembered way (a .share) (whole-after-1 part x whole l))
+      kept-noted (remembered way (a .share)) (forwardBy way (buffer a)) (lagBy way (a .share)) (whole-remembered (a .share) way (whole-after-1 part x whole l))
 
 -- ---- all of it stands in a frame's part of a share
 
