@@ -41,13 +41,13 @@ use Rattle.dictation.proofs.Follows.{place, shareHere, next, here-lengt
 shut : (rec : Record) → allZero rec ≡ true → rec .piece ≡ 0
 unfolding allZero idle
 shut rec e =
-    let vad = both (eqb (rec .index) 0) _ e in
-    let noise = both (eqb (rec .vad) 0) _ (vad .1) in
-    let denoise = both (eqb (rec .noise) 0) _ (noise .1) in
-    let frames = both (eqb (rec .denoise) 0) _ (denoise .1) in
+    let vad = both (eqb (rec .hearing .index) 0) _ e in
+    let noise = both (eqb (rec .hearing .vad) 0) _ (vad .1) in
+    let denoise = both (eqb (rec .hearing .noise) 0) _ (noise .1) in
+    let frames = both (eqb (rec .hearing .denoise) 0) _ (denoise .1) in
     let heards = both (eqb (rec .frame) 0) _ (frames .1) in
     let pieces = both (eqb (rec .heard) 0) _ (heards .1) in
-    let none = both (idle rec) (eqb (rec .progress) 0) (pieces .1) in
+    let none = both (idle rec) _ (pieces .1) in
     eqb-true (rec .piece) 0 (both (eqb (rec .waiting) 0) (eqb (rec .piece) 0) (none .0) .1)
 
 unfinished : (rec : Record) → inRange rec ≡ true → (rec .piece ≡ 0 → ⊥) → (1 ≤ rec .progress) × (rec .progress ≤ rec .piece)
@@ -72,14 +72,14 @@ numbered rec e ne =
 -- ---- records under way pass
 
 -- a resume of a piece under way gets through the gate
-resume-due : (n side : ℕ) (rec : Record) (len size progress : ℕ) → side < n → len ≡ n * SHARE → rec .index ≤ 7 → inCounts rec ≡ true
+resume-due : (n side : ℕ) (rec : Record) (len size progress : ℕ) → side < n → len ≡ n * SHARE → rec .hearing .index ≤ 7 → inCounts rec ≡ true
     → size ≤ 4096 → 1 ≤ progress → progress ≤ size → gate n side (holding 3 rec 0 size progress) len 6 ≡ 0
 unfolding gate inRange inCounts inPieces underWay isDue
 resume-due n side rec len size progress h l i c few begun within =
     rw (
       lt-ltb side n h,
       eq-eqb len (n * SHARE) l,
-      le-leb (rec .index) 7 i,
+      le-leb (rec .hearing .index) 7 i,
       c,
       ne-eqb size 0 (λ z. omega arith),
       le-leb size 4096 few,
@@ -94,7 +94,8 @@ same-wait : (progress : ℕ) → waitedOf (progress + 480) ≡ waitedOf progress
 same-wait progress = omega arith
 
 -- the counts are the opening's, whatever frames make of the record
-fitting-on : (rec after : Record) (lent : List Lent) → after .vad ≡ rec .vad → after .noise ≡ rec .noise → after .denoise ≡ rec .denoise
+fitting-on : (rec after : Record) (lent : List Lent)
+    → after .hearing .vad ≡ rec .hearing .vad → after .hearing .noise ≡ rec .hearing .noise → after .hearing .denoise ≡ rec .hearing .denoise
     → Fitting rec lent → Fitting after lent
 fitting-on rec after [] a b c f = tt
 fitting-on rec after (l ∷ more) a b c f = (f .0, rw (a, b, c) (f .1), fitting-on rec after more a b c (f .2))
@@ -106,7 +107,7 @@ counts-on rec share xs l c = c
 module _ (n side : ℕ) (h : side < n) (store : List Float) (size : length store ≡ n * SHARE) (samples : List Float)
     (few : length samples ≤ 4096) (fine : good samples ≡ true) where
   comes : (lent : List Lent) (rec : Record) (reply : Reply) (share rest : List Float) (progress : ℕ) (w : Written) (held : List Float)
-      → passed reply ≡ true → length share ≡ SHARE → rec .index ≤ 7 → inCounts rec ≡ true
+      → passed reply ≡ true → length share ≡ SHARE → rec .hearing .index ≤ 7 → inCounts rec ≡ true
       → drop progress samples ≡ drop 480 rest → 1 ≤ progress → progress + length rest ≡ length samples + 480
       → 480 * completes (waitedOf progress) (length samples) ≤ length (over w held)
       → length lent ≡ length rest / 480 → Fitting rec lent
@@ -146,7 +147,7 @@ module _ (n side : ℕ) (h : side < n) (store : List Float) (size : length store
       let ih =
       comes more (recAfter rec share rest l) (s .reply) (shareAfter rec share rest l) (drop 480 rest) (progress + 480)
       (from (place progress) (buffer s)) out
-      (y .passes) (after-length rec share rest l k) (next-index (rec .index) (s .reply) i) (counts-on rec share rest l c)
+      (y .passes) (after-length rec share rest l k) (next-index (rec .hearing .index) (s .reply) i) (counts-on rec share rest l c)
       (sym (drop-drop 480 progress samples) ∙ ap (drop 480) same)
       (omega arith) (omega (arith, length-drop 480 rest)) (rw (kept, same-wait progress) room) (omega (arith, length-drop 480 rest))
       (fitting-on rec (recAfter rec share rest l) more refl refl refl (f .2)) in

@@ -42,7 +42,7 @@ Whole =
 abbrev pub Fitting : Record → List Lent → Type 0
 Fitting rec [] = Unit
 Fitting rec (l ∷ more) =
-    (length (l .logs) ≡ 22) × (checked (counted (rec .vad) (rec .noise) (rec .denoise)) (readOf (l .model)) ≡ Done) × Fitting rec more
+    (length (l .logs) ≡ 22) × (checked (counted (rec .hearing)) (readOf (l .model)) ≡ Done) × Fitting rec more
 
 -- a piece that is accepted comes to its end: with the same samples and output, and what fits each frame, no resume is refused
 abbrev pub Completes : Type 0
