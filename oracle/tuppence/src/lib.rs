@@ -112,12 +112,14 @@ surface! {
 }
 
 // A record is due call, cepstral index, the three GRU counts, frames and heard frames, how many samples wait, an unfinished piece's length
-// and how many of its samples are in frames: while that length is not 0 the piece is paused. Refusal 7 is 7 + 256 × the model's + 65,536 × its
-// layer.
+// and how many of its samples are in frames: while that length is not 0 the piece is paused. Last stands its way, which the opening settles: 0
+// with `open`, our own lag and the plain sums; 1 with `open_crate`, the crate's finder and the fast transforms. Refusal 7 is 7 + 256 × the
+// model's + 65,536 × its layer.
 #[cfg(feature = "frame")]
 surface! {
     tuppence_side_of as side_of(bench: u32) -> u32;
     tuppence_open as open(record: &mut [u32], store: &mut [f32], side: u32, model: &[u8]) -> u32;
+    tuppence_open_crate as open_crate(record: &mut [u32], store: &mut [f32], side: u32, model: &[u8]) -> u32;
     tuppence_call1 as call1(record: &mut [u32], store: &mut [f32], side: u32, samples: &[f32], window: &mut [f32]) -> u32;
     tuppence_call2 as call2(
         record: &mut [u32], store: &mut [f32], side: u32, spectrum: &[f32], lag: u32, window: &mut [f32], sums: &mut [f32]
