@@ -45,11 +45,11 @@ module _ (number : ℕ) (rec : Record) (rows : List Row) (model : List ℕ) (sam
   tested-small = go (eqb number 0)
     where
       behind : Reply
-      behind = lastTests (rec .vad) (rec .noise) (rec .denoise) model (good samples)
+      behind = lastTests (rec .hearing) model (good samples)
 
       behind-small : Small behind
       behind-small =
-          last-tests-by (rec .vad) (rec .noise) (rec .denoise) model (good samples) Small (λ _. tt)
+          last-tests-by (rec .hearing) model (good samples) Small (λ _. tt)
           (λ n l e. let r = refused-in model e in (r .1, r .2)) (λ _ _. tt)
 
       go : (t : Bool) → Small (cond t (refusing rows Refused behind) (Refused number))
