@@ -25,7 +25,7 @@ use Rattle.frame.proofs.Done.{call2-done, call4-done}
 use Rattle.frame.proofs.Keeps.{end}
 use Rattle.halves.specs.Ways.{lagBy, remembered, forwardBy, inverseBy}
 use Rattle.halves.specs.Halves.{onward, buffer, analysed, firstHalf, lookedBack, synthesised, secondHalf}
-use Rattle.halves.proofs.Ways.{lag-fits, length-forward, length-inverse, whole-remembered}
+use Rattle.halves.proofs.EitherWay.{lag-fits, length-forward, length-inverse, whole-remembered}
 
 -- ---- what the two calls of a half give, where nothing is refused
 

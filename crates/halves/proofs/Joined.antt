@@ -24,7 +24,7 @@ use Rattle.halves.specs.Own.{call2Own}
 use Rattle.halves.specs.Ways.{lagBy, remembered, forwardBy, inverseBy}
 use Rattle.halves.specs.Laws.{Both, FirstIsCalls, SecondIsCalls, AskedFirst, AskedSecond}
 use Rattle.halves.specs.Halves.{onward, buffer, analysed, firstHalf, lookedBack, synthesised, secondHalf}
-use Rattle.halves.proofs.Ways.{length-inverse}
+use Rattle.halves.proofs.EitherWay.{length-inverse}
 
 module _ (share : List Float) where
   module _ (way : Way) (samples : List Float) (sums : ℕ) where

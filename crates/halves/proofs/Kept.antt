@@ -20,7 +20,7 @@ use Rattle.frame.proofs.Keeps.{Keeps, end, unmoved, moved}
 use Rattle.halves.specs.Ways.{lagBy, remembered, forwardBy, inverseBy}
 use Rattle.halves.specs.Halves.{buffer, lookedBack, firstHalf, secondHalf}
 use Rattle.halves.proofs.Cases.{doneFirst, doneSecond, first-half-by, second-half-by}
-use Rattle.halves.proofs.Ways.{remembered-beside}
+use Rattle.halves.proofs.EitherWay.{remembered-beside}
 
 -- ---- places apart
 

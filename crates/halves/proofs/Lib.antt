@@ -1,7 +1,7 @@
 pub mod Cases
+pub mod EitherWay
 pub mod Joined
 pub mod Kept
 pub mod Lagged
 pub mod Onward
 pub mod Sister
-pub mod Ways

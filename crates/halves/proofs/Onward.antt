@@ -16,7 +16,7 @@ use Rattle.frame.specs.Frame.{Effect, Worked, refusal, call1, call2, call3, cal
 use Rattle.frame.proofs.Done.{call4-done, or-true}
 use Rattle.halves.specs.Ways.{lagBy, remembered, forwardBy, inverseBy}
 use Rattle.halves.specs.Halves.{onward, buffer, analysed, firstHalf, lookedBack, synthesised, secondHalf}
-use Rattle.halves.proofs.Ways.{length-inverse}
+use Rattle.halves.proofs.EitherWay.{length-inverse}
 
 -- ---- where no length is wrong
 

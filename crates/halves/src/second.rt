@@ -57,13 +57,14 @@ pub fn second_half(
     if hearing.index > 7 {
         return Reply::Refused(5);
     }
+    let way = hearing.way;
     let mut spectrum = [0.0f32; 961];
-    look_back(&mut spectrum, share, hearing.way);
+    look_back(&mut spectrum, share, way);
     let mut shaped = [0.0f32; 961];
     let reply = frame::call3(share, hearing, &spectrum, logs, model, &mut shaped);
     if !frame::passed(reply) {
         return reply;
     }
-    synthesise(share, hearing.way, &shaped, out);
+    synthesise(share, way, &shaped, out);
     reply
 }

@@ -34,7 +34,7 @@ use Rattle.halves.specs.Halves.{buffer, lookedBack, firstHalf, secondHalf}
 use Rattle.halves.proofs.Cases.{doneFirst, whole-after-1, first-half-by, second-half-by}
 use Rattle.halves.proofs.Kept.{first-half-keeps, second-half-keeps}
 use Rattle.halves.proofs.Onward.{first-half-done, second-half-done}
-use Rattle.halves.proofs.Ways.{lag-fits, length-forward, whole-remembered}
+use Rattle.halves.proofs.EitherWay.{lag-fits, length-forward, whole-remembered}
 
 -- a half that is refused nothing leaves a part of a share, and one buffer of n numbers
 pub record Halved (n : ℕ) (f : Effect) : Type 0 where

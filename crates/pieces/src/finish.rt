@@ -136,6 +136,7 @@ pub fn resume(
     }
     let start = 480 * ((progress + 479) / 480 - 1);
     let told = crate::frames::leave(share, hearing, logs, model, out, start);
-    go_on(share, hearing.way, samples, progress, sums);
+    let way = hearing.way;
+    go_on(share, way, samples, progress, sums);
     told
 }
