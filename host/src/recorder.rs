@@ -41,7 +41,7 @@ impl Side {
 pub enum Way {
     #[default]
     Crate,
-    Own,
+    Asked,
 }
 
 impl Way {
@@ -49,7 +49,7 @@ impl Way {
     pub fn open(self, record: &mut [u32], store: &mut [f32], side: u32, model: &[u8]) -> Result<(), Refusal> {
         done(match self {
             Way::Crate => tuppence::open_crate(record, store, side, model),
-            Way::Own => tuppence::open(record, store, side, model),
+            Way::Asked => tuppence::open(record, store, side, model),
         })
     }
 }

@@ -121,7 +121,7 @@ fn as_the_text_gives_it_but_for_the_last_bits() {
             assert!(is_near(&distance), "{distance:?}, {} dB", distance.below());
         }
         // our own lag, where it is another, moves it much further
-        let distance = beside(&dictation(bench).noisy, HOUSE, Way::Own);
+        let distance = beside(&dictation(bench).noisy, HOUSE, Way::Asked);
         assert!(distance.most > 100.0 && distance.below() < 60.0, "{distance:?}, {} dB", distance.below());
     }
 }
@@ -149,7 +149,7 @@ fn cut(way: Way, samples: &[f32], lengths: &[usize]) -> (Vec<u8>, Vec<Frame>) {
 #[test]
 fn however_it_is_cut() {
     let sound = &dictation(1).noisy[..200 * FRAME + 7];
-    for way in [Way::Crate, Way::Own] {
+    for way in [Way::Crate, Way::Asked] {
         let whole = cut(way, sound, &[FRAME]);
         assert_eq!(whole.1.len(), 200);
         let voices = whole.1.iter().map(|frame| frame.heard.voice());

@@ -88,7 +88,7 @@ fn bench_15_is_the_last_and_98_304_numbers_are_the_only_store() {
 /// The eleventh number of a record is the way of its bench.
 #[test]
 fn an_opening_settles_the_way() {
-    for (way, number) in [(Way::Own, 0), (Way::Crate, 1)] {
+    for (way, number) in [(Way::Asked, 0), (Way::Crate, 1)] {
         let (mut store, mut record) = (vec![1.0; 98_304], [0; RECORD]);
         assert_eq!(way.open(&mut record, &mut store, 0, &smallest()), Ok(()));
         assert_eq!(record, [1, 0, 1, 1, 1, 0, 0, 0, 0, 0, number]);
@@ -127,7 +127,7 @@ fn disturbed(way: Way, by: Option<&[u8]>) -> Vec<u8> {
 
 #[test]
 fn a_refused_opening_changes_nothing() {
-    for way in [Way::Crate, Way::Own] {
+    for way in [Way::Crate, Way::Asked] {
         assert!(disturbed(way, Some(b"")) == disturbed(way, None), "{way:?}");
     }
 }

@@ -14,7 +14,7 @@ use std::path::{Path, PathBuf};
 
 fn way(given: &Given) -> Way {
     match given.word("--lag").as_deref() {
-        Some("own") => Way::Own,
+        Some("own") => Way::Asked,
         _ => Way::Crate,
     }
 }

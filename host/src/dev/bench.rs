@@ -109,7 +109,7 @@ impl Speed {
 pub fn measure() -> Speed {
     let samples: Vec<f32> = grinder(FRAMES * FRAME, 7, 100.0, 340.0).iter().map(|x| (1_000.0 * x) as f32).collect();
     let (recorded, mut times) = (Block::of(&samples), [const { vec![] }; 5]);
-    let (mut recorder, mut own, mut calls) = (Recorder::new(Way::Crate), Recorder::new(Way::Own), Calls::default());
+    let (mut recorder, mut own, mut calls) = (Recorder::new(Way::Crate), Recorder::new(Way::Asked), Calls::default());
     for _ in 0..ROUNDS {
         times[0].push(pieces(&mut recorder, &recorded));
         times[1].push(pieces(&mut own, &recorded));

@@ -85,7 +85,7 @@ fn effects() -> Result<(), String> {
     crate::say!("\nthe demo, cleaned in either way:\n");
     crate::say!("| bench | `--lag` | noise in the pauses | voice | signal to noise, after |");
     crate::say!("|---|---|---|---|---|");
-    for (name, way) in [("crate", Way::Crate), ("own", Way::Own)] {
+    for (name, way) in [("crate", Way::Crate), ("own", Way::Asked)] {
         for (bench, dictation) in cleaned(&dictations, way)?.iter().zip(&dictations) {
             let e = effect(dictation, &bench.after);
             crate::say!(

@@ -65,7 +65,7 @@ pub fn text() {
         let rows = [
             ("the demo", "crate", Way::Crate, dictation(bench).noisy),
             ("ten minutes", "crate", Way::Crate, minutes(10, bench)),
-            ("the demo", "own", Way::Own, dictation(bench).noisy),
+            ("the demo", "own", Way::Asked, dictation(bench).noisy),
         ];
         for (what, lag, way, recording) in rows {
             let distance = beside(&recording, HOUSE, way);
