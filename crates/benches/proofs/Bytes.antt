@@ -16,7 +16,8 @@ use Rattle.desk.specs.declared.Record.{Record}
 use Rattle.desk.specs.Gate.{BENCHES, PIECE, gate}
 use Rattle.desk.specs.Surface.{recordIn}
 use Rattle.whole.specs.Whole.{take}
-use Rattle.isolation.specs.Isolation.{Returned, Gives, State, allZeros, own, lonely, received, alone, after}
+use Rattle.isolation.specs.Run.{Returned, Gives, on, State, after, received}
+use Rattle.isolation.specs.Isolation.{allZeros, own, alone}
 use Rattle.surface.specs.Surface.{Request}
 use Rattle.pcm.specs.Pcm.{unpacked}
 use Rattle.pcm.specs.Laws.{AgreeIn}
@@ -85,14 +86,14 @@ call-alike n side ns store (feed b m c e a) (feed b′ m′ c′ e′ a′) h =
 call-alike n side ns store (one r) (feed b m c e a) h = absurd h
 call-alike n side ns store (feed b m c e a) (one r) h = absurd h
 
-runs-alike : (cs cs′ : List Call) → AllAlike cs cs′ → (st : State) → received every 1 0 st (map lonely cs) ≡ received every 1 0 st (map lonely cs′)
+runs-alike : (cs cs′ : List Call) → AllAlike cs cs′ → (st : State) → received every 1 0 st (map (on 0) cs) ≡ received every 1 0 st (map (on 0) cs′)
 unfolding received
 runs-alike [] [] h st = refl
 runs-alike (c ∷ cs) (c′ ∷ cs′) h st =
     let here = call-alike 1 0 (st .numbers 0) (st .store) c c′ (h .0) in
     ap₂ {C = List (Returned Told)} (λ (x : Returned Told) (xs : List (Returned Told)). x ∷ xs) (ap (λ (g : Gives Told). g .returned) here)
-    (runs-alike cs cs′ (h .1) (after every 1 st (lonely c))
-    ∙ ap (λ (g : Gives Told). received every 1 0 (next st g) (map lonely cs′)) here)
+    (runs-alike cs cs′ (h .1) (after every 1 st (on 0 c))
+    ∙ ap (λ (g : Gives Told). received every 1 0 (next st g) (map (on 0) cs′)) here)
 runs-alike [] (c′ ∷ cs′) h st = absurd h
 runs-alike (c ∷ cs) [] h st = absurd h
 

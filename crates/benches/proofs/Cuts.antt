@@ -12,16 +12,16 @@ use Rattle.pieces.specs.Pieces.{waitingIn, completes}
 use Rattle.pieces.proofs.Shares.{waiting-length}
 use Rattle.desk.specs.declared.Record.{Record}
 use Rattle.desk.specs.Gate.{shareOf}
-use Rattle.desk.specs.Surface.{recordIn}
 use Rattle.dictation.specs.Dictation.{Dictated, dictate}
 use Rattle.dictation.proofs.Joins.{share-size, then, rejoin}
 use Rattle.whole.specs.Taking.{Told, lentTo, answersOf}
-use Rattle.isolation.specs.Isolation.{On, State}
+use Rattle.isolation.specs.Run.{On, State, recordAt}
+use Rattle.surface.proofs.Between.{answers-both}
 use Rattle.feed.specs.Feed.{blockOf, samplesOf, entriesOf}
 use Rattle.benches.specs.Benches.{Call}
 use Rattle.benches.specs.Cutting.{Has, hasOf, said, hasSaid, Feeds, lastBlock, moreBlocks, Streams, BytesInARow, HoweverCut}
 use Rattle.benches.proofs.Bytes.{samples-alike}
-use Rattle.benches.proofs.Rows.{packed-both, entries-both, answers-length, answers-both, size-is, samples-both, frame-after, waiting-after, settled}
+use Rattle.benches.proofs.Rows.{packed-both, entries-both, answers-length, size-is, samples-both, frame-after, waiting-after, settled}
 use Rattle.benches.proofs.Runs.{Says, ahead, Comes, lone-run}
 
 -- ---- samples that are said, and then others
@@ -115,11 +115,11 @@ module _ (format channels channel : ℕ) (model : List ℕ) where
       })
 
 module _ (n s : ℕ) (st : State) (calls : List (On Call)) (format channels channel : ℕ) (model bytes : List ℕ) (k : Streams n s st calls format channels channel model bytes) where
-  in-a-row : Whole (recordIn (st .numbers s)) (get (shareOf s) (st .store)) (samplesOf (blockOf bytes format channels channel)) model (hasOf n s st calls)
+  in-a-row : Whole (recordAt s st) (get (shareOf s) (st .store)) (samplesOf (blockOf bytes format channels channel)) model (hasOf n s st calls)
   in-a-row =
-      rows format channels channel model (k .fed) (recordIn (st .numbers s)) (get (shareOf s) (st .store)) (hasOf n s st calls)
+      rows format channels channel model (k .fed) (recordAt s st) (get (shareOf s) (st .store)) (hasOf n s st calls)
       (length-get (shareOf s) (st .store) (omega (arith, k .inside, k .sized))) (k .numbered)
-      (lone-run n s (k .inside) calls st (k .sized) (recordIn (st .numbers s)) (get (shareOf s) (st .store)) refl refl)
+      (lone-run n s (k .inside) calls st (k .sized) (recordAt s st) (get (shareOf s) (st .store)) refl refl)
 
 pub bytes-in-a-row : BytesInARow
 bytes-in-a-row n s st calls format channels channel model bytes k =
@@ -138,5 +138,5 @@ however-cut n s st st′ calls calls′ format channels channel model bytes byte
     let v = in-a-row n s st calls format channels channel model bytes k in
     let w = in-a-row n s st′ calls′ format channels channel model bytes′ k′ in
     let g = samples-alike format channels channel bytes bytes′ (alike .size) (alike .agree) in
-    one-way (recordIn (st .numbers s)) (get (shareOf s) (st .store)) (samplesOf (blockOf bytes format channels channel)) model (hasOf n s st calls) (hasOf n s st′ calls′) v
+    one-way (recordAt s st) (get (shareOf s) (st .store)) (samplesOf (blockOf bytes format channels channel)) model (hasOf n s st calls) (hasOf n s st′ calls′) v
     (rw (e, f, g) w)

@@ -92,10 +92,6 @@ pub answers-length : (told : List Told) → length (answersOf told) ≡ 3 * leng
 answers-length [] = refl
 answers-length (f ∷ fs) = omega (arith, length-append (heardOf (f .1)) (answersOf fs), three (f .1), answers-length fs)
 
-pub answers-both : (fs gs : List Told) → answersOf (fs ++ gs) ≡ answersOf fs ++ answersOf gs
-answers-both [] gs = refl
-answers-both (f ∷ fs) gs = ap (λ (x : List Float). heardOf (f .1) ++ x) (answers-both fs gs) ∙ sym (append-assoc (heardOf (f .1)) (answersOf fs) (answersOf gs))
-
 -- ---- bytes in a row, as samples
 
 pub size-is : (b : Block) → length (samplesOf b) ≡ sizeOf b

@@ -4,18 +4,19 @@
 -- Assumes nothing.
 use Prim.Native.Nat.{ℕ, _*_, _≤_, _<_}
 use native.Mathlib.Omega.{arith}
-use mathlib.Core.Bool.{Bool, true, false, cond, false≢true}
+use mathlib.Core.Bool.{Bool, true, false, cond, not, false≢true}
 use mathlib.Core.List.{List, [], _∷_, _++_, map}
 use mathlib.Core.Path.{_≡_, refl, sym, ap, ap₂, subst, _∙_}
 use borrow.Author.Tests.{eqb-true, eqb-false, eq-eqb}
 use lib.Dec.{eqb}
-use lib.ListN.{length, getD}
+use lib.ListN.{length, getD, drop}
 use lib.Ieee.{Float}
 use Rattle.rules.specs.Place.{get, put}
-use Rattle.rules.specs.Written.{Written, firstIn}
+use Rattle.rules.specs.Refusals.{_when_, refusing}
+use Rattle.rules.specs.Written.{firstIn}
 use Rattle.rules.proofs.Places.{length-get, get-put}
 use Rattle.rules.proofs.Refused.{by-rows}
-use Rattle.rules.proofs.Writing.{to-none}
+use Rattle.rules.proofs.Rows.{by-each}
 use Rattle.frame.specs.declared.Reply.{Reply}
 use Rattle.frame.specs.declared.Reply.the-variants.{Refused}
 use Rattle.frame.specs.Reply.{passed}
@@ -23,33 +24,28 @@ use Rattle.frame.specs.Share.{SHARE}
 use Rattle.pieces.specs.Pieces.{waitingIn, completes}
 use Rattle.desk.specs.declared.Record.{Record}
 use Rattle.desk.specs.Gate.{PIECE, gate, shareOf}
-use Rattle.desk.specs.Desk.{Ask, opening, call1, call2, call2Own, call3, call4, firstHalf, secondHalf, piece, resume, Given, desk}
-use Rattle.desk.specs.Surface.{recordIn, besides, telling, hosted}
-use Rattle.desk.proofs.Apart.{same-length, other-share}
-use Rattle.desk.proofs.Buffers.{buffers}
-use Rattle.desk.proofs.Settled.{refused-keeps}
+use Rattle.desk.specs.Desk.{Given}
+use Rattle.desk.specs.Surface.{recordIn, replyNumber}
 use Rattle.dictation.proofs.Joins.{share-size}
 use Rattle.whole.specs.Whole.{takeReply}
 use Rattle.whole.specs.Whole as whole
-use Rattle.whole.specs.Surface.{hostedFrame, hostedTake}
+use Rattle.whole.specs.Surface.{hostedTake}
 use Rattle.whole.specs.Taking.{lentTo}
 use Rattle.whole.specs.Taking as frames
 use Rattle.whole.proofs.Accepted.{take-accepted, fits-sizes}
 use Rattle.whole.proofs.Dictations.{as-dictated}
-use Rattle.whole.proofs.Halves.{frame-leaves, take-leaves}
 use Rattle.whole.proofs.Ranged.{take-by}
-use Rattle.isolation.specs.Run as desks
-use Rattle.isolation.proofs.Isolated.{reads}
-use Rattle.isolation.specs.Isolation.{Gives, On, State, on, after, ended, received}
-use Rattle.surface.specs.Surface.{Request, ask, frame, take, called}
-use Rattle.surface.specs.Mixed.{inDesk}
-use Rattle.surface.proofs.Expanded.{callOn}
+use Rattle.isolation.specs.Run.{Gives, On, on, State, recordAt, after, ended, received, done}
+use Rattle.isolation.proofs.Isolated.{beside}
+use Rattle.surface.specs.Surface.{take, called}
+use Rattle.surface.proofs.Numbers.{zero-is-done}
+use Rattle.surface.proofs.Refusing.{refused-leaves}
 use Rattle.feed.specs.Feed.{Block, ROOM, sizeOf, samplesOf, feedRows, Fed, unfed, fedBy}
 use Rattle.feed.specs.Feed as feeding
 use Rattle.feed.proofs.Ranged.{feed-leaves}
 use Rattle.benches.specs.Benches.{Call, one, feed, Told, ofBytes, every}
-use Rattle.benches.specs.Cutting.{asksIn, Has, hasOf, said, hasSaid, replyTo, doneIn}
-use Rattle.benches.proofs.Made.{made}
+use Rattle.benches.specs.Cutting.{Has, hasOf, said, hasSaid}
+use Rattle.benches.proofs.Fed.{planned}
 
 -- ---- one call
 
@@ -68,33 +64,38 @@ gaveOf s g =
 abbrev pub bare : Record → List Float → Has
 bare b xs = record { rec = b; share = xs; cleaned = []; entries = []; answers = [] }
 
-untold : (a : Ask) (r : Reply) → passed r ≡ false → besides a r ≡ []
-untold (opening w m) r p = refl
-untold (call1 x w) r p = refl
-untold (call2 x l w s) r p = refl
-untold (call2Own x w s) r p = refl
-untold (call3 x l m o) r p = rw p
-untold (call4 x o) r p = refl
-untold (firstHalf x s) r p = refl
-untold (secondHalf l m o) r p = rw p
-untold (piece x o s) r p = refl
-untold (resume x l m o s) r p = rw p
+-- what a call is answered
+abbrev replyTo : ℕ → ℕ → List ℕ → List Float → Call → Reply
+replyTo n side ns store (one r) = called n side ns store r .answer .reply
+replyTo n side ns store (feed b model cleaned entries answers) =
+    feeding.feed n side (recordIn ns) store b model cleaned entries answers .answer .reply
 
 module _ (n s : ℕ) (ns : List ℕ) (store : List Float) where
-  -- a refused call of the C surface leaves the store, and writes nothing
-  leaves : (r : Request) → passed (called n s ns store r .answer .reply) ≡ false → (called n s ns store r .store ≡ store) × (called n s ns store r .written ≡ [])
-  unfolding hosted hostedFrame hostedTake
-  leaves (ask a) p =
-      let o = desk n s (recordIn ns) store a in
-      let none : o .written ≡ [] = to-none (o .written) (rw p at (buffers n s (recordIn ns) store a)) in
-      (refused-keeps n s (recordIn ns) store a p .1, ap₂ (λ (u v : List Written). u ++ v) none (untold a (o .answer .reply) p))
-  leaves (frame x m o) p =
-      let k = frame-leaves n s (recordIn ns) store x m o p in
-      (ap (λ (g : Given). g .store) k, ap (λ (g : Given). telling g .written) k ∙ rw p)
-  leaves (take x m o a) p = let k = take-leaves n s (recordIn ns) store x m o a p in (ap (λ (g : Given). g .store) k, ap (λ (g : Given). g .written) k)
+  abbrev ZeroOf : Reply → Type 0
+  ZeroOf reply = passed reply ≡ eqb (replyNumber reply) 0
+
+  -- it passes where 0 is returned
+  is-done : (c : Call) → passed (replyTo n s ns store c) ≡ eqb (every n s ns store c .returned .number) 0
+  unfolding feeding.feed hostedTake
+  is-done (one r) = zero-is-done n s ns store r .0
+  is-done (feed b model cleaned entries answers) = go (eqb number 0) refl
+    where
+      number : ℕ
+      number = gate n s (recordIn ns) (length store) PIECE
+
+      right : Fed
+      right = fedBy (recordIn ns .frame) (whole.take n s (recordIn ns) store (samplesOf b) model ROOM answers)
+
+      go : (t : Bool) → eqb number 0 ≡ t
+          → ZeroOf (refusing (number when not t ∷ drop 1 (feedRows number (recordIn ns .waiting) (sizeOf b) cleaned entries answers)) (λ r. unfed (recordIn ns) store (Refused r)) right .answer .reply)
+      go true e =
+          by-each (λ r. unfed (recordIn ns) store (Refused r)) right (λ (o : Fed). ZeroOf (o .answer .reply))
+          (drop 1 (feedRows number (recordIn ns .waiting) (sizeOf b) cleaned entries answers)) (refl, (refl, (refl, (refl, tt))))
+          (zero-is-done n s ns store (take (samplesOf b) model ROOM answers) .0)
+      go false e = sym e
 
   gave-nothing : (c : Call) → passed (replyTo n s ns store c) ≡ false → gaveOf s (every n s ns store c) ≡ bare (recordIn ns) (get (shareOf s) store)
-  gave-nothing (one r) p = let k = leaves r p in rw (p, k .0, k .1)
+  gave-nothing (one r) p = let k = refused-leaves n s ns store r p in rw (p, k .1, k .2)
   gave-nothing (feed b model cleaned entries answers) p =
       let k = feed-leaves n s (recordIn ns) store b model cleaned entries answers p in
       ap (λ (o : Fed). gaveOf s (ofBytes ns o)) k ∙ rw p
@@ -134,6 +135,7 @@ module _ (n s : ℕ) (inside : s < n) (ns : List ℕ) (store : List Float) (l : 
   gave-said : passed (feeding.feed n s rec store b model cleaned entries answers .answer .reply) ≡ true
       → (told : List frames.Told) × Says rec share (samplesOf b) model told
       × (gaveOf s (every n s ns store (feed b model cleaned entries answers)) ≡ hasSaid rec share (samplesOf b) model told)
+  unfolding recordIn
   gave-said p =
       let f = fed-is p in
       let t = as-dictated n s rec store (samplesOf b) model ROOM answers (f .1) in
@@ -146,7 +148,7 @@ module _ (n s : ℕ) (inside : s < n) (ns : List ℕ) (store : List Float) (l : 
       (share-size rec share (waitingIn (rec .waiting) share ++ samplesOf b) (map (lentTo model) told) full) in (
         told,
         record { same = t .1 .2; count = t .1 .0; waits = sizes .0; some = sizes .1 },
-        ap (λ (o : Fed). gaveOf s (ofBytes ns o)) (f .0) ∙ ap (λ (g : Given). gaveOf s (ofBytes ns (fedBy (rec .frame) g))) (t .1 .3) ∙ rw (f .1, back, reads (d .rec)),
+        ap (λ (o : Fed). gaveOf s (ofBytes ns o)) (f .0) ∙ ap (λ (g : Given). gaveOf s (ofBytes ns (fedBy (rec .frame) g))) (t .1 .3) ∙ rw (f .1, back),
       )
 
 -- ---- calls that are done, one after the other
@@ -170,28 +172,9 @@ Comes (feed k model c e a ∷ more) b xs h =
     (told : List frames.Told) × (rest : Has) × Says b xs (samplesOf k) model told
     × (let d = said b xs (samplesOf k) model told in Comes more (d .rec) (d .store) rest) × (h ≡ ahead (hasSaid b xs (samplesOf k) model told) rest)
 
--- any number of calls of another side
-module _ (n side : ℕ) where
-  others : (asks : List Ask) (st : desks.State) → length (st .store) ≡ n * SHARE
-      → let end = desks.ended n st (map (callOn side) asks) in
-      (length (end .store) ≡ n * SHARE) × ((s : ℕ) → (side ≡ s → ⊥) → get (shareOf s) (end .store) ≡ get (shareOf s) (st .store))
-  unfolding desks.ended
-  others [] st l = (l, λ _ _. refl)
-  others (a ∷ more) st l =
-      let k = others more (desks.after n st (callOn side a)) (same-length n side (st .rec side) (st .store) a l ∙ l) in
-      (k .0, λ s ne. k .1 s ne ∙ other-share n side (st .rec side) (st .store) a l s ne)
-
-  beside : (c : Call) (st : State) → length (st .store) ≡ n * SHARE
-      → let next = after every n st (on side c) in
-      (length (next .store) ≡ n * SHARE) × ((s : ℕ) → (side ≡ s → ⊥) → get (shareOf s) (next .store) ≡ get (shareOf s) (st .store))
-  beside c st l =
-      let m = made n st side c in
-      let k = others (asksIn n side (recordIn (st .numbers side)) (st .store) c) (inDesk st) l in
-      (ap (λ (t : desks.State). length (t .store)) m ∙ k .0, λ s ne. ap (λ (t : desks.State). get (shareOf s) (t .store)) m ∙ k .1 s ne)
-
 module _ (n s : ℕ) (inside : s < n) where
   abbrev Runs : List (On Call) → State → Type 0
-  Runs cs st = (b : Record) (xs : List Float) → recordIn (st .numbers s) ≡ b → get (shareOf s) (st .store) ≡ xs → Comes (doneIn n s st cs) b xs (hasOf n s st cs)
+  Runs cs st = (b : Record) (xs : List Float) → recordAt s st ≡ b → get (shareOf s) (st .store) ≡ xs → Comes (done every n s st cs) b xs (hasOf n s st cs)
 
   -- a call of its own, and those that follow
   module _ (c : Call) (cs : List (On Call)) (st : State) where
@@ -207,9 +190,9 @@ module _ (n s : ℕ) (inside : s < n) where
     numbers-are : after every n st (on s c) .numbers s ≡ every n s (st .numbers s) (st .store) c .returned .numbers
     numbers-are = rw (eq-eqb s s refl)
 
-    done-are : doneIn n s st (on s c ∷ cs) ≡ cond (passed (replyTo n s (st .numbers s) (st .store) c)) (c ∷ doneIn n s next cs) (doneIn n s next cs)
-    unfolding doneIn
-    done-are = rw (eq-eqb s s refl)
+    done-are : done every n s st (on s c ∷ cs) ≡ cond (passed (replyTo n s (st .numbers s) (st .store) c)) (c ∷ done every n s next cs) (done every n s next cs)
+    unfolding done
+    done-are = rw (eq-eqb s s refl, ← is-done n s (st .numbers s) (st .store) c)
 
     has-are : hasOf n s st (on s c ∷ cs) ≡ ahead (gaveOf s gave) (hasOf n s next cs)
     unfolding received ended
@@ -228,7 +211,7 @@ module _ (n s : ℕ) (inside : s < n) where
   own-call c cs st l ih b xs e f = rw (← e, ← f, done-are c cs st, has-are c cs st) (go (passed (reply c cs st)) refl)
     where
       rest : List Call
-      rest = doneIn n s (next c cs st) cs
+      rest = done every n s (next c cs st) cs
 
       h : Has
       h = hasOf n s (next c cs st) cs
@@ -246,14 +229,14 @@ module _ (n s : ℕ) (inside : s < n) where
 
   other-call : (side : ℕ) → eqb side s ≡ false → (c : Call) (cs : List (On Call)) (st : State) → length (st .store) ≡ n * SHARE
       → Runs cs (after every n st (on side c)) → Runs (on side c ∷ cs) st
-  unfolding doneIn received ended
-  other-call side t c cs st l ih b xs e f = rw t (ih b xs (rw t e) (beside n side c st l .1 s (eqb-false side s t) ∙ f))
+  unfolding done received ended
+  other-call side t c cs st l ih b xs e f = rw t (ih b xs (rw t e) (beside every planned n side (st .numbers side) (st .store) c l .1 s (eqb-false side s t) ∙ f))
 
   pub lone-run : (cs : List (On Call)) (st : State) → length (st .store) ≡ n * SHARE → Runs cs st
-  unfolding doneIn received ended Comes
+  unfolding done received ended Comes
   lone-run [] st l = λ b xs e f. ap₂ bare e f
   lone-run (c ∷ cs) st l =
-      go (eqb (c .side) s) refl (lone-run cs (after every n st c) (beside n (c .side) (c .call) st l .0))
+      go (eqb (c .side) s) refl (lone-run cs (after every n st c) (beside every planned n (c .side) (st .numbers (c .side)) (st .store) (c .call) l .0))
     where
       go : (t : Bool) → eqb (c .side) s ≡ t → Runs cs (after every n st (on (c .side) (c .call))) → Runs (on (c .side) (c .call) ∷ cs) st
       go true t =

@@ -11,8 +11,9 @@ use lib.Ieee.{Float}
 use Rattle.rules.specs.Written.{Written, from}
 use Rattle.frame.specs.Share.{SHARE}
 use Rattle.desk.specs.Gate.{BENCHES}
-use Rattle.desk.specs.Surface.{recordIn, replyNumber, handedBack}
-use Rattle.isolation.specs.Isolation.{Gives, Kind, On, allZeros, own, received, Isolated}
+use Rattle.desk.specs.Surface.{recordIn}
+use Rattle.isolation.specs.Run.{Gives, gives, Kind, On, received}
+use Rattle.isolation.specs.Isolation.{allZeros, own, Isolated}
 use Rattle.surface.specs.Surface.{Request, surface}
 use Rattle.pcm.specs.Laws.{AgreeIn}
 use Rattle.feed.specs.Feed.{Block, sizeOf}
@@ -38,8 +39,7 @@ abbrev pub toldOf : feeding.Fed → Told
 toldOf o = (from 0 (o .answers) ∷ [], o .cleaned ∷ o .entries ∷ [])
 
 abbrev pub ofBytes : List ℕ → feeding.Fed → Gives Told
-ofBytes ns o =
-    record { returned = record { number = replyNumber (o .answer .reply); numbers = handedBack (o .answer) ns; told = toldOf o }; store = o .store }
+ofBytes ns o = gives ns (o .answer) (toldOf o) (o .store)
 
 abbrev pub every : Kind Call Told
 every n side ns store (one r) = ofFloats (surface n side ns store r)

@@ -4,41 +4,31 @@
 -- among them. And where a bench's stream is cut makes no difference: its cleaned bytes, entries and answers in a row, and its record and share at the end, are
 -- those of one dictation of its channel, whatever other benches do in between, and however often a call of its own is refused.
 use Prim.Native.Nat.{ℕ, _*_, _<_}
-use mathlib.Core.Bool.{true, cond, _&&_}
 use mathlib.Core.List.{List, [], _∷_, _++_, map}
 use mathlib.Core.Path.{_≡_}
-use lib.Dec.{eqb}
 use lib.ListN.{length, getD}
 use lib.Ieee.{Float}
 use Rattle.rules.specs.Place.{get}
 use Rattle.rules.specs.Refusals.{refusing}
 use Rattle.rules.specs.Written.{firstIn}
-use Rattle.frame.specs.declared.Reply.{Reply}
-use Rattle.frame.specs.declared.Way.{Way}
-use Rattle.frame.specs.Reply.{passed}
 use Rattle.frame.specs.Share.{SHARE}
 use Rattle.pieces.specs.Pieces.{waitingIn, completes}
 use Rattle.desk.specs.declared.Record.{Record}
 use Rattle.desk.specs.Gate.{BENCHES, PIECE, gate, shareOf}
-use Rattle.desk.specs.Desk.{Ask, opening}
-use Rattle.desk.specs.Surface.{recordIn}
 use Rattle.whole.specs.Taking.{lentTo, answersOf}
 use Rattle.whole.specs.Taking as frames
 use Rattle.dictation.specs.Dictation.{Dictated, dictate}
-use Rattle.isolation.specs.Run.{openingOf}
-use Rattle.isolation.specs.Run as desks
-use Rattle.isolation.specs.Isolation.{Returned, On, State, on, after, ended, received}
-use Rattle.surface.specs.Surface.{ask, take, called}
-use Rattle.surface.specs.Mixed.{inDesk, madeOf, Expands, Opened, Mixed}
+use Rattle.isolation.specs.Run.{Returned, On, State, recordAt, ended, received, done, Made, Expands}
+use Rattle.isolation.specs.Memory.{Counts}
+use Rattle.surface.specs.Surface.{take, madeOf}
 use Rattle.pcm.specs.Pcm.{packed}
 use Rattle.feed.specs.Feed.{blockOf, ROOM, sizeOf, samplesOf, feedRows, entriesOf}
-use Rattle.feed.specs.Feed as feeding
 use Rattle.benches.specs.Benches.{Call, one, feed, Told, every, SameChannel}
 
 -- ---- a feed is made of the desk's calls
 
 -- those of its take; where a row refuses it, none
-abbrev pub asksIn : ℕ → ℕ → Record → List Float → Call → List Ask
+abbrev pub asksIn : Made Call
 asksIn n side rec store (one r) = madeOf n side rec store r
 asksIn n side rec store (feed b model cleaned entries answers) =
     refusing (feedRows (gate n side rec (length store) PIECE) (rec .waiting) (sizeOf b) cleaned entries answers) (λ _. [])
@@ -46,11 +36,7 @@ asksIn n side rec store (feed b model cleaned entries answers) =
 
 -- so numbering, memory and fading are over runs with feeds among them, as the box has it
 abbrev pub OurFeeds : Type 0
-OurFeeds =
-    Expands every asksIn BENCHES × Mixed every asksIn BENCHES
-    × ((s : ℕ) (st : State) (way : Way) (model : List ℕ) → length (st .store) ≡ BENCHES * SHARE
-    → passed (desks.given BENCHES (inDesk st) (openingOf s way model) .answer .reply) ≡ true
-    → Opened every asksIn BENCHES s (after every BENCHES st (on s (one (ask (opening way model))))))
+OurFeeds = Expands every asksIn BENCHES × Counts every asksIn BENCHES
 
 -- ---- what a bench has of a run
 
@@ -80,7 +66,7 @@ hasOf n s st calls =
     let end = ended every n st calls in
     let got = received every n s st calls in
     record {
-      rec = recordIn (end .numbers s);
+      rec = recordAt s end;
       share = get (shareOf s) (end .store);
       cleaned = cleanedIn got;
       entries = entriesIn got;
@@ -106,19 +92,6 @@ hasSaid rec share samples model told =
 
 -- ---- the law of cutting, for bytes
 
--- what a call is answered
-abbrev pub replyTo : ℕ → ℕ → List ℕ → List Float → Call → Reply
-replyTo n side ns store (one r) = called n side ns store r .answer .reply
-replyTo n side ns store (feed b model cleaned entries answers) =
-    feeding.feed n side (recordIn ns) store b model cleaned entries answers .answer .reply
-
--- side s's calls that are done in a run, in order
-unfoldable pub doneIn : ℕ → ℕ → State → List (On Call) → List Call
-doneIn n s st [] = []
-doneIn n s st (c ∷ cs) =
-    let rest = doneIn n s (after every n st c) cs in
-    cond (eqb (c .side) s && passed (replyTo n (c .side) (st .numbers (c .side)) (st .store) (c .call))) (c .call ∷ rest) rest
-
 -- feeds with one model, of blocks of one shape that have these bytes in a row
 pub data Feeds (format channels channel : ℕ) (model : List ℕ) : List Call → List ℕ → Type 0 where
   lastBlock : (bytes : List ℕ) (c e a : ℕ) → Feeds format channels channel model (feed (blockOf bytes format channels channel) model c e a ∷ []) bytes
@@ -129,15 +102,15 @@ pub data Feeds (format channels channel : ℕ) (model : List ℕ) : List Call �
 pub record Streams (n s : ℕ) (st : State) (calls : List (On Call)) (format channels channel : ℕ) (model bytes : List ℕ) : Type 0 where
   pub inside : s < n
   pub sized : length (st .store) ≡ n * SHARE
-  pub numbered : recordIn (st .numbers s) .frame < 4294967296
-  pub fed : Feeds format channels channel model (doneIn n s st calls) bytes
+  pub numbered : recordAt s st .frame < 4294967296
+  pub fed : Feeds format channels channel model (done every n s st calls) bytes
 
 -- then it has what one dictation of all its samples gives, in as many frames as they complete; the entries count on from its frame number
 abbrev pub BytesInARow : Type 0
 BytesInARow =
     (n s : ℕ) (st : State) (calls : List (On Call)) (format channels channel : ℕ) (model bytes : List ℕ)
     → Streams n s st calls format channels channel model bytes
-    → let b = recordIn (st .numbers s) in
+    → let b = recordAt s st in
     let share = get (shareOf s) (st .store) in
     let samples = samplesOf (blockOf bytes format channels channel) in
     (told : List frames.Told) × (said b share samples model told .told ≡ told) × (length told ≡ completes (b .waiting) (length samples))

@@ -1,4 +1,5 @@
 -- The law of isolation, once over the kind of calls and the number of benches.
+--     beside         a call leaves every other share
 --     in-any-run     in any run, what a side receives is what its own record, share and calls alone give
 --     closed-same    from closed, what the share held is never received
 --     isolated, undisturbed     what specs/Isolation.antt claims
@@ -10,7 +11,7 @@ use mathlib.Core.List.{List, [], _∷_, map}
 use mathlib.Core.Logic.{_⊎_, inl, inr, ⊎-elim}
 use mathlib.Core.Path.{_≡_, refl, sym, ap, ap₂, _∙_}
 use borrow.Author.Tests.{eqb-true, eqb-false, ltb-true, ltb-false}
-use lib.Dec.{eqb, ltb, leb}
+use lib.Dec.{eqb, ltb}
 use lib.ListN.{length}
 use lib.Ieee.{Float}
 use Rattle.rules.specs.F32.{zeros}
@@ -19,24 +20,16 @@ use Rattle.rules.proofs.Places.{length-get, length-put, get-put, get-put-apart}
 use Rattle.rules.proofs.Wholes.{get-whole}
 use Rattle.frame.specs.Reply.{passed}
 use Rattle.frame.specs.Share.{SHARE}
-use Rattle.frame.specs.declared.Way.{Way}
-use Rattle.frame.specs.declared.Way.the-variants.{Asked, Crate}
 use Rattle.desk.specs.declared.Record.{Record}
-use Rattle.desk.specs.Gate.{wayNumber, shareOf}
+use Rattle.desk.specs.Gate.{shareOf}
 use Rattle.desk.specs.Desk.{closed}
-use Rattle.desk.specs.Surface.{numbersOf, wayIn, recordIn}
+use Rattle.desk.specs.Surface.{numbersOf, recordIn}
 use Rattle.desk.proofs.Apart.{apart}
 use Rattle.isolation.specs.Plan.{Came, perform}
-use Rattle.isolation.specs.Isolation.{Returned, Gives, givenBy, Kind, On, State, allZeros, own, lonely, given, after, received, alone, Isolated, Undisturbed, Planned}
+use Rattle.isolation.specs.Run.{Returned, Gives, Kind, On, on, State, given, after, received}
+use Rattle.isolation.specs.Isolation.{givenBy, allZeros, own, alone, Isolated, Undisturbed, Planned}
 use Rattle.isolation.proofs.Performed.{sized, its-own, no-side, unseen}
-
-way-back : (w : Way) → (leb (wayNumber w) 1 ≡ true) × (wayIn (wayNumber w) ≡ w)
-way-back Asked = (refl, refl)
-way-back Crate = (refl, refl)
-
-pub reads : (b : Record) → recordIn (numbersOf b) ≡ b
-unfolding recordIn
-reads b = let k = way-back (b .hearing .way) in rw (k .0, k .1)
+use Rattle.isolation.proofs.Runs.{reads}
 
 -- in the store that a share is a part of
 abbrev inStore : {O : Type 0} → ℕ → List Float → Gives O → Gives O
@@ -59,7 +52,7 @@ module _ {C O : Type 0} (serve : Kind C O) (planned : Planned serve) where
   kept ns xs c l = rw (planned .does 1 0 ns xs c) (sized (planned .plan c) (recordIn ns) xs l)
 
   -- every other share stays, and the length of the store
-  beside : (n side : ℕ) (ns : List ℕ) (store : List Float) (c : C) → length store ≡ n * SHARE
+  pub beside : (n side : ℕ) (ns : List ℕ) (store : List Float) (c : C) → length store ≡ n * SHARE
       → (length (serve n side ns store c .store) ≡ n * SHARE)
       × ((s : ℕ) → (side ≡ s → ⊥) → get (shareOf s) (serve n side ns store c .store) ≡ get (shareOf s) store)
   beside n side ns store c l = go (ltb side n) refl
@@ -154,7 +147,7 @@ module _ {C O : Type 0} (serve : Kind C O) (planned : Planned serve) where
       ∙ ap (λ (r : Returned O). lone (r .numbers) (u .store) more) (like .returned))
       (like .store))
 
-  own-lonely : (cs : List C) → own 0 (map lonely cs) ≡ cs
+  own-lonely : (cs : List C) → own 0 (map (on 0) cs) ≡ cs
   unfolding own
   own-lonely [] = refl
   own-lonely (c ∷ more) = ap (λ (xs : List C). c ∷ xs) (own-lonely more)
@@ -162,7 +155,7 @@ module _ {C O : Type 0} (serve : Kind C O) (planned : Planned serve) where
   pub alone-lone : (cs : List C) → alone serve cs ≡ lone (numbersOf closed) (zeros SHARE) cs
   unfolding alone
   alone-lone cs =
-      in-any-run 1 0 (omega arith) (map lonely cs) (allZeros (zeros SHARE)) refl
+      in-any-run 1 0 (omega arith) (map (on 0) cs) (allZeros (zeros SHARE)) refl
       ∙ ap₂ (lone (numbersOf closed)) (get-whole (zeros SHARE) SHARE refl) (own-lonely cs)
 
   -- ---- what is claimed

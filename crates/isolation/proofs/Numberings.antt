@@ -22,8 +22,8 @@ use Rattle.model.specs.declared.Reading.the-variants.{Good, Refused as Unread}
 use Rattle.frame.specs.Reply.{passed, oneMore}
 use Rattle.frame.specs.Frame.{Effect}
 use Rattle.frame.specs.declared.Reply.{Reply}
-use Rattle.frame.specs.declared.Reply.the-variants.{Done, Refused}
 use Rattle.frame.specs.declared.Way.{Way}
+use Rattle.frame.specs.declared.Reply.the-variants.{Done, Refused}
 use Rattle.frame.proofs.Cases.{call1-by, call2-by, call3-by, call4-by}
 use Rattle.halves.specs.Halves.{buffer}
 use Rattle.halves.specs.Halves as halves
@@ -32,12 +32,14 @@ use Rattle.halves.proofs.Sister.{call2-own-by}
 use Rattle.pieces.specs.Pieces.{framePart, waitingIn, waits, frameAt, refused}
 use Rattle.pieces.proofs.Cases.{piece-by, resume-by}
 use Rattle.pieces.proofs.Kept.{further-reply}
+use Rattle.desk.specs.declared.Answer.{Answer}
 use Rattle.desk.specs.declared.Record.{Record}
 use Rattle.desk.specs.Gate.{gate, shareOf}
 use Rattle.desk.specs.Desk.{Ask, opening, call1, call2, call2Own, call3, call4, firstHalf, secondHalf, piece, resume, callOf, lastOf, carried, started, answered, opened, onShare, desk}
 use Rattle.desk.proofs.Leaves.{carried-leaves}
-use Rattle.isolation.specs.Run.{Call, openingOf, State, given, after, ended}
-use Rattle.isolation.specs.Numbering.{endsFrame, hears, howMany, Unopened, Numbering}
+use Rattle.isolation.specs.Run.{Kind, On, State, recordAt, after, ended, desks, Made, expand, Expands}
+use Rattle.isolation.specs.Numbering.{endsFrame, hears, replied, howMany, Unopened, openingOf, Opened, Numbering}
+use Rattle.isolation.proofs.Runs.{record-after}
 
 -- ---- one call
 
@@ -139,40 +141,45 @@ moved false k a e = let same : k + 0 ≡ k = omega arith in rw same e
 pub last-frame : oneMore 4294967295 ≡ 0
 last-frame = refl
 
--- ---- any run
+-- ---- any run of the desk's calls
 
 module _ (n s : ℕ) where
   -- the two numbers of side s in a state
   abbrev Stand : State → ℕ → ℕ → Type 0
-  Stand st k h = (st .rec s .frame ≡ k % 4294967296) × (st .rec s .heard ≡ h % 4294967296)
+  Stand st k h = (recordAt s st .frame ≡ k % 4294967296) × (recordAt s st .heard ≡ h % 4294967296)
 
-  abbrev counts : (Ask → Reply → Bool) → State → Call → ℕ
-  counts kind st c = cond (eqb (c .side) s && kind (c .ask) (given n st c .answer .reply)) 1 0
+  abbrev counts : (Ask → Reply → Bool) → State → On Ask → ℕ
+  counts kind st c = cond (eqb (c .side) s && kind (c .call) (replied n st c)) 1 0
 
-  one : (st : State) (c : Call) (k h : ℕ) → Stand st k h → (c .side ≡ s → callOf (c .ask) ≡ 0 → passed (given n st c .answer .reply) ≡ false)
-      → Stand (after n st c) (k + counts endsFrame st c) (h + counts hears st c)
-  one st c k h e shut = go (eqb (c .side) s) refl
+  one : (st : State) (c : On Ask) (k h : ℕ) → Stand st k h → (c .side ≡ s → callOf (c .call) ≡ 0 → passed (replied n st c) ≡ false)
+      → Stand (after desks n st c) (k + counts endsFrame st c) (h + counts hears st c)
+  one st c k h e shut = rw (record-after n s st c) (go (eqb (c .side) s) refl)
     where
-      go : (t : Bool) → eqb (c .side) s ≡ t → Stand (after n st c) (k + counts endsFrame st c) (h + counts hears st c)
-      go false f = let a : k + 0 ≡ k = omega arith in let b : h + 0 ≡ h = omega arith in rw (f, a, b) e
+      a : Answer
+      a = desk n (c .side) (recordAt (c .side) st) (st .store) (c .call) .answer
+
+      go : (t : Bool) → eqb (c .side) s ≡ t
+          → (cond t (a .rec) (recordAt s st) .frame ≡ (k + cond (t && endsFrame (c .call) (a .reply)) 1 0) % 4294967296)
+          × (cond t (a .rec) (recordAt s st) .heard ≡ (h + cond (t && hears (c .call) (a .reply)) 1 0) % 4294967296)
+      go false f = let p : k + 0 ≡ k = omega arith in let q : h + 0 ≡ h = omega arith in rw (p, q) e
       go true f =
           let same = eqb-true (c .side) s f in
-          let now = step n (c .side) (st .rec (c .side)) (st .store) (c .ask) (shut same) in
-          let frames : st .rec (c .side) .frame ≡ k % 4294967296 = rw same (e .0) in
-          let heards : st .rec (c .side) .heard ≡ h % 4294967296 = rw same (e .1) in
-          rw f (
-            now .0 ∙ moved (endsFrame (c .ask) (given n st c .answer .reply)) k _ frames,
-            now .1 ∙ moved (hears (c .ask) (given n st c .answer .reply)) h _ heards,
+          let now = step n (c .side) (recordAt (c .side) st) (st .store) (c .call) (shut same) in
+          let frames : recordAt (c .side) st .frame ≡ k % 4294967296 = rw same (e .0) in
+          let heards : recordAt (c .side) st .heard ≡ h % 4294967296 = rw same (e .1) in (
+            now .0 ∙ moved (endsFrame (c .call) (a .reply)) k _ frames,
+            now .1 ∙ moved (hears (c .call) (a .reply)) h _ heards,
           )
 
-  run : (cs : List Call) (st : State) (k h : ℕ) → Stand st k h → Unopened n s st cs
-      → Stand (ended n st cs) (k + howMany endsFrame n s st cs) (h + howMany hears n s st cs)
+  run : (cs : List (On Ask)) (st : State) (k h : ℕ) → Stand st k h → Unopened n s st cs
+      → Stand (ended desks n st cs) (k + howMany endsFrame n s st cs) (h + howMany hears n s st cs)
   unfolding ended howMany Unopened
   run [] st k h e u = let a : k + 0 ≡ k = omega arith in let b : h + 0 ≡ h = omega arith in rw (a, b) e
   run (c ∷ cs) st k h e u =
-      let r = run cs (after n st c) (k + counts endsFrame st c) (h + counts hears st c) (one st c k h e (u .0)) (u .1) in
-      let a : k + counts endsFrame st c + howMany endsFrame n s (after n st c) cs ≡ k + (counts endsFrame st c + howMany endsFrame n s (after n st c) cs) = omega arith in
-      let b : h + counts hears st c + howMany hears n s (after n st c) cs ≡ h + (counts hears st c + howMany hears n s (after n st c) cs) = omega arith in
+      let next = after desks n st c in
+      let r = run cs next (k + counts endsFrame st c) (h + counts hears st c) (one st c k h e (u .0)) (u .1) in
+      let a : k + counts endsFrame st c + howMany endsFrame n s next cs ≡ k + (counts endsFrame st c + howMany endsFrame n s next cs) = omega arith in
+      let b : h + counts hears st c + howMany hears n s next cs ≡ h + (counts hears st c + howMany hears n s next cs) = omega arith in
       rw (a, b) at r
 
 -- ---- what is claimed
@@ -193,8 +200,12 @@ from-0 n s b store w m = go (eqb (gate n s b (length store) 0) 0) (readOf m)
     go true (Unread i l) p = absurd (false≢true p)
     go false r p = absurd (false≢true p)
 
-pub numbering : (n : ℕ) → Numbering n
-numbering n s h st l way model done calls u =
-    let zero = from-0 n s (st .rec s) (st .store) way model done in
-    let start : Stand n s (after n st (openingOf s way model)) 0 0 = rw (eq-eqb s s refl) zero in
-    simp zero-add at (run n s calls (after n st (openingOf s way model)) 0 0 start u)
+module _ (n s : ℕ) (st : State) (o : Opened n s st) where
+  starts : Stand n s st 0 0
+  starts =
+      let zero = from-0 n s (recordAt s (o .before)) (o .before .store) (o .way) (o .model) (o .opens) in
+      rw (← o .now, record-after n s (o .before) (openingOf s (o .way) (o .model)), eq-eqb s s refl) zero
+
+pub numbering : {C O : Type 0} (serve : Kind C O) (asksOf : Made C) (n : ℕ) → Expands serve asksOf n → Numbering serve asksOf n
+numbering serve asksOf n expanded s h st o calls u =
+    rw (expanded st calls) (simp zero-add at (run n s (expand serve asksOf n st calls) st 0 0 (starts n s st o) u))

@@ -12,9 +12,9 @@ use Rattle.frame.specs.Reply.{passed}
 use Rattle.frame.specs.Share.{SHARE}
 use Rattle.frame.specs.declared.Reply.{Reply}
 use Rattle.frame.specs.declared.Way.{Way}
-use Rattle.desk.specs.Desk.{Ask, callOf, lastOf}
+use Rattle.desk.specs.Desk.{Ask, opening, callOf, lastOf, desk}
 use Rattle.memory.specs.Brought.{isHeard}
-use Rattle.isolation.specs.Run.{Call, openingOf, State, given, after, ended}
+use Rattle.isolation.specs.Run.{Kind, On, on, State, recordAt, after, ended, desks, Made, expand}
 
 -- a call 4 that is done, by itself, in a second half or in a resume
 abbrev pub endsFrame : Ask → Reply → Bool
@@ -24,24 +24,41 @@ endsFrame ask reply = eqb (lastOf ask) 4 && passed reply
 abbrev pub hears : Ask → Reply → Bool
 hears ask reply = isHeard reply
 
+-- what is replied to a call of the desk
+abbrev pub replied : ℕ → State → On Ask → Reply
+replied n st c = desk n (c .side) (recordAt (c .side) st) (st .store) (c .call) .answer .reply
+
 -- how many of side s's calls in a run are answered so
-unfoldable pub howMany : (Ask → Reply → Bool) → ℕ → ℕ → State → List Call → ℕ
+unfoldable pub howMany : (Ask → Reply → Bool) → ℕ → ℕ → State → List (On Ask) → ℕ
 howMany kind n s st [] = 0
-howMany kind n s st (c ∷ cs) = cond (eqb (c .side) s && kind (c .ask) (given n st c .answer .reply)) 1 0 + howMany kind n s (after n st c) cs
+howMany kind n s st (c ∷ cs) = cond (eqb (c .side) s && kind (c .call) (replied n st c)) 1 0 + howMany kind n s (after desks n st c) cs
 
 -- in a run, side s is not opened anew: an opening of it is refused
-unfoldable pub Unopened : ℕ → ℕ → State → List Call → Type 0
+unfoldable pub Unopened : ℕ → ℕ → State → List (On Ask) → Type 0
 Unopened n s st [] = Unit
 Unopened n s st (c ∷ cs) =
-    (c .side ≡ s → callOf (c .ask) ≡ 0 → passed (given n st c .answer .reply) ≡ false) × Unopened n s (after n st c) cs
+    (c .side ≡ s → callOf (c .call) ≡ 0 → passed (replied n st c) ≡ false) × Unopened n s (after desks n st c) cs
 
-abbrev pub Numbering : ℕ → Type 0
-Numbering n =
-    (s : ℕ) → s < n
-    → (st : State) → length (st .store) ≡ n * SHARE
-    → (way : Way) (model : List ℕ) → passed (given n st (openingOf s way model) .answer .reply) ≡ true
-    → (calls : List Call)
-    → let opened = after n st (openingOf s way model) in
-    let last = ended n opened calls .rec s in
-    Unopened n s opened calls
-    → (last .frame ≡ howMany endsFrame n s opened calls % 4294967296) × (last .heard ≡ howMany hears n s opened calls % 4294967296)
+abbrev pub openingOf : ℕ → Way → List ℕ → On Ask
+openingOf side way model = on side (opening way model)
+
+-- behind an opening of side s that was done
+pub record Opened (n s : ℕ) (st : State) : Type 0 where
+  pub before : State
+  pub sized : length (before .store) ≡ n * SHARE
+  pub way : Way
+  pub model : List ℕ
+  pub opens : passed (replied n before (openingOf s way model)) ≡ true
+  pub now : after desks n before (openingOf s way model) ≡ st
+
+-- over calls of any kind that is made of the desk's, with n benches
+module _ {C O : Type 0} (serve : Kind C O) (asksOf : Made C) (n : ℕ) where
+  abbrev pub Numbering : Type 0
+  Numbering =
+      (s : ℕ) → s < n
+      → (st : State) → Opened n s st
+      → (calls : List (On C))
+      → let asks = expand serve asksOf n st calls in
+      let last = recordAt s (ended serve n st calls) in
+      Unopened n s st asks
+      → (last .frame ≡ howMany endsFrame n s st asks % 4294967296) × (last .heard ≡ howMany hears n s st asks % 4294967296)

@@ -1,37 +1,86 @@
--- Runs of the desk's own calls, with n benches.
+-- Runs of calls of any kind on n sides of one store, and what one side receives in a run. The desk's own calls are a kind, and others are made of them.
 use Prim.Native.Nat.{ℕ}
-use mathlib.Core.Bool.{cond}
-use mathlib.Core.List.{List, [], _∷_}
+use mathlib.Core.Bool.{cond, _&&_}
+use mathlib.Core.List.{List, [], _∷_, _++_, map}
+use mathlib.Core.Path.{_≡_}
 use lib.Dec.{eqb}
 use lib.Ieee.{Float}
-use Rattle.frame.specs.declared.Way.{Way}
+use Rattle.rules.specs.Written.{Written}
+use Rattle.desk.specs.declared.Answer.{Answer}
 use Rattle.desk.specs.declared.Record.{Record}
-use Rattle.desk.specs.Desk.{Ask, opening, Given, desk}
+use Rattle.desk.specs.Desk.{Ask}
+use Rattle.desk.specs.Surface.{recordIn, replyNumber, handedBack, hosted}
 
--- a call as the host makes it: on a side, with its arguments
-pub record Call : Type 0 where
-  pub side : ℕ
-  pub ask : Ask
+-- what a side receives of a call: the number returned, its record as numbers, and what is told besides, as what was written to each lent buffer
+pub record Returned (O : Type 0) : Type 0 where
+  pub number : ℕ
+  pub numbers : List ℕ
+  pub told : O
 
-abbrev pub openingOf : ℕ → Way → List ℕ → Call
-openingOf side way model = record { side = side; ask = opening way model }
-
--- each side's record as it was last received, and the store
-pub record State : Type 0 where
-  pub rec : ℕ → Record
+pub record Gives (O : Type 0) : Type 0 where
+  pub returned : Returned O
   pub store : List Float
 
--- what a call gives is what the desk's contracts say, with the side's record as it was last received
-abbrev pub given : ℕ → State → Call → Given
-given n st c = desk n (c .side) (st .rec (c .side)) (st .store) (c .ask)
+-- by the answer: a refusal leaves the record
+abbrev pub gives : {O : Type 0} → List ℕ → Answer → O → List Float → Gives O
+gives ns answer told store =
+    record { returned = record { number = replyNumber (answer .reply); numbers = handedBack answer ns; told = told }; store = store }
 
--- only calls touch the records and the store
-abbrev pub after : ℕ → State → Call → State
-after n st c =
-    let o = given n st c in
-    record { rec = λ s. cond (eqb (c .side) s) (o .answer .rec) (st .rec s); store = o .store }
+-- a kind of calls: what one gives on one of n sides, with the side's record and the store
+abbrev pub Kind : Type 0 → Type 0 → Type 0
+Kind C O = ℕ → ℕ → List ℕ → List Float → C → Gives O
 
--- the records and the store when a run is over
-unfoldable pub ended : ℕ → State → List Call → State
-ended n st [] = st
-ended n st (c ∷ cs) = ended n (after n st c) cs
+pub record On (C : Type 0) : Type 0 where
+  pub side : ℕ
+  pub call : C
+
+abbrev pub on : {C : Type 0} → ℕ → C → On C
+on side call = record { side = side; call = call }
+
+-- each side's record as it was last received, and the store; only calls touch them
+pub record State : Type 0 where
+  pub numbers : ℕ → List ℕ
+  pub store : List Float
+
+abbrev pub recordAt : ℕ → State → Record
+recordAt s st = recordIn (st .numbers s)
+
+module _ {C O : Type 0} (serve : Kind C O) (n : ℕ) where
+  abbrev pub given : State → On C → Gives O
+  given st c = serve n (c .side) (st .numbers (c .side)) (st .store) (c .call)
+
+  abbrev pub after : State → On C → State
+  after st c = record { numbers = λ s. cond (eqb (c .side) s) (given st c .returned .numbers) (st .numbers s); store = given st c .store }
+
+  -- the records and the store when a run is over
+  unfoldable pub ended : State → List (On C) → State
+  ended st [] = st
+  ended st (c ∷ cs) = ended (after st c) cs
+
+  -- what side s receives in a run, call by call; and its calls that are done, with 0
+  unfoldable pub received : ℕ → State → List (On C) → List (Returned O)
+  received s st [] = []
+  received s st (c ∷ cs) = let rest = received s (after st c) cs in cond (eqb (c .side) s) (given st c .returned ∷ rest) rest
+
+  unfoldable pub done : ℕ → State → List (On C) → List C
+  done s st [] = []
+  done s st (c ∷ cs) =
+      let rest = done s (after st c) cs in cond (eqb (c .side) s && eqb (given st c .returned .number) 0) (c .call ∷ rest) rest
+
+-- ---- the desk's calls, and what is made of them
+
+abbrev pub desks : Kind Ask (List Written)
+desks n side ns store a = let o = hosted n side ns store a in gives ns (o .answer) (o .written) (o .store)
+
+-- the calls of the desk that a call is made of, all on its side
+abbrev pub Made : Type 0 → Type 0
+Made C = ℕ → ℕ → Record → List Float → C → List Ask
+
+module _ {C O : Type 0} (serve : Kind C O) (asksOf : Made C) (n : ℕ) where
+  unfoldable pub expand : State → List (On C) → List (On Ask)
+  expand st [] = []
+  expand st (c ∷ cs) = map (on (c .side)) (asksOf n (c .side) (recordAt (c .side) st) (st .store) (c .call)) ++ expand (after serve n st c) cs
+
+  -- any run ends as that run of the desk's calls does: so what holds over any run of these is read over any run of the kind
+  abbrev pub Expands : Type 0
+  Expands = (st : State) (calls : List (On C)) → ended serve n st calls ≡ ended desks n st (expand st calls)

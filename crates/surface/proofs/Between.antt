@@ -11,11 +11,11 @@ use mathlib.Core.List.{List, [], _∷_, _++_, append-assoc}
 use mathlib.Core.Path.{_≡_, refl, sym, ap, ap₂, _∙_}
 use borrow.Author.Tests.{eqb-true, eqb-false, ltb-true, ltb-false, not-false}
 use lib.Dec.{eqb, ltb, leb}
-use lib.ListN.{length, drop, length-drop}
+use lib.ListN.{length, getD, drop, length-drop}
 use lib.Seq.{drop-drop, drop-append-add}
 use lib.Ieee.{Float}
 use Rattle.rules.specs.Place.{get, put}
-use Rattle.rules.specs.Written.{Written, from, firstIn}
+use Rattle.rules.specs.Written.{Written, from, nothing, numbersIn}
 use Rattle.rules.proofs.Places.{length-get}
 use Rattle.rules.proofs.Truth.{both}
 use Rattle.rules.proofs.Wholes.{get-whole, put-whole}
@@ -29,111 +29,143 @@ use Rattle.pieces.proofs.Shares.{waiting-length, waits-length}
 use Rattle.desk.specs.declared.Record.{Record}
 use Rattle.desk.specs.Gate.{PIECE, shareOf, gate, isDue, inRange, inPieces, underWay}
 use Rattle.desk.specs.Desk.{Ask, piece, resume, holding, Given, desk}
+use Rattle.desk.specs.Surface.{replyNumber, heardOf, besides, hosted}
 use Rattle.desk.proofs.Apart.{placed, its-own, own-share, other-share, same-length}
 use Rattle.desk.proofs.Ranged.{open-range}
 use Rattle.desk.proofs.Settled.{refused-keeps}
 use Rattle.desk.proofs.Turned.{none}
 use Rattle.dictation.specs.Dictation.{Lent, Dictated, dictate}
-use Rattle.dictation.proofs.Joins.{second, shareAfter, recAfter, dictate-more, dictate-none, after-length, share-size, washed, then, again, rejoin}
+use Rattle.dictation.proofs.Joins.{first, second, shareAfter, recAfter, dictate-more, dictate-none, after-length, share-size, washed, then, again, rejoin}
 use Rattle.dictation.proofs.Taken.{onward, ends, pauses, piece-passed, resume-passed}
 use Rattle.dictation.proofs.Follows.{place, following, follows}
-use Rattle.isolation.specs.Run.{Call}
-use Rattle.isolation.specs.Run as desks
-use Rattle.isolation.specs.Isolation.{ended}
-use Rattle.surface.specs.Surface.{surface}
-use Rattle.surface.specs.Mixed.{inDesk, expand, madeOf}
-use Rattle.surface.specs.Between.{done, resumes, Row, lastPiece, morePieces, Between}
+use Rattle.whole.specs.Taking.{Told, answersOf}
+use Rattle.isolation.specs.Run.{On, State, recordAt, given, after, ended, done, desks, expand}
+use Rattle.isolation.proofs.Runs.{record-after, store-after}
+use Rattle.surface.specs.Surface.{ask, surface, madeOf}
+use Rattle.surface.specs.Between.{resumes, Row, lastPiece, morePieces, inBuffer, sumsTold, Between}
 use Rattle.surface.proofs.Expanded.{expands}
-use Rattle.surface.proofs.Outputs.{cleaned, first-written, row-hands, received-is}
+use Rattle.surface.proofs.Numbers.{zero-is-done}
+use Rattle.surface.proofs.Outputs.{column, wrote, first-written, piece-none, piece-unheard, resume-heard, row-hands, outputs-are, answers-are}
+use Rattle.surface.proofs.Refusing.{refused-leaves}
 
 -- ---- calls on a desk of one bench, all of them done
 
 record Left : Type 0 where
   rec : Record
   share : List Float
-  out : List Float
 
 left : Record → List Float → List Ask → Left
-left b xs [] = record { rec = b; share = xs; out = [] }
-left b xs (a ∷ more) =
-    let o = desk 1 0 b xs a in
-    let r = left (o .answer .rec) (o .store) more in
-    record { rec = r .rec; share = r .share; out = firstIn (o .written) ++ r .out }
+left b xs [] = record { rec = b; share = xs }
+left b xs (a ∷ more) = let o = desk 1 0 b xs a in left (o .answer .rec) (o .store) more
 
 AllDone : Record → List Float → List Ask → Type 0
 AllDone b xs [] = Unit
 AllDone b xs (a ∷ more) = let o = desk 1 0 b xs a in (passed (o .answer .reply) ≡ true) × AllDone (o .answer .rec) (o .store) more
 
+-- what they write to buffer k
+written : ℕ → Record → List Float → List Ask → List Float
+written k b xs [] = []
+written k b xs (a ∷ more) = let o = desk 1 0 b xs a in wrote k a o ++ written k (o .answer .rec) (o .store) more
+
 -- a row of calls and then another
-split : (first rest : List Ask) (b : Record) (xs : List Float) → AllDone b xs (first ++ rest)
-    → let l = left b xs first in
-    AllDone b xs first × AllDone (l .rec) (l .share) rest
-    × (let m = left (l .rec) (l .share) rest in left b xs (first ++ rest) ≡ record { rec = m .rec; share = m .share; out = l .out ++ m .out })
-unfolding left AllDone
-split [] rest b xs all = (tt, all, refl)
+record Splits (first rest : List Ask) (b : Record) (xs : List Float) : Type 0 where
+  before : AllDone b xs first
+  behind : let l = left b xs first in AllDone (l .rec) (l .share) rest
+  leads : let l = left b xs first in left b xs (first ++ rest) ≡ left (l .rec) (l .share) rest
+  writes : (k : ℕ) → let l = left b xs first in written k b xs (first ++ rest) ≡ written k b xs first ++ written k (l .rec) (l .share) rest
+
+split : (first rest : List Ask) (b : Record) (xs : List Float) → AllDone b xs (first ++ rest) → Splits first rest b xs
+unfolding left AllDone written
+split [] rest b xs all = record { before = tt; behind = all; leads = refl; writes = λ k. refl }
 split (a ∷ first) rest b xs all =
     let o = desk 1 0 b xs a in
-    let s = split first rest (o .answer .rec) (o .store) (all .1) in
     let l = left (o .answer .rec) (o .store) first in
-    let m = left (l .rec) (l .share) rest in (
-      (all .0, s .0),
-      s .1,
-      ap (λ (r : Left). record { rec = r .rec; share = r .share; out = firstIn (o .written) ++ r .out }) (s .2)
-          ∙ ap (λ (x : List Float). record { rec = m .rec; share = m .share; out = x }) (sym (append-assoc (firstIn (o .written)) (l .out) (m .out))),
-    )
+    let s = split first rest (o .answer .rec) (o .store) (all .1) in
+    record {
+      before = (all .0, s .before);
+      behind = s .behind;
+      leads = s .leads;
+      writes =
+          λ k. ap (λ (x : List Float). wrote k a o ++ x) (s .writes k)
+          ∙ sym (append-assoc (wrote k a o) (written k (o .answer .rec) (o .store) first) (written k (l .rec) (l .share) rest));
+    }
 
 -- ---- any run, for one side
 
 -- a run that ends so, and whose numbers these are, is a row of calls on a desk of one bench
-record Comes (s : ℕ) (b : Record) (xs : List Float) (asks : List Ask) (last : desks.State) (out : List Float) : Type 0 where
+record Comes (s : ℕ) (b : Record) (xs : List Float) (asks : List Ask) (last : State) (numbers : ℕ → List Float) : Type 0 where
   all : AllDone b xs asks
-  rec : last .rec s ≡ left b xs asks .rec
+  rec : recordAt s last ≡ left b xs asks .rec
   share : get (shareOf s) (last .store) ≡ left b xs asks .share
-  numbers : out ≡ left b xs asks .out
+  writes : (k : ℕ) → numbers k ≡ written k b xs asks
 
 module _ (n s : ℕ) (h : s < n) where
-  lone-run : (cs : List Call) (st : desks.State) (b : Record) (xs : List Float) → length (st .store) ≡ n * SHARE
-      → st .rec s ≡ b → get (shareOf s) (st .store) ≡ xs → Comes s b xs (done n s st cs) (desks.ended n st cs) (cleaned n s st cs)
-  unfolding done cleaned desks.ended left AllDone
-  lone-run [] st b xs l e f = record { all = tt; rec = e; share = f; numbers = refl }
+  lone-run : (cs : List (On Ask)) (st : State) (b : Record) (xs : List Float) → length (st .store) ≡ n * SHARE
+      → recordAt s st ≡ b → get (shareOf s) (st .store) ≡ xs → Comes s b xs (done desks n s st cs) (ended desks n st cs) (λ k. column k n s st cs)
+  unfolding done inBuffer ended hosted left AllDone written
+  lone-run [] st b xs l e f = record { all = tt; rec = e; share = f; writes = λ k. refl }
   lone-run (c ∷ cs) st b xs l e f =
-      go (eqb (c .side) s) refl (passed (desks.given n st c .answer .reply)) refl (λ b′ xs′ e′ f′. lone-run cs (desks.after n st c) b′ xs′ sized e′ f′)
+      go (eqb (c .side) s) refl (eqb (given desks n st c .returned .number) 0) refl (λ b′ xs′ e′ f′. lone-run cs (after desks n st c) b′ xs′ sized e′ f′)
     where
-      next : desks.State
-      next = desks.after n st c
+      next : State
+      next = after desks n st c
+
+      was : Given
+      was = desk n (c .side) (recordAt (c .side) st) (st .store) (c .call)
 
       sized : length (next .store) ≡ n * SHARE
-      sized = same-length n (c .side) (st .rec (c .side)) (st .store) (c .ask) l ∙ l
+      sized = rw (store-after n st c) (same-length n (c .side) (recordAt (c .side) st) (st .store) (c .call) l ∙ l)
 
       o : Given
-      o = desk 1 0 b xs (c .ask)
+      o = desk 1 0 b xs (c .call)
 
-      here : c .side ≡ s → desks.given n st c ≡ placed s (st .store) o
-      here same = rw (same, its-own n s (st .rec s) (st .store) (c .ask) l h, e, f)
+      here : c .side ≡ s → was ≡ placed s (st .store) o
+      here same = rw (same, its-own n s (recordAt s st) (st .store) (c .call) l h, e, f)
 
       back : c .side ≡ s → get (shareOf s) (next .store) ≡ o .store
-      back same = rw (same, own-share n s (st .rec s) (st .store) (c .ask) l h, e, f)
+      back same = rw (store-after n st c, same, own-share n s (recordAt s st) (st .store) (c .call) l h, e, f)
 
-      go : (t : Bool) → eqb (c .side) s ≡ t → (u : Bool) → passed (desks.given n st c .answer .reply) ≡ u
-          → ((b′ : Record) (xs′ : List Float) → next .rec s ≡ b′ → get (shareOf s) (next .store) ≡ xs′
-          → Comes s b′ xs′ (done n s next cs) (desks.ended n next cs) (cleaned n s next cs))
-          → Comes s b xs (cond (t && u) (c .ask ∷ done n s next cs) (done n s next cs)) (desks.ended n next cs)
-          (cond (t && u) (firstIn (desks.given n st c .written) ++ cleaned n s next cs) (cleaned n s next cs))
+      -- it passed where 0 is returned
+      is-done : passed (was .answer .reply) ≡ eqb (given desks n st c .returned .number) 0
+      is-done = zero-is-done n (c .side) (st .numbers (c .side)) (st .store) (ask (c .call)) .0
+
+      told : (k : ℕ) → numbersIn (getD (given desks n st c .returned .told) k nothing) ≡ wrote k (c .call) was
+      told k = refl
+
+      noted : (t : Bool) → eqb (c .side) s ≡ t → recordAt s next ≡ cond t (was .answer .rec) (recordAt s st)
+      noted t q = record-after n s st c ∙ ap (λ (u : Bool). cond u (was .answer .rec) (recordAt s st)) q
+
+      go : (t : Bool) → eqb (c .side) s ≡ t → (u : Bool) → eqb (given desks n st c .returned .number) 0 ≡ u
+          → ((b′ : Record) (xs′ : List Float) → recordAt s next ≡ b′ → get (shareOf s) (next .store) ≡ xs′
+          → Comes s b′ xs′ (done desks n s next cs) (ended desks n next cs) (λ k. column k n s next cs))
+          → Comes s b xs (cond (t && u) (c .call ∷ done desks n s next cs) (done desks n s next cs)) (ended desks n next cs)
+          (λ k. cond t (numbersIn (getD (given desks n st c .returned .told) k nothing)) [] ++ column k n s next cs)
       go true t true p ih =
           let k = here (eqb-true (c .side) s t) in
-          let r = ih (o .answer .rec) (o .store) (rw t (ap (λ (g : Given). g .answer .rec) k)) (back (eqb-true (c .side) s t)) in
+          let r = ih (o .answer .rec) (o .store) (noted true t ∙ ap (λ (g : Given). g .answer .rec) k) (back (eqb-true (c .side) s t)) in
           record {
-            all = (ap (λ (g : Given). passed (g .answer .reply)) (sym k) ∙ p, r .all);
+            all = (ap (λ (g : Given). passed (g .answer .reply)) (sym k) ∙ is-done ∙ p, r .all);
             rec = r .rec;
             share = r .share;
-            numbers = ap₂ (λ (x y : List Float). x ++ y) (ap (λ (g : Given). firstIn (g .written)) k) (r .numbers);
+            writes = λ i. ap₂ (λ (x y : List Float). x ++ y) (told i ∙ ap (wrote i (c .call)) k) (r .writes i);
           }
       go true t false p ih =
-          let k = refused-keeps n (c .side) (st .rec (c .side)) (st .store) (c .ask) p in
-          ih b xs (rw t (k .0 ∙ ap (st .rec) (eqb-true (c .side) s t) ∙ e)) (ap (get (shareOf s)) (k .1) ∙ f)
+          let k = refused-keeps n (c .side) (recordAt (c .side) st) (st .store) (c .call) (is-done ∙ p) in
+          let same : recordAt (c .side) st ≡ b = ap (λ (i : ℕ). recordAt i st) (eqb-true (c .side) s t) ∙ e in
+          let r = ih b xs (noted true t ∙ k .0 ∙ same) (ap (get (shareOf s)) (store-after n st c ∙ k .1) ∙ f) in
+          let none = unwritten (is-done ∙ p) in
+          record {
+            all = r .all;
+            rec = r .rec;
+            share = r .share;
+            writes = λ i. ap (λ (ws : List Written). numbersIn (getD ws i nothing) ++ column i n s next cs) none ∙ r .writes i;
+          }
+        where
+          unwritten : passed (was .answer .reply) ≡ false → given desks n st c .returned .told ≡ []
+          unwritten q = refused-leaves n (c .side) (st .numbers (c .side)) (st .store) (ask (c .call)) q .2
       go false t u p ih =
-          ih b xs (rw t e)
-          (other-share n (c .side) (st .rec (c .side)) (st .store) (c .ask) l s (eqb-false (c .side) s t) ∙ f)
+          ih b xs (noted false t ∙ e)
+          (ap (get (shareOf s)) (store-after n st c) ∙ other-share n (c .side) (recordAt (c .side) st) (st .store) (c .call) l s (eqb-false (c .side) s t) ∙ f)
 
 -- ---- the resumes of a piece
 
@@ -161,48 +193,66 @@ module _ (store : List Float) (size : length store ≡ 1 * SHARE) (samples : Lis
             let t = resume-passed 1 0 (holding 1 rec (length rest) 0 0) there samples (l .logs) (l .model) room 22 (rw q at p) in
             absurd (omega (arith, t .1 .begun))
 
-  -- a row of calls is this dictation, with its share in a store
-  resumed : (ls : List Lent) (o : Given) (rec : Record) (reply : Reply) (share rest : List Float) (progress k : ℕ) (ys : List Float)
+  -- a row of calls is this dictation, with its share in a store; the sums of its first frame stand in what was given before, with what is told besides
+  record Dictates (o : Given) (us : List Written) (ls : List Lent) (rest : List Float) (d : Dictated) : Type 0 where
+    rec : left (o .answer .rec) (o .store) (resumes samples room ls) .rec ≡ d .rec
+    share : left (o .answer .rec) (o .store) (resumes samples room ls) .share ≡ put (shareOf 0) store (d .store)
+    out : written 0 (o .answer .rec) (o .store) (resumes samples room ls) ≡ d .out
+    sums : numbersIn (getD (o .written ++ us) 1 nothing) ++ written 1 (o .answer .rec) (o .store) (resumes samples room ls) ≡ sumsTold (d .told)
+    heard : written 2 (o .answer .rec) (o .store) (resumes samples room ls) ≡ answersOf (d .told)
+    count : length ls ≡ length rest / 480
+
+  resumed : (ls : List Lent) (o : Given) (us : List Written) (rec : Record) (reply : Reply) (share rest : List Float) (progress k : ℕ) (ys : List Float)
       → o ≡ onward 0 store rec reply share rest (length samples) progress (from k ys)
       → length share ≡ SHARE → drop progress samples ≡ drop 480 rest → 1 ≤ progress → AllDone (o .answer .rec) (o .store) (resumes samples room ls)
       → left (o .answer .rec) (o .store) (resumes samples room ls) .rec .piece ≡ 0
-      → let l = left (o .answer .rec) (o .store) (resumes samples room ls) in let d = dictate rec share rest ls in
-      (l .rec ≡ d .rec) × (l .share ≡ put (shareOf 0) store (d .store)) × (l .out ≡ d .out) × (length ls ≡ length rest / 480)
-  unfolding left AllDone
-  resumed [] o rec reply share rest progress k ys e full same begun all z =
+      → Dictates o us ls rest (dictate rec share rest ls)
+  unfolding left AllDone written
+  resumed [] o us rec reply share rest progress k ys e full same begun all z =
       let w = from k ys in
       let little = short o rec reply share rest progress w e z in
       let q = e ∙ ends 0 store rec reply share rest (length samples) progress w little in
-      let none = dictate-none rec share rest in (
-        ap (λ (g : Given). g .answer .rec) q ∙ sym (ap (λ (x : Dictated). x .rec) none),
-        ap (λ (g : Given). g .store) q ∙ sym (ap (λ (x : Dictated). put (shareOf 0) store (x .store)) none),
-        sym (ap (λ (x : Dictated). x .out) none),
-        omega arith,
-      )
-  resumed (l ∷ more) o rec reply share rest progress k ys e full same begun all z =
+      let none = dictate-none rec share rest in
+      record {
+        rec = ap (λ (g : Given). g .answer .rec) q ∙ sym (ap (λ (x : Dictated). x .rec) none);
+        share = ap (λ (g : Given). g .store) q ∙ sym (ap (λ (x : Dictated). put (shareOf 0) store (x .store)) none);
+        out = sym (ap (λ (x : Dictated). x .out) none);
+        sums = ap (λ (g : Given). numbersIn (getD (g .written ++ us) 1 nothing) ++ []) q ∙ sym (ap (λ (x : Dictated). sumsTold (x .told)) none);
+        heard = sym (ap (λ (x : Dictated). answersOf (x .told)) none);
+        count = omega arith;
+      }
+  resumed (l ∷ more) o us rec reply share rest progress k ys e full same begun all z =
       let w = from k ys in
       let enough = long o rec reply share rest progress w e l (all .0) in
       let q = e ∙ pauses 0 store rec reply share rest (length samples) progress w enough in
-      let there = desk 1 0 (o .answer .rec) (o .store) (resume samples (l .logs) (l .model) room 22) in
+      let a = resume samples (l .logs) (l .model) room 22 in
+      let there = desk 1 0 (o .answer .rec) (o .store) a in
       let here : there ≡ following 1 0 (omega arith) store size samples rec share rest l progress room full same =
-      ap (λ (g : Given). desk 1 0 (g .answer .rec) (g .store) (resume samples (l .logs) (l .model) room 22)) q in
+      ap (λ (g : Given). desk 1 0 (g .answer .rec) (g .store) a) q in
       let g = follows 1 0 (omega arith) store size samples rec share rest l progress room full same (ap (λ (x : Given). passed (x .answer .reply)) (sym here) ∙ all .0) in
       let y = second rec share rest l in
       let rec′ = recAfter rec share rest l in
       let share′ = shareAfter rec share rest l in
       let nx = here ∙ g .1 in
-      let wrote : firstIn (there .written) ≡ buffer y =
-      ap (λ (x : Given). firstIn (x .written)) nx
-      ∙ first-written 0 store rec′ (y .reply) share′ (drop 480 rest) (length samples) (progress + 480) (place progress) (buffer y) in
+      let samples-out : wrote 0 a there ≡ buffer y =
+      ap (wrote 0 a) nx
+      ∙ first-written 0 store rec′ (y .reply) share′ (drop 480 rest) (length samples) (progress + 480) (place progress) (buffer y) (besides a (y .reply)) in
+      let answered : wrote 2 a there ≡ heardOf (y .reply) =
+      resume-heard 1 0 (o .answer .rec) (o .store) samples room (l .logs) (l .model) (all .0) ∙ ap (λ (x : Given). heardOf (x .answer .reply)) nx in
       let ih =
-      resumed more there rec′ (y .reply) share′ (drop 480 rest) (progress + 480) (place progress) (buffer y) nx (after-length rec share rest l full)
-      (sym (drop-drop 480 progress samples) ∙ ap (drop 480) same) (omega arith) (all .1) z in
-      let d = dictate-more rec share rest l more in (
-        ih .0 ∙ sym (ap (λ (x : Dictated). x .rec) d),
-        ih .1 ∙ sym (ap (λ (x : Dictated). put (shareOf 0) store (x .store)) d),
-        ap₂ (λ (x y : List Float). x ++ y) wrote (ih .2) ∙ sym (ap (λ (x : Dictated). x .out) d),
-        omega (arith, ih .3, length-drop 480 rest, enough),
-      )
+      resumed more there (besides a (there .answer .reply)) rec′ (y .reply) share′ (drop 480 rest) (progress + 480) (place progress) (buffer y) nx
+      (after-length rec share rest l full) (sym (drop-drop 480 progress samples) ∙ ap (drop 480) same) (omega arith) (all .1) z in
+      let d = dictate-more rec share rest l more in
+      record {
+        rec = ih .rec ∙ sym (ap (λ (x : Dictated). x .rec) d);
+        share = ih .share ∙ sym (ap (λ (x : Dictated). put (shareOf 0) store (x .store)) d);
+        out = ap₂ (λ (x y : List Float). x ++ y) samples-out (ih .out) ∙ sym (ap (λ (x : Dictated). x .out) d);
+        sums =
+            ap₂ (λ (x y : List Float). x ++ y) (ap (λ (x : Given). numbersIn (getD (x .written ++ us) 1 nothing)) q) (ih .sums)
+            ∙ sym (ap (λ (x : Dictated). sumsTold (x .told)) d);
+        heard = ap₂ (λ (x y : List Float). x ++ y) answered (ih .heard) ∙ sym (ap (λ (x : Dictated). answersOf (x .told)) d);
+        count = omega (arith, ih .count, length-drop 480 rest, enough);
+      }
 
 -- ---- a row of pieces
 
@@ -220,22 +270,22 @@ at-rest n side rec len e = go (eqb (rec .piece) 0) refl
         let third = both (eqb (rec .due) 3) _ (both (leb (rec .piece) 4096) _ way .1) in
         absurd (omega (arith, due, eqb-true (rec .due) 3 (third .0)))
 
-record Is (l : Left) (d : Dictated) : Type 0 where
-  rec : l .rec ≡ d .rec
-  share : l .share ≡ d .store
-  out : l .out ≡ d .out
+record Is (b : Record) (xs : List Float) (asks : List Ask) (d : Dictated) : Type 0 where
+  rec : left b xs asks .rec ≡ d .rec
+  share : left b xs asks .share ≡ d .store
+  out : written 0 b xs asks ≡ d .out
+  sums : written 1 b xs asks ≡ sumsTold (d .told)
+  heard : written 2 b xs asks ≡ answersOf (d .told)
 
 -- one piece, resumed to its end
 module _ (x : List Float) (room : ℕ) (ls : List Lent) (b : Record) (xs : List Float) (full : length xs ≡ SHARE) where
-  abbrev o : Given
-  o = desk 1 0 b xs (piece x room 22)
-
-  one-piece : passed (o .answer .reply) ≡ true → AllDone (o .answer .rec) (o .store) (resumes x room ls)
-      → left (o .answer .rec) (o .store) (resumes x room ls) .rec .piece ≡ 0
+  one-piece : AllDone b xs (piece x room 22 ∷ resumes x room ls) → left b xs (piece x room 22 ∷ resumes x room ls) .rec .piece ≡ 0
       → let all = waitingIn (b .waiting) xs ++ x in
-      Is (left (o .answer .rec) (o .store) (resumes x room ls)) (dictate b xs all ls) × (firstIn (o .written) ≡ []) × (length ls ≡ length all / 480)
-  one-piece passes all z =
-      let t = piece-passed 1 0 b xs x room 22 passes in
+      Is b xs (piece x room 22 ∷ resumes x room ls) (dictate b xs all ls) × (length ls ≡ length all / 480)
+  unfolding left AllDone written
+  one-piece all z =
+      let o = desk 1 0 b xs (piece x room 22) in
+      let t = piece-passed 1 0 b xs x room 22 (all .0) in
       let its : get (shareOf 0) xs ≡ xs = get-whole xs SHARE full in
       let k = t .1 in
       let share = get (shareOf 0) xs in
@@ -244,19 +294,19 @@ module _ (x : List Float) (room : ℕ) (ls : List Lent) (b : Record) (xs : List 
       let sum : b .waiting + (480 - b .waiting) ≡ 480 = omega (arith, k .waits) in
       let same : drop (480 - b .waiting) x ≡ drop 480 (ws ++ x) = sym (rw (waited, sum) at (drop-append-add ws x (480 - b .waiting))) in
       let r =
-      resumed xs (omega (arith, full)) x (k .some) room ls o b Done (waits share []) (ws ++ x) (480 - b .waiting) 0 []
-      (t .2) (waits-length share (k .size) []) same (omega (arith, k .waits)) all z in
+      resumed xs (omega (arith, full)) x (k .some) room ls o [] b Done (waits share []) (ws ++ x) (480 - b .waiting) 0 []
+      (t .2) (waits-length share (k .size) []) same (omega (arith, k .waits)) (all .1) z in
       let clean =
       washed b share [] (ws ++ x) ls (k .size) ∙ ap (λ (t : List Float). dictate b t (waitingIn (b .waiting) t ++ x) ls) its in
-      let none : firstIn (o .written) ≡ [] =
-      ap (λ (g : Given). firstIn (g .written)) (t .2) ∙ first-written 0 xs b Done (waits share []) (ws ++ x) (length x) (480 - b .waiting) 0 [] in (
+      let behind : ℕ → List Float = λ i. written i (o .answer .rec) (o .store) (resumes x room ls) in (
         record {
-          rec = r .0 ∙ ap (λ (d : Dictated). d .rec) clean;
-          share = r .1 ∙ put-whole xs SHARE full _ ∙ ap (λ (d : Dictated). d .store) clean;
-          out = r .2 ∙ ap (λ (d : Dictated). d .out) clean;
+          rec = r .rec ∙ ap (λ (d : Dictated). d .rec) clean;
+          share = r .share ∙ put-whole xs SHARE full _ ∙ ap (λ (d : Dictated). d .store) clean;
+          out = ap (λ (u : List Float). u ++ behind 0) (piece-none 1 0 b xs x room (all .0)) ∙ r .out ∙ ap (λ (d : Dictated). d .out) clean;
+          sums = r .sums ∙ ap (λ (d : Dictated). sumsTold (d .told)) clean;
+          heard = ap (λ (u : List Float). u ++ behind 2) (piece-unheard 1 0 b xs x room (all .0)) ∙ r .heard ∙ ap (λ (d : Dictated). answersOf (d .told)) clean;
         },
-        none,
-        r .3 ∙ ap (λ (t : List Float). length (waitingIn (b .waiting) t ++ x) / 480) its,
+        r .count ∙ ap (λ (t : List Float). length (waitingIn (b .waiting) t ++ x) / 480) its,
       )
 
 -- a row begins with a piece
@@ -265,45 +315,59 @@ unfolding AllDone
 begins (lastPiece x o ls) b xs all = at-rest 1 0 b (length xs) (piece-passed 1 0 b xs x o 22 (all .0) .0)
 begins (morePieces x o ls r) b xs all = at-rest 1 0 b (length xs) (piece-passed 1 0 b xs x o 22 (all .0) .0)
 
+-- what is told of frames, and of others behind them
+sums-both : (fs gs : List Told) → sumsTold (fs ++ gs) ≡ sumsTold fs ++ sumsTold gs
+sums-both [] gs = refl
+sums-both (f ∷ fs) gs = ap (λ (x : List Float). f .0 ++ x) (sums-both fs gs) ∙ sym (append-assoc (f .0) (sumsTold fs) (sumsTold gs))
+
+pub answers-both : (fs gs : List Told) → answersOf (fs ++ gs) ≡ answersOf fs ++ answersOf gs
+answers-both [] gs = refl
+answers-both (f ∷ fs) gs = ap (λ (x : List Float). heardOf (f .1) ++ x) (answers-both fs gs) ∙ sym (append-assoc (heardOf (f .1)) (answersOf fs) (answersOf gs))
+
 rows : {asks : List Ask} {ys : List Float} {ms : List Lent} → Row asks ys ms → (b : Record) (xs : List Float) → length xs ≡ SHARE → AllDone b xs asks
-    → left b xs asks .rec .piece ≡ 0 → Is (left b xs asks) (dictate b xs (waitingIn (b .waiting) xs ++ ys) ms)
-unfolding left AllDone
-rows (lastPiece x room ls) b xs full all z =
-    let k = one-piece x room ls b xs full (all .0) (all .1) z in
-    record { rec = k .0 .rec; share = k .0 .share; out = ap₂ (λ (u v : List Float). u ++ v) (k .1) (k .0 .out) }
+    → left b xs asks .rec .piece ≡ 0 → Is b xs asks (dictate b xs (waitingIn (b .waiting) xs ++ ys) ms)
+rows (lastPiece x room ls) b xs full all z = one-piece x room ls b xs full all z .0
 rows (morePieces x room ls {asks} {ys} {ms} r) b xs full all z =
-    let g = desk 1 0 b xs (piece x room 22) in
-    let s = split (resumes x room ls) asks (g .answer .rec) (g .store) (all .1) in
-    let l = left (g .answer .rec) (g .store) (resumes x room ls) in
-    let k = one-piece x room ls b xs full (all .0) (s .0) (begins r (l .rec) (l .share) (s .1)) in
+    let s = split (piece x room 22 ∷ resumes x room ls) asks b xs all in
+    let l = left b xs (piece x room 22 ∷ resumes x room ls) in
+    let p = one-piece x room ls b xs full (s .before) (begins r (l .rec) (l .share) (s .behind)) in
+    let k = p .0 in
     let these = waitingIn (b .waiting) xs ++ x in
     let d = dictate b xs these ls in
+    let more = again d ys ms in
     let ih =
-    rows r (l .rec) (l .share) (ap length (k .0 .share) ∙ share-size b xs these ls full) (s .1) (ap (λ (q : Left). q .rec .piece) (sym (s .2)) ∙ z) in
-    let on : dictate (l .rec) (l .share) (waitingIn (l .rec .waiting) (l .share) ++ ys) ms ≡ again d ys ms = rw (k .0 .rec, k .0 .share) in
-    let joined : then d (again d ys ms) ≡ dictate b xs (waitingIn (b .waiting) xs ++ (x ++ ys)) (ls ++ ms) =
-    sym (rejoin b xs these ys ls ms full (omega (arith, k .2)) (omega (arith, k .2)))
+    rows r (l .rec) (l .share) (ap length (k .share) ∙ share-size b xs these ls full) (s .behind) (ap (λ (q : Left). q .rec .piece) (sym (s .leads)) ∙ z) in
+    let on : dictate (l .rec) (l .share) (waitingIn (l .rec .waiting) (l .share) ++ ys) ms ≡ more = rw (k .rec, k .share) in
+    let joined : then d more ≡ dictate b xs (waitingIn (b .waiting) xs ++ (x ++ ys)) (ls ++ ms) =
+    sym (rejoin b xs these ys ls ms full (omega (arith, p .1)) (omega (arith, p .1)))
     ∙ ap (λ (t : List Float). dictate b xs t (ls ++ ms)) (append-assoc (waitingIn (b .waiting) xs) x ys) in
     record {
-      rec = ap (λ (q : Left). q .rec) (s .2) ∙ ih .rec ∙ ap (λ (e : Dictated). e .rec) on ∙ ap (λ (e : Dictated). e .rec) joined;
-      share = ap (λ (q : Left). q .share) (s .2) ∙ ih .share ∙ ap (λ (e : Dictated). e .store) on ∙ ap (λ (e : Dictated). e .store) joined;
+      rec = ap (λ (q : Left). q .rec) (s .leads) ∙ ih .rec ∙ ap (λ (e : Dictated). e .rec) on ∙ ap (λ (e : Dictated). e .rec) joined;
+      share = ap (λ (q : Left). q .share) (s .leads) ∙ ih .share ∙ ap (λ (e : Dictated). e .store) on ∙ ap (λ (e : Dictated). e .store) joined;
       out =
-          ap₂ (λ (u v : List Float). u ++ v) (k .1)
-          (ap (λ (q : Left). q .out) (s .2) ∙ ap₂ (λ (u v : List Float). u ++ v) (k .0 .out) (ih .out ∙ ap (λ (e : Dictated). e .out) on))
+          s .writes 0 ∙ ap₂ (λ (u v : List Float). u ++ v) (k .out) (ih .out ∙ ap (λ (e : Dictated). e .out) on)
           ∙ ap (λ (e : Dictated). e .out) joined;
+      sums =
+          s .writes 1 ∙ ap₂ (λ (u v : List Float). u ++ v) (k .sums) (ih .sums ∙ ap (λ (e : Dictated). sumsTold (e .told)) on)
+          ∙ sym (sums-both (d .told) (more .told)) ∙ ap (λ (e : Dictated). sumsTold (e .told)) joined;
+      heard =
+          s .writes 2 ∙ ap₂ (λ (u v : List Float). u ++ v) (k .heard) (ih .heard ∙ ap (λ (e : Dictated). answersOf (e .told)) on)
+          ∙ sym (answers-both (d .told) (more .told)) ∙ ap (λ (e : Dictated). answersOf (e .told)) joined;
     }
 
 pub between : (n : ℕ) → Between n
 between n s h st l calls samples lent r z =
-    let made = expand surface madeOf n st calls in
-    let b = inDesk st .rec s in
+    let asks = expand surface madeOf n st calls in
+    let b = recordAt s st in
     let share = get (shareOf s) (st .store) in
     let x = expands n st calls in
-    let c = lone-run n s h made (inDesk st) b share l refl refl in
-    let rest : left b share (done n s (inDesk st) made) .rec .piece ≡ 0 =
-    ap (λ (t : Record). t .piece) (sym (c .rec)) ∙ ap (λ (t : desks.State). t .rec s .piece) (sym x) ∙ z in
+    let c = lone-run n s h asks st b share l refl refl in
+    let rest : left b share (done desks n s st asks) .rec .piece ≡ 0 =
+    ap (λ (t : Record). t .piece) (sym (c .rec)) ∙ ap (λ (t : State). recordAt s t .piece) (sym x) ∙ z in
     let d = rows r b share (length-get (shareOf s) (st .store) (omega arith)) (c .all) rest in (
-      ap (λ (t : desks.State). t .rec s) x ∙ c .rec ∙ d .rec,
-      ap (λ (t : desks.State). get (shareOf s) (t .store)) x ∙ c .share ∙ d .share,
-      received-is n s calls st (row-hands r) ∙ c .numbers ∙ d .out,
+      ap (recordAt s) x ∙ c .rec ∙ d .rec,
+      ap (λ (t : State). get (shareOf s) (t .store)) x ∙ c .share ∙ d .share,
+      outputs-are n s calls st (row-hands r) ∙ c .writes 0 ∙ d .out,
+      answers-are n s calls st (row-hands r) ∙ c .writes 2 ∙ d .heard,
+      c .writes 1 ∙ d .sums,
     )

@@ -1,9 +1,9 @@
 -- What a call returns is a number of the table, and 0 exactly where it is done. Assumes nothing.
-use Prim.Native.Nat.{ℕ, _*_, _-_}
+use Prim.Native.Nat.{ℕ, _*_, _-_, _≤_}
 use native.Mathlib.Omega.{arith}
 use mathlib.Core.Bool.{Bool, true, false, cond, not, true≢false}
 use mathlib.Core.List.{List, [], _∷_, _++_}
-use mathlib.Core.Path.{_≡_, refl, sym}
+use mathlib.Core.Path.{_≡_, refl, sym, subst}
 use borrow.Author.Tests.{ne-eqb}
 use lib.Dec.{eqb, ltb}
 use lib.ListN.{length, drop}
@@ -45,10 +45,17 @@ use Rattle.desk.specs.Surface.{recordIn, replyNumber, hosted}
 use Rattle.whole.specs.Whole.{unchanged, tested, frameReply, frameBegins, frameEnds, takeRows, takeReply, takeEnds, takenAs}
 use Rattle.whole.specs.Whole as whole
 use Rattle.whole.specs.Surface.{hostedFrame, hostedTake}
-use Rattle.surface.specs.Surface.{ask, frame, take}
-use Rattle.surface.specs.Laws.{Known, ZeroIsDone}
+use Rattle.surface.specs.Surface.{Request, ask, frame, take, called, ZeroIsDone}
 
 -- ---- the table's numbers
+
+abbrev Known : Reply → Type 0
+Known (Refused n) = (1 ≤ n) × (n ≤ 9) × (n ≡ 7 → ⊥)
+Known (Misread n l) = (11 ≤ n) × (n ≤ 22) × (l ≤ 6)
+Known Done = Unit
+Known Silent = Unit
+Known (Heard v e) = Unit
+Known (Numbered f h) = Unit
 
 one : Known (Refused 1)
 one = (omega arith, omega arith, λ e. omega arith)
@@ -286,8 +293,13 @@ zero-is-passed (Numbered f h) k = refl
 zero-is-passed (Refused n) k = sym (ne-eqb n 0 (λ e. omega (arith, k .0)))
 zero-is-passed (Misread n l) k = sym (ne-eqb (replyNumber (Misread n l)) 0 (λ e. omega arith))
 
-pub zero-is-done : ZeroIsDone
+known : (n side : ℕ) (ns : List ℕ) (store : List Float) (c : Request) → Known (called n side ns store c .answer .reply)
 unfolding hosted hostedFrame hostedTake
-zero-is-done n side ns store (ask a) = let k = of-desk n side (recordIn ns) store a in (k, zero-is-passed (desk n side (recordIn ns) store a .answer .reply) k)
-zero-is-done n side ns store (frame x m out) = let k = of-frame n side (recordIn ns) store x m out in (k, zero-is-passed (whole.frame n side (recordIn ns) store x m out .answer .reply) k)
-zero-is-done n side ns store (take x m out answers) = let k = of-take n side (recordIn ns) store x m out answers in (k, zero-is-passed (whole.take n side (recordIn ns) store x m out answers .answer .reply) k)
+known n side ns store (ask a) = of-desk n side (recordIn ns) store a
+known n side ns store (frame x m out) = of-frame n side (recordIn ns) store x m out
+known n side ns store (take x m out answers) = of-take n side (recordIn ns) store x m out answers
+
+pub zero-is-done : ZeroIsDone
+zero-is-done n side ns store c =
+    let k = known n side ns store c in
+    (zero-is-passed (called n side ns store c .answer .reply) k, λ m e. subst Known e k, λ m l e. subst Known e k)

@@ -1,52 +1,51 @@
--- What a side receives in its outputs, by the desk's calls that its calls are made of.
---     cleaned         the numbers that a side's calls of the desk write first, in order
---     told-is         one call, where what it is made of are pieces and resumes
---     received-is     any run
+-- What a side receives, by the desk's calls that its calls are made of.
+--     column                       the numbers that a side's calls of the desk write to one of their buffers, in order
+--     take-outputs, take-answers   what a take hands out, by its piece and its resumes
+--     told-is, received-is         one call, where what it is made of are pieces and resumes, and any run
 -- Assumes nothing.
-use Prim.Native.Nat.{ℕ, zero, suc, _-_}
+use Prim.Native.Nat.{ℕ, zero, suc, _-_, _≤_, _<_}
 use native.Mathlib.Omega.{arith}
-use mathlib.Core.Bool.{Bool, true, false, cond, _&&_}
+use mathlib.Core.Bool.{Bool, true, false, cond, _&&_, false≢true}
 use mathlib.Core.List.{List, [], _∷_, _++_, map, append-assoc, append-nil}
 use mathlib.Core.Path.{_≡_, refl, sym, ap, ap₂, subst, _∙_}
 use borrow.Author.Tests.{eq-eqb}
 use lib.Dec.{eqb, ltb}
-use lib.ListN.{length}
+use lib.ListN.{length, getD}
 use lib.Ieee.{Float}
 use Rattle.rules.specs.Loop.{loop}
 use Rattle.rules.specs.Place.{get}
 use Rattle.rules.specs.Tab.{tab}
-use Rattle.rules.specs.Written.{Written, from, firstIn}
-use Rattle.rules.proofs.Writing.{to-none}
+use Rattle.rules.specs.Written.{Written, all, from, nothing, numbersIn, firstIn}
 use Rattle.logs.specs.Log10.{logsOf}
 use Rattle.frame.specs.declared.Reply.{Reply}
-use Rattle.frame.specs.declared.Reply.the-variants.{Done}
+use Rattle.frame.specs.declared.Reply.the-variants.{Done, Silent, Heard, Numbered, Refused, Misread}
 use Rattle.frame.specs.Reply.{passed}
 use Rattle.pieces.specs.Pieces.{waitingIn, waits, completes, further}
 use Rattle.pieces.specs.Pieces as pieces
 use Rattle.desk.specs.declared.Record.{Record}
 use Rattle.desk.specs.Gate.{shareOf}
 use Rattle.desk.specs.Desk.{Ask, opening, call1, call2, call2Own, call3, call4, firstHalf, secondHalf, piece, resume, Given, desk}
-use Rattle.desk.specs.Surface.{recordIn, besides, telling, hosted}
+use Rattle.desk.specs.Surface.{numbersOf, recordIn, replyNumber, heardOf, besides, telling, hosted}
 use Rattle.desk.proofs.Buffers.{buffers}
 use Rattle.dictation.specs.Dictation.{Lent}
 use Rattle.dictation.proofs.Taken.{onward, piece-passed}
-use Rattle.whole.specs.Whole.{unchanged, frameReply, frameBegins, takeReply, takeFrames, takeEnds, takenAs}
+use Rattle.whole.specs.Whole.{unchanged, frameReply, frameBegins, takeReply, Taking, takeFrames, takeEnds, takenAs}
 use Rattle.whole.specs.Whole as whole
 use Rattle.whole.specs.Surface.{hostedFrame, hostedTake}
+use Rattle.whole.proofs.Dictations.{take-done}
 use Rattle.whole.proofs.Halves.{two-halves, refused-is}
-use Rattle.isolation.specs.Run.{Call}
-use Rattle.isolation.specs.Run as desks
-use Rattle.isolation.specs.Isolation.{On, State, after, ended, received}
-use Rattle.surface.specs.Surface.{Request, ask, frame, take, called, surface}
-use Rattle.surface.specs.Mixed.{inDesk, expand, madeOf}
-use Rattle.surface.specs.Between.{done, outputs, resumes, Row, lastPiece, morePieces}
-use Rattle.surface.proofs.Expanded.{callOn, leaving, map-more, stands, resumed, steps, one-call}
+use Rattle.isolation.specs.Run.{Kind, On, on, State, recordAt, given, after, ended, done, desks, expand}
+use Rattle.isolation.proofs.Runs.{reads}
+use Rattle.surface.specs.Surface.{Request, ask, frame, take, called, surface, madeOf}
+use Rattle.surface.specs.Between.{resumes, Row, lastPiece, morePieces, inBuffer, answersAt}
+use Rattle.surface.proofs.Expanded.{leaving, map-more, stands, resumed, steps, one-call}
 
-unfoldable pub cleaned : ℕ → ℕ → desks.State → List Call → List Float
-cleaned n s st [] = []
-cleaned n s st (c ∷ cs) =
-    let rest = cleaned n s (desks.after n st c) cs in
-    cond (eqb (c .side) s && passed (desks.given n st c .answer .reply)) (firstIn (desks.given n st c .written) ++ rest) rest
+abbrev pub column : ℕ → ℕ → ℕ → State → List (On Ask) → List Float
+column k n s st cs = inBuffer desks (λ _. k) n s st cs
+
+-- what a call of the desk wrote to it, as a host has it
+abbrev pub wrote : ℕ → Ask → Given → List Float
+wrote k a o = numbersIn (getD (o .written ++ besides a (o .answer .reply)) k nothing)
 
 -- ---- pieces and resumes
 
@@ -84,209 +83,234 @@ row-hands (morePieces x o ls {asks} r) = (tt, hands-both (resumes x o ls) asks (
 
 -- ---- runs one after the other
 
-done-more : (n s : ℕ) (first rest : List Call) (st : desks.State)
-    → done n s st (first ++ rest) ≡ done n s st first ++ done n s (desks.ended n st first) rest
-unfolding done desks.ended
+done-more : (n s : ℕ) (first rest : List (On Ask)) (st : State)
+    → done desks n s st (first ++ rest) ≡ done desks n s st first ++ done desks n s (ended desks n st first) rest
+unfolding done ended
 done-more n s [] rest st = refl
 done-more n s (c ∷ first) rest st =
-    let next = desks.after n st c in
-    go (eqb (c .side) s && passed (desks.given n st c .answer .reply)) (done-more n s first rest next)
+    go (eqb (c .side) s && eqb (given desks n st c .returned .number) 0) (done-more n s first rest (after desks n st c))
   where
-    go : (t : Bool)
-        → done n s (desks.after n st c) (first ++ rest) ≡ done n s (desks.after n st c) first ++ done n s (desks.ended n (desks.after n st c) first) rest
-        → cond t (c .ask ∷ done n s (desks.after n st c) (first ++ rest)) (done n s (desks.after n st c) (first ++ rest))
-        ≡ cond t (c .ask ∷ done n s (desks.after n st c) first) (done n s (desks.after n st c) first)
-        ++ done n s (desks.ended n (desks.after n st c) first) rest
-    go true e = ap (λ (x : List Ask). c .ask ∷ x) e
+    next : State
+    next = after desks n st c
+
+    go : (t : Bool) → done desks n s next (first ++ rest) ≡ done desks n s next first ++ done desks n s (ended desks n next first) rest
+        → cond t (c .call ∷ done desks n s next (first ++ rest)) (done desks n s next (first ++ rest))
+        ≡ cond t (c .call ∷ done desks n s next first) (done desks n s next first) ++ done desks n s (ended desks n next first) rest
+    go true e = ap (λ (x : List Ask). c .call ∷ x) e
     go false e = e
 
-cleaned-more : (n s : ℕ) (first rest : List Call) (st : desks.State)
-    → cleaned n s st (first ++ rest) ≡ cleaned n s st first ++ cleaned n s (desks.ended n st first) rest
-unfolding cleaned desks.ended
-cleaned-more n s [] rest st = refl
-cleaned-more n s (c ∷ first) rest st =
-    let next = desks.after n st c in
-    go (eqb (c .side) s && passed (desks.given n st c .answer .reply)) (cleaned-more n s first rest next)
-  where
-    wrote : List Float
-    wrote = firstIn (desks.given n st c .written)
-
-    go : (t : Bool)
-        → cleaned n s (desks.after n st c) (first ++ rest) ≡ cleaned n s (desks.after n st c) first ++ cleaned n s (desks.ended n (desks.after n st c) first) rest
-        → cond t (wrote ++ cleaned n s (desks.after n st c) (first ++ rest)) (cleaned n s (desks.after n st c) (first ++ rest))
-        ≡ cond t (wrote ++ cleaned n s (desks.after n st c) first) (cleaned n s (desks.after n st c) first)
-        ++ cleaned n s (desks.ended n (desks.after n st c) first) rest
-    go true e =
-        ap (λ (x : List Float). wrote ++ x) e
-        ∙ sym (append-assoc wrote (cleaned n s (desks.after n st c) first) (cleaned n s (desks.ended n (desks.after n st c) first) rest))
-    go false e = e
+column-more : (k n s : ℕ) (first rest : List (On Ask)) (st : State)
+    → column k n s st (first ++ rest) ≡ column k n s st first ++ column k n s (ended desks n st first) rest
+unfolding inBuffer ended
+column-more k n s [] rest st = refl
+column-more k n s (c ∷ first) rest st =
+    let next = after desks n st c in
+    let here = cond (eqb (c .side) s) (numbersIn (getD (given desks n st c .returned .told) k nothing)) [] in
+    ap (λ (x : List Float). here ++ x) (column-more k n s first rest next)
+    ∙ sym (append-assoc here (column k n s next first) (column k n s (ended desks n next first) rest))
 
 -- ---- one call of the desk
 
--- a refused call writes nothing
-mute : (n side : ℕ) (b : Record) (store : List Float) (a : Ask) → passed (desk n side b store a .answer .reply) ≡ false → desk n side b store a .written ≡ []
-mute n side b store a p = to-none (desk n side b store a .written) (rw p at (buffers n side b store a))
-
-besides-none : (a : Ask) (r : Reply) → passed r ≡ false → besides a r ≡ []
-besides-none (opening w m) r p = refl
-besides-none (call1 x w) r p = refl
-besides-none (call2 x l w s) r p = refl
-besides-none (call2Own x w s) r p = refl
-besides-none (call3 x l m o) r p = rw p
-besides-none (call4 x o) r p = refl
-besides-none (firstHalf x s) r p = refl
-besides-none (secondHalf l m o) r p = rw p
-besides-none (piece x o s) r p = refl
-besides-none (resume x l m o s) r p = rw p
-
+-- in front of what is told besides, and behind
 in-front : (ws us : List Written) (k : ℕ) → length ws ≡ suc k → firstIn (ws ++ us) ≡ firstIn ws
 in-front [] us k l = absurd (omega arith)
 in-front (w ∷ ws) us k l = refl
 
--- what is told besides stands behind
-first-kept : (n side : ℕ) (b : Record) (store : List Float) (a : Ask) → Hands a
-    → let o = desk n side b store a in passed (o .answer .reply) ≡ true → firstIn (o .written ++ besides a (o .answer .reply)) ≡ firstIn (o .written)
-first-kept n side b store (opening w m) h p = absurd h
-first-kept n side b store (call1 x w) h p = absurd h
-first-kept n side b store (call2 x l w s) h p = absurd h
-first-kept n side b store (call2Own x w s) h p = absurd h
-first-kept n side b store (call3 x l m o) h p = absurd h
-first-kept n side b store (call4 x o) h p = absurd h
-first-kept n side b store (firstHalf x s) h p = absurd h
-first-kept n side b store (secondHalf l m o) h p = absurd h
-first-kept n side b store (piece x o s) h p = ap firstIn (append-nil (desk n side b store (piece x o s) .written))
-first-kept n side b store (resume x l m o s) h p =
-    let g = desk n side b store (resume x l m o s) in
-    in-front (g .written) (besides (resume x l m o s) (g .answer .reply)) 1 (rw p at (buffers n side b store (resume x l m o s)))
+third : (ws us : List Written) → length ws ≡ 2 → getD (ws ++ us) 2 nothing ≡ getD us 0 nothing
+third [] us l = absurd (omega arith)
+third (w ∷ []) us l = absurd (omega arith)
+third (w ∷ v ∷ []) us l = refl
+third (w ∷ v ∷ u ∷ ws) us l = absurd (omega arith)
 
 -- what goes onward, first
-pub first-written : (side : ℕ) (store : List Float) (rec : Record) (reply : Reply) (share rest : List Float) (size progress k : ℕ) (ys : List Float)
-    → firstIn (onward side store rec reply share rest size progress (from k ys) .written) ≡ ys
+pub first-written : (side : ℕ) (store : List Float) (rec : Record) (reply : Reply) (share rest : List Float) (size progress k : ℕ) (ys : List Float) (us : List Written)
+    → firstIn (onward side store rec reply share rest size progress (from k ys) .written ++ us) ≡ ys
 unfolding further
-first-written side store rec reply share rest size progress k ys = go (ltb (length rest) 480)
+first-written side store rec reply share rest size progress k ys us = go (ltb (length rest) 480)
   where
-    go : (t : Bool) → firstIn (cond t (pieces.atEnd reply share rest (from k ys)) (pieces.paused reply share (rec .hearing .way) rest (from k ys)) .written) ≡ ys
+    go : (t : Bool) → firstIn (cond t (pieces.atEnd reply share rest (from k ys)) (pieces.paused reply share (rec .hearing .way) rest (from k ys)) .written ++ us) ≡ ys
     go true = refl
     go false = refl
 
--- a piece by itself gives no numbers
-piece-none : (n side : ℕ) (b : Record) (store x : List Float) (o : ℕ) → firstIn (desk n side b store (piece x o 22) .written) ≡ []
-piece-none n side b store x o = go (passed (desk n side b store (piece x o 22) .answer .reply)) refl
-  where
-    go : (t : Bool) → passed (desk n side b store (piece x o 22) .answer .reply) ≡ t → firstIn (desk n side b store (piece x o 22) .written) ≡ []
-    go true p =
-        ap (λ (g : Given). firstIn (g .written)) (piece-passed n side b store x o 22 p .2)
-        ∙ first-written side store b Done (waits (get (shareOf side) store) []) (waitingIn (b .waiting) (get (shareOf side) store) ++ x) (length x) (480 - b .waiting) 0 []
-    go false p = ap firstIn (mute n side b store (piece x o 22) p)
+-- a piece that is done gives no samples and no answers, and a resume three answers
+module _ (n side : ℕ) (b : Record) (store x : List Float) (o : ℕ) where
+  pub piece-none : passed (desk n side b store (piece x o 22) .answer .reply) ≡ true → wrote 0 (piece x o 22) (desk n side b store (piece x o 22)) ≡ []
+  piece-none p =
+      let share = get (shareOf side) store in
+      ap (wrote 0 (piece x o 22)) (piece-passed n side b store x o 22 p .2)
+      ∙ first-written side store b Done (waits share []) (waitingIn (b .waiting) share ++ x) (length x) (480 - b .waiting) 0 [] []
+
+  pub piece-unheard : passed (desk n side b store (piece x o 22) .answer .reply) ≡ true → wrote 2 (piece x o 22) (desk n side b store (piece x o 22)) ≡ []
+  piece-unheard p = ap numbersIn (third (desk n side b store (piece x o 22) .written) [] (rw p at (buffers n side b store (piece x o 22))))
+
+  module _ (l : List Float) (m : List ℕ) where
+    abbrev a : Ask
+    a = resume x l m o 22
+
+    resume-first : passed (desk n side b store (resume x l m o 22) .answer .reply) ≡ true
+        → wrote 0 (resume x l m o 22) (desk n side b store (resume x l m o 22)) ≡ firstIn (desk n side b store (resume x l m o 22) .written)
+    resume-first p =
+        let g = desk n side b store a in
+        in-front (g .written) (besides a (g .answer .reply)) 1 (rw p at (buffers n side b store a))
+
+    pub resume-heard : passed (desk n side b store (resume x l m o 22) .answer .reply) ≡ true
+        → wrote 2 (resume x l m o 22) (desk n side b store (resume x l m o 22)) ≡ heardOf (desk n side b store (resume x l m o 22) .answer .reply)
+    resume-heard p =
+        let g = desk n side b store a in
+        ap numbersIn (third (g .written) (besides a (g .answer .reply)) (rw p at (buffers n side b store a)))
+        ∙ ap (λ (t : Bool). numbersIn (getD (cond t (all (heardOf (g .answer .reply)) ∷ []) []) 0 nothing)) p
 
 module _ (n s side : ℕ) where
   -- of another side
-  none-out : eqb side s ≡ false → (asks : List Ask) (st : desks.State) → cleaned n s st (map (callOn side) asks) ≡ []
-  unfolding cleaned
-  none-out e [] st = refl
-  none-out e (a ∷ more) st = rw e (none-out e more (desks.after n st (callOn side a)))
+  none-out : (k : ℕ) → eqb side s ≡ false → (asks : List Ask) (st : State) → column k n s st (map (on side) asks) ≡ []
+  unfolding inBuffer
+  none-out k e [] st = refl
+  none-out k e (a ∷ more) st = rw e (none-out k e more (after desks n st (on side a)))
 
-  one-out : eqb side s ≡ true → (a : Ask) (st : desks.State)
-      → cleaned n s st (callOn side a ∷ []) ≡ firstIn (desk n side (st .rec side) (st .store) a .written)
-  unfolding cleaned
-  one-out e a st = rw e (go (passed (desk n side (st .rec side) (st .store) a .answer .reply)) refl)
-    where
-      wrote : List Written
-      wrote = desk n side (st .rec side) (st .store) a .written
+  one-out : (k : ℕ) → eqb side s ≡ true → (a : Ask) (st : State)
+      → column k n s st (on side a ∷ []) ≡ wrote k a (desk n side (recordAt side st) (st .store) a)
+  unfolding inBuffer hosted
+  one-out k e a st = rw e (append-nil (wrote k a (desk n side (recordAt side st) (st .store) a)))
 
-      go : (t : Bool) → passed (desk n side (st .rec side) (st .store) a .answer .reply) ≡ t → cond t (firstIn wrote ++ []) [] ≡ firstIn wrote
-      go true p = append-nil (firstIn wrote)
-      go false p = sym (ap firstIn (mute n side (st .rec side) (st .store) a p))
+-- ---- a take
+
+module _ (n s side : ℕ) (mine : eqb side s ≡ true) (st : State) (x : List Float) (m : List ℕ) (o a : ℕ)
+    (p : passed (takeReply n side (recordAt side st) (st .store) x m o a) ≡ true) where
+  abbrev b : Record
+  b = recordAt side st
+
+  abbrev at : ℕ → Taking
+  at j = stands n side st x m o j
+
+  abbrev next : ℕ → Ask
+  next j = resumed n side st x m o j
+
+  abbrev so-far : ℕ → List (On Ask)
+  so-far j = map (on side) (piece x o 22 ∷ tab j (resumed n side st x m o))
+
+  began : passed (desk n side (recordAt side st) (st .store) (piece x o 22) .answer .reply) ≡ true
+  began = take-done n side b (st .store) x m o a p .0
+
+  -- the resume of frame j
+  one-more : (k j : ℕ) → column k n s (ended desks n st (so-far j)) (on side (next j) ∷ []) ≡ wrote k (next j) (desk n side (at j .rec) (at j .store) (next j))
+  one-more k j =
+      let there = leaving st side (numbersOf (at j .rec)) (at j .store) in
+      let own : there .numbers side ≡ numbersOf (at j .rec) = rw (eq-eqb side side refl) in
+      ap (λ (t : State). column k n s t (on side (next j) ∷ [])) (sym (steps n side st x m o began j))
+      ∙ one-out n s side k mine (next j) there
+      ∙ ap (λ (ns : List ℕ). wrote k (next j) (desk n side (recordIn ns) (at j .store) (next j))) own
+      ∙ ap (λ (r : Record). wrote k (next j) (desk n side r (at j .store) (next j))) (reads (at j .rec))
+
+  -- what is handed out frame by frame
+  along : (k : ℕ) (f : Taking → List Float) → f (at 0) ≡ wrote k (piece x o 22) (desk n side (recordAt side st) (st .store) (piece x o 22))
+      → ((j : ℕ) → j < completes (recordAt side st .waiting) (length x) → f (at (suc j)) ≡ f (at j) ++ wrote k (next j) (desk n side (at j .rec) (at j .store) (next j)))
+      → (j : ℕ) → j ≤ completes (recordAt side st .waiting) (length x) → f (at j) ≡ column k n s st (so-far j)
+  unfolding tab
+  along k f start step zero few = start ∙ sym (one-out n s side k mine (piece x o 22) st)
+  along k f start step (suc j) few =
+      step j few
+      ∙ ap₂ (λ (u v : List Float). u ++ v) (along k f start step j (omega arith)) (sym (one-more k j))
+      ∙ sym (column-more k n s (so-far j) (on side (next j) ∷ []) st)
+      ∙ ap (column k n s st) (sym (map-more (on side) (piece x o 22 ∷ tab j (resumed n side st x m o)) (next j)))
+
+  abbrev count : ℕ
+  count = completes (recordAt side st .waiting) (length x)
+
+  take-outputs : at count .out ≡ column 0 n s st (so-far count)
+  unfolding takeFrames loop
+  take-outputs =
+      along 0 (λ t. t .out) (sym (piece-none n side b (st .store) x o began))
+      (λ j few. ap (λ (v : List Float). at j .out ++ v) (sym (resume-first n side (at j .rec) (at j .store) x o (logsOf (at j .sums)) m (take-done n side b (st .store) x m o a p .1 j few))))
+      count (omega arith)
+
+  take-answers : at count .answers ≡ column 2 n s st (so-far count)
+  unfolding takeFrames loop
+  take-answers =
+      along 2 (λ t. t .answers) (sym (piece-unheard n side b (st .store) x o began))
+      (λ j few. ap (λ (v : List Float). at j .answers ++ v) (sym (resume-heard n side (at j .rec) (at j .store) x o (logsOf (at j .sums)) m (take-done n side b (st .store) x m o a p .1 j few))))
+      count (omega arith)
 
 -- ---- one call of the surface
 
-module _ (n s side : ℕ) (mine : eqb side s ≡ true) (st : State) where
-  abbrev ns : List ℕ
-  ns = st .numbers side
+zero-back : (r : Reply) → passed r ≡ true → eqb (replyNumber r) 0 ≡ true
+zero-back Done p = refl
+zero-back Silent p = refl
+zero-back (Heard v e) p = refl
+zero-back (Numbered f h) p = refl
+zero-back (Refused k) p = absurd (false≢true p)
+zero-back (Misread k l) p = absurd (false≢true p)
 
-  abbrev b : Record
-  b = recordIn (st .numbers side)
+-- where this buffer of a take is column k of the desk's calls
+module _ (which : Request → ℕ) (k : ℕ) (asked : (a : Ask) → which (ask a) ≡ k) (n s : ℕ)
+    (takes : (side : ℕ) → eqb side s ≡ true → (st : State) (x : List Float) (m : List ℕ) (o a : ℕ)
+    → passed (takeReply n side (recordAt side st) (st .store) x m o a) ≡ true
+    → let t = takeEnds n side (recordAt side st) (st .store) x m o in
+    numbersIn (getD (from 0 (t .out) ∷ from 0 (t .answers) ∷ []) (which (take x m o a)) nothing)
+    ≡ column k n s st (map (on side) (piece x o 22 ∷ tab (completes (recordAt side st .waiting) (length x)) (resumed n side st x m o)))) where
+  module _ (side : ℕ) (mine : eqb side s ≡ true) (st : State) where
+    abbrev ns : List ℕ
+    ns = st .numbers side
 
-  -- so far in a take
-  outs : (x : List Float) (m : List ℕ) (o j : ℕ)
-      → stands n side (inDesk st) x m o j .out ≡ cleaned n s (inDesk st) (map (callOn side) (piece x o 22 ∷ tab j (resumed n side (inDesk st) x m o)))
-  unfolding takeFrames loop tab
-  outs x m o zero = sym (one-out n s side mine (piece x o 22) (inDesk st) ∙ piece-none n side b (st .store) x o)
-  outs x m o (suc j) =
-      let at = stands n side (inDesk st) x m o j in
-      let next = resumed n side (inDesk st) x m o j in
-      let first = piece x o 22 ∷ tab j (resumed n side (inDesk st) x m o) in
-      let there = leaving (inDesk st) side (at .rec) (at .store) in
-      let own : there .rec side ≡ at .rec = rw (eq-eqb side side refl) in
-      let last : cleaned n s (desks.ended n (inDesk st) (map (callOn side) first)) (callOn side next ∷ []) ≡ firstIn (desk n side (at .rec) (at .store) next .written) =
-      ap (λ (t : desks.State). cleaned n s t (callOn side next ∷ [])) (sym (steps n side (inDesk st) x m o j))
-      ∙ one-out n s side mine next there
-      ∙ ap (λ (r : Record). firstIn (desk n side r (at .store) next .written)) own in
-      ap₂ (λ (u v : List Float). u ++ v) (outs x m o j) (sym last)
-      ∙ sym (cleaned-more n s (map (callOn side) first) (callOn side next ∷ []) (inDesk st))
-      ∙ ap (cleaned n s (inDesk st)) (sym (map-more (callOn side) first next))
+    abbrev rec : Record
+    rec = recordAt side st
 
-  told-is : (c : Request) → AllHands (done n s (inDesk st) (map (callOn side) (madeOf n side b (st .store) c)))
-      → firstIn (called n side ns (st .store) c .written) ≡ cleaned n s (inDesk st) (map (callOn side) (madeOf n side b (st .store) c))
-  unfolding done cleaned hosted hostedFrame hostedTake whole.take
-  told-is (ask a) h = go (passed (desk n side b (st .store) a .answer .reply)) refl (rw mine at h) ∙ sym (one-out n s side mine a (inDesk st))
+    told-is : (c : Request) → AllHands (done desks n s st (map (on side) (madeOf n side (recordAt side st) (st .store) c)))
+        → numbersIn (getD (called n side (st .numbers side) (st .store) c .written) (which c) nothing)
+        ≡ column k n s st (map (on side) (madeOf n side (recordAt side st) (st .store) c))
+    unfolding done inBuffer hosted hostedFrame hostedTake whole.take
+    told-is (ask a) h = rw (asked a) (sym (one-out n s side k mine a st))
+    told-is (frame x m o) h = go (passed reply) refl h
+      where
+        reply : Reply
+        reply = frameReply n side rec (length (st .store)) x m o
+
+        second : Ask
+        second = secondHalf (logsOf (firstIn (frameBegins n side rec (st .store) x .written))) m o
+
+        go : (t : Bool) → passed reply ≡ t → AllHands (done desks n s st (map (on side) (cond t (firstHalf x 22 ∷ second ∷ []) [])))
+            → numbersIn (getD (telling (whole.frame n side rec (st .store) x m o) .written) (which (frame x m o)) nothing)
+            ≡ column k n s st (map (on side) (cond t (firstHalf x 22 ∷ second ∷ []) []))
+        go true p h = absurd ((rw (mine, zero-back _ (two-halves n side rec (st .store) x m o p .0)) at h) .0)
+        go false p h =
+            ap (λ (g : Given). numbersIn (getD (telling g .written) (which (frame x m o)) nothing)) (refused-is n side rec (st .store) x m o p)
+            ∙ rw p
+    told-is (take x m o a) h = go (passed reply) refl
+      where
+        reply : Reply
+        reply = takeReply n side rec (st .store) x m o a
+
+        go : (t : Bool) → passed reply ≡ t
+            → numbersIn (getD (cond t (takenAs reply (takeEnds n side rec (st .store) x m o)) (unchanged rec (st .store) reply) .written) (which (take x m o a)) nothing)
+            ≡ column k n s st (map (on side) (cond t (piece x o 22 ∷ tab (completes (rec .waiting) (length x)) (resumed n side st x m o)) []))
+        go true p = takes side mine st x m o a p
+        go false p = refl
+
+  received-is : (calls : List (On Request)) (st : State) → AllHands (done desks n s st (expand surface madeOf n st calls))
+      → inBuffer surface which n s st calls ≡ column k n s st (expand surface madeOf n st calls)
+  unfolding inBuffer expand
+  received-is [] st h = refl
+  received-is (c ∷ calls) st h =
+      let split = hands-split (done desks n s st made) (done desks n s (ended desks n st made) rest) (rw (done-more n s made rest st) at h) in
+      let to = one-call n st (c .side) (c .call) in
+      let ih = received-is calls (after surface n st c) (subst (λ (t : State). AllHands (done desks n s t rest)) (sym to) (split .1)) in
+      ap₂ (λ (u v : List Float). u ++ v) (go (eqb (c .side) s) refl (split .0)) (ih ∙ ap (λ (t : State). column k n s t rest) to)
+      ∙ sym (column-more k n s made rest st)
     where
-      o : Given
-      o = desk n side b (st .store) a
+      made : List (On Ask)
+      made = map (on (c .side)) (madeOf n (c .side) (recordAt (c .side) st) (st .store) (c .call))
 
-      go : (t : Bool) → passed (o .answer .reply) ≡ t → AllHands (cond t (a ∷ []) []) → firstIn (o .written ++ besides a (o .answer .reply)) ≡ firstIn (o .written)
-      go true p h = first-kept n side b (st .store) a (h .0) p
-      go false p h = rw (mute n side b (st .store) a p, besides-none a (o .answer .reply) p)
-  told-is (frame x m o) h = go (passed reply) refl h
-    where
-      reply : Reply
-      reply = frameReply n side b (length (st .store)) x m o
+      rest : List (On Ask)
+      rest = expand surface madeOf n (after surface n st c) calls
 
-      second : Ask
-      second = secondHalf (logsOf (firstIn (frameBegins n side b (st .store) x .written))) m o
+      go : (t : Bool) → eqb (c .side) s ≡ t → AllHands (done desks n s st made)
+          → cond t (numbersIn (getD (called n (c .side) (st .numbers (c .side)) (st .store) (c .call) .written) (which (c .call)) nothing)) [] ≡ column k n s st made
+      go true t h = told-is (c .side) t st (c .call) h
+      go false t h = sym (none-out n s (c .side) k t (madeOf n (c .side) (recordAt (c .side) st) (st .store) (c .call)) st)
 
-      go : (t : Bool) → passed reply ≡ t → AllHands (done n s (inDesk st) (map (callOn side) (cond t (firstHalf x 22 ∷ second ∷ []) [])))
-          → firstIn (telling (whole.frame n side b (st .store) x m o) .written)
-          ≡ cleaned n s (inDesk st) (map (callOn side) (cond t (firstHalf x 22 ∷ second ∷ []) []))
-      go true p h = absurd ((rw (mine, two-halves n side b (st .store) x m o p .0) at h) .0)
-      go false p h = ap (λ (g : Given). firstIn (telling g .written)) (refused-is n side b (st .store) x m o p) ∙ rw p
-  told-is (take x m o a) h = go (passed reply)
-    where
-      reply : Reply
-      reply = takeReply n side b (st .store) x m o a
+pub outputs-are : (n s : ℕ) (calls : List (On Request)) (st : State) → AllHands (done desks n s st (expand surface madeOf n st calls))
+    → inBuffer surface (λ _. 0) n s st calls ≡ column 0 n s st (expand surface madeOf n st calls)
+outputs-are n s = received-is (λ _. 0) 0 (λ a. refl) n s (λ side mine st x m o a p. take-outputs n s side mine st x m o a p)
 
-      k : ℕ
-      k = completes (b .waiting) (length x)
-
-      go : (t : Bool)
-          → firstIn (cond t (takenAs reply (takeEnds n side b (st .store) x m o)) (unchanged b (st .store) reply) .written)
-          ≡ cleaned n s (inDesk st) (map (callOn side) (cond t (piece x o 22 ∷ tab k (resumed n side (inDesk st) x m o)) []))
-      go true = outs x m o k
-      go false = refl
-
-pub received-is : (n s : ℕ) (calls : List (On Request)) (st : State) → AllHands (done n s (inDesk st) (expand surface madeOf n st calls))
-    → outputs (received surface n s st calls) ≡ cleaned n s (inDesk st) (expand surface madeOf n st calls)
-unfolding received expand cleaned
-received-is n s [] st h = refl
-received-is n s (c ∷ calls) st h =
-    let k = hands-split (done n s (inDesk st) made) (done n s (desks.ended n (inDesk st) made) rest) (rw (done-more n s made rest (inDesk st)) at h) in
-    let on = one-call n st (c .side) (c .call) in
-    let ih = received-is n s calls (after surface n st c) (subst (λ (t : desks.State). AllHands (done n s t rest)) (sym on) (k .1)) in
-    go (eqb (c .side) s) refl (k .0) (ih ∙ ap (λ (t : desks.State). cleaned n s t rest) on)
-    ∙ sym (cleaned-more n s made rest (inDesk st))
-  where
-    made : List Call
-    made = map (callOn (c .side)) (madeOf n (c .side) (recordIn (st .numbers (c .side))) (st .store) (c .call))
-
-    rest : List Call
-    rest = expand surface madeOf n (after surface n st c) calls
-
-    go : (t : Bool) → eqb (c .side) s ≡ t → AllHands (done n s (inDesk st) made)
-        → outputs (received surface n s (after surface n st c) calls) ≡ cleaned n s (desks.ended n (inDesk st) made) rest
-        → outputs (cond t (surface n (c .side) (st .numbers (c .side)) (st .store) (c .call) .returned ∷ received surface n s (after surface n st c) calls)
-        (received surface n s (after surface n st c) calls))
-        ≡ cleaned n s (inDesk st) made ++ cleaned n s (desks.ended n (inDesk st) made) rest
-    go true t h e = ap₂ (λ (u v : List Float). u ++ v) (told-is n s (c .side) t st (c .call) h) e
-    go false t h e =
-        e ∙ ap (λ (u : List Float). u ++ cleaned n s (desks.ended n (inDesk st) made) rest)
-        (sym (none-out n s (c .side) t (madeOf n (c .side) (recordIn (st .numbers (c .side))) (st .store) (c .call)) (inDesk st)))
+pub answers-are : (n s : ℕ) (calls : List (On Request)) (st : State) → AllHands (done desks n s st (expand surface madeOf n st calls))
+    → inBuffer surface answersAt n s st calls ≡ column 2 n s st (expand surface madeOf n st calls)
+answers-are n s = received-is answersAt 2 (λ a. refl) n s (λ side mine st x m o a p. take-answers n s side mine st x m o a p)

@@ -16,8 +16,7 @@ use Rattle.desk.proofs.Settled.{refused-keeps}
 use Rattle.whole.specs.Whole as whole
 use Rattle.whole.specs.Surface.{hostedFrame, hostedTake}
 use Rattle.whole.proofs.Halves.{frame-leaves, take-leaves}
-use Rattle.surface.specs.Surface.{ask, frame, take}
-use Rattle.surface.specs.Laws.{RefusedLeaves}
+use Rattle.surface.specs.Surface.{ask, frame, take, RefusedLeaves}
 
 -- the record that is handed back is the one that came
 handed : (a : Answer) (ns : List ℕ) → passed (a .reply) ≡ false → handedBack a ns ≡ ns

@@ -35,7 +35,8 @@ use Rattle.whole.specs.Whole.{unchanged, frameReply, frameEnds, takeRows, takeR
 use Rattle.whole.specs.Whole as whole
 use Rattle.whole.specs.Surface.{hostedFrame, hostedTake}
 use Rattle.isolation.specs.Plan.{Plan, answers, asks, enters, Came, came, perform}
-use Rattle.isolation.specs.Isolation.{givenBy, on, own, Planned}
+use Rattle.isolation.specs.Isolation.{givenBy, own, Planned}
+use Rattle.isolation.specs.Run.{on}
 use Rattle.surface.specs.Surface.{Request, ask, frame, take, called, surface, OurSurface, Anew}
 use Rattle.isolation.proofs.Isolated.{lone, next, in-any-run, alone-lone, isolated, undisturbed}
 

@@ -1,36 +1,22 @@
 -- Cutting, with others in between: however a bench's samples are cut, into takes or pieces, whatever other benches do in between, and however often a call
 -- of its own is refused, it is one dictation of its samples. What is claimed; the proof is in proofs/Between.antt.
 use Prim.Native.Nat.{ℕ, _*_, _<_}
-use mathlib.Core.Bool.{cond, _&&_}
+use mathlib.Core.Bool.{cond}
 use mathlib.Core.List.{List, [], _∷_, _++_, map}
 use mathlib.Core.Path.{_≡_}
 use lib.Dec.{eqb}
-use lib.ListN.{length}
+use lib.ListN.{length, getD}
 use lib.Ieee.{Float}
 use Rattle.rules.specs.Place.{get}
-use Rattle.rules.specs.Written.{Written, firstIn}
-use Rattle.frame.specs.Reply.{passed}
+use Rattle.rules.specs.Written.{Written, nothing, numbersIn}
 use Rattle.frame.specs.Share.{SHARE}
 use Rattle.pieces.specs.Pieces.{waitingIn}
 use Rattle.desk.specs.Gate.{shareOf}
 use Rattle.desk.specs.Desk.{Ask, piece, resume}
 use Rattle.dictation.specs.Dictation.{Lent, dictate}
-use Rattle.isolation.specs.Run.{Call}
-use Rattle.isolation.specs.Run as desks
-use Rattle.isolation.specs.Isolation.{Returned, On, State, ended, received}
-use Rattle.surface.specs.Surface.{Request, surface}
-use Rattle.surface.specs.Mixed.{inDesk, expand, madeOf}
-
--- side s's calls that are done in a run of the desk's calls, in order
-unfoldable pub done : ℕ → ℕ → desks.State → List Call → List Ask
-done n s st [] = []
-done n s st (c ∷ cs) =
-    let rest = done n s (desks.after n st c) cs in cond (eqb (c .side) s && passed (desks.given n st c .answer .reply)) (c .ask ∷ rest) rest
-
--- the numbers that a side receives in its outputs
-abbrev pub outputs : List (Returned (List Written)) → List Float
-outputs [] = []
-outputs (r ∷ rs) = firstIn (r .told) ++ outputs rs
+use Rattle.whole.specs.Taking.{Told, answersOf}
+use Rattle.isolation.specs.Run.{Kind, On, State, recordAt, given, after, ended, done, desks, expand}
+use Rattle.surface.specs.Surface.{Request, ask, frame, take, surface, madeOf}
 
 -- calls that hand samples in, piece by piece, each resumed with its samples and its output, for as many frames as are lent to
 abbrev pub resumes : List Float → ℕ → List Lent → List Ask
@@ -41,17 +27,36 @@ pub data Row : List Ask → List Float → List Lent → Type 0 where
   morePieces : (x : List Float) (o : ℕ) (ls : List Lent) {asks : List Ask} {ys : List Float} {ms : List Lent}
       → Row asks ys ms → Row (piece x o 22 ∷ resumes x o ls ++ asks) (x ++ ys) (ls ++ ms)
 
--- where side s's calls that are done are such, and no piece is unfinished at the end: its record, its share and the numbers that it received are those
--- of one dictation
+-- the numbers that side s receives in a run, in order: of each call, those in one of its buffers
+unfoldable pub inBuffer : {C : Type 0} → Kind C (List Written) → (C → ℕ) → ℕ → ℕ → State → List (On C) → List Float
+inBuffer serve which n s st [] = []
+inBuffer serve which n s st (c ∷ cs) =
+    cond (eqb (c .side) s) (numbersIn (getD (given serve n st c .returned .told) (which (c .call)) nothing)) []
+    ++ inBuffer serve which n s (after serve n st c) cs
+
+-- the first is the output. Answers stand in the second of a frame and a take, and in the third of a resume, behind its sums
+abbrev pub answersAt : Request → ℕ
+answersAt (ask a) = 2
+answersAt (frame x m o) = 1
+answersAt (take x m o a) = 1
+
+abbrev pub sumsTold : List Told → List Float
+sumsTold [] = []
+sumsTold (f ∷ fs) = f .0 ++ sumsTold fs
+
+-- where side s's calls that are done are such, and no piece is unfinished at the end: its record, its share, and the samples and answers that it received
+-- are those of one dictation. So are the sums that its pieces and resumes tell: those that it made itself tell it, and those of a take the take alone
 abbrev pub Between : ℕ → Type 0
 Between n =
     (s : ℕ) → s < n
     → (st : State) → length (st .store) ≡ n * SHARE
     → (calls : List (On Request)) (samples : List Float) (lent : List Lent)
-    → Row (done n s (inDesk st) (expand surface madeOf n st calls)) samples lent
-    → let end = inDesk (ended surface n st calls) in
-    end .rec s .piece ≡ 0
-    → let b = inDesk st .rec s in
+    → let asks = expand surface madeOf n st calls in
+    Row (done desks n s st asks) samples lent
+    → let end = ended surface n st calls in
+    recordAt s end .piece ≡ 0
+    → let b = recordAt s st in
     let share = get (shareOf s) (st .store) in
     let d = dictate b share (waitingIn (b .waiting) share ++ samples) lent in
-    (end .rec s ≡ d .rec) × (get (shareOf s) (end .store) ≡ d .store) × (outputs (received surface n s st calls) ≡ d .out)
+    (recordAt s end ≡ d .rec) × (get (shareOf s) (end .store) ≡ d .store) × (inBuffer surface (λ _. 0) n s st calls ≡ d .out)
+    × (inBuffer surface answersAt n s st calls ≡ answersOf (d .told)) × (inBuffer desks (λ _. 1) n s st asks ≡ sumsTold (d .told))

@@ -1,4 +1,2 @@
 pub mod Surface
-pub mod Mixed
 pub mod Between
-pub mod Laws

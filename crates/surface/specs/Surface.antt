@@ -1,19 +1,28 @@
--- Every call of the C surface that touches the store, by what its contract cites: the desk's, a frame, and a take.
-use Prim.Native.Nat.{ℕ, _*_, _<_}
-use mathlib.Core.Bool.{true}
-use mathlib.Core.List.{List, _∷_}
+-- Every call of the C surface that touches the store, by what its contract cites: the desk's, a frame, and a take. What is claimed of them; the proofs are
+-- in proofs/Surfaced.antt, Expanded, Refusing and Numbers.
+use Prim.Native.Nat.{ℕ, _*_, _≤_, _<_}
+use mathlib.Core.Bool.{true, false, cond}
+use mathlib.Core.List.{List, [], _∷_}
 use mathlib.Core.Path.{_≡_}
+use lib.Dec.{eqb}
 use lib.ListN.{length}
 use lib.Ieee.{Float}
-use Rattle.rules.specs.Written.{Written}
-use Rattle.frame.specs.Reply.{passed}
+use Rattle.rules.specs.Tab.{tab}
+use Rattle.rules.specs.Written.{Written, firstIn}
+use Rattle.logs.specs.Log10.{logsOf}
+use Rattle.frame.specs.declared.Reply.the-variants.{Refused, Misread}
 use Rattle.frame.specs.declared.Way.{Way}
+use Rattle.frame.specs.Reply.{passed}
 use Rattle.frame.specs.Share.{SHARE}
+use Rattle.pieces.specs.Pieces.{completes}
 use Rattle.desk.specs.Gate.{BENCHES}
-use Rattle.desk.specs.Desk.{Ask, opening, Given}
-use Rattle.desk.specs.Surface.{replyNumber, hosted, handedBack}
+use Rattle.desk.specs.Desk.{Ask, opening, firstHalf, secondHalf, piece, resume, Given}
+use Rattle.desk.specs.Surface.{replyNumber, hosted}
 use Rattle.whole.specs.Surface.{hostedFrame, hostedTake}
-use Rattle.isolation.specs.Isolation.{Kind, On, State, on, own, received, alone, Isolated, Undisturbed}
+use Rattle.whole.specs.Whole.{frameReply, frameBegins, takeReply, takeFrames, takeBegins}
+use Rattle.isolation.specs.Run.{Kind, gives, On, on, State, received, Made, Expands}
+use Rattle.isolation.specs.Isolation.{own, alone, Isolated, Undisturbed}
+use Rattle.isolation.specs.Memory.{Counts}
 
 -- open, calls 1 to 4 and call 2's sister, the halves, a piece and a resume; a frame; and a take. Of an answer buffer its length is an argument
 pub data Request : Type 0 where
@@ -27,14 +36,10 @@ called n side ns store (frame x m o) = hostedFrame n side ns store x m o
 called n side ns store (take x m o a) = hostedTake n side ns store x m o a
 
 abbrev pub surface : Kind Request (List Written)
-surface n side ns store c =
-    let o = called n side ns store c in
-    record {
-      returned = record { number = replyNumber (o .answer .reply); numbers = handedBack (o .answer) ns; told = o .written };
-      store = o .store;
-    }
+surface n side ns store c = let o = called n side ns store c in gives ns (o .answer) (o .written) (o .store)
 
--- the law, as the box has it: whatever is called on whatever benches. The desk's calls by themselves are requests, and so apart too
+-- ---- apart: whatever is called on whatever benches. The desk's calls by themselves are requests, and so apart too
+
 abbrev pub OurSurface : Type 0
 OurSurface = Isolated surface BENCHES × Undisturbed surface BENCHES
 
@@ -46,3 +51,38 @@ Anew n =
     → (way : Way) (model : List ℕ) → passed (hosted n s (st .numbers s) (st .store) (opening way model) .answer .reply) ≡ true
     → (calls : List (On Request))
     → received surface n s st (on s (ask (opening way model)) ∷ calls) ≡ alone surface (ask (opening way model) ∷ own s calls)
+
+-- ---- mixed sequences: a frame is its two halves, and a take its piece and a resume for each frame that it completes; refused, neither is any
+
+abbrev pub madeOf : Made Request
+madeOf n side rec store (ask a) = a ∷ []
+madeOf n side rec store (frame x m o) =
+    cond (passed (frameReply n side rec (length store) x m o))
+    (firstHalf x 22 ∷ secondHalf (logsOf (firstIn (frameBegins n side rec store x .written))) m o ∷ []) []
+madeOf n side rec store (take x m o a) =
+    cond (passed (takeReply n side rec store x m o a))
+    (piece x o 22 ∷ tab (completes (rec .waiting) (length x)) (λ j.
+    resume x (logsOf (takeFrames j n side x m o (takeBegins n side rec store x o) .sums)) m o 22)) []
+
+-- so frames are numbered, and what is remembered is made of heard frames, never NaN and no faster to fade, over any run of these calls
+abbrev pub OurCalls : Type 0
+OurCalls = Expands surface madeOf BENCHES × Counts surface madeOf BENCHES
+
+-- ---- of every call
+
+-- a refusal leaves the record and the store as they were, and writes to no buffer
+abbrev pub RefusedLeaves : Type 0
+RefusedLeaves =
+    (n side : ℕ) (ns : List ℕ) (store : List Float) (c : Request)
+    → passed (called n side ns store c .answer .reply) ≡ false
+    → let o = surface n side ns store c in
+    (o .returned .numbers ≡ ns) × (o .store ≡ store) × (o .returned .told ≡ [])
+
+-- 0 is done: it is returned exactly where the reply passed. A refusal is 1 to 6, 8 or 9; 7 comes with the model's own, 11 to 22, and a layer, 0 to 6
+abbrev pub ZeroIsDone : Type 0
+ZeroIsDone =
+    (n side : ℕ) (ns : List ℕ) (store : List Float) (c : Request)
+    → let reply = called n side ns store c .answer .reply in
+    (passed reply ≡ eqb (replyNumber reply) 0)
+    × ((k : ℕ) → reply ≡ Refused k → (1 ≤ k) × (k ≤ 9) × (k ≡ 7 → ⊥))
+    × ((k l : ℕ) → reply ≡ Misread k l → (11 ≤ k) × (k ≤ 22) × (l ≤ 6))

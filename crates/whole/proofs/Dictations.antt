@@ -1,6 +1,6 @@
--- A take that is accepted is the dictation of its samples, by the law of cutting (`dictates`, `as-dictated`); how much it hands out (`take-fills`).
--- Assumes nothing.
-use Prim.Native.Nat.{ℕ, suc, _*_}
+-- A take that is accepted is the dictation of its samples, by the law of cutting (`dictates`, `as-dictated`); how much it hands out (`take-fills`), and
+-- that every call of it is done (`take-done`). Assumes nothing.
+use Prim.Native.Nat.{ℕ, suc, _*_, _<_}
 use mathlib.Core.Bool.{true}
 use mathlib.Core.List.{List, [], _∷_, map}
 use mathlib.Core.Path.{_≡_, refl, sym, ap, ap₂, _∙_}
@@ -10,17 +10,18 @@ use lib.Ieee.{Float}
 use Rattle.rules.specs.F32.{zeros}
 use Rattle.rules.specs.Place.{put}
 use Rattle.rules.specs.Written.{from, over, onto}
+use Rattle.logs.specs.Log10.{logsOf}
 use Rattle.frame.specs.Reply.{passed}
 use Rattle.pieces.specs.Pieces.{completes}
 use Rattle.desk.specs.declared.Record.{Record}
-use Rattle.desk.specs.Desk.{Given}
+use Rattle.desk.specs.Desk.{piece, resume, Given, desk}
 use Rattle.dictation.specs.Dictation.{Dictated, dictated}
 use Rattle.dictation.proofs.Cuts.{is-whole}
-use Rattle.whole.specs.Whole.{takeReply, takeEnds, takenAs}
+use Rattle.whole.specs.Whole.{takeReply, takeFrames, takeBegins, takeEnds, takenAs}
 use Rattle.whole.specs.Whole as whole
 use Rattle.whole.specs.Taking.{Told, lentTo, answersOf, Dictates, AsDictated}
-use Rattle.whole.proofs.Accepted.{take-accepted}
-use Rattle.whole.proofs.Followed.{ends}
+use Rattle.whole.proofs.Accepted.{Take, take-accepted}
+use Rattle.whole.proofs.Followed.{piece-done, ends}
 
 module _ (n side : ℕ) (rec : Record) (store samples : List Float) (model : List ℕ) (out answers : ℕ) where
   taken-is : passed (takeReply n side rec store samples model out answers) ≡ true
@@ -43,6 +44,19 @@ take-fills n side rec store samples model out answers p =
     let l = places answers in
     let e = ends n side rec store samples model (h .0) (l .0) (rw (h .1, l .1) (take-accepted n side rec store samples model out answers p)) in
     (rw (h .1) at (e .filled), rw (h .1) at (e .threes))
+
+-- every call of it is done: its piece, and the resume of each frame
+pub take-done : (n side : ℕ) (rec : Record) (store samples : List Float) (model : List ℕ) (out answers : ℕ)
+    → passed (takeReply n side rec store samples model out answers) ≡ true
+    → (passed (desk n side rec store (piece samples out 22) .answer .reply) ≡ true)
+    × ((j : ℕ) → j < completes (rec .waiting) (length samples)
+    → let t = takeFrames j n side samples model out (takeBegins n side rec store samples out) in
+    passed (desk n side (t .rec) (t .store) (resume samples (logsOf (t .sums)) model out 22) .answer .reply) ≡ true)
+take-done n side rec store samples model out answers p =
+    let h = places out in
+    let l = places answers in
+    let k : Take n side rec store samples model (length (h .0)) (length (l .0)) = rw (h .1, l .1) (take-accepted n side rec store samples model out answers p) in
+    (rw (h .1) at (piece-done n side rec store samples model (h .0) (l .0) k), rw (h .1) at (ends n side rec store samples model (h .0) (l .0) k .done))
 
 pub dictates : Dictates
 dictates n side rec store samples model held answers p =

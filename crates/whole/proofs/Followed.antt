@@ -4,13 +4,13 @@
 --     follow                    along the resumes of a piece that comes to its end
 --     Ends, ends                at the end of an accepted take
 -- Assumes nothing.
-use Prim.Native.Nat.{ℕ, zero, suc, _+_, _-_, _*_, _≤_}
+use Prim.Native.Nat.{ℕ, zero, suc, _+_, _-_, _*_, _≤_, _<_}
 use native.Mathlib.Omega.{arith}
 use mathlib.Core.Bool.{Bool, true, false, cond, false≢true}
 use mathlib.Core.List.{List, [], _∷_, _++_, map, append-assoc, append-nil}
 use mathlib.Core.Path.{_≡_, refl, sym, ap, _∙_}
-use borrow.Author.Tests.{eqb-false, not-false, not-true}
-use lib.Dec.{ltb}
+use borrow.Author.Tests.{eqb-true, eqb-false, not-false, not-true}
+use lib.Dec.{eqb, ltb}
 use lib.ListN.{length, getD, take, length-append}
 use lib.Ieee.{Float}
 use Rattle.rules.specs.F32.{zeros}
@@ -214,6 +214,18 @@ module _ (n side : ℕ) (rec : Record) (store samples : List Float) (model : Lis
   Lends j [] = Unit
   Lends j (l ∷ ls) = (l ≡ lentAt j) × Lends (suc j) ls
 
+  -- the resume of frame i is not refused
+  abbrev pub ResumeDone : ℕ → Type 0
+  ResumeDone i = passed (desk n side (at i .rec) (at i .store) (resume samples (logsOf (at i .sums)) model (length held) 22) .answer .reply) ≡ true
+
+  -- from the first, and those behind it
+  from-first : (j e : ℕ) → ResumeDone j → ((i : ℕ) → suc j ≤ i → i < e → ResumeDone i) → (i : ℕ) → j ≤ i → i < e → ResumeDone i
+  from-first j e here rest i low high = go (eqb i j) refl
+    where
+      go : (t : Bool) → eqb i j ≡ t → ResumeDone i
+      go true same = rw (eqb-true i j same) here
+      go false other = let ne = eqb-false i j other in rest i (omega arith) high
+
   -- to frame e, from frame j
   record Followed (j e : ℕ) (ls : List Lent) (d : Dictated) : Type 0 where
     last : Given
@@ -224,6 +236,7 @@ module _ (n side : ℕ) (rec : Record) (store samples : List Float) (model : Lis
     outs : mid e .out ≡ d .out
     answered : at e .answers ≡ at j .answers ++ answersOf (d .told)
     lent : map (lentTo model) (d .told) ≡ ls
+    done : (i : ℕ) → j ≤ i → i < e → ResumeDone i
 
   follow : {o : Given} {was : List Float} {ls : List Lent} {d : Dictated} → Led n side samples o was ls d → (j e : ℕ) → Alike j o was → Lends j ls → rec .waiting ≤ 479
       → 480 * j + 480 * length ls ≤ length held → 3 * j + 3 * length ls ≤ length answers → j + length ls ≡ e → Followed j e ls d
@@ -239,12 +252,14 @@ module _ (n side : ℕ) (rec : Record) (store samples : List Float) (model : Lis
         outs = sym (a .here kept) ∙ ap (λ (l : List (List Float)). getD l 0 []) w;
         answered = sym (append-nil (at j .answers));
         lent = refl;
+        done = λ i low high. absurd (omega arith);
       })
   follow (paused {o} {next} {held = was} {out = to} {sums = sent} {l} {more} {d} kept p w q rest) j e a lends few room places last =
       let stands : to ≡ mid j .out = sym (ap (λ (x : List (List Float)). getD x 0 []) w) ∙ a .here kept in
       let size : length to ≡ length held =
       ap length (stands ∙ a .out) ∙ length-put (record { at = 0; size = length (at j .out) }) held (at j .out) (omega (arith, a .filled)) refl in
       let call : next ≡ desk n side (o .answer .rec) (o .store) (resume samples (logsOf (at j .sums)) model (length held) 22) = rw (lends .0, size) at q in
+      let there : desk n side (at j .rec) (at j .store) (resume samples (logsOf (at j .sums)) model (length held) 22) ≡ next = rw (a .recs .0, a .stores .0) (sym call) in
       let passes = led-passed rest in
       let resumed =
       resume-passed n side (o .answer .rec) (o .store) samples (logsOf (at j .sums)) model (length held) 22 (ap (λ (g : Given). passed (g .answer .reply)) (sym call) ∙ passes) in
@@ -261,9 +276,10 @@ module _ (n side : ℕ) (rec : Record) (store samples : List Float) (model : Lis
         outs = f .outs;
         answered =
             f .answered
-            ∙ ap (λ (x : List Float). x ++ answersOf (d .told)) (heard-more j next (rw (a .recs .0, a .stores .0) (sym call)))
+            ∙ ap (λ (x : List Float). x ++ answersOf (d .told)) (heard-more j next there)
             ∙ append-assoc (at j .answers) (heardOf (next .answer .reply)) (answersOf (d .told));
         lent = rw (f .lent, sums, lends .0);
+        done = from-first j e (ap (λ (g : Given). passed (g .answer .reply)) there ∙ passes) (f .done);
       }
 
   -- what the take lends
@@ -306,6 +322,7 @@ pub record Ends (n side : ℕ) (rec : Record) (store samples : List Float) (mode
   pub dictated : Dictated
   pub led : Led n side samples (handedIn n side rec store samples held) held (map (lentTo model) (dictated .told)) dictated
   pub same : (t .rec ≡ dictated .rec) × (t .store ≡ dictated .store) × (c .out ≡ dictated .out) × (t .answers ≡ answersOf (dictated .told))
+  pub done : (j : ℕ) → j < completes (rec .waiting) (length samples) → ResumeDone n side rec store samples model held answers j
 
 module _ (n side : ℕ) (rec : Record) (store samples : List Float) (model : List ℕ) (held answers : List Float)
     (k : Take n side rec store samples model (length held) (length answers)) where
@@ -328,7 +345,7 @@ module _ (n side : ℕ) (rec : Record) (store samples : List Float) (model : Lis
         fine = g .1;
       }
 
-  piece-done : passed (handedIn n side rec store samples held .answer .reply) ≡ true
+  pub piece-done : passed (handedIn n side rec store samples held .answer .reply) ≡ true
   piece-done =
       ap (λ (o : Given). passed (o .answer .reply)) (let-through n side rec store (piece samples (length held) 22) (k .gated))
       ∙ rw (piece-taken mine (rec .hearing .way) (rec .waiting) samples (length held) 22 fitted, further-reply Done (waits mine []) (rec .hearing .way) (waitingIn (rec .waiting) mine ++ samples) nothing)
@@ -357,4 +374,5 @@ module _ (n side : ℕ) (rec : Record) (store samples : List Float) (model : Lis
         dictated = c .0;
         led = rw (f .lent) (c .1);
         same = (a .recs .0 ∙ f .recs, a .stores .0 ∙ f .stores, f .outs, f .answered);
+        done = λ j few. f .done j (omega arith) few;
       }

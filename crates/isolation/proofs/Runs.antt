@@ -1,0 +1,81 @@
+-- Runs, of any kind of calls and of the desk's.
+--     joined           one run after the other
+--     reads            a record as numbers is read as itself
+--     record-after     a side's record behind a call of the desk; store-after, the store
+--     expanding        where each call is made of the desk's calls, any run is
+-- Assumes nothing.
+use Prim.Native.Nat.{ℕ}
+use mathlib.Core.Bool.{Bool, true, false, cond}
+use mathlib.Core.List.{List, [], _∷_, _++_, map}
+use mathlib.Core.Path.{_≡_, refl, sym, ap, _∙_}
+use lib.Dec.{eqb, leb}
+use lib.Ieee.{Float}
+use Rattle.frame.specs.Reply.{passed}
+use Rattle.frame.specs.declared.Way.{Way}
+use Rattle.frame.specs.declared.Way.the-variants.{Asked, Crate}
+use Rattle.desk.specs.declared.Answer.{Answer}
+use Rattle.desk.specs.declared.Record.{Record}
+use Rattle.desk.specs.Desk.{Ask, desk}
+use Rattle.desk.specs.Gate.{wayNumber}
+use Rattle.desk.specs.Surface.{numbersOf, wayIn, recordIn, handedBack, hosted}
+use Rattle.desk.proofs.Settled.{refused-keeps}
+use Rattle.isolation.specs.Run.{Kind, On, on, State, recordAt, after, ended, desks, Made, expand, Expands}
+
+pub joined : {C O : Type 0} (serve : Kind C O) (n : ℕ) (first rest : List (On C)) (st : State)
+    → ended serve n st (first ++ rest) ≡ ended serve n (ended serve n st first) rest
+unfolding ended
+joined serve n [] rest st = refl
+joined serve n (c ∷ first) rest st = joined serve n first rest (after serve n st c)
+
+-- ---- the desk's calls
+
+way-back : (w : Way) → (leb (wayNumber w) 1 ≡ true) × (wayIn (wayNumber w) ≡ w)
+way-back Asked = (refl, refl)
+way-back Crate = (refl, refl)
+
+pub reads : (b : Record) → recordIn (numbersOf b) ≡ b
+unfolding recordIn
+reads b = let k = way-back (b .hearing .way) in rw (k .0, k .1)
+
+-- the record that is handed back, where a refusal leaves it
+handed : (ns : List ℕ) (a : Answer) → (passed (a .reply) ≡ false → a .rec ≡ recordIn ns) → recordIn (handedBack a ns) ≡ a .rec
+unfolding recordIn
+handed ns a keeps = go (passed (a .reply)) refl
+  where
+    go : (t : Bool) → passed (a .reply) ≡ t → recordIn (cond t (numbersOf (a .rec)) ns) ≡ a .rec
+    go true p = reads (a .rec)
+    go false p = sym (keeps p)
+
+pub record-after : (n s : ℕ) (st : State) (c : On Ask)
+    → recordAt s (after desks n st c) ≡ cond (eqb (c .side) s) (desk n (c .side) (recordAt (c .side) st) (st .store) (c .call) .answer .rec) (recordAt s st)
+unfolding hosted
+record-after n s st c = go (eqb (c .side) s)
+  where
+    ns : List ℕ
+    ns = st .numbers (c .side)
+
+    a : Answer
+    a = desk n (c .side) (recordIn ns) (st .store) (c .call) .answer
+
+    go : (t : Bool) → recordIn (cond t (handedBack a ns) (st .numbers s)) ≡ cond t (a .rec) (recordAt s st)
+    go true = handed ns a (λ p. refused-keeps n (c .side) (recordIn ns) (st .store) (c .call) p .0)
+    go false = refl
+
+pub store-after : (n : ℕ) (st : State) (c : On Ask) → after desks n st c .store ≡ desk n (c .side) (recordAt (c .side) st) (st .store) (c .call) .store
+unfolding hosted
+store-after n st c = refl
+
+-- ---- calls that are made of them
+
+module _ {C O : Type 0} (serve : Kind C O) (asksOf : Made C) (n : ℕ) where
+  pub expanding : ((st : State) (side : ℕ) (c : C)
+      → after serve n st (on side c) ≡ ended desks n st (map (on side) (asksOf n side (recordAt side st) (st .store) c)))
+      → Expands serve asksOf n
+  unfolding ended expand
+  expanding made st [] = refl
+  expanding made st (c ∷ calls) =
+      let first = map (on (c .side)) (asksOf n (c .side) (recordAt (c .side) st) (st .store) (c .call)) in
+      let rest = expand serve asksOf n (after serve n st c) calls in
+      expanding made (after serve n st c) calls
+      ∙ ap (λ (x : State). ended desks n x rest) (made st (c .side) (c .call))
+      ∙ sym (joined desks n first rest st)
