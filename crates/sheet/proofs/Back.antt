@@ -16,7 +16,8 @@ use Rattle.rules.proofs.Truth.{both, neither}
 use Rattle.sheet.specs.Sheet.{four, sum, kind, recordOf, recordsOf, trailerOf, bytesOf}
 use Rattle.sheet.specs.End.{fromFour, zeros, good, run, entryOf, entriesOf, trailer, distance, number, sideByte, padded, sumNoted, start, records, faults, End, sheet, refused, endOf}
 use Rattle.sheet.specs.Written.{kinds}
-use Rattle.sheet.proofs.Digits.{Bytes, four-of, above, four-mod}
+use Rattle.sheet.specs.Laws.{Bytes}
+use Rattle.sheet.proofs.Digits.{four-of, above, four-mod}
 use Rattle.sheet.proofs.Fields.{zeros-at}
 use Rattle.sheet.proofs.Halves.{ends-at, low-side, behind, length-entries}
 use Rattle.sheet.proofs.Inverse.{Fits}

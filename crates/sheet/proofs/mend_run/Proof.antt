@@ -11,7 +11,7 @@ use Rattle.rules.proofs.Leaves.{leave-both}
 use Rattle.rules.proofs.Stores.{all-stored}
 use Rattle.sheet.specs.Sheet.{bytesOf}
 use Rattle.sheet.specs.Mended.{kept, torn}
-use Rattle.sheet.proofs.Digits.{Bytes}
+use Rattle.sheet.specs.Laws.{Bytes}
 use Rattle.sheet.proofs.Kept.{kept-known}
 use Rattle.sheet.proofs.Mending.{part-kept, size-anew, run-within, part-size, lay-anew}
 use Rattle.sheet.proofs.mend_run.Statement.{statement}
