@@ -12,7 +12,7 @@ use Rattle.rules.proofs.Truth.{neither}
 use Rattle.model.specs.declared.Kind.the-variants.{Dense, Gru}
 use Rattle.model.specs.declared.Model.{Model}
 use Rattle.model.specs.declared.Reading.the-variants.{Good}
-use Rattle.model.specs.Model.{_≠_, mismatches, readOf}
+use Rattle.model.specs.Model.{_≠_, countsIn, matchFaults, readOf}
 use Rattle.model.specs.Parts.{LiesIn}
 use Rattle.model.proofs.File.{Written, writes-back}
 use Rattle.model.proofs.Places.{found-within}
@@ -39,7 +39,7 @@ same a b h = eqb-true a b (not-false (eqb a b) h)
 
 pub shape : (s : List ℕ) (m : Model) → Written s m → Shaped (length s) m
 shape s m w =
-    let match : Clear (mismatches m 0) = subst (λ (m : Model). Clear (mismatches m 0)) (w .model) (w .holds .match) in
+    let match : Clear (matchFaults (countsIn m) 0) = subst (λ (m : Model). Clear (matchFaults (countsIn m) 0)) (w .model) (w .holds .match) in
     let in18 = neither _ _ (match .1 .0) in
     let in18′ = neither _ _ (in18 .1) in
     let in19 = neither _ _ (match .1 .1 .0) in

@@ -7,10 +7,10 @@ use native.Mathlib.Omega.{arith}
 use borrow.Author.Tests.{lt-ltb, le-ltb, ltb-false}
 use lib.Dec.{ltb}
 use lib.ListN.{length, getD, take, drop}
+use Rattle.rules.specs.Lists.{Bytes}
 use Rattle.sheet.specs.Sheet.{recordsOf}
 use Rattle.sheet.specs.End.{good, run, entriesOf}
 use Rattle.sheet.specs.Mended.{kept, torn}
-use Rattle.sheet.specs.Laws.{Bytes}
 use Rattle.sheet.proofs.Halves.{length-entries}
 use Rattle.sheet.proofs.Inverse.{Fits}
 use Rattle.sheet.proofs.Back.{side-good, run-good, records-back}

@@ -9,13 +9,15 @@ use lib.Dec.{eqb, ltb}
 use lib.ListN.{length, getD, take, drop, length-append, length-take, length-drop}
 use lib.Seq.{take-all, take-at, drop-at, take-append-seam, drop-append-seam, drop-drop, take-take, take-add}
 use Rattle.rules.specs.Leaf.{_leaving_}
+use Rattle.rules.specs.Lists.{sum, Bytes}
+use Rattle.rules.specs.Refusals.{_when_, refusing}
 use Rattle.rules.proofs.Refused.{Clear, clear}
 use Rattle.rules.proofs.Cleared.{none-held}
-use Rattle.sheet.specs.Sheet.{sum, trailerOf, bytesOf}
+use Rattle.sheet.specs.Sheet.{trailerOf, bytesOf}
 use Rattle.sheet.specs.End.{readOf}
-use Rattle.sheet.specs.Mended.{kept, torn, readsAt, recordsIn, Mended, mended, hindrances, mendOf}
-use Rattle.sheet.specs.Laws.{Bytes, MendedTo, Mends}
-use Rattle.sheet.specs.Parts.{closed, copied, anew}
+use Rattle.sheet.specs.Mended.{kept, torn, readsAt, recordsIn, Mended, mended, mendFaults, mendOf}
+use Rattle.sheet.specs.Laws.{MendedTo, Mends}
+use Rattle.sheet.specs.Parts.{closed, copied}
 use Rattle.sheet.specs.declared.Reading.the-variants.{Good, Refused}
 use Rattle.sheet.proofs.Halves.{length-entries}
 use Rattle.sheet.proofs.Laying.{length-records, length-trailer}
@@ -52,7 +54,7 @@ run-to s place b h torn-so fits =
         let long : length (a ++ r) ≡ place + 8 * n = simp (length-append, length-take, length-drop) (omega (arith, kept-room (drop place s), length-drop place s)) in
         rw (torn-back (drop place s) (drop-bytes place s b), ← append-assoc a r t, take-at (a ++ r) t (place + 8 * n) long) (sym (take-add place (8 * n) s))
 
-mended-to : (s : List ℕ) (place : ℕ) (numbers out : List ℕ) → Bytes s → Clear (hindrances s place numbers out)
+mended-to : (s : List ℕ) (place : ℕ) (numbers out : List ℕ) → Bytes s → Clear (mendFaults s place numbers out)
     → MendedTo s place (mended s place .records) (mended s place .bytes)
 unfolding mended
 mended-to s place numbers out b h = of (readsAt place (readOf s)) refl (h .1 .1 .0) (h .1 .1 .1 .0)
@@ -69,7 +71,7 @@ pub mends : Mends
 unfolding mendOf
 mends s place numbers out told after b e =
     let m = mended s place in
-    let rows = hindrances s place numbers out in
+    let rows = mendFaults s place numbers out in
     let right : ℕ × (List ℕ × List ℕ) = (0 leaving length (m .bytes) ∷ m .records ∷ [] leaving m .bytes ++ drop (length (m .bytes)) out) in
     let c = none-held (λ (p : ℕ × (List ℕ × List ℕ)). p .0) (λ r. r leaving numbers leaving out) right (λ n. refl) rows tt (ap (λ (p : ℕ × (List ℕ × List ℕ)). p .0) (sym e)) in
     let done : (0 leaving told leaving after) ≡ right = e ∙ clear (λ r. r leaving numbers leaving out) right rows c in
@@ -83,20 +85,29 @@ mends s place numbers out told after b e =
 
 -- ---- the two ways to the answer
 
+-- a run of records mended, by the last three refusals
+abbrev pub anew : List ℕ → ℕ → List ℕ → List ℕ → ℕ × (List ℕ × List ℕ)
+anew s place numbers out =
+    let n = kept (drop place s) in
+    let bytes = take place s ++ bytesOf (torn (drop place s)) in
+    refusing (38 when eqb n 0 ∷ 32 when ltb 536870911 n ∷ 36 when ltb (length out) (length bytes) ∷ []) (λ r. r leaving numbers leaving out)
+    (0 leaving length bytes ∷ n ∷ [] leaving bytes ++ drop (length bytes) out)
+
+module _ (s : List ℕ) (place : ℕ) where
+  pub read-elsewhere : {start n side : ℕ} → Good start n side ≡ readOf s → (start ≡ place → ⊥) → readsAt place (readOf s) ≡ false
+  read-elsewhere {start} e h = rw (← e) (ne-eqb start place h)
+
+  pub not-read : {n : ℕ} → Refused n ≡ readOf s → readsAt place (readOf s) ≡ false
+  not-read e = rw (← e)
+
 module _ (s : List ℕ) (place : ℕ) (numbers out : List ℕ) (two : length numbers ≡ 2) (within : place ≤ length s) where
   pub by-copy : {n side : ℕ} → Good place n side ≡ readOf s → copied s n numbers out ≡ mendOf s place numbers out
   unfolding mendOf mended
   by-copy e = rw (eq-eqb (length numbers) 2 two, le-ltb (length s) place within, ← e, eq-eqb place place refl)
 
-  by-run : readsAt place (readOf s) ≡ false → anew s place numbers out ≡ mendOf s place numbers out
+  pub by-run : readsAt place (readOf s) ≡ false → anew s place numbers out ≡ mendOf s place numbers out
   unfolding mendOf mended
   by-run e = rw (eq-eqb (length numbers) 2 two, le-ltb (length s) place within, e)
-
-  pub by-run-elsewhere : {start n side : ℕ} → Good start n side ≡ readOf s → (start ≡ place → ⊥) → anew s place numbers out ≡ mendOf s place numbers out
-  by-run-elsewhere {start} e h = by-run (rw (← e) (ne-eqb start place h))
-
-  pub by-run-refused : {n : ℕ} → Refused n ≡ readOf s → anew s place numbers out ≡ mendOf s place numbers out
-  by-run-refused e = by-run (rw (← e))
 
 -- ---- a run laid into a buffer
 

@@ -1,20 +1,17 @@
 -- What is claimed of a sheet: of its writer and its reader, each the other's inverse (document 02, request 02; proofs/Written), of mending (request 14; proofs/Mending),
 -- and of a sheet in parts (proofs/InRow).
-use Prim.Native.Nat.{ℕ, _+_, _*_, _≤_, _<_}
+use Prim.Native.Nat.{ℕ, _+_, _*_, _≤_}
 use mathlib.Core.Bool.{true, false}
 use mathlib.Core.List.{List, [], _∷_, _++_}
 use mathlib.Core.Path.{_≡_}
 use lib.ListN.{length, getD, take, drop}
 use Rattle.rules.specs.Leaf.{_leaving_}
+use Rattle.rules.specs.Lists.{Bytes}
 use Rattle.sheet.specs.Sheet.{Sheet, recordsOf, trailerOf, bytesOf, sizeOf}
 use Rattle.sheet.specs.End.{run, sheet, endOf, readOf}
 use Rattle.sheet.specs.Written.{writtenOf}
 use Rattle.sheet.specs.Mended.{readsAt, recordsIn, mendOf}
 use Rattle.sheet.specs.Rows.{Tally, withRecords}
-
--- every number is a byte
-abbrev pub Bytes : List ℕ → Type 0
-Bytes s = (i : ℕ) → getD s i 0 < 256
 
 -- ---- the writer and the reader
 
