@@ -18,14 +18,13 @@ use Rattle.model.specs.declared.Reading.the-variants.{Good, Refused}
 use Rattle.model.specs.Layer.{lengths, sizeOf, Layer}
 use Rattle.model.specs.Model.{kinds, headersAt, modelOf, countsIn, matchFaults, goodUnless, readOf}
 use Rattle.model.specs.Array.{foundIn, lineIn}
-use Rattle.model.specs.Laws.{Largest, RefusedIn}
-use Rattle.model.specs.Parts.{LiesIn}
+use Rattle.model.specs.Laws.{LiesIn, Shaped, Largest, RefusedIn}
 use Rattle.model.proofs.Layer.{product}
 use Rattle.model.specs.Writer.{fileOf}
 use Rattle.model.proofs.Inverse.{length-joined, number-small, FitAll, Number, AllCome, layers, refusal, row-comes}
 use Rattle.model.proofs.File.{Written, writes-back}
 use Rattle.model.proofs.Places.{within}
-use Rattle.model.proofs.Shapes.{Shaped, shape}
+use Rattle.model.proofs.Shapes.{shape}
 
 -- ---- the largest file
 

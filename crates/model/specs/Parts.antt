@@ -1,5 +1,5 @@
 -- What the private functions of the reader and the writer promise and ask for.
-use Prim.Native.Nat.{ℕ, _+_, _≤_, _<_}
+use Prim.Native.Nat.{ℕ, _+_, _<_}
 use mathlib.Core.Path.{_≡_}
 use mathlib.Core.List.{List, [], _∷_, _++_}
 use lib.ListN.{length, getD, take, drop}
@@ -7,7 +7,6 @@ use Rattle.rules.specs.Refusals.{Row, refusing}
 use Rattle.model.specs.Layer.{sizeOf, activationOf, faults}
 use Rattle.model.specs.Model.{countsAt}
 use Rattle.model.specs.declared.Kind.{Kind}
-use Rattle.model.specs.declared.Header.{Header}
 use Rattle.model.specs.declared.Counts.{Counts}
 use Rattle.model.specs.declared.Step.{Step}
 use Rattle.model.specs.declared.Step.the-variants.{Layer, Refused}
@@ -27,14 +26,6 @@ pub record Few (cs : List Counts) : Type 0 where
   pub dense : countsAt cs 0 .neurons < 128
   pub vad : countsAt cs 1 .neurons < 128
   pub noise : countsAt cs 2 .neurons < 128
-
--- a layer whose header and arrays are within so many bytes
-pub record LiesIn (size : ℕ) (k : Kind) (h : Header) : Type 0 where
-  pub inputs : h .inputs < 128
-  pub neurons : h .neurons < 128
-  pub some : 1 ≤ h .neurons
-  pub start : 3 ≤ h .start
-  pub reach : h .start + sizeOf k (h .inputs) (h .neurons) ≤ size
 
 -- ---- of the writer
 
