@@ -7,13 +7,13 @@ use lib.Dec.{eqb}
 use lib.ListN.{length, getD}
 use lib.Ieee.{Float}
 use Rattle.rules.specs.Place.{get}
-use Rattle.rules.specs.Refusals.{Row, _when_, refusing}
+use Rattle.rules.specs.Refusals.{Row, refusing}
 use Rattle.rules.specs.Written.{Written, from, nothing, numbersIn, firstIn}
 use Rattle.rules.proofs.Rows.{along}
 use Rattle.frame.specs.declared.Reply.the-variants.{Refused}
 use Rattle.desk.specs.declared.Record.{Record}
 use Rattle.desk.specs.Gate.{PIECE, gate, shareOf}
-use Rattle.desk.specs.Desk.{Given, desk}
+use Rattle.desk.specs.Desk.{desk}
 use Rattle.desk.specs.Surface.{recordIn}
 use Rattle.whole.specs.Whole.{take}
 use Rattle.isolation.specs.Plan.{Plan, answers, asks, enters, Came, came, perform}

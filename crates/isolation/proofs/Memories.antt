@@ -21,7 +21,6 @@ use Rattle.frame.specs.Share.{SHARE}
 use Rattle.frame.specs.declared.Reply.{Reply}
 use Rattle.frame.specs.declared.Reply.the-variants.{Done, Silent, Heard, Numbered, Refused, Misread}
 use Rattle.desk.specs.declared.Answer.{Answer}
-use Rattle.desk.specs.declared.Record.{Record}
 use Rattle.desk.specs.Gate.{shareOf}
 use Rattle.desk.specs.Desk.{Ask, callOf, Given, desk}
 use Rattle.desk.proofs.Apart.{its-own, own-share, other-share, same-length}
@@ -199,14 +198,14 @@ silent-leaves n s inside st l c e ne u =
     m .recalls ∙ none-heard (recalled s st) _ (m .counts ∙ none)
 
 module _ {C O : Type 0} (serve : Kind C O) (asksOf : Made C) (n : ℕ) (expanded : Expands serve asksOf n) where
-  made-of-heard : MadeOfHeard serve asksOf n
+  pub made-of-heard : MadeOfHeard serve asksOf n
   made-of-heard s inside st o calls u =
       let asks = expand serve asksOf n st calls in
       let f = fresh n s inside st o in
       rw (expanded st calls)
       (run n s inside asks st (f .2) u .recalls ∙ ap₂ (λ m k. heardAll m (frames n s k st asks)) (f .0) (f .1))
 
-  faded-gains : Faded serve asksOf n
+  pub faded-gains : Faded serve asksOf n
   faded-gains s inside st h calls u =
       let asks = expand serve asksOf n st calls in
       let k = since n s inside serve asksOf expanded st h in
@@ -217,10 +216,10 @@ module _ {C O : Type 0} (serve : Kind C O) (asksOf : Made C) (n : ℕ) (expanded
         λ z. m .recalls ∙ none-heard (recalled s st) fs (m .counts ∙ z),
       )
 
-  never-nan : NeverNan serve asksOf n
+  pub never-nan : NeverNan serve asksOf n
   never-nan s inside st h = since n s inside serve asksOf expanded st h .0
 
-  heard-holds : HeardHolds serve asksOf n
+  pub heard-holds : HeardHolds serve asksOf n
   unfolding faded
   heard-holds s inside st h c e v x r i band =
       let k = since n s inside serve asksOf expanded st h in

@@ -9,7 +9,6 @@ use mathlib.Core.Bool.{Bool, true, false, cond}
 use mathlib.Core.List.{List, [], _∷_, _++_, map}
 use mathlib.Core.Path.{_≡_, refl, sym, ap, _∙_}
 use lib.Dec.{eqb, leb}
-use lib.Ieee.{Float}
 use Rattle.frame.specs.Reply.{passed}
 use Rattle.frame.specs.declared.Way.{Way}
 use Rattle.frame.specs.declared.Way.the-variants.{Asked, Crate}

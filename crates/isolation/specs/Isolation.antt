@@ -1,5 +1,4 @@
 -- The law of isolation, over runs of calls of any kind: what is claimed. The proof is in proofs/Isolated.antt.
---
 -- Every record is all zeros at the start, and the store has the published length and holds anything. Then calls come on any sides in any order, refused
 -- ones among them; no one else touches the records and the store. Where a call does what a plan does, whatever its kind, a side receives what its own
 -- calls alone would give it.
@@ -37,15 +36,12 @@ module _ {C O : Type 0} (serve : Kind C O) where
   -- the law, for n benches; and so two runs that make the same calls on a side give it the same, whatever else differs
   abbrev pub Isolated : ℕ → Type 0
   Isolated n =
-      (s : ℕ) → s < n
-      → (store : List Float) → length store ≡ n * SHARE
-      → (calls : List (On C))
-      → received serve n s (allZeros store) calls ≡ alone (own s calls)
+      (s : ℕ) → s < n → (store : List Float) → length store ≡ n * SHARE
+      → (calls : List (On C)) → received serve n s (allZeros store) calls ≡ alone (own s calls)
 
   abbrev pub Undisturbed : ℕ → Type 0
   Undisturbed n =
-      (s : ℕ) → s < n
-      → (store store′ : List Float) → length store ≡ n * SHARE → length store′ ≡ n * SHARE
+      (s : ℕ) → s < n → (store store′ : List Float) → length store ≡ n * SHARE → length store′ ≡ n * SHARE
       → (calls calls′ : List (On C)) → own s calls ≡ own s calls′
       → received serve n s (allZeros store) calls ≡ received serve n s (allZeros store′) calls′
 

@@ -42,7 +42,7 @@ Unopened n s st (c ∷ cs) =
 abbrev pub openingOf : ℕ → Way → List ℕ → On Ask
 openingOf side way model = on side (opening way model)
 
--- behind an opening of side s that was done
+-- behind an opening of side s that was done, by whatever call it is made: by `Expands` this leaves what the desk's opening leaves
 pub record Opened (n s : ℕ) (st : State) : Type 0 where
   pub before : State
   pub sized : length (before .store) ≡ n * SHARE

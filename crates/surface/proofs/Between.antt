@@ -29,7 +29,7 @@ use Rattle.pieces.proofs.Shares.{waiting-length, waits-length}
 use Rattle.desk.specs.declared.Record.{Record}
 use Rattle.desk.specs.Gate.{PIECE, shareOf, gate, isDue, inRange, inPieces, underWay}
 use Rattle.desk.specs.Desk.{Ask, piece, resume, holding, Given, desk}
-use Rattle.desk.specs.Surface.{replyNumber, heardOf, besides, hosted}
+use Rattle.desk.specs.Surface.{heardOf, besides, hosted}
 use Rattle.desk.proofs.Apart.{placed, its-own, own-share, other-share, same-length}
 use Rattle.desk.proofs.Ranged.{open-range}
 use Rattle.desk.proofs.Settled.{refused-keeps}
@@ -42,10 +42,10 @@ use Rattle.whole.specs.Taking.{Told, answersOf}
 use Rattle.isolation.specs.Run.{On, State, recordAt, given, after, ended, done, desks, expand}
 use Rattle.isolation.proofs.Runs.{record-after, store-after}
 use Rattle.surface.specs.Surface.{ask, surface, madeOf}
-use Rattle.surface.specs.Between.{resumes, Row, lastPiece, morePieces, inBuffer, sumsTold, Between}
+use Rattle.surface.specs.Between.{resumes, InARow, lastPiece, morePieces, inBuffer, sumsTold, Between}
 use Rattle.surface.proofs.Expanded.{expands}
 use Rattle.surface.proofs.Numbers.{zero-is-done}
-use Rattle.surface.proofs.Outputs.{column, wrote, first-written, piece-none, piece-unheard, resume-heard, row-hands, outputs-are, answers-are}
+use Rattle.surface.proofs.Outputs.{column, wrote, first-written, piece-none, piece-unheard, resume-heard, row-hands, outputs-are, answers-are, sums-are}
 use Rattle.surface.proofs.Refusing.{refused-leaves}
 
 -- ---- calls on a desk of one bench, all of them done
@@ -310,7 +310,7 @@ module _ (x : List Float) (room : ℕ) (ls : List Lent) (b : Record) (xs : List 
       )
 
 -- a row begins with a piece
-begins : {asks : List Ask} {ys : List Float} {ms : List Lent} → Row asks ys ms → (b : Record) (xs : List Float) → AllDone b xs asks → b .piece ≡ 0
+begins : {asks : List Ask} {ys : List Float} {ms : List Lent} → InARow asks ys ms → (b : Record) (xs : List Float) → AllDone b xs asks → b .piece ≡ 0
 unfolding AllDone
 begins (lastPiece x o ls) b xs all = at-rest 1 0 b (length xs) (piece-passed 1 0 b xs x o 22 (all .0) .0)
 begins (morePieces x o ls r) b xs all = at-rest 1 0 b (length xs) (piece-passed 1 0 b xs x o 22 (all .0) .0)
@@ -324,7 +324,7 @@ pub answers-both : (fs gs : List Told) → answersOf (fs ++ gs) ≡ answersOf fs
 answers-both [] gs = refl
 answers-both (f ∷ fs) gs = ap (λ (x : List Float). heardOf (f .1) ++ x) (answers-both fs gs) ∙ sym (append-assoc (heardOf (f .1)) (answersOf fs) (answersOf gs))
 
-rows : {asks : List Ask} {ys : List Float} {ms : List Lent} → Row asks ys ms → (b : Record) (xs : List Float) → length xs ≡ SHARE → AllDone b xs asks
+rows : {asks : List Ask} {ys : List Float} {ms : List Lent} → InARow asks ys ms → (b : Record) (xs : List Float) → length xs ≡ SHARE → AllDone b xs asks
     → left b xs asks .rec .piece ≡ 0 → Is b xs asks (dictate b xs (waitingIn (b .waiting) xs ++ ys) ms)
 rows (lastPiece x room ls) b xs full all z = one-piece x room ls b xs full all z .0
 rows (morePieces x room ls {asks} {ys} {ms} r) b xs full all z =
@@ -370,4 +370,5 @@ between n s h st l calls samples lent r z =
       outputs-are n s calls st (row-hands r) ∙ c .writes 0 ∙ d .out,
       answers-are n s calls st (row-hands r) ∙ c .writes 2 ∙ d .heard,
       c .writes 1 ∙ d .sums,
+      λ mine e. sums-are n s calls st mine e ∙ c .writes 1 ∙ d .sums,
     )

@@ -2,6 +2,7 @@
 --     column                       the numbers that a side's calls of the desk write to one of their buffers, in order
 --     take-outputs, take-answers   what a take hands out, by its piece and its resumes
 --     told-is, received-is         one call, where what it is made of are pieces and resumes, and any run
+--     own-asks                     any run in which a side makes no whole calls
 -- Assumes nothing.
 use Prim.Native.Nat.{ℕ, zero, suc, _-_, _≤_, _<_}
 use native.Mathlib.Omega.{arith}
@@ -10,7 +11,7 @@ use mathlib.Core.List.{List, [], _∷_, _++_, map, append-assoc, append-nil}
 use mathlib.Core.Path.{_≡_, refl, sym, ap, ap₂, subst, _∙_}
 use borrow.Author.Tests.{eq-eqb}
 use lib.Dec.{eqb, ltb}
-use lib.ListN.{length, getD}
+use lib.ListN.{length, getD, drop}
 use lib.Ieee.{Float}
 use Rattle.rules.specs.Loop.{loop}
 use Rattle.rules.specs.Place.{get}
@@ -34,10 +35,11 @@ use Rattle.whole.specs.Whole as whole
 use Rattle.whole.specs.Surface.{hostedFrame, hostedTake}
 use Rattle.whole.proofs.Dictations.{take-done}
 use Rattle.whole.proofs.Halves.{two-halves, refused-is}
-use Rattle.isolation.specs.Run.{Kind, On, on, State, recordAt, given, after, ended, done, desks, expand}
+use Rattle.isolation.specs.Isolation.{own}
+use Rattle.isolation.specs.Run.{On, on, State, recordAt, given, after, ended, done, desks, expand}
 use Rattle.isolation.proofs.Runs.{reads}
 use Rattle.surface.specs.Surface.{Request, ask, frame, take, called, surface, madeOf}
-use Rattle.surface.specs.Between.{resumes, Row, lastPiece, morePieces, inBuffer, answersAt}
+use Rattle.surface.specs.Between.{resumes, InARow, lastPiece, morePieces, inBuffer, answersAt}
 use Rattle.surface.proofs.Expanded.{leaving, map-more, stands, resumed, steps, one-call}
 
 abbrev pub column : ℕ → ℕ → ℕ → State → List (On Ask) → List Float
@@ -77,7 +79,7 @@ resumes-hand : (x : List Float) (o : ℕ) (ls : List Lent) → AllHands (resumes
 resumes-hand x o [] = tt
 resumes-hand x o (l ∷ ls) = (tt, resumes-hand x o ls)
 
-pub row-hands : {asks : List Ask} {ys : List Float} {ms : List Lent} → Row asks ys ms → AllHands asks
+pub row-hands : {asks : List Ask} {ys : List Float} {ms : List Lent} → InARow asks ys ms → AllHands asks
 row-hands (lastPiece x o ls) = (tt, resumes-hand x o ls)
 row-hands (morePieces x o ls {asks} r) = (tt, hands-both (resumes x o ls) asks (resumes-hand x o ls) (row-hands r))
 
@@ -306,6 +308,43 @@ module _ (which : Request → ℕ) (k : ℕ) (asked : (a : Ask) → which (ask a
           → cond t (numbersIn (getD (called n (c .side) (st .numbers (c .side)) (st .store) (c .call) .written) (which (c .call)) nothing)) [] ≡ column k n s st made
       go true t h = told-is (c .side) t st (c .call) h
       go false t h = sym (none-out n s (c .side) k t (madeOf n (c .side) (recordAt (c .side) st) (st .store) (c .call)) st)
+
+-- a side that makes no whole calls receives what its calls of the desk write
+module _ (k n s : ℕ) where
+  own-asks : (calls : List (On Request)) (st : State) (mine : List Ask) → own s calls ≡ map ask mine
+      → inBuffer surface (λ _. k) n s st calls ≡ column k n s st (expand surface madeOf n st calls)
+  unfolding inBuffer expand own hosted
+  own-asks [] st mine e = refl
+  own-asks (c ∷ calls) st mine e =
+      let to = one-call n st (c .side) (c .call) in
+      let here = go (eqb (c .side) s) refl mine e in
+      ap₂ (λ (u v : List Float). u ++ v) (here .1) (own-asks calls (after surface n st c) (here .0 .0) (here .0 .1) ∙ ap (λ (t : State). column k n s t rest) to)
+      ∙ sym (column-more k n s made rest st)
+    where
+      made : List (On Ask)
+      made = map (on (c .side)) (madeOf n (c .side) (recordAt (c .side) st) (st .store) (c .call))
+
+      rest : List (On Ask)
+      rest = expand surface madeOf n (after surface n st c) calls
+
+      go : (t : Bool) → eqb (c .side) s ≡ t → (mine : List Ask) → cond t (c .call ∷ own s calls) (own s calls) ≡ map ask mine
+          → ((more : List Ask) × (own s calls ≡ map ask more))
+          × (cond t (numbersIn (getD (called n (c .side) (st .numbers (c .side)) (st .store) (c .call) .written) k nothing)) [] ≡ column k n s st made)
+      go true t [] e = let none : suc (length (own s calls)) ≡ 0 = ap length e in absurd (omega arith)
+      go true t (a ∷ more) e =
+          let same : c .call ≡ ask a = ap (λ (xs : List Request). getD xs 0 (c .call)) e in (
+            (more, ap (drop 1) e),
+            subst
+                (λ (r : Request).
+                numbersIn (getD (called n (c .side) (st .numbers (c .side)) (st .store) r .written) k nothing)
+                ≡ column k n s st (map (on (c .side)) (madeOf n (c .side) (recordAt (c .side) st) (st .store) r)))
+                (sym same) (sym (one-out n s (c .side) k t a st)),
+          )
+      go false t mine e = ((mine, e), sym (none-out n s (c .side) k t (madeOf n (c .side) (recordAt (c .side) st) (st .store) (c .call)) st))
+
+pub sums-are : (n s : ℕ) (calls : List (On Request)) (st : State) (mine : List Ask) → own s calls ≡ map ask mine
+    → inBuffer surface (λ _. 1) n s st calls ≡ column 1 n s st (expand surface madeOf n st calls)
+sums-are n s = own-asks 1 n s
 
 pub outputs-are : (n s : ℕ) (calls : List (On Request)) (st : State) → AllHands (done desks n s st (expand surface madeOf n st calls))
     → inBuffer surface (λ _. 0) n s st calls ≡ column 0 n s st (expand surface madeOf n st calls)

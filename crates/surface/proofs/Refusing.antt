@@ -1,11 +1,10 @@
 -- A refusal changes nothing, whichever call it is. Assumes nothing.
 use Prim.Native.Nat.{ℕ}
-use native.Mathlib.Omega.{arith}
 use mathlib.Core.Bool.{Bool, false, cond}
-use mathlib.Core.List.{List, [], _∷_, _++_}
+use mathlib.Core.List.{List, [], _++_}
 use mathlib.Core.Path.{_≡_, refl, ap, _∙_}
-use lib.ListN.{length}
 use Rattle.rules.specs.Written.{Written}
+use Rattle.rules.proofs.Writing.{to-none}
 use Rattle.frame.specs.declared.Reply.{Reply}
 use Rattle.frame.specs.Reply.{passed}
 use Rattle.desk.specs.declared.Answer.{Answer}
@@ -38,10 +37,6 @@ nor-besides (secondHalf l m o) r e = untold r e
 nor-besides (piece x o s) r e = refl
 nor-besides (resume x l m o s) r e = untold r e
 
-none : (ws : List Written) → length ws ≡ 0 → ws ≡ []
-none [] e = refl
-none (w ∷ ws) e = absurd (omega arith)
-
 neither : {ws vs : List Written} → ws ≡ [] → vs ≡ [] → ws ++ vs ≡ []
 neither e d = rw (e, d)
 
@@ -49,7 +44,7 @@ pub refused-leaves : RefusedLeaves
 unfolding hosted hostedFrame hostedTake
 refused-leaves n side ns store (ask a) e =
     let o = desk n side (recordIn ns) store a in
-    let unwritten : o .written ≡ [] = none (o .written) (buffers n side (recordIn ns) store a ∙ ap (λ (t : Bool). cond t (buffersOf a) 0) e) in
+    let unwritten : o .written ≡ [] = to-none (o .written) (buffers n side (recordIn ns) store a ∙ ap (λ (t : Bool). cond t (buffersOf a) 0) e) in
     (handed (o .answer) ns e, refused-keeps n side (recordIn ns) store a e .1, neither unwritten (nor-besides a (o .answer .reply) e))
 refused-leaves n side ns store (frame x m out) e =
     let o = whole.frame n side (recordIn ns) store x m out in

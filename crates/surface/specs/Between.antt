@@ -15,6 +15,7 @@ use Rattle.desk.specs.Gate.{shareOf}
 use Rattle.desk.specs.Desk.{Ask, piece, resume}
 use Rattle.dictation.specs.Dictation.{Lent, dictate}
 use Rattle.whole.specs.Taking.{Told, answersOf}
+use Rattle.isolation.specs.Isolation.{own}
 use Rattle.isolation.specs.Run.{Kind, On, State, recordAt, given, after, ended, done, desks, expand}
 use Rattle.surface.specs.Surface.{Request, ask, frame, take, surface, madeOf}
 
@@ -22,10 +23,10 @@ use Rattle.surface.specs.Surface.{Request, ask, frame, take, surface, ma
 abbrev pub resumes : List Float → ℕ → List Lent → List Ask
 resumes x o ls = map (λ l. resume x (l .logs) (l .model) o 22) ls
 
-pub data Row : List Ask → List Float → List Lent → Type 0 where
-  lastPiece : (x : List Float) (o : ℕ) (ls : List Lent) → Row (piece x o 22 ∷ resumes x o ls) x ls
+pub data InARow : List Ask → List Float → List Lent → Type 0 where
+  lastPiece : (x : List Float) (o : ℕ) (ls : List Lent) → InARow (piece x o 22 ∷ resumes x o ls) x ls
   morePieces : (x : List Float) (o : ℕ) (ls : List Lent) {asks : List Ask} {ys : List Float} {ms : List Lent}
-      → Row asks ys ms → Row (piece x o 22 ∷ resumes x o ls ++ asks) (x ++ ys) (ls ++ ms)
+      → InARow asks ys ms → InARow (piece x o 22 ∷ resumes x o ls ++ asks) (x ++ ys) (ls ++ ms)
 
 -- the numbers that side s receives in a run, in order: of each call, those in one of its buffers
 unfoldable pub inBuffer : {C : Type 0} → Kind C (List Written) → (C → ℕ) → ℕ → ℕ → State → List (On C) → List Float
@@ -45,18 +46,15 @@ sumsTold [] = []
 sumsTold (f ∷ fs) = f .0 ++ sumsTold fs
 
 -- where side s's calls that are done are such, and no piece is unfinished at the end: its record, its share, and the samples and answers that it received
--- are those of one dictation. So are the sums that its pieces and resumes tell: those that it made itself tell it, and those of a take the take alone
+-- are those of one dictation. So are the sums that its pieces and resumes tell; a take keeps its own, and a side that makes no whole calls receives them all
 abbrev pub Between : ℕ → Type 0
 Between n =
-    (s : ℕ) → s < n
-    → (st : State) → length (st .store) ≡ n * SHARE
+    (s : ℕ) → s < n → (st : State) → length (st .store) ≡ n * SHARE
     → (calls : List (On Request)) (samples : List Float) (lent : List Lent)
-    → let asks = expand surface madeOf n st calls in
-    Row (done desks n s st asks) samples lent
-    → let end = ended surface n st calls in
-    recordAt s end .piece ≡ 0
-    → let b = recordAt s st in
-    let share = get (shareOf s) (st .store) in
+    → let asks = expand surface madeOf n st calls in let end = ended surface n st calls in
+    InARow (done desks n s st asks) samples lent → recordAt s end .piece ≡ 0
+    → let b = recordAt s st in let share = get (shareOf s) (st .store) in
     let d = dictate b share (waitingIn (b .waiting) share ++ samples) lent in
     (recordAt s end ≡ d .rec) × (get (shareOf s) (end .store) ≡ d .store) × (inBuffer surface (λ _. 0) n s st calls ≡ d .out)
     × (inBuffer surface answersAt n s st calls ≡ answersOf (d .told)) × (inBuffer desks (λ _. 1) n s st asks ≡ sumsTold (d .told))
+    × ((mine : List Ask) → own s calls ≡ map ask mine → inBuffer surface (λ _. 1) n s st calls ≡ sumsTold (d .told))

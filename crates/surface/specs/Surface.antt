@@ -1,5 +1,4 @@
--- Every call of the C surface that touches the store, by what its contract cites: the desk's, a frame, and a take. What is claimed of them; the proofs are
--- in proofs/Surfaced.antt, Expanded, Refusing and Numbers.
+-- Every call of the C surface that touches the store, by what its contract cites, and what is claimed of all of them. The proofs are in proofs/.
 use Prim.Native.Nat.{ℕ, _*_, _≤_, _<_}
 use mathlib.Core.Bool.{true, false, cond}
 use mathlib.Core.List.{List, [], _∷_}
@@ -46,8 +45,7 @@ OurSurface = Isolated surface BENCHES × Undisturbed surface BENCHES
 -- an opening that is done starts anew, whatever the records and the store were, the side's own among them
 abbrev pub Anew : ℕ → Type 0
 Anew n =
-    (s : ℕ) → s < n
-    → (st : State) → length (st .store) ≡ n * SHARE
+    (s : ℕ) → s < n → (st : State) → length (st .store) ≡ n * SHARE
     → (way : Way) (model : List ℕ) → passed (hosted n s (st .numbers s) (st .store) (opening way model) .answer .reply) ≡ true
     → (calls : List (On Request))
     → received surface n s st (on s (ask (opening way model)) ∷ calls) ≡ alone surface (ask (opening way model) ∷ own s calls)
@@ -64,7 +62,7 @@ madeOf n side rec store (take x m o a) =
     (piece x o 22 ∷ tab (completes (rec .waiting) (length x)) (λ j.
     resume x (logsOf (takeFrames j n side x m o (takeBegins n side rec store x o) .sums)) m o 22)) []
 
--- so frames are numbered, and what is remembered is made of heard frames, never NaN and no faster to fade, over any run of these calls
+-- so over any run of these calls frames are numbered, and what is remembered is made of heard frames, is never NaN, and fades no faster
 abbrev pub OurCalls : Type 0
 OurCalls = Expands surface madeOf BENCHES × Counts surface madeOf BENCHES
 
