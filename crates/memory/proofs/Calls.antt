@@ -28,7 +28,7 @@ use Rattle.model.specs.Model.{readOf}
 use Rattle.model.specs.declared.Reading.{Reading}
 use Rattle.model.specs.declared.Reading.the-variants.{Good, Refused as Unread}
 use Rattle.samples.specs.Samples.{good}
-use Rattle.frame.specs.Reply.{passed}
+use Rattle.frame.specs.Reply.{passed, isHeard}
 use Rattle.lag.specs.Lag.{ownLag}
 use Rattle.frame.specs.Share.{SHARE, PART, inputMem, keptX, keptEx, keptLag, lastg, cepstralMem, vadState, noiseState, denoiseState}
 use Rattle.frame.specs.Heard.{scaled, energies, spoken}
@@ -60,7 +60,7 @@ use Rattle.desk.specs.Desk.{Ask, opening, call1, call2, call2Own, call3, call4,
 use Rattle.desk.proofs.Apart.{givenOf, one-bench}
 use Rattle.desk.proofs.Leaves.{carried-leaves}
 use Rattle.memory.specs.Hear.{blank, HeardFrame, heardAll}
-use Rattle.memory.specs.Brought.{recalledIn, isHeard, Noted, unnoted, noting, firstNotes, restNotes, brought}
+use Rattle.memory.specs.Brought.{recalledIn, Noted, unnoted, noting, firstNotes, restNotes, brought}
 use Rattle.memory.proofs.Heard.{notedIn, heard-frame}
 
 -- ---- what is left alone
