@@ -6,7 +6,7 @@ use mathlib.Core.List.{List, [], _∷_, _++_}
 use mathlib.Core.Path.{_≡_, refl, sym, ap, _∙_}
 use borrow.Author.Tests.{eqb-true, eqb-false, leb-true, eq-eqb, ne-eqb, le-leb, lt-ltb, not-false}
 use lib.Dec.{eqb, leb}
-use lib.ListN.{length, drop, length-append, length-drop}
+use lib.ListN.{length, take, drop, length-append, length-drop}
 use lib.Seq.{drop-drop, drop-append-add}
 use lib.Ieee.{Float}
 use Rattle.rules.specs.F32.{zeros}
@@ -27,8 +27,8 @@ use Rattle.desk.specs.declared.Record.{Record}
 use Rattle.desk.specs.Gate.{shareOf, idle, allZero, inCounts, underWay, inPieces, inRange, isDue, gate}
 use Rattle.desk.specs.Desk.{piece, resume, holding, Given, desk}
 use Rattle.dictation.specs.Dictation.{Lent, Dictated}
-use Rattle.dictation.specs.Cutting.{Led, ended, paused}
-use Rattle.dictation.specs.Resuming.{Numbered, Fitting, Completes}
+use Rattle.dictation.specs.Cutting.{Led, ended, paused, last}
+use Rattle.dictation.specs.Resuming.{Numbered, Fitting, Completes, MakesCut}
 use Rattle.desk.proofs.Ranged.{next-index, open-range}
 use Rattle.desk.proofs.Turned.{none, through}
 use Rattle.dictation.proofs.Joins.{first, second, shareAfter, recAfter, after-length}
@@ -183,3 +183,8 @@ completed n side rec store samples held lent p m f =
     (comes n side (side-and-store .0) store (side-and-store .1) samples (k .few) (k .fine)
     lent rec Done (waits share []) (ws ++ samples) (480 - rec .waiting) nothing held refl
     (waits-length share (k .size) []) (range .0) (range .1) same (omega (arith, k .waits)) (omega (arith, k .waits)) room (omega arith) f)
+
+pub makes-cut : MakesCut
+makes-cut n side rec store samples held lent p m f =
+    let t = completed n side rec store samples held lent p m f in
+    let d = t .0 in (record { rec = d .rec; store = d .store; told = d .told; out = take (480 * length lent) (d .out) }, last {held = held} {d = d} (t .1))

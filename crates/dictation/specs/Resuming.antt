@@ -15,7 +15,7 @@ use Rattle.desk.specs.declared.Record.{Record}
 use Rattle.desk.specs.Gate.{inRange}
 use Rattle.desk.specs.Desk.{piece, Given, desk}
 use Rattle.dictation.specs.Dictation.{Lent, Dictated, dictated}
-use Rattle.dictation.specs.Cutting.{Led}
+use Rattle.dictation.specs.Cutting.{Led, Cut}
 
 -- any record that passes with a piece unfinished says which frame of it is under way and how many samples waited, and no other two numbers fit it
 abbrev pub Numbered : Type 0
@@ -51,3 +51,11 @@ Completes =
     → passed (handedIn n side rec store samples held .answer .reply) ≡ true
     → length lent ≡ completes (rec .waiting) (length samples) → Fitting rec lent
     → (d : Dictated) × Led n side samples (handedIn n side rec store samples held) held lent d
+
+-- and so it makes a cut: what the law of cutting asks for can be met
+abbrev pub MakesCut : Type 0
+MakesCut =
+    (n side : ℕ) (rec : Record) (store samples held : List Float) (lent : List Lent)
+    → passed (handedIn n side rec store samples held .answer .reply) ≡ true
+    → length lent ≡ completes (rec .waiting) (length samples) → Fitting rec lent
+    → (d : Dictated) × Cut n side rec store samples lent d
