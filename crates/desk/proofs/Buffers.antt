@@ -1,4 +1,4 @@
--- How many answer buffers a call is lent, and that it writes to each of them, or is refused and writes to none (`buffers`). Assumes nothing.
+-- A call writes to each answer buffer that it is lent, or is refused and writes to none (`buffers`). Assumes nothing.
 use Prim.Native.Nat.{ℕ, _*_, _-_}
 use mathlib.Core.Bool.{Bool, true, false, cond}
 use mathlib.Core.List.{List, [], _++_, map}
@@ -27,18 +27,8 @@ use Rattle.pieces.proofs.Shares.{part-length}
 use Rattle.desk.specs.declared.Record.{Record}
 use Rattle.desk.specs.Gate.{gate, shareOf}
 use Rattle.desk.specs.Desk.{Ask, opening, call1, call2, call2Own, call3, call4, firstHalf, secondHalf, piece, resume, callOf, opened, onShare, desk}
-
-abbrev pub buffersOf : Ask → ℕ
-buffersOf (opening w m) = 0
-buffersOf (call1 x w) = 1
-buffersOf (call2 x l w s) = 2
-buffersOf (call2Own x w s) = 2
-buffersOf (call3 x l m o) = 1
-buffersOf (call4 x o) = 1
-buffersOf (firstHalf x s) = 1
-buffersOf (secondHalf l m o) = 1
-buffersOf (piece x o s) = 2
-buffersOf (resume x l m o s) = 2
+pub use Rattle.desk.specs.Laws.{buffersOf}
+use Rattle.desk.specs.Laws.{Buffers}
 
 -- n of them are written to
 abbrev Writes : ℕ → Outcome → Type 0
@@ -82,8 +72,7 @@ module _ (b : Record) (share : List Float) where
       let p = second-passes part (b .hearing) l m (part-length share (k .size)) (k .taken) (k .inside) (k .right) in
       further-two (h .reply) (put framePart share (h .share)) (b .hearing .way) (drop (b .progress) x) (from (480 * (frameAt (b .progress) - 1)) (halves.buffer h)) (p .passes))
 
-pub buffers : (benches side : ℕ) (b : Record) (store : List Float) (ask : Ask)
-    → length (desk benches side b store ask .written) ≡ cond (passed (desk benches side b store ask .answer .reply)) (buffersOf ask) 0
+pub buffers : Buffers
 unfolding desk
 buffers benches side b store ask = go (eqb number 0)
   where

@@ -10,7 +10,7 @@ use lib.Dec.{eqb}
 use lib.ListN.{length, drop, getD}
 use lib.Ieee.{Float}
 use Rattle.rules.specs.Place.{get, put}
-use Rattle.rules.specs.Written.{Written, all, firstIn}
+use Rattle.rules.specs.Written.{all, firstIn}
 use Rattle.rules.proofs.Places.{Within, length-get, length-put, get-put, put-put}
 use Rattle.rules.proofs.Refused.{clear}
 use Rattle.rules.proofs.Truth.{both}
@@ -34,17 +34,9 @@ use Rattle.pieces.specs.Pieces.{Outcome, framePart, refused, inPart}
 use Rattle.desk.specs.declared.Record.{Record}
 use Rattle.desk.specs.Gate.{idle, inRange, isDue, refusals, gate, shareOf}
 use Rattle.desk.specs.Desk.{Ask, call1, call2Own, call3, call4, firstHalf, secondHalf, callOf, nextDue, advanced, numbered, answered, onShare, Given, desk}
+use Rattle.desk.specs.Laws.{InTurn, FirstInTurn, SecondInTurn}
 use Rattle.desk.proofs.Turned.{none, through}
 use Rattle.desk.proofs.Ranged.{advanced-range}
-
--- a half that is two calls of the desk: both are done, it leaves the second's record and store, and this is its reply and what it writes
-pub record InTurn (one two half : Given) (reply : Reply) (written : List Written) : Type 0 where
-  pub first : passed (one .answer .reply) ≡ true
-  pub last : passed (two .answer .reply) ≡ true
-  pub replies : half .answer .reply ≡ reply
-  pub records : half .answer .rec ≡ two .answer .rec
-  pub stores : half .store ≡ two .store
-  pub writes : half .written ≡ written
 
 -- ---- the gate
 
@@ -92,12 +84,12 @@ module _ (n side : ℕ) (b : Record) (store : List Float) where
   abbrev of : Ask → Outcome → Given
   of ask f = record { answer = answered b ask (f .reply); store = put (shareOf side) store (f .share); written = f .written }
 
-  let-in : (ask : Ask) → number ask ≡ 0 → desk n side b store ask ≡ of ask (onShare b share ask)
+  pub let-in : (ask : Ask) → number ask ≡ 0 → desk n side b store ask ≡ of ask (onShare b share ask)
   unfolding desk
   let-in ask e = rw (eq-eqb (number ask) 0 e)
 
   -- a call that is done was let through
-  was-let-in : (ask : Ask) → passed (desk n side b store ask .answer .reply) ≡ true → number ask ≡ 0
+  pub was-let-in : (ask : Ask) → passed (desk n side b store ask .answer .reply) ≡ true → number ask ≡ 0
   unfolding desk
   was-let-in ask = go (eqb (number ask) 0) refl
     where
@@ -195,8 +187,9 @@ module _ (n side : ℕ) (b : Record) (store : List Float) where
     abbrev two : Given
     two = desk n side (one .answer .rec) (one .store) (call2Own (forwardOf (firstIn (one .written))) 960 sums)
 
-    pub first-half-in-turn : let half = desk n side b store (firstHalf samples sums) in b .hearing .way ≡ Asked → passed (half .answer .reply) ≡ true → InTurn one two half (two .answer .reply) (drop 1 (two .written))
-    first-half-in-turn asked p =
+    first-turn : let half = desk n side b store (firstHalf samples sums) in
+        b .hearing .way ≡ Asked → passed (half .answer .reply) ≡ true → InTurn one two half (two .answer .reply) (drop 1 (two .written))
+    first-turn asked p =
         let e = was-let-in n side b store (firstHalf samples sums) p in
         let right = through n side b (length store) 1 e in
         let h =
@@ -235,8 +228,10 @@ module _ (n side : ℕ) (b : Record) (store : List Float) where
     abbrev four : Given
     four = desk n side (three .answer .rec) (three .store) (call4 (inverseBy (b .hearing .way) (firstIn (three .written))) out)
 
-    pub second-half-in-turn : let half = desk n side b store (secondHalf logs model out) in passed (half .answer .reply) ≡ true → InTurn three four half (three .answer .reply) (four .written) × (four .answer .reply ≡ Numbered (half .answer .rec .frame) (half .answer .rec .heard))
-    second-half-in-turn p =
+    second-turn : let half = desk n side b store (secondHalf logs model out) in
+        passed (half .answer .reply) ≡ true
+        → InTurn three four half (three .answer .reply) (four .written) × (four .answer .reply ≡ Numbered (half .answer .rec .frame) (half .answer .rec .heard))
+    second-turn p =
         let e = was-let-in n side b store (secondHalf logs model out) p in
         let right = through n side b (length store) 3 e in
         let h = let-in n side b store (secondHalf logs model out) e in
@@ -272,3 +267,9 @@ module _ (n side : ℕ) (b : Record) (store : List Float) where
               ∙ answered-in next _ last
               ∙ ap (λ (r : Record). Numbered (r .frame) (r .heard)) (sym (ap (λ (g : Given). g .answer .rec) w) ∙ sym records),
         )
+
+pub first-half-in-turn : FirstInTurn
+first-half-in-turn n side b store samples sums asked p = first-turn n side b store samples sums asked p
+
+pub second-half-in-turn : SecondInTurn
+second-half-in-turn n side b store logs model out p = second-turn n side b store logs model out p

@@ -1,30 +1,34 @@
 -- The record that a call hands back is in range: a host that hands back what it received is never turned away for it.
 --     range-kept    where a call is done, the record that it was given and the one that it gives back are in range
 --     bounded       what in range says, in numbers
+--     opens         with a record in range an opening is done, where side, store and model are right
 -- Assumes nothing.
-use Prim.Native.Nat.{ℕ, _+_, _-_, _≤_}
+use Prim.Native.Nat.{ℕ, _+_, _-_, _*_, _≤_, _<_}
 use native.Mathlib.Omega.{arith}
 use mathlib.Core.Bool.{Bool, true, false, cond, _&&_}
 use mathlib.Core.List.{List}
 use mathlib.Core.Path.{_≡_, refl, sym}
-use borrow.Author.Tests.{ne-eqb, eqb-true, eqb-false, le-leb, leb-true, ltb-true, ltb-false, not-false}
+use borrow.Author.Tests.{lt-ltb, eq-eqb, ne-eqb, eqb-true, eqb-false, le-leb, leb-true, ltb-true, ltb-false, not-false}
 use lib.Dec.{eqb, leb, ltb}
 use lib.ListN.{length}
 use lib.Ieee.{Float}
 use Rattle.rules.specs.Place.{get}
 use Rattle.rules.proofs.Truth.{both}
 use Rattle.model.specs.Model.{readOf}
+use Rattle.model.specs.declared.Model.{Model}
 use Rattle.model.specs.declared.Reading.{Reading}
 use Rattle.model.specs.declared.Reading.the-variants.{Good, Refused as Unread}
 use Rattle.model.proofs.Shapes.{shaped}
-use Rattle.frame.specs.Reply.{passed, oneMore}
+use Rattle.frame.specs.Share.{SHARE}
+use Rattle.frame.specs.Reply.{passed, isHeard, oneMore}
 use Rattle.frame.specs.declared.Reply.{Reply}
-use Rattle.frame.specs.declared.Reply.the-variants.{Done, Silent, Heard, Numbered, Refused, Misread}
+use Rattle.frame.specs.declared.Reply.the-variants.{Done, Numbered, Refused}
 use Rattle.frame.specs.declared.Way.{Way}
 use Rattle.pieces.specs.Pieces.{refused}
 use Rattle.desk.specs.declared.Record.{Record}
 use Rattle.desk.specs.Gate.{idle, wayNumber, allZero, inCounts, resting, underWay, inPieces, inRange, notOpening, gate, shareOf}
-use Rattle.desk.specs.Desk.{Ask, opening, call1, call2, call2Own, call3, call4, firstHalf, secondHalf, piece, resume, callOf, holding, nextDue, nextIndex, advanced, numbered, carried, started, answered, onShare, opened, desk}
+use Rattle.desk.specs.Desk.{Ask, opening, call1, call2, call2Own, call3, call4, firstHalf, secondHalf, piece, resume, callOf, closed, holding, nextDue, nextIndex, advanced, numbered, carried, started, answered, onShare, opened, desk}
+use Rattle.desk.specs.Laws.{RangeKept, Opens}
 use Rattle.desk.proofs.Pieced.{piece-fitted, resume-fitted}
 use Rattle.desk.proofs.Turned.{none}
 
@@ -130,16 +134,12 @@ next-due d = go (ltb d 4) refl
     go false h = (omega arith, omega arith)
 
 pub next-index : (i : ℕ) (r : Reply) → i ≤ 7 → nextIndex i r ≤ 7
-next-index i (Heard v e) h = go (ltb i 7) refl
+next-index i r h = go (isHeard r) (ltb i 7) refl
   where
-    go : (t : Bool) → ltb i 7 ≡ t → cond t (i + 1) 0 ≤ 7
-    go true k = omega (arith, ltb-true i 7 k)
-    go false k = omega arith
-next-index i Done h = h
-next-index i Silent h = h
-next-index i (Numbered f n) h = h
-next-index i (Refused n) h = h
-next-index i (Misread n l) h = h
+    go : (s t : Bool) → ltb i 7 ≡ t → cond s (cond t (i + 1) 0) i ≤ 7
+    go true true k = omega (arith, ltb-true i 7 k)
+    go true false k = omega arith
+    go false t k = h
 
 -- of an open record its index, its counts and what a piece leaves
 pub open-range : (b : Record) → (b .due ≡ 0 → ⊥) → inRange b ≡ true → (b .hearing .index ≤ 7) × (inCounts b ≡ true) × (inPieces b ≡ true)
@@ -219,22 +219,38 @@ done-range b share (resume x l m k s) r o p =
     let f = resume-fitted share (b .hearing) (b .piece) (b .progress) x l m k s p in
     rw p (carried-range next (length x - b .progress) (length x) (b .progress + 480) (ajar .0) (ajar .1) (omega (arith, f .same, f .few)) (omega arith) (λ h. omega (arith, f .same, f .within)))
 
-module _ (benches side : ℕ) (b : Record) (store : List Float) where
-  pub range-kept : (ask : Ask) → passed (desk benches side b store ask .answer .reply) ≡ true
-      → (inRange b ≡ true) × (inRange (desk benches side b store ask .answer .rec) ≡ true)
-  unfolding desk
-  range-kept ask = go (eqb number 0) refl
-    where
-      number : ℕ
-      number = gate benches side b (length store) (callOf ask)
+pub range-kept : RangeKept
+unfolding desk
+range-kept n side b store ask = go (eqb number 0) refl
+  where
+    number : ℕ
+    number = gate n side b (length store) (callOf ask)
 
-      share : List Float
-      share = get (shareOf side) store
+    share : List Float
+    share = get (shareOf side) store
 
-      go : (t : Bool) → eqb number 0 ≡ t → passed (cond t (onShare b share ask) (refused (Refused number) share) .reply) ≡ true
-          → (inRange b ≡ true) × (inRange (answered b ask (cond t (onShare b share ask) (refused (Refused number) share) .reply) .rec) ≡ true)
-      go false h p = absurd (let z : _≡_ {A = ℕ} 0 1 = cc in omega arith)
-      go true h p =
-          let clear = none benches side b (length store) (callOf ask) (eqb-true number 0 h) in
-          let r = not-false (inRange b) (clear .1 .1 .0) in
-          (r, done-range b share ask r (clear .1 .1 .1 .0) p)
+    go : (t : Bool) → eqb number 0 ≡ t → passed (cond t (onShare b share ask) (refused (Refused number) share) .reply) ≡ true
+        → (inRange b ≡ true) × (inRange (answered b ask (cond t (onShare b share ask) (refused (Refused number) share) .reply) .rec) ≡ true)
+    go false h p = absurd (let z : _≡_ {A = ℕ} 0 1 = cc in omega arith)
+    go true h p =
+        let clear = none n side b (length store) (callOf ask) (eqb-true number 0 h) in
+        let r = not-false (inRange b) (clear .1 .1 .0) in
+        (r, done-range b share ask r (clear .1 .1 .1 .0) p)
+
+-- ---- an opening gets through
+
+closed-range : inRange closed ≡ true
+unfolding inRange allZero idle
+closed-range = refl
+
+let-open : (n side : ℕ) (b : Record) (len : ℕ) → side < n → len ≡ n * SHARE → inRange b ≡ true → gate n side b len 0 ≡ 0
+unfolding gate
+let-open n side b len h l r = rw (lt-ltb side n h, eq-eqb len (n * SHARE) l, r)
+
+done-open : (n side : ℕ) (b : Record) (store : List Float) (w : Way) (s : List ℕ) (m : Model) → side < n → length store ≡ n * SHARE → inRange b ≡ true
+    → readOf s ≡ Good m → desk n side b store (opening w s) .answer .reply ≡ Done
+unfolding desk
+done-open n side b store w s m h l r e = rw (let-open n side b (length store) h l r, e)
+
+pub opens : Opens
+opens = (closed-range, done-open)

@@ -3,7 +3,7 @@
 --     no-out, no-half-out, no-resume-out    call 3 with no place for its spectrum, and a second half and a resume with none for their samples,
 --                                           are refused
 -- Assumes nothing.
-use Prim.Native.Nat.{ℕ, _*_, _-_, _≤_}
+use Prim.Native.Nat.{ℕ, _*_, _-_}
 use mathlib.Core.Bool.{Bool, true, false, cond}
 use mathlib.Core.List.{List, [], _++_}
 use mathlib.Core.Path.{_≡_, refl, ap}
@@ -16,8 +16,7 @@ use Rattle.model.specs.Model.{readOf}
 use Rattle.model.specs.declared.Reading.{Reading}
 use Rattle.model.specs.declared.Reading.the-variants.{Good, Refused as Unread}
 use Rattle.model.proofs.Bounds.{refused-in}
-use Rattle.frame.specs.declared.Reply.{Reply}
-use Rattle.frame.specs.declared.Reply.the-variants.{Done, Silent, Heard, Numbered, Refused, Misread}
+use Rattle.frame.specs.declared.Reply.the-variants.{Done, Refused, Misread}
 use Rattle.frame.specs.Frame.{Effect}
 use Rattle.frame.specs.Reply.{passed}
 use Rattle.frame.proofs.Done.{call3-no-out}
@@ -32,15 +31,9 @@ use Rattle.pieces.proofs.Kept.{further-reply}
 use Rattle.desk.specs.declared.Record.{Record}
 use Rattle.desk.specs.Gate.{gate, shareOf}
 use Rattle.desk.specs.Desk.{Ask, opening, call1, call2, call2Own, call3, call4, firstHalf, secondHalf, piece, resume, callOf, opened, onShare, desk}
+pub use Rattle.desk.specs.Laws.{Small}
+use Rattle.desk.specs.Laws.{SmallReplies}
 use Rattle.desk.proofs.Pieced.{resume-no-out}
-
-abbrev pub Small : Reply → Type 0
-Small (Misread n l) = (n ≤ 22) × (l ≤ 6)
-Small Done = Unit
-Small Silent = Unit
-Small (Heard v e) = Unit
-Small (Numbered f h) = Unit
-Small (Refused n) = Unit
 
 misread : (s : List ℕ) (n l : ℕ) → Unread n l ≡ readOf s → Small (Misread n l)
 misread s n l e = let r = refused-in s e in (r .1, r .2)
@@ -77,7 +70,7 @@ module _ (b : Record) (share : List Float) where
       rw (further-reply (h .reply) (put framePart share (h .share)) (b .hearing .way) (drop (b .progress) x) (from (480 * (frameAt (b .progress) - 1)) (halves.buffer h)))
       (second-half-by part SmallOf (λ _. tt) (b .hearing) l m 480 (misread m) (λ _. tt) (λ _ _ _ _ _. tt)))
 
-pub small : (benches side : ℕ) (b : Record) (store : List Float) (ask : Ask) → Small (desk benches side b store ask .answer .reply)
+pub small : SmallReplies
 unfolding desk
 small benches side b store ask = go (eqb number 0)
   where

@@ -24,19 +24,16 @@ use Rattle.halves.proofs.Kept.{first-half-keeps, second-half-keeps}
 use Rattle.halves.proofs.Sister.{call2-own-keeps}
 use Rattle.pieces.specs.Pieces.{Outcome, framePart, refused, inPart}
 use Rattle.pieces.proofs.Kept.{piece-kept, resume-kept}
-use Rattle.desk.specs.declared.Answer.{Answer}
 use Rattle.desk.specs.declared.Record.{Record}
 use Rattle.desk.specs.Gate.{shareOf, gate}
-use Rattle.desk.specs.Desk.{Ask, opening, call1, call2, call2Own, call3, call4, firstHalf, secondHalf, piece, resume, callOf, opened, onShare, admitted, Given, desk, Served}
-use Rattle.desk.specs.Surface.{Hosted}
+use Rattle.desk.specs.Desk.{Ask, opening, call1, call2, call2Own, call3, call4, firstHalf, secondHalf, piece, resume, callOf, opened, onShare, admitted, desk}
+use Rattle.desk.specs.Laws.{Settled, HostSettled, RefusedKeeps}
 
-pub settled : {o : Given} {a a′ : Answer} {store store′ : List Float} {held out out′ : List (List Float)}
-    → Served o a store held out → Served o a′ store′ held out′ → (a ≡ a′) × (store ≡ store′) × (out ≡ out′)
-settled s t = (s .answers ∙ sym (t .answers), s .stores ∙ sym (t .stores), s .writes ∙ sym (t .writes))
+pub settled : Settled
+settled o a a′ store store′ held out out′ s t = (s .answers ∙ sym (t .answers), s .stores ∙ sym (t .stores), s .writes ∙ sym (t .writes))
 
-pub host-settled : {o : Given} {n n′ : ℕ} {ns ms ms′ : List ℕ} {store store′ : List Float} {held out out′ : List (List Float)}
-    → Hosted o n ns ms store held out → Hosted o n′ ns ms′ store′ held out′ → (n ≡ n′) × (ms ≡ ms′) × (store ≡ store′) × (out ≡ out′)
-host-settled s t =
+pub host-settled : HostSettled
+host-settled o n n′ ns ms ms′ store store′ held out out′ s t =
     (s .numbers ∙ sym (t .numbers), s .records ∙ sym (t .records), s .stores ∙ sym (t .stores), s .writes ∙ sym (t .writes))
 
 -- what a call keeps of a share of the right length: its length; and, refused, all of it
@@ -80,9 +77,7 @@ module _ (b : Record) (share : List Float) where
       go true = kept ask
       go false = record { size = λ h. h; still = λ _. refl }
 
-module _ (benches side : ℕ) (b : Record) (store : List Float) (ask : Ask) where
-  pub refused-keeps : passed (desk benches side b store ask .answer .reply) ≡ false
-      → (desk benches side b store ask .answer .rec ≡ b) × (desk benches side b store ask .store ≡ store)
-  unfolding desk
-  refused-keeps e =
-      (rw e, ap (put (shareOf side) store) (admitted-kept b (get (shareOf side) store) ask (gate benches side b (length store) (callOf ask)) .still e) ∙ put-get (shareOf side) store)
+pub refused-keeps : RefusedKeeps
+unfolding desk
+refused-keeps n side b store ask e =
+    (rw e, ap (put (shareOf side) store) (admitted-kept b (get (shareOf side) store) ask (gate n side b (length store) (callOf ask)) .still e) ∙ put-get (shareOf side) store)

@@ -17,7 +17,7 @@ use Rattle.frame.specs.Frame as frame
 use Rattle.halves.specs.Halves as halves
 use Rattle.pieces.specs.Pieces.{Outcome, framePart, refused, inPart}
 use Rattle.pieces.specs.Pieces as pieces
-use Rattle.frame.specs.Reply.{passed, oneMore}
+use Rattle.frame.specs.Reply.{passed, isHeard, oneMore}
 use Rattle.frame.specs.declared.Hearing.{Hearing}
 use Rattle.frame.specs.declared.Reply.{Reply}
 use Rattle.frame.specs.declared.Reply.the-variants.{Done, Silent, Heard, Numbered, Refused, Misread}
@@ -87,11 +87,11 @@ holding due rec waiting size progress =
     }
 
 -- where no opening noted anything
-abbrev pub unnoted : Hearing
-unnoted = record { index = 0; vad = 0; noise = 0; denoise = 0; way = Asked }
+abbrev pub noHearing : Hearing
+noHearing = record { index = 0; vad = 0; noise = 0; denoise = 0; way = Asked }
 
 abbrev pub closed : Record
-closed = recordOf 0 unnoted 0 0
+closed = recordOf 0 noHearing 0 0
 
 -- call 1 is due after call 4
 abbrev pub nextDue : ℕ → ℕ
@@ -99,12 +99,7 @@ nextDue call = cond (ltb call 4) (call + 1) 1
 
 -- a heard frame moves the cepstral index on, round and round: `mem_id` in `compute_frame_features`
 abbrev pub nextIndex : ℕ → Reply → ℕ
-nextIndex i (Heard v e) = cond (ltb i 7) (i + 1) 0
-nextIndex i Done = i
-nextIndex i Silent = i
-nextIndex i (Numbered f h) = i
-nextIndex i (Refused n) = i
-nextIndex i (Misread n l) = i
+nextIndex i reply = cond (isHeard reply) (cond (ltb i 7) (i + 1) 0) i
 
 -- and nothing else of what its opening noted
 abbrev pub nextHearing : Hearing → Reply → Hearing
@@ -127,12 +122,7 @@ nextFrame n (Refused r) = n
 nextFrame n (Misread r l) = n
 
 abbrev pub nextHeard : ℕ → Reply → ℕ
-nextHeard n (Heard v e) = oneMore n
-nextHeard n Done = n
-nextHeard n Silent = n
-nextHeard n (Numbered f h) = n
-nextHeard n (Refused r) = n
-nextHeard n (Misread r l) = n
+nextHeard n reply = cond (isHeard reply) (oneMore n) n
 
 abbrev pub advanced : Record → Reply → Record
 advanced rec reply =

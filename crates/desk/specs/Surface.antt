@@ -15,7 +15,7 @@ use Rattle.frame.specs.declared.Reply.the-variants.{Done, Silent, Heard, Number
 use Rattle.frame.specs.declared.Way.{Way}
 use Rattle.frame.specs.declared.Way.the-variants.{Asked, Crate}
 use Rattle.desk.specs.Gate.{wayNumber}
-use Rattle.desk.specs.Desk.{Ask, opening, call1, call2, call2Own, call3, call4, firstHalf, secondHalf, piece, resume, recordOf, holding, unnoted, Given, desk}
+use Rattle.desk.specs.Desk.{Ask, opening, call1, call2, call2Own, call3, call4, firstHalf, secondHalf, piece, resume, recordOf, holding, noHearing, Given, desk}
 use Rattle.desk.specs.declared.Record.{Record}
 use Rattle.desk.specs.declared.Answer.{Answer}
 
@@ -39,7 +39,7 @@ unfoldable pub recordIn : List ℕ → Record
 recordIn ns =
     cond (eqb (length ns) RECORD && leb (getD ns 10 0) 1)
     (holding (getD ns 0 0) (recordOf 0 (hearingIn ns) (getD ns 5 0) (getD ns 6 0)) (getD ns 7 0) (getD ns 8 0) (getD ns 9 0))
-    (recordOf 5 unnoted 0 0)
+    (recordOf 5 noHearing 0 0)
 
 -- a reply is a number: 0, or the refusal; 7 with the model's number and layer
 abbrev pub sevenOf : ℕ → ℕ → ℕ

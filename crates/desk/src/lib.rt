@@ -695,13 +695,7 @@ pub fn second_half(
     if number != 0 {
         return turned_away(rec, number);
     }
-    let reply = halves::second_half(
-        &mut store[start..part],
-        rec.hearing,
-        logs,
-        model,
-        out,
-    );
+    let reply = halves::second_half(&mut store[start..part], rec.hearing, logs, model, out);
     told_second(rec, reply)
 }
 
@@ -730,14 +724,7 @@ pub fn piece(
     }
     let hearing = rec.hearing;
     let way = hearing.way;
-    let reply = pieces::piece(
-        &mut store[start..end],
-        way,
-        rec.waiting,
-        samples,
-        out,
-        sums,
-    );
+    let reply = pieces::piece(&mut store[start..end], way, rec.waiting, samples, out, sums);
     told_piece(rec, samples.len(), reply)
 }
 

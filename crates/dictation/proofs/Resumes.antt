@@ -1,4 +1,4 @@
--- Laws of a record and of one piece: its numbers, and that an accepted piece comes to its end. Assumes nothing.
+-- Laws of a record and of one piece: its numbers, where it is accepted, and that an accepted piece comes to its end and makes a cut. Assumes nothing.
 use Prim.Native.Nat.{ℕ, _+_, _-_, _*_, _/_, _≤_, _<_}
 use native.Mathlib.Omega.{arith}
 use mathlib.Core.Bool.{Bool, true, false}
@@ -6,13 +6,13 @@ use mathlib.Core.List.{List, [], _∷_, _++_}
 use mathlib.Core.Path.{_≡_, refl, sym, ap, _∙_}
 use borrow.Author.Tests.{eqb-true, eqb-false, leb-true, eq-eqb, ne-eqb, le-leb, lt-ltb, not-false}
 use lib.Dec.{eqb, leb}
-use lib.ListN.{length, drop, length-append, length-drop}
+use lib.ListN.{length, take, drop, length-append, length-drop}
 use lib.Seq.{drop-drop, drop-append-add}
 use lib.Ieee.{Float}
 use Rattle.rules.specs.F32.{zeros}
 use Rattle.rules.specs.Place.{get, put}
 use Rattle.rules.specs.Written.{Written, from, nothing, over, onto}
-use Rattle.rules.proofs.Places.{length-put}
+use Rattle.rules.proofs.Places.{length-get, length-put}
 use Rattle.rules.proofs.Writing.{over-none}
 use Rattle.rules.proofs.Truth.{both}
 use Rattle.samples.specs.Samples.{good}
@@ -22,17 +22,19 @@ use Rattle.frame.specs.Reply.{passed}
 use Rattle.frame.specs.Share.{SHARE}
 use Rattle.halves.specs.Halves.{buffer}
 use Rattle.pieces.specs.Pieces.{waitingIn, waits, waitedOf, completes}
+use Rattle.pieces.proofs.Accepted.{Piece, piece-taken}
+use Rattle.pieces.proofs.Kept.{further-reply}
 use Rattle.pieces.proofs.Shares.{waiting-length, waits-length}
 use Rattle.desk.specs.declared.Record.{Record}
 use Rattle.desk.specs.Gate.{shareOf, idle, allZero, inCounts, underWay, inPieces, inRange, isDue, gate}
 use Rattle.desk.specs.Desk.{piece, resume, holding, Given, desk}
 use Rattle.dictation.specs.Dictation.{Lent, Dictated}
-use Rattle.dictation.specs.Cutting.{Led, ended, paused}
-use Rattle.dictation.specs.Resuming.{Numbered, Fitting, Completes}
-use Rattle.desk.proofs.Ranged.{next-index, open-range}
+use Rattle.dictation.specs.Cutting.{Led, ended, paused, last}
+use Rattle.dictation.specs.Resuming.{Numbered, Accepts, Fitting, Completes, MakesCut}
+use Rattle.desk.proofs.Ranged.{bounded, next-index, open-range}
 use Rattle.desk.proofs.Turned.{none, through}
 use Rattle.dictation.proofs.Joins.{first, second, shareAfter, recAfter, after-length}
-use Rattle.dictation.proofs.Taken.{onward, ends, pauses, piece-passed}
+use Rattle.dictation.proofs.Taken.{let-through, onward, ends, pauses, piece-passed}
 use Rattle.dictation.proofs.Follows.{place, shareHere, next, here-length, back, Known, fits-in, halved, admits}
 
 -- ---- the numbers of a record
@@ -183,3 +185,34 @@ completed n side rec store samples held lent p m f =
     (comes n side (side-and-store .0) store (side-and-store .1) samples (k .few) (k .fine)
     lent rec Done (waits share []) (ws ++ samples) (480 - rec .waiting) nothing held refl
     (waits-length share (k .size) []) (range .0) (range .1) same (omega (arith, k .waits)) (omega (arith, k .waits)) room (omega arith) f)
+
+-- ---- what is accepted
+
+let-piece : (n side : ℕ) (rec : Record) (len : ℕ) → side < n → len ≡ n * SHARE → inRange rec ≡ true → rec .due ≡ 1 → gate n side rec len 5 ≡ 0
+unfolding gate isDue
+let-piece n side rec len h l r d = rw (lt-ltb side n h, eq-eqb len (n * SHARE) l, r, d)
+
+pub accepts : Accepts
+accepts n side rec store samples held h l r d some few room waited fine =
+    let share = get (shareOf side) store in
+    let k : Piece share (rec .waiting) samples (length held) 22 =
+    record {
+      size = length-get (shareOf side) store (omega arith);
+      waits = bounded rec r .waiting;
+      some = some;
+      few = few;
+      room = room;
+      places = refl;
+      waited = waited;
+      fine = fine;
+    } in
+    rw (
+      let-through n side rec store (piece samples (length held) 22) (let-piece n side rec (length store) h l r d),
+      piece-taken share (rec .hearing .way) (rec .waiting) samples (length held) 22 k,
+      further-reply Done (waits share []) (rec .hearing .way) (waitingIn (rec .waiting) share ++ samples) nothing,
+    )
+
+pub makes-cut : MakesCut
+makes-cut n side rec store samples held lent p m f =
+    let t = completed n side rec store samples held lent p m f in
+    let d = t .0 in (record { rec = d .rec; store = d .store; told = d .told; out = take (480 * length lent) (d .out) }, last {held = held} {d = d} (t .1))

@@ -13,7 +13,7 @@ ghost use lib.ListN.{length};
 ghost use Rattle.frame.specs.Reply.{passed};
 ghost use Rattle.frame.specs.declared.Way.the-variants.{Asked, Crate};
 ghost use Rattle.desk.specs.Gate.{BENCHES, sideOf};
-ghost use Rattle.desk.specs.Desk.{recordOf, unnoted, opening, call1, call2, call2Own, call3, call4, firstHalf, secondHalf, piece, resume};
+ghost use Rattle.desk.specs.Desk.{recordOf, noHearing, opening, call1, call2, call2Own, call3, call4, firstHalf, secondHalf, piece, resume};
 ghost use Rattle.desk.specs.Surface.{RECORD, numbersOf, wayIn, hearingIn, recordIn, replyNumber, heardOf, outOf, hosted, Hosted};
 ghost use Rattle.desk.proofs.Ranged.{Bounded};
 ghost use Rattle.desk.proofs.Replies.{Small};
@@ -61,7 +61,7 @@ fn hearing_in(record: &[u32]) -> Hearing
 
 // A record that is out of range.
 fn no_record() -> Record
-    ensures { λ r. ⌜ r ≡ recordOf 5 unnoted 0 0 ⌝ }
+    ensures { λ r. ⌜ r ≡ recordOf 5 noHearing 0 0 ⌝ }
 {
     let hearing = Hearing {
         index: 0,

@@ -37,9 +37,13 @@ pub(crate) fn forward(out: &mut [f32], samples: &[f32], way: Way)
     ensures { λ _. ⌜ now (out .exit) ≡ forwardBy way (now (samples .entry)) ⌝ }
 {
     match way {
-        Way::Asked => transforms::forward(out, samples),
-        Way::Crate => fft::forward(out, samples),
-    };
+        Way::Asked => {
+            transforms::forward(out, samples);
+        }
+        Way::Crate => {
+            fft::forward(out, samples);
+        }
+    }
 }
 
 // The samples of a spectrum.
@@ -48,7 +52,11 @@ pub(crate) fn inverse(out: &mut [f32], spectrum: &[f32], way: Way)
     ensures { λ _. ⌜ now (out .exit) ≡ inverseBy way (now (spectrum .entry)) ⌝ }
 {
     match way {
-        Way::Asked => transforms::inverse(out, spectrum),
-        Way::Crate => fft::inverse(out, spectrum),
-    };
+        Way::Asked => {
+            transforms::inverse(out, spectrum);
+        }
+        Way::Crate => {
+            fft::inverse(out, spectrum);
+        }
+    }
 }

@@ -16,7 +16,7 @@ use lib.Ieee.{Float, nan, isNan, ofBits}
 use Rattle.rules.specs.F32.{at, f32}
 use Rattle.rules.specs.Place.{get}
 use Rattle.rules.proofs.Places.{length-get}
-use Rattle.frame.specs.Reply.{passed}
+use Rattle.frame.specs.Reply.{passed, isHeard}
 use Rattle.frame.specs.Share.{SHARE}
 use Rattle.frame.specs.declared.Reply.{Reply}
 use Rattle.frame.specs.declared.Reply.the-variants.{Done, Silent, Heard, Numbered, Refused, Misread}
@@ -25,7 +25,7 @@ use Rattle.desk.specs.Gate.{shareOf}
 use Rattle.desk.specs.Desk.{Ask, callOf, Given, desk}
 use Rattle.desk.proofs.Apart.{its-own, own-share, other-share, same-length}
 use Rattle.memory.specs.Hear.{Recalled, blank, HeardFrame, heardAll, faded}
-use Rattle.memory.specs.Brought.{recalledIn, isHeard, Noted, unnoted, brought}
+use Rattle.memory.specs.Brought.{recalledIn, Noted, unnoted, brought}
 use Rattle.memory.proofs.Heard.{notedIn}
 use Rattle.memory.proofs.Calls.{Remembers, remembers, opens, either}
 use Rattle.memory.proofs.Gains.{stays-number, at-least}

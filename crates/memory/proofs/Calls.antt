@@ -14,8 +14,7 @@ use mathlib.Core.Logic.{_⊎_, inl, inr}
 use mathlib.Core.Path.{_≡_, refl, sym, ap, ap₂, subst, _∙_}
 use borrow.Author.Tests.{ltb-false}
 use lib.Dec.{eqb, ltb}
-use lib.ListN.{length, take, drop, length-take, replicate, length-replicate, replicate-append-replicate}
-use lib.Seq.{take-at, drop-at}
+use lib.ListN.{length, take, drop, length-take, replicate}
 use lib.IntN.{pos}
 use lib.Ieee.{Float, binary32, ofInt}
 use Rattle.rules.specs.F32.{at, f32}
@@ -28,7 +27,7 @@ use Rattle.model.specs.Model.{readOf}
 use Rattle.model.specs.declared.Reading.{Reading}
 use Rattle.model.specs.declared.Reading.the-variants.{Good, Refused as Unread}
 use Rattle.samples.specs.Samples.{good}
-use Rattle.frame.specs.Reply.{passed}
+use Rattle.frame.specs.Reply.{passed, isHeard}
 use Rattle.lag.specs.Lag.{ownLag}
 use Rattle.frame.specs.Share.{SHARE, PART, inputMem, keptX, keptEx, keptLag, lastg, cepstralMem, vadState, noiseState, denoiseState}
 use Rattle.frame.specs.Heard.{scaled, energies, spoken}
@@ -58,9 +57,10 @@ use Rattle.desk.specs.declared.Record.{Record}
 use Rattle.desk.specs.Gate.{gate}
 use Rattle.desk.specs.Desk.{Ask, opening, call1, call2, call2Own, call3, call4, firstHalf, secondHalf, piece, resume, callOf, advanced, numbered, carried, answered, opened, onShare, Given, desk}
 use Rattle.desk.proofs.Apart.{givenOf, one-bench}
+use Rattle.desk.proofs.Zeros.{get-replicate}
 use Rattle.desk.proofs.Leaves.{carried-leaves}
 use Rattle.memory.specs.Hear.{blank, HeardFrame, heardAll}
-use Rattle.memory.specs.Brought.{recalledIn, isHeard, Noted, unnoted, noting, firstNotes, restNotes, brought}
+use Rattle.memory.specs.Brought.{recalledIn, Noted, unnoted, noting, firstNotes, restNotes, brought}
 use Rattle.memory.proofs.Heard.{notedIn, heard-frame}
 
 -- ---- what is left alone
@@ -368,19 +368,6 @@ module _ (b : Record) (share : List Float) (whole : length share ≡ SHARE) wher
       lift (resume x l m o s) _ (resume-kept share (b .hearing) (b .piece) (b .progress) x l m o s .size whole) (resume-leaves x l m o s)
 
 -- ---- an opening
-
--- a place of a list of one number
-get-replicate : (p : Place) (n : ℕ) (a : Float) → p .at + p .size ≤ n → get p (replicate n a) ≡ replicate (p .size) a
-unfolding get
-get-replicate p n a h =
-    let rest = n - (p .at + p .size) in
-    let sum : p .at + (p .size + rest) ≡ n = omega arith in
-    let split : replicate n a ≡ replicate (p .at) a ++ (replicate (p .size) a ++ replicate rest a) =
-    ap (λ (k : ℕ). replicate k a) (sym sum)
-    ∙ sym (replicate-append-replicate (p .at) (p .size + rest) a)
-    ∙ ap (λ (xs : List Float). replicate (p .at) a ++ xs) (sym (replicate-append-replicate (p .size) rest a)) in
-    rw (split, drop-at (replicate (p .at) a) (replicate (p .size) a ++ replicate rest a) (p .at) (length-replicate (p .at) a))
-    (take-at (replicate (p .size) a) (replicate rest a) (p .size) (length-replicate (p .size) a))
 
 wiped : (n : ℕ) → SHARE ≤ n → (recalledIn 0 (replicate n (f32 0)) ≡ blank) × (notedIn (replicate n (f32 0)) ≡ unnoted)
 wiped n h =

@@ -1,7 +1,7 @@
 -- What a call brings to the memory of its side, in a frame: call 2 the first spectrum and the lag, a heard call 3 the second spectrum,
 -- the logarithms and the model, by themselves, in a half or in a piece. Nothing else does.
 use Prim.Native.Nat.{ℕ}
-use mathlib.Core.Bool.{Bool, true, false, cond}
+use mathlib.Core.Bool.{cond}
 use mathlib.Core.List.{List, [], _∷_, _++_}
 use lib.Dec.{ltb}
 use lib.IntN.{pos}
@@ -13,9 +13,8 @@ use Rattle.features.specs.Features.{normalisedCorr}
 use Rattle.lag.specs.Lag.{ownLag}
 use Rattle.frame.specs.Share.{inputMem, lastg, cepstralMem, vadState, noiseState, denoiseState}
 use Rattle.frame.specs.Heard.{scaled, energies}
-use Rattle.frame.specs.Reply.{passed}
+use Rattle.frame.specs.Reply.{passed, isHeard}
 use Rattle.frame.specs.declared.Reply.{Reply}
-use Rattle.frame.specs.declared.Reply.the-variants.{Done, Silent, Heard, Numbered, Refused, Misread}
 use Rattle.frame.specs.declared.Way.{Way}
 use Rattle.frame.specs.Frame.{done1}
 use Rattle.halves.specs.Ways.{lagBy, forwardBy}
@@ -37,14 +36,6 @@ recalledIn index share =
       noise = get noiseState share;
       denoise = get denoiseState share;
     }
-
-abbrev pub isHeard : Reply → Bool
-isHeard (Heard v e) = true
-isHeard Done = false
-isHeard Silent = false
-isHeard (Numbered f h) = false
-isHeard (Refused n) = false
-isHeard (Misread n l) = false
 
 -- what is noted from call 2 to call 3: the first spectrum, scaled, its band energies, and the lag; zeros at an opening
 pub record Noted : Type 0 where

@@ -82,7 +82,15 @@ fn resume_reply(
     if share.len() != frame::SHARE {
         return Reply::Refused(5);
     }
-    if !resume_fits(hearing.index, piece, progress, samples.len(), logs.len(), out, sums) {
+    if !resume_fits(
+        hearing.index,
+        piece,
+        progress,
+        samples.len(),
+        logs.len(),
+        out,
+        sums,
+    ) {
         return Reply::Refused(5);
     }
     last_tests(hearing, model, samples::all_good(samples))

@@ -38,8 +38,8 @@ loop-again c =
       omega arith,
       filling-more _ _ _ (l .inv .1) (omega arith) (by (480 + i) (search fills) (omega arith)),
       filling-more _ _ _ (l .inv .2) (omega arith)
-      (ap (λ (x : Float). ((at (now (a .inverse)) i ⊘ f32 0x40000000) ⊗ at (now (a .table)) i) ⊕ x) ahead
-      ∙ ap (λ (x : Float). x ⊕ at (now (a .kept)) i) (by i (search fills) (omega arith))),
+          (ap (λ (x : Float). ((at (now (a .inverse)) i ⊘ f32 0x40000000) ⊗ at (now (a .table)) i) ⊕ x) ahead
+          ∙ ap (λ (x : Float). x ⊕ at (now (a .kept)) i) (by i (search fills) (omega arith))),
     )
 
 returns : tie.Need-returns Inv-loop μ-loop
