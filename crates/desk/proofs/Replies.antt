@@ -31,28 +31,28 @@ use Rattle.pieces.proofs.Kept.{further-reply}
 use Rattle.desk.specs.declared.Record.{Record}
 use Rattle.desk.specs.Gate.{gate, shareOf}
 use Rattle.desk.specs.Desk.{Ask, opening, call1, call2, call2Own, call3, call4, firstHalf, secondHalf, piece, resume, callOf, opened, onShare, desk}
-pub use Rattle.desk.specs.Laws.{Small}
+pub use Rattle.desk.specs.Laws.{SmallSeven}
 use Rattle.desk.specs.Laws.{SmallReplies}
 use Rattle.desk.proofs.Pieced.{resume-no-out}
 
-misread : (s : List ℕ) (n l : ℕ) → Unread n l ≡ readOf s → Small (Misread n l)
+misread : (s : List ℕ) (n l : ℕ) → Unread n l ≡ readOf s → SmallSeven (Misread n l)
 misread s n l e = let r = refused-in s e in (r .1, r .2)
 
-opens : (s : List ℕ) (read : Reading) (share : List Float) → read ≡ readOf s → Small (opened share read .reply)
+opens : (s : List ℕ) (read : Reading) (share : List Float) → read ≡ readOf s → SmallSeven (opened share read .reply)
 opens s (Good m) share e = tt
 opens s (Unread n l) share e = misread s n l e
 
 module _ (b : Record) (share : List Float) where
   abbrev SmallOf : Effect → Type 0
-  SmallOf f = Small (f .reply)
+  SmallOf f = SmallSeven (f .reply)
 
-  abbrev Small-after : Outcome → Type 0
-  Small-after o = Small (o .reply)
+  abbrev SmallSeven-after : Outcome → Type 0
+  SmallSeven-after o = SmallSeven (o .reply)
 
   abbrev part : List Float
   part = get framePart share
 
-  frames : (ask : Ask) → Small (onShare b share ask .reply)
+  frames : (ask : Ask) → SmallSeven (onShare b share ask .reply)
   frames (opening w m) = opens m (readOf m) share refl
   frames (call1 x w) = call1-by part SmallOf (λ _. tt) x w (λ _ _. tt)
   frames (call2 x l w s) = call2-by part SmallOf (λ _. tt) x l w s (λ _. tt)
@@ -62,9 +62,9 @@ module _ (b : Record) (share : List Float) where
   frames (firstHalf x s) = first-half-by part SmallOf (λ _. tt) (b .hearing .way) x s (λ _ _. tt)
   frames (secondHalf l m o) = second-half-by part SmallOf (λ _. tt) (b .hearing) l m o (misread m) (λ _. tt) (λ _ _ _ _ _. tt)
   frames (piece x o s) =
-      piece-by share Small-after (λ _. tt) (b .hearing .way) (b .waiting) x o s (λ _. rw (further-reply Done (waits share []) (b .hearing .way) (waitingIn (b .waiting) share ++ x) nothing) tt)
+      piece-by share SmallSeven-after (λ _. tt) (b .hearing .way) (b .waiting) x o s (λ _. rw (further-reply Done (waits share []) (b .hearing .way) (waitingIn (b .waiting) share ++ x) nothing) tt)
   frames (resume x l m o s) =
-      resume-by share Small-after (λ _. tt) (b .hearing) (b .piece) (b .progress) x l m o s (misread m)
+      resume-by share SmallSeven-after (λ _. tt) (b .hearing) (b .piece) (b .progress) x l m o s (misread m)
       (λ _.
       let h = halves.secondHalf part (b .hearing) l m 480 in
       rw (further-reply (h .reply) (put framePart share (h .share)) (b .hearing .way) (drop (b .progress) x) (from (480 * (frameAt (b .progress) - 1)) (halves.buffer h)))
@@ -80,7 +80,7 @@ small benches side b store ask = go (eqb number 0)
     share : List Float
     share = get (shareOf side) store
 
-    go : (t : Bool) → Small (cond t (onShare b share ask) (refused (Refused number) share) .reply)
+    go : (t : Bool) → SmallSeven (cond t (onShare b share ask) (refused (Refused number) share) .reply)
     go true = frames b share ask
     go false = tt
 

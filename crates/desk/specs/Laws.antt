@@ -58,16 +58,16 @@ RangeKept =
     passed (o .answer .reply) ≡ true → (inRange rec ≡ true) × (inRange (o .answer .rec) ≡ true)
 
 -- a 7 comes with a number of at most 22 and a layer of at most 6
-abbrev pub Small : Reply → Type 0
-Small (Misread n l) = (n ≤ 22) × (l ≤ 6)
-Small Done = Unit
-Small Silent = Unit
-Small (Heard v e) = Unit
-Small (Numbered f h) = Unit
-Small (Refused n) = Unit
+abbrev pub SmallSeven : Reply → Type 0
+SmallSeven (Misread n l) = (n ≤ 22) × (l ≤ 6)
+SmallSeven Done = Unit
+SmallSeven Silent = Unit
+SmallSeven (Heard v e) = Unit
+SmallSeven (Numbered f h) = Unit
+SmallSeven (Refused n) = Unit
 
 abbrev pub SmallReplies : Type 0
-SmallReplies = (n side : ℕ) (rec : Record) (store : List Float) (ask : Ask) → Small (desk n side rec store ask .answer .reply)
+SmallReplies = (n side : ℕ) (rec : Record) (store : List Float) (ask : Ask) → SmallSeven (desk n side rec store ask .answer .reply)
 
 -- so many answer buffers are lent to a call; done, it writes to each, and refused, to none
 abbrev pub buffersOf : Ask → ℕ
