@@ -16,7 +16,7 @@ ghost use Rattle.desk.specs.Gate.{BENCHES, sideOf};
 ghost use Rattle.desk.specs.Desk.{recordOf, noHearing, opening, call1, call2, call2Own, call3, call4, firstHalf, secondHalf, piece, resume};
 ghost use Rattle.desk.specs.Surface.{RECORD, numbersOf, wayIn, hearingIn, recordIn, replyNumber, heardOf, outOf, hosted, Hosted};
 ghost use Rattle.desk.proofs.Ranged.{Bounded};
-ghost use Rattle.desk.proofs.Replies.{Small};
+ghost use Rattle.desk.proofs.Replies.{SmallSeven};
 ghost use Rattle.export.specs.Parts.{HandsBack};
 use desk::Answer;
 use desk::Record;
@@ -115,7 +115,7 @@ fn put_record(record: &mut [u32], rec: Record)
 
 // A reply as a number.
 fn number_of(reply: Reply) -> u32
-    requires { ⌜ Small reply ⌝ }
+    requires { ⌜ SmallSeven reply ⌝ }
     ensures { λ r. ⌜ r ≡ replyNumber reply ⌝ }
 {
     match reply {
