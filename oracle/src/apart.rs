@@ -3,9 +3,10 @@
 //! is compared bit for bit. Every bench is the one in its turn.
 
 use crate::answers::Answers;
-use crate::ask::{Ask, Caller, FRAME, OURS, TAKE};
+use crate::ask::{Ask, Caller, FRAME, TAKE};
 use crate::desk::{BENCHES, RECORD, STORE};
 use crate::rng::{Mood, Rng};
+use crate::surface::OURS;
 use crate::tally::{Given, Tally};
 use crate::Options;
 use std::ops::Range;

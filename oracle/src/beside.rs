@@ -1,8 +1,9 @@
 //! Any desk beside the desk by the text, or beside another: both are asked the same, and all that they answer and leave is compared.
 
-use crate::ask::{Ask, Caller, Surface, FRAME, PIECE, RESUME, SECOND_HALF, TAKE};
+use crate::ask::{Ask, Caller, FRAME, PIECE, RESUME, SECOND_HALF, TAKE};
 use crate::desk::{self, BENCHES, COUNTS, EX, FINDER_MEM, LAG, RECORD, SHARE, STORE, WAIT, WAY, X};
 use crate::rng::{Mood, Rng};
+use crate::surface::Surface;
 use crate::tally::{floats, kept, signed, By, Given, Tally, Value};
 use crate::{dictation, logs};
 use std::ops::Range;

@@ -2,7 +2,6 @@
 //! plain packing and numbering, on a second store. (The package `feed` of this folder is another thing: it hands the text its transforms and logarithms.)
 
 use crate::answers::Answers;
-use crate::ask::OURS;
 use crate::desk::{
     self, gate, pass, Due, Way, BENCHES, COUNTS, DUE, FRAMES, INDEX, RECORD, STORE, UNFINISHED, WAIT, WAITING, WAY,
 };
@@ -12,6 +11,7 @@ use crate::models::{self, Shape};
 use crate::pcm::NO_FORMATS;
 use crate::plain_pcm::{self as plain, Layout};
 use crate::rng::{Mood, Rng};
+use crate::surface::OURS;
 use crate::tally::{Given, Tally, Value};
 use crate::Options;
 

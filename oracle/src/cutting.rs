@@ -1,10 +1,11 @@
 //! Request 12: the same samples with the same logarithms and models, cut in two ways, give the same output, answers, sums, record and store.
 
-use crate::ask::{piece_length, Ask, Surface, PIECE, RESUME};
+use crate::ask::{piece_length, Ask, PIECE, RESUME};
 use crate::desk::{Way, BENCHES, RECORD, STORE, UNFINISHED, WAITING};
 use crate::dictation::{completed, LONGEST};
 use crate::models::{self, Shape};
 use crate::rng::{Mood, Rng};
+use crate::surface::Surface;
 use crate::tally::{kept, Given, Tally, Value};
 
 /// What a frame is lent besides its samples: no logarithms for those of its sums.

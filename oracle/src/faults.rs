@@ -1,12 +1,12 @@
 //! Whole calls with every fault at its limit, and with every two at once: the lower number answers, and nothing changes.
 
-use crate::ask::{Ask, Surface, FRAME, TAKE};
+use crate::ask::{Ask, FRAME, TAKE};
 use crate::desk::{self, Way, COUNTS, DUE, FINDER_MEM, INDEX, PROGRESS, RECORD, STORE, UNFINISHED, WAIT, WAITING, WAY};
 use crate::dictation::{completed, LONGEST};
 use crate::models::{self, Shape};
 use crate::rng::{Mood, Rng};
+use crate::surface::{Surface, LENT};
 use crate::tally::{floats, kept, By, Given, Tally, Value};
-use crate::whole::LENT;
 
 pub const SIDE: u32 = 15;
 pub const SHAPE: Shape = [2, 3, 4, 5];

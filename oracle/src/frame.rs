@@ -1,11 +1,12 @@
 //! features.rs and denoise.rs: whole frames in four calls, on the sides of one store.
 
 use crate::answers::Answers;
-use crate::ask::{Caller, Surface, FIRST_HALF, OURS, SECOND_HALF};
+use crate::ask::{Caller, FIRST_HALF, SECOND_HALF};
 use crate::beside::{Beside, Damage};
 use crate::desk::{BENCHES, INDEX};
 use crate::rng::Rng;
 use crate::shadow::Shadow;
+use crate::surface::{Surface, OURS};
 use crate::tally::Tally;
 use crate::Options;
 

@@ -1,10 +1,11 @@
 //! Request 12: dictation in pieces of any lengths on sixteen interleaved benches, against the text's; and the same samples cut in two ways.
 
 use crate::answers::Answers;
-use crate::ask::{Caller, Surface, OURS, PIECE, RESUME};
+use crate::ask::{Caller, PIECE, RESUME};
 use crate::beside::{Beside, Damage};
 use crate::desk::{BENCHES, DUE, PROGRESS, SHARE, UNFINISHED, WAIT, WAITING};
 use crate::rng::Rng;
+use crate::surface::{Surface, OURS};
 use crate::tally::Tally;
 use crate::{cutting, Options};
 

@@ -2,16 +2,14 @@
 //! are by definition, on a second store. And every two faults at once, of which the lower number answers.
 
 use crate::answers::Answers;
-use crate::ask::{Ask, Caller, Surface, FRAME, OURS, TAKE};
+use crate::ask::{Ask, Caller, FRAME, TAKE};
 use crate::beside::{Beside, Damage};
 use crate::desk::{BENCHES, SHARE, WAIT, WAITING};
 use crate::dictation::completed;
 use crate::rng::Rng;
+use crate::surface::{Surface, LENT, OURS};
 use crate::tally::Tally;
 use crate::{faults, pieces, Options};
-
-/// The proved desk without its whole calls: they are made of the others.
-pub const LENT: Surface = Surface { whole: None, ..OURS };
 
 pub fn compare(options: &Options) -> Tally {
     let mut tally = Tally::new("whole");
@@ -86,9 +84,9 @@ fn damage(rng: &mut Rng, side: usize, record: &[u32]) -> Damage {
 #[cfg(test)]
 mod tests {
     use super::*;
-    use crate::ask::Whole;
     use crate::desk::broken;
     use crate::lent::{frame, take};
+    use crate::surface::Whole;
 
     /// What is counted where these whole calls stand beside those that are made of the others.
     fn beside(whole: Option<Whole>, frames: u64) -> (Met, Tally) {

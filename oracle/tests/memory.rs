@@ -3,12 +3,13 @@
 
 use nnnoiseless_text::probe::{bands, pitch::PitchFinder, rnn};
 use nnnoiseless_text::RnnModel;
-use oracle::ask::{Ask, Caller, FIRST_HALF, OURS, PIECE, RESUME, SECOND_HALF};
+use oracle::ask::{Ask, Caller, FIRST_HALF, PIECE, RESUME, SECOND_HALF};
 use oracle::bins;
 use oracle::desk::{
     Way, BENCHES, CEPSTRAL_MEM, DUE, INDEX, INPUT_MEM, LASTG, RECORD, SHARE, STATES, STORE, UNFINISHED,
 };
 use oracle::rng::{Mood, Rng};
+use oracle::surface::OURS;
 use oracle::tally::exactly;
 
 const FRAMES: usize = 20_000;

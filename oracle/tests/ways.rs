@@ -3,11 +3,12 @@
 
 use nnnoiseless_text::probe::pitch::PitchFinder;
 use nnnoiseless_text::{feed, DenoiseState, RnnModel};
-use oracle::ask::{Ask, Surface, FRAME, OURS};
+use oracle::ask::{Ask, FRAME};
 use oracle::beside::TEXT;
 use oracle::desk::{share_of, Way, BENCHES, FINDER_MEM, INPUT_MEM, RECORD, STORE};
 use oracle::fft::{fast_forward, fast_inverse};
 use oracle::rng::Rng;
+use oracle::surface::{Surface, OURS};
 use oracle::tally::alike;
 use oracle::transforms::cosines;
 use oracle::{finder, logs, models};

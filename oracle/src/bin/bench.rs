@@ -9,11 +9,11 @@
 use nnnoiseless_text::probe::{bands, pitch, rnn, util};
 use nnnoiseless_text::{DenoiseState, RnnModel};
 #[cfg(feature = "frame")]
-use oracle::ask::OURS;
-#[cfg(feature = "frame")]
 use oracle::desk::{Way, BENCHES, FRAMES, RECORD, STORE};
 use oracle::plain_pcm::{self, Layout};
 use oracle::rng::{Mood, Rng};
+#[cfg(feature = "frame")]
+use oracle::surface::OURS;
 use oracle::{bins, models};
 use std::hint::black_box;
 use std::time::{Duration, Instant};
