@@ -7,7 +7,7 @@ use crate::beside::{Beside, Damage};
 use crate::desk::{BENCHES, SHARE, WAIT, WAITING};
 use crate::dictation::completed;
 use crate::rng::Rng;
-use crate::surface::{Surface, LENT, OURS};
+use crate::surface::{LENT, OURS};
 use crate::tally::Tally;
 use crate::{faults, pieces, Options};
 
@@ -86,7 +86,7 @@ mod tests {
     use super::*;
     use crate::desk::broken;
     use crate::lent::{frame, take};
-    use crate::surface::Whole;
+    use crate::surface::{Surface, Whole};
 
     /// What is counted where these whole calls stand beside those that are made of the others.
     fn beside(whole: Option<Whole>, frames: u64) -> (Met, Tally) {
