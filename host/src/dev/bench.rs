@@ -6,12 +6,15 @@ use crate::dev::calls::{Calls, Spent};
 use crate::dev::reference::Reference;
 use crate::recorder::{Recorder, Side, Way, RECORD, STORE};
 use crate::FRAME;
+use std::thread::sleep;
 use std::time::{Duration, Instant};
 
 const FRAMES: usize = 1_000;
 const ROUNDS: usize = 7;
-/// The benches of a store.
+/// The benches of a store, how often each is fed in real time, and for how long.
 const BENCHES: usize = 16;
+const TICK: Duration = Duration::from_millis(10);
+const TICKS: u32 = 300;
 
 /// The middle one.
 fn median(mut times: Vec<Duration>) -> Duration {
@@ -48,25 +51,28 @@ fn by_the_text(samples: &[f32]) -> Duration {
     start.elapsed()
 }
 
-/// Sixteen benches over one store, each fed its 10 ms in turn: the time that a second of all of them takes.
-fn sixteen(samples: &[f32]) -> Duration {
+/// Sixteen benches over one store, each fed 10 ms of sound every 10 ms: the percent of the time in which there is
+/// nothing to do.
+fn idle(samples: &[f32]) -> f64 {
     let (mut store, mut records) = (vec![0.0; STORE], [[0; RECORD]; BENCHES]);
     for (side, record) in (0..).zip(&mut records) {
         Way::Crate.open(record, &mut store, side, HOUSE).expect("the house model");
     }
     let (mut out, mut entry, mut answer) = ([0; 2 * FRAME], [0], [0.0; 3]);
     let Layout { format, channels } = Layout::CLEANED;
-    let blocks: Vec<Vec<u8>> = samples.chunks_exact(FRAME).take(100).map(packed).collect();
-    let start = Instant::now();
-    for block in &blocks {
+    let (start, mut busy) = (Instant::now(), Duration::ZERO);
+    for (samples, due) in samples.chunks_exact(FRAME).zip(1..=TICKS) {
+        let (block, begun) = (packed(samples), Instant::now());
         for (side, record) in (0..).zip(&mut records) {
             let (out, entry, answer) = (&mut out, &mut entry, &mut answer);
             let refused =
-                tuppence::feed(record, &mut store, side, block, format, channels, 0, HOUSE, out, entry, answer);
+                tuppence::feed(record, &mut store, side, &block, format, channels, 0, HOUSE, out, entry, answer);
             assert_eq!(refused, 0, "a frame is due and fits");
         }
+        busy += begun.elapsed();
+        sleep((due * TICK).saturating_sub(start.elapsed()));
     }
-    start.elapsed()
+    100.0 * (1.0 - busy.as_secs_f64() / start.elapsed().as_secs_f64())
 }
 
 fn per_second(time: Duration) -> f64 {
@@ -108,23 +114,22 @@ impl Speed {
 
 pub fn measure() -> Speed {
     let samples: Vec<f32> = grinder(FRAMES * FRAME, 7, 100.0, 340.0).iter().map(|x| (1_000.0 * x) as f32).collect();
-    let (recorded, mut times) = (Block::of(&samples), [const { vec![] }; 5]);
+    let (recorded, mut times) = (Block::of(&samples), [const { vec![] }; 4]);
     let (mut recorder, mut own, mut calls) = (Recorder::new(Way::Crate), Recorder::new(Way::Asked), Calls::default());
     for _ in 0..ROUNDS {
         times[0].push(pieces(&mut recorder, &recorded));
         times[1].push(pieces(&mut own, &recorded));
         times[2].push(in_calls(&mut calls, &samples));
         times[3].push(by_the_text(&samples));
-        times[4].push(sixteen(&samples));
     }
     let beside = times[0].iter().sum::<Duration>() - recorder.spent;
-    let [in_pieces, with_own, in_calls, rust, sixteen] = times.map(median);
+    let [in_pieces, with_own, in_calls, rust] = times.map(median);
     Speed {
         pieces: per_second(in_pieces),
         own: per_second(with_own),
         calls: per_second(in_calls),
         rust: per_second(rust),
-        idle: 100.0 * (1.0 - sixteen.as_secs_f64()),
+        idle: idle(&samples),
         of_pieces: [("the library", recorder.spent), ("the rest", beside)],
         of_calls: of_calls(&calls.spent),
     }
