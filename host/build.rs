@@ -11,7 +11,7 @@ fn first_line(program: &str, words: &[&str]) -> Option<String> {
 fn main() {
     let git = |words: &[&str]| first_line("git", words);
     let rustc = first_line(&std::env::var("RUSTC").unwrap_or("rustc".into()), &["--version"]);
-    // oracle/tuppence/build.rs tells it of the library
+    // bindings/rust/build.rs tells it of the library
     let kit = std::env::var("DEP_EXPORT_KIT").ok();
     for (name, value) in [("COMMIT", git(&["rev-parse", "--short=12", "HEAD"])), ("RUSTC", rustc), ("KIT", kit)] {
         println!("cargo:rustc-env=BOX_{name}={}", value.unwrap_or("unknown".into()));

@@ -1,9 +1,11 @@
 // What stands in specs/, by its text. `definitions uncited` lists every definition of a reader's file that no chain of citations reaches, from a
-// contract of a `pub fn` or from a claim; `definitions twice` lists the names that are defined in two files. tools/definitions.sh compiles it.
+// contract of a `pub fn` or from a claim; `definitions unstated` lists the laws that a page of docs/ names and that are no claims; `definitions twice`
+// lists the names that are defined in two files. tools/definitions.sh compiles it.
 //
-// A reader's file is any of specs/ but Parts.antt, which is for the code's private functions, and Lib.antt. A claim is the type of a law in proofs/ that
-// docs/PROMISES.md names in backticks. Names are followed through the `use` lines; a variable of the same name counts as a citation, so the list may be
-// too short by such a name, and is never too long.
+// A reader's file is any of specs/ but Parts.antt, which is for the code's private functions, and Lib.antt. A claim is a law in proofs/ that
+// docs/PROMISES.md names in backticks and whose statement is a definition of specs/. Names are followed through the `use` lines; a variable of the same
+// name counts as a citation, so the list may be too short by such a name, and is never too long. Which names may stand twice, and why, is said in
+// tools/definitions.txt.
 
 use std::collections::{BTreeMap, BTreeSet};
 use std::fs;
@@ -12,12 +14,13 @@ use std::path::{Path, PathBuf};
 /// A crate, a file of its specs/, and a name in it.
 type Name = (String, String, String);
 
-/// A definition or a law: its name, the names of its constructors, its words, and those of its type alone.
+/// A definition or a law: its name, the names of its constructors, its words, and its type.
 struct Block {
     name: String,
+    public: bool,
     cases: Vec<String>,
     words: BTreeSet<String>,
-    of_type: BTreeSet<String>,
+    of_type: String,
 }
 
 /// A file without its comments, what its words stand for if they come from specs/, and which of these it hands on.
@@ -113,7 +116,8 @@ fn blocks(text: &str) -> Vec<Block> {
         let begun = (!line.starts_with(' ')).then(|| defined(line)).flatten();
         if let Some(name) = begun {
             let name = name.to_string();
-            blocks.push(Block { name, cases: Vec::new(), words: BTreeSet::new(), of_type: BTreeSet::new() });
+            let public = line.split(' ').any(|word| word == "pub");
+            blocks.push(Block { name, public, cases: Vec::new(), words: BTreeSet::new(), of_type: String::new() });
             (in_type, in_data) = (true, line.starts_with("pub data "));
         }
         let Some(block) = blocks.last_mut() else { continue };
@@ -123,11 +127,10 @@ fn blocks(text: &str) -> Vec<Block> {
         if let (None, true, Some((cases, _))) = (begun, in_data, line.split_once(" : ")) {
             block.cases.extend(words(cases).map(String::from));
         }
-        for word in words(line).filter(|word| *word != block.name) {
-            block.words.insert(word.into());
-            if in_type {
-                block.of_type.insert(word.into());
-            }
+        block.words.extend(words(line).filter(|word| *word != block.name).map(String::from));
+        if in_type {
+            block.of_type.push_str(line.split_once(" : ").filter(|_| begun.is_some()).map_or(line, |(_, of_type)| of_type));
+            block.of_type.push('\n');
         }
     }
     blocks
@@ -214,10 +217,62 @@ fn specs(crates: &[PathBuf]) -> Specs {
     specs
 }
 
+/// What is said behind the arguments `(a b : A) {c : C} →` of a type.
+fn behind_arguments(of_type: &str) -> &str {
+    let mut rest = of_type.trim_start();
+    while rest.starts_with(['(', '{']) {
+        let mut open = 0;
+        let end = rest.find(|c| {
+            open += i32::from("({".contains(c)) - i32::from(")}".contains(c));
+            open == 0
+        });
+        rest = rest[end.map_or(rest.len(), |end| end + 1)..].trim_start();
+        rest = rest.strip_prefix('→').unwrap_or(rest).trim_start();
+    }
+    rest
+}
+
+/// Whether a law says no more than the name of a definition of specs/, and what it is of.
+fn is_claim(law: &Block, source: &Source) -> bool {
+    let says = behind_arguments(&law.of_type);
+    let named = words(says).next().filter(|word| word.starts_with(char::is_uppercase)).and_then(|word| source.uses.get(word));
+    named.is_some() && !says.contains(['→', '≡', '×'])
+}
+
+fn in_backticks(text: &str) -> BTreeSet<&str> {
+    text.split('`').skip(1).step_by(2).collect()
+}
+
+fn page(name: &str) -> String {
+    fs::read_to_string(format!("docs/{name}.md")).unwrap_or_else(|why| panic!("docs/{name}.md: {why}"))
+}
+
+/// The public laws that a page names and that are no claims: docs/PROMISES.md in the section of their crate, the other pages anywhere. There a name of one
+/// word is a crate, a function or a field.
+fn unstated(crates: &[PathBuf]) -> Vec<String> {
+    let promises = page("PROMISES");
+    let sections = promises.split("\n## ").filter_map(|section| section.split_once('\n'));
+    let promised: BTreeMap<&str, BTreeSet<&str>> = sections.map(|(title, text)| (title, in_backticks(text))).collect();
+    let others = ["TRUST", "ARCHITECTURE", "DECISIONS"].map(page);
+    let elsewhere: BTreeSet<&str> = others.iter().flat_map(|text| in_backticks(text)).filter(|name| name.contains('-')).collect();
+    let mut found = Vec::new();
+    for path in crates.iter().flat_map(|c| files(&c.join("proofs"), "antt")) {
+        let (krate, _) = name_of(&path, "proofs");
+        let source = read(&path, "--");
+        for law in blocks(&source.text).iter().filter(|law| law.public && !is_claim(law, &source)) {
+            let name = &law.name[..];
+            if elsewhere.contains(name) || promised.get(&krate[..]).is_some_and(|names| names.contains(name)) {
+                found.push(format!("{}: {name}", path.display()));
+            }
+        }
+    }
+    found
+}
+
 /// What contracts and claims cite.
 fn signed(crates: &[PathBuf], specs: &Specs) -> BTreeSet<Name> {
-    let promises = fs::read_to_string("docs/PROMISES.md").expect("docs/PROMISES.md");
-    let named: BTreeSet<&str> = promises.split('`').skip(1).step_by(2).collect();
+    let promises = page("PROMISES");
+    let named = in_backticks(&promises);
     let mut signed = BTreeSet::new();
     for path in crates.iter().flat_map(|c| files(&c.join("src"), "rt")) {
         let source = read(&path, "//");
@@ -226,8 +281,8 @@ fn signed(crates: &[PathBuf], specs: &Specs) -> BTreeSet<Name> {
     }
     for path in crates.iter().flat_map(|c| files(&c.join("proofs"), "antt")) {
         let source = read(&path, "--");
-        for law in blocks(&source.text).iter().filter(|law| named.contains(&law.name[..])) {
-            signed.extend(specs.meant(&law.of_type, &source));
+        for law in blocks(&source.text).iter().filter(|law| named.contains(&law.name[..]) && is_claim(law, &source)) {
+            signed.extend(specs.meant(&words(&law.of_type).map(String::from).collect(), &source));
         }
     }
     signed
@@ -246,13 +301,26 @@ fn uncited(crates: &[PathBuf], specs: &Specs) -> Vec<String> {
     of_readers.map(|(name, path)| format!("{}: {}", path.display(), name.2)).collect()
 }
 
-fn twice(specs: &Specs) -> Vec<String> {
-    let mut places: BTreeMap<&str, BTreeSet<String>> = BTreeMap::new();
-    for (name, path) in &specs.all {
-        places.entry(&name.2).or_default().insert(path.display().to_string());
+/// The names that two readers' files define, or two files of one crate. What other crates have in Parts.antt no reader meets.
+fn twice(specs: &Specs, may: &BTreeSet<String>) -> Vec<String> {
+    let mut places: BTreeMap<&str, BTreeSet<(&str, bool, String)>> = BTreeMap::new();
+    for ((krate, file, name), path) in &specs.all {
+        places.entry(name).or_default().insert((krate, file.ends_with("Parts"), path.display().to_string()));
     }
-    let several = places.into_iter().filter(|(_, files)| files.len() > 1);
-    several.map(|(name, files)| format!("{name}: {}", files.into_iter().collect::<Vec<_>>().join(" "))).collect()
+    let several = |files: &BTreeSet<(&str, bool, String)>| {
+        let crates: BTreeSet<&str> = files.iter().map(|(krate, _, _)| *krate).collect();
+        crates.len() < files.len() || files.iter().filter(|(_, parts, _)| !parts).count() > 1
+    };
+    let found = places.into_iter().filter(|(name, files)| several(files) && !may.contains(*name));
+    found.map(|(name, files)| format!("{name}: {}", files.into_iter().map(|f| f.2).collect::<Vec<_>>().join(" "))).collect()
+}
+
+/// The names that tools/definitions.txt lets stand twice, in lines `NAME NAME: why`.
+fn may_stand_twice() -> BTreeSet<String> {
+    let list = fs::read_to_string("tools/definitions.txt").expect("tools/definitions.txt");
+    let lines = list.lines().filter(|line| !line.is_empty() && !line.starts_with('#'));
+    let names = lines.flat_map(|line| line.split_once(": ").unwrap_or_else(|| panic!("no reason: {line}")).0.split(' '));
+    names.map(String::from).collect()
 }
 
 fn main() {
@@ -260,13 +328,14 @@ fn main() {
     crates.sort();
     let specs = specs(&crates);
     let (list, what) = match std::env::args().nth(1).as_deref() {
-        Some("uncited") => (uncited(&crates, &specs), "that no public contract and no claim leads to"),
-        Some("twice") => (twice(&specs), "defined in two files"),
-        _ => panic!("definitions uncited | twice"),
+        Some("uncited") => (uncited(&crates, &specs), "definitions that no public contract and no claim leads to"),
+        Some("unstated") => (unstated(&crates), "laws that a page names and that are not stated in specs/"),
+        Some("twice") => (twice(&specs, &may_stand_twice()), "names that stand twice in specs/"),
+        _ => panic!("definitions uncited | unstated | twice"),
     };
     for line in &list {
         println!("{line}");
     }
-    println!("{} of {} definitions, {what}", list.len(), specs.all.len());
+    println!("{} {what}; of {} definitions", list.len(), specs.all.len());
     std::process::exit(!list.is_empty() as i32)
 }

@@ -1,6 +1,9 @@
 #!/bin/sh
-# tools/definitions.sh uncited: the definitions of a reader's file of specs/ that nothing a reader signs for leads to.
-# tools/definitions.sh twice: the names that two files of specs/ define. Exit status 1 where there are any. Needs rustc.
+# What stands in specs/. Exit status 1 where there is anything to list. Needs rustc.
+# tools/definitions.sh uncited: the definitions of a reader's file that nothing a reader signs for leads to. A law counts only where its statement is a
+#     definition of specs/.
+# tools/definitions.sh unstated: the laws that docs/ names as claims and whose statement is no definition of specs/.
+# tools/definitions.sh twice: the names that two files define, but for those of tools/definitions.txt.
 set -eu
 cd "$(dirname "$0")/.."
 mkdir -p target/tools

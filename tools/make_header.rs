@@ -146,9 +146,9 @@ fn explained(module: &Module, wrong: &mut Wrong) {
     }
 }
 
-/// The declarations of oracle/tuppence are those of the source: the same functions, parameters and results.
+/// The declarations of bindings/rust are those of the source: the same functions, parameters and results.
 fn declared(functions: &[Function], wrong: &mut Wrong) {
-    const FILE: &str = "oracle/tuppence/src/lib.rs";
+    const FILE: &str = "bindings/rust/src/lib.rs";
     let text: String =
         read(FILE).lines().filter(|line| !line.trim_start().starts_with("//")).map(|line| format!("{line}\n")).collect();
     let surfaces = text.split("surface! {").skip(1).filter_map(|part| part.split_once("\n}")).map(|(inside, _)| inside);

@@ -1,5 +1,5 @@
 //! The recorder box: it runs both benches over one lent store through the proved library, and does itself what the library
-//! leaves to its host: files; and where nnnoiseless's very numbers are wanted, transforms, lag and logarithms.
+//! leaves to its host: files.
 
 /// A line to standard output.
 #[macro_export]
@@ -15,13 +15,13 @@ macro_rules! warn {
 
 pub mod about;
 pub mod answer;
-pub mod bench;
 pub mod block;
 pub mod clean;
 pub mod cleaned;
 pub mod cli;
 pub mod colours;
 pub mod demo;
+pub mod dev;
 pub mod export;
 pub mod files;
 pub mod folder;
@@ -31,9 +31,7 @@ pub mod head;
 pub mod import;
 pub mod json;
 pub mod kept;
-pub mod lags;
 pub mod layers;
-pub mod logs;
 pub mod mend;
 pub mod names;
 pub mod overview;
@@ -46,7 +44,6 @@ pub mod progress;
 pub mod put;
 pub mod recorder;
 pub mod records;
-pub mod reference;
 pub mod refusal;
 pub mod rescue;
 pub mod run;
@@ -58,7 +55,6 @@ pub mod status;
 pub mod stop;
 pub mod table;
 pub mod through;
-pub mod transform;
 pub mod unfinished;
 pub mod wav;
 

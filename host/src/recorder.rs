@@ -1,27 +1,21 @@
 //! Both benches over one store: its first two of sixteen.
 
-use crate::block::{packed, Block};
-use crate::refusal::Refusal;
-use crate::transform::{Transform, SPECTRUM, WINDOW};
+use crate::block::Block;
+use crate::refusal::{done, Refusal};
 use crate::FRAME;
-use nnnoiseless_text::probe::pitch::PitchFinder;
-use std::hint::black_box;
 use std::time::{Duration, Instant};
 
-/// The store's published length, and a side's share of it (docs/STORE.md).
+/// The store's published length, and a record's (docs/STORE.md).
 pub const STORE: usize = 98_304;
-const SHARE: usize = 6_144;
-/// A record's numbers: how many, and where the two stand that count frames.
-const RECORD: usize = 10;
-const FRAMES: usize = 5;
-const HEARD: usize = 6;
+pub const RECORD: usize = 11;
+/// Where in a record the two numbers stand that count frames.
+pub const FRAMES: usize = 5;
+pub const HEARD: usize = 6;
 /// The most samples of a block, and the most frames that it may complete: 479 may wait.
 pub const PIECE: usize = 4_096;
 const COMPLETED: usize = (479 + PIECE) / FRAME;
 /// The bytes of a frame that was cleaned.
 const CLEANED: usize = 2 * FRAME;
-/// `input_mem`, the first numbers of a share: what the lag is searched in.
-const INPUT_MEM: usize = 1_728;
 
 /// The two benches.
 #[derive(Clone, Copy, Debug, PartialEq)]
@@ -41,13 +35,23 @@ impl Side {
     }
 }
 
-/// How frames are run: in blocks of the recording as it comes, all by the library, so that this program hands bytes in and takes bytes out;
-/// or each in four calls, with this program's transforms and logarithms and the lag of the text's own finder, or the library's.
-#[derive(Clone, Copy, Debug, PartialEq)]
+/// A bench's way, which its opening settles: the crate's own finder and the fast transforms; or what requests 04 and 08
+/// ask, our own lag and the plain sums.
+#[derive(Clone, Copy, Debug, Default, PartialEq)]
 pub enum Way {
-    Own,
-    Text,
-    OwnLag,
+    #[default]
+    Crate,
+    Asked,
+}
+
+impl Way {
+    /// Opens a bench in this way. A refused opening changes nothing.
+    pub fn open(self, record: &mut [u32], store: &mut [f32], side: u32, model: &[u8]) -> Result<(), Refusal> {
+        done(match self {
+            Way::Crate => tuppence::open_crate(record, store, side, model),
+            Way::Asked => tuppence::open(record, store, side, model),
+        })
+    }
 }
 
 /// What a frame gave besides its 480 samples.
@@ -58,7 +62,8 @@ pub enum Heard {
 }
 
 impl Heard {
-    fn of([heard, probability, energy]: [f32; 3]) -> Heard {
+    /// By the three numbers that the library answers.
+    pub fn of([heard, probability, energy]: [f32; 3]) -> Heard {
         if heard == 0.0 {
             Heard::Silent
         } else {
@@ -68,6 +73,14 @@ impl Heard {
 
     pub fn is_heard(self) -> bool {
         matches!(self, Heard::Voice { .. })
+    }
+
+    /// The voice's probability; the Rust has 0 for a silent frame.
+    pub fn voice(self) -> f32 {
+        match self {
+            Heard::Silent => 0.0,
+            Heard::Voice { probability, .. } => probability,
+        }
     }
 }
 
@@ -87,103 +100,51 @@ impl Frame {
     }
 }
 
-/// Where a frame's time goes.
-#[derive(Clone, Copy, Default)]
-pub struct Spent {
-    pub calls: [Duration; 4],
-    pub pieces: Duration,
-    pub transforms: Duration,
-    pub lag: Duration,
-    pub logarithms: Duration,
-}
-
-/// The buffers of a frame in four calls, and of a block, for whichever bench calls.
+/// What comes of a block, for whichever bench calls.
 struct Buffers {
-    window: [f32; WINDOW],
-    spectrum: [f32; SPECTRUM],
-    sums: [f32; 22],
-    out: [f32; SPECTRUM],
     cleaned: [[u8; CLEANED]; COMPLETED],
     entries: [u64; COMPLETED],
     answers: [[f32; 3]; COMPLETED],
 }
 
-/// One store, and for each bench its record, its pitch finder, and where frames are run in four calls the samples that are none yet.
+/// One store, and a record for each bench.
 pub struct Recorder {
+    way: Way,
     store: Vec<f32>,
     records: [[u32; RECORD]; 2],
-    way: Way,
-    waiting: [Vec<f32>; 2],
-    finders: [PitchFinder; 2],
-    transform: Transform,
     buffers: Box<Buffers>,
-    pub spent: Spent,
+    /// The time that the library took.
+    pub spent: Duration,
 }
 
 impl Default for Recorder {
     fn default() -> Recorder {
-        Recorder::new(Way::Own)
+        Recorder::new(Way::default())
     }
 }
 
 impl Recorder {
     pub fn new(way: Way) -> Recorder {
         Recorder {
+            way,
             store: vec![0.0; STORE],
             records: [[0; RECORD]; 2],
-            way,
-            waiting: [Vec::new(), Vec::new()],
-            finders: [PitchFinder::new(), PitchFinder::new()],
-            transform: Transform::default(),
             buffers: Box::new(Buffers {
-                window: [0.0; WINDOW],
-                spectrum: [0.0; SPECTRUM],
-                sums: [0.0; 22],
-                out: [0.0; SPECTRUM],
                 cleaned: [[0; CLEANED]; COMPLETED],
                 entries: [0; COMPLETED],
                 answers: [[0.0; 3]; COMPLETED],
             }),
-            spent: Spent::default(),
+            spent: Duration::ZERO,
         }
     }
-}
 
-/// What is given each frame, and its 480 samples as the library packs them.
-type Each<'a> = &'a mut dyn FnMut(Frame, &[u8]);
-
-/// The entry of a frame that is run in four calls: its number, and 2^32 more where it was heard.
-fn entry(number: u32, heard: Heard) -> u64 {
-    u64::from(number) | u64::from(heard.is_heard()) << 32
-}
-
-fn done(number: u32) -> Result<(), Refusal> {
-    if number == 0 {
-        Ok(())
-    } else {
-        Err(Refusal(number))
-    }
-}
-
-/// Runs f and adds the time that it takes.
-fn timed<R>(spent: &mut Duration, f: impl FnOnce() -> R) -> R {
-    let start = Instant::now();
-    // what is worked out is worked out here, and not where it is used
-    let result = black_box(f());
-    *spent += start.elapsed();
-    result
-}
-
-impl Recorder {
     /// Opens a bench: what it held is wiped. A refused opening changes nothing.
     pub fn open(&mut self, side: Side, model: &[u8]) -> Result<(), Refusal> {
-        done(tuppence::open(&mut self.records[side as usize], &mut self.store, side as u32, model))?;
-        self.finders[side as usize] = PitchFinder::new();
-        self.waiting[side as usize].clear();
-        Ok(())
+        self.way.open(&mut self.records[side as usize], &mut self.store, side as u32, model)
     }
 
-    /// A bench's channel of a block. `each` is given the frames that it completes, and the bytes of each.
+    /// A bench's channel of a block, handed in as the bytes that it is. `each` is given the frames that it completes,
+    /// and the bytes of each.
     pub fn feed(
         &mut self,
         side: Side,
@@ -191,26 +152,29 @@ impl Recorder {
         model: &[u8],
         mut each: impl FnMut(Frame, &[u8]),
     ) -> Result<(), Refusal> {
-        match self.way {
-            Way::Own => {
-                let most = PIECE * block.layout.size();
-                block.bytes().chunks(most).try_for_each(|bytes| self.block(side, bytes, block, model, &mut each))
-            }
-            _ => self.frames(side, &block.samples(), model, |frame, samples| each(frame, &packed(samples))),
-        }
+        let most = PIECE * block.layout.size();
+        block.bytes().chunks(most).try_for_each(|bytes| self.block(side, bytes, block, model, &mut each))
     }
 
     /// These bytes of a block in one call.
-    fn block(&mut self, side: Side, bytes: &[u8], of: &Block, model: &[u8], each: Each) -> Result<(), Refusal> {
+    fn block(
+        &mut self,
+        side: Side,
+        bytes: &[u8],
+        of: &Block,
+        model: &[u8],
+        each: &mut dyn FnMut(Frame, &[u8]),
+    ) -> Result<(), Refusal> {
         let Recorder { store, records, buffers: b, spent, .. } = self;
         let (record, number) = (&mut records[side as usize], side as u32);
         let (before, mut heard_so_far) = (record[FRAMES], record[HEARD]);
         let (format, channels, channel) = (of.layout.format, of.layout.channels, of.channel);
-        done(timed(&mut spent.pieces, || {
-            let (out, answers) = (b.cleaned.as_flattened_mut(), b.answers.as_flattened_mut());
-            let entries = &mut b.entries;
-            tuppence::feed(record, store, number, bytes, format, channels, channel, model, out, entries, answers)
-        }))?;
+        let (out, entries, answers) = (b.cleaned.as_flattened_mut(), &mut b.entries, b.answers.as_flattened_mut());
+        let start = Instant::now();
+        let refused =
+            tuppence::feed(record, store, number, bytes, format, channels, channel, model, out, entries, answers);
+        *spent += start.elapsed();
+        done(refused)?;
         let frames = b.cleaned.iter().zip(b.entries).zip(b.answers).take(record[FRAMES].wrapping_sub(before) as usize);
         for ((bytes, entry), answer) in frames {
             let heard = Heard::of(answer);
@@ -218,60 +182,5 @@ impl Recorder {
             each(Frame { entry, heard, heard_so_far }, bytes);
         }
         Ok(())
-    }
-
-    /// The frames that these samples complete, in four calls each. `each` is given their 480 samples as they come out.
-    pub fn frames(
-        &mut self,
-        side: Side,
-        samples: &[f32],
-        model: &[u8],
-        mut each: impl FnMut(Frame, &[f32]),
-    ) -> Result<(), Refusal> {
-        let mut waiting = std::mem::take(&mut self.waiting[side as usize]);
-        waiting.extend(samples);
-        let (frames, rest) = waiting.as_chunks::<FRAME>();
-        for samples in frames {
-            let (number, mut out) = (self.records[side as usize][FRAMES], [0.0; FRAME]);
-            let heard = Heard::of(self.calls(side, samples, model, &mut out)?);
-            let (entry, heard_so_far) = (entry(number, heard), self.records[side as usize][HEARD]);
-            each(Frame { entry, heard, heard_so_far }, &out);
-        }
-        self.waiting[side as usize] = rest.to_vec();
-        Ok(())
-    }
-
-    /// In four calls.
-    fn calls(&mut self, side: Side, samples: &[f32], model: &[u8], out: &mut [f32]) -> Result<[f32; 3], Refusal> {
-        let number = side as u32;
-        let Recorder { store, records, way, finders, transform, buffers: b, spent, .. } = self;
-        let record = &mut records[side as usize];
-
-        done(timed(&mut spent.calls[0], || tuppence::call1(record, store, number, samples, &mut b.window)))?;
-        timed(&mut spent.transforms, || transform.forward(&b.window, &mut b.spectrum));
-
-        done(match way {
-            Way::Own | Way::Text => {
-                let input_mem = &store[side as usize * SHARE..][..INPUT_MEM];
-                let (lag, _gain) = timed(&mut spent.lag, || finders[side as usize].process(input_mem));
-                timed(&mut spent.calls[1], || {
-                    tuppence::call2(record, store, number, &b.spectrum, lag as u32, &mut b.window, &mut b.sums)
-                })
-            }
-            Way::OwnLag => timed(&mut spent.calls[1], || {
-                tuppence::call2_own(record, store, number, &b.spectrum, &mut b.window, &mut b.sums)
-            }),
-        })?;
-        timed(&mut spent.transforms, || transform.forward(&b.window, &mut b.spectrum));
-        let logs = timed(&mut spent.logarithms, || b.sums.map(f32::log10));
-
-        let mut answer = [0.0; 3];
-        done(timed(&mut spent.calls[2], || {
-            tuppence::call3(record, store, number, &b.spectrum, &logs, model, &mut b.out, &mut answer)
-        }))?;
-        timed(&mut spent.transforms, || transform.inverse(&b.out, &mut b.window));
-
-        done(timed(&mut spent.calls[3], || tuppence::call4(record, store, number, &b.window, out)))?;
-        Ok(answer)
     }
 }

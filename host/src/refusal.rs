@@ -7,6 +7,14 @@ use std::fmt;
 #[derive(Clone, Copy, Debug, PartialEq)]
 pub struct Refusal(pub u32);
 
+/// What a call of the library returned: 0 is done.
+pub fn done(number: u32) -> Result<(), Refusal> {
+    match number {
+        0 => Ok(()),
+        _ => Err(Refusal(number)),
+    }
+}
+
 pub fn of_model(number: u32) -> &'static str {
     match number {
         11 => "it ends within a layer's header",

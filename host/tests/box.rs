@@ -178,7 +178,7 @@ fn an_installed_program_runs_alone() {
     for (words, offer) in [
         (&["box", "cl"][..], "clean"),
         (&["box", "clean", "--l"], "--left --lag"),
-        (&["box", "clean", "--lag", ""], "own crate"),
+        (&["box", "clean", "--lag", ""], "crate own"),
         (&["box", "export", "--as", ""], "rnnn"),
         (&["box", "side", "-"], "--quick --json --help"),
         (&["box", "side", "again/l"], "again/left.wav"),

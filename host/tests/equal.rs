@@ -1,12 +1,15 @@
-//! With `--lag crate`, what the box gives is what the Rust text's `process_frame` gives for the same samples, model and transforms, bit for bit
-//! but for the signs of zeros. With our own lag and transforms it is the same however the recording is cut.
+//! What the box gives is what the Rust text's `process_frame` gives, but for the last bits of transforms and logarithms.
+//! In four calls a frame, with the text's own, it is the same bit for bit but for the signs of zeros. And however a
+//! recording is cut, it is the same.
 
 mod models;
 
 use tuppencehop::block::Block;
 use tuppencehop::demo::{dictation, minutes, HOUSE};
-use tuppencehop::recorder::{Frame, Heard, Recorder, Side, Way, PIECE};
-use tuppencehop::reference::Reference;
+use tuppencehop::dev::calls::Calls;
+use tuppencehop::dev::reference::Reference;
+use tuppencehop::dev::text::{beside, Distance};
+use tuppencehop::recorder::{Frame, Recorder, Side, Way, PIECE};
 use tuppencehop::run::{frames_of, in_memory};
 use tuppencehop::FRAME;
 
@@ -34,24 +37,21 @@ fn alike(a: f32, b: f32) -> bool {
 /// What a bench received in four calls a frame: all that came out, and what each frame was.
 type Received = (Vec<f32>, Vec<Frame>);
 
-/// Both benches as the text has them, a piece of each in turn, and silence behind each.
+/// Both benches as the text has them, a frame of each in turn, and silence behind each.
 fn in_four_calls(recordings: [&[f32]; 2], model: &[u8]) -> [Received; 2] {
-    let (mut recorder, mut received) = (Recorder::new(Way::Text), [const { (vec![], vec![]) }; 2]);
+    let (mut calls, mut received) = (Calls::default(), [const { (vec![], vec![]) }; 2]);
     let silent = recordings.map(|samples| {
         let mut samples = samples.to_vec();
         samples.resize(FRAME * frames_of(samples.len() as u64) as usize, 0.0);
         samples
     });
-    Side::BOTH.into_iter().for_each(|side| recorder.open(side, model).unwrap());
-    for at in (0..silent[0].len().max(silent[1].len())).step_by(PIECE) {
+    Side::BOTH.into_iter().for_each(|side| calls.open(side, model).unwrap());
+    for at in (0..silent[0].len().max(silent[1].len())).step_by(FRAME) {
         for (side, samples) in Side::BOTH.into_iter().zip(&silent) {
-            let piece = &samples[at.min(samples.len())..(at + PIECE).min(samples.len())];
-            let (output, frames) = &mut received[side as usize];
-            let each = |frame: Frame, out: &[f32]| {
-                frames.push(frame);
-                output.extend(out);
-            };
-            recorder.frames(side, piece, model, each).unwrap();
+            let Some(samples) = samples.get(at..at + FRAME) else { continue };
+            let ((output, frames), mut out) = (&mut received[side as usize], [0.0; FRAME]);
+            frames.push(calls.frame(side, samples, model, &mut out).unwrap());
+            output.extend(out);
         }
     }
     received
@@ -68,22 +68,22 @@ fn both_agree(left: &[f32], right: &[f32], model: &[u8]) {
         }
         for (i, (frame, voice)) in frames.iter().zip(voices).enumerate() {
             assert_eq!(frame.number() as usize, i);
-            let ours = match frame.heard {
-                Heard::Silent => 0.0,
-                Heard::Voice { probability, .. } => probability,
-            };
+            let ours = frame.heard.voice();
             assert!(alike(ours, voice), "{name}, frame {i}: voice {ours} and {voice}");
         }
     }
 }
 
-/// What the box writes is the same, rounded to 16 bits.
+/// What the box writes is the same, rounded to 16 bits, but for a sample of a thousand at most, which is one off.
 fn both_are_written(left: &[f32], right: &[f32], model: &[u8]) {
-    for bench in in_memory([left, right], model, Way::Text).unwrap() {
+    for bench in in_memory([left, right], model, Way::Crate).unwrap() {
         assert_eq!(bench.before, if bench.side == Side::Left { left } else { right });
         let (output, voices) = by_the_text(&bench.before, model);
         let rounded: Vec<f32> = output.iter().map(|x| x.round().clamp(-32_768.0, 32_767.0)).collect();
-        assert!(bench.after == rounded && bench.frames.len() == voices.len(), "{}", bench.side.name());
+        assert_eq!((bench.after.len(), bench.frames.len()), (rounded.len(), voices.len()));
+        let off: Vec<f32> = bench.after.iter().zip(&rounded).map(|(a, b)| (a - b).abs()).filter(|x| *x > 0.0).collect();
+        let (name, most) = (bench.side.name(), rounded.len().div_ceil(1_000));
+        assert!(off.iter().all(|x| *x == 1.0) && off.len() <= most, "{name}: {} of {}", off.len(), rounded.len());
     }
 }
 
@@ -105,6 +105,24 @@ fn recordings_of_odd_lengths() {
     for n in [0, 1, 479, 480, 481, 5_000] {
         both_agree(&sound[..n], &sound[7_000..7_000 + 2 * n], &models::model());
         both_are_written(&sound[..n], &sound[7_000..7_000 + 2 * n], &models::model());
+    }
+}
+
+/// Whether it is what the text gives but for the last bits: no sample is as much as a tenth of a 16-bit unit away.
+fn is_near(distance: &Distance) -> bool {
+    distance.most < 0.1 && distance.below() > 120.0 && distance.voice < 1e-4
+}
+
+#[test]
+fn as_the_text_gives_it_but_for_the_last_bits() {
+    for bench in [0, 1] {
+        for recording in [dictation(bench).noisy, minutes(1, bench)] {
+            let distance = beside(&recording, HOUSE, Way::Crate);
+            assert!(is_near(&distance), "{distance:?}, {} dB", distance.below());
+        }
+        // our own lag, where it is another, moves it much further
+        let distance = beside(&dictation(bench).noisy, HOUSE, Way::Asked);
+        assert!(distance.most > 100.0 && distance.below() < 60.0, "{distance:?}, {} dB", distance.below());
     }
 }
 
@@ -131,13 +149,10 @@ fn cut(way: Way, samples: &[f32], lengths: &[usize]) -> (Vec<u8>, Vec<Frame>) {
 #[test]
 fn however_it_is_cut() {
     let sound = &dictation(1).noisy[..200 * FRAME + 7];
-    for way in [Way::Own, Way::Text] {
+    for way in [Way::Crate, Way::Asked] {
         let whole = cut(way, sound, &[FRAME]);
         assert_eq!(whole.1.len(), 200);
-        let voices = whole.1.iter().map(|frame| match frame.heard {
-            Heard::Silent => 0.0,
-            Heard::Voice { probability, .. } => probability,
-        });
+        let voices = whole.1.iter().map(|frame| frame.heard.voice());
         assert!(voices.clone().fold(0.0, f32::max) > 0.1 + voices.fold(1.0, f32::min), "the voice hardly moves");
         for lengths in [&[1][..], &[479, 2, 1, 960], &[PIECE], &[3 * PIECE + 1, 5], &[sound.len()]] {
             assert!(cut(way, sound, lengths) == whole, "{way:?}, {lengths:?}");

@@ -229,7 +229,7 @@ fn a_model_that_is_refused_for_one() {
     let both = [0, 1].map(|bench| dictations()[bench][..48_000].to_vec());
     let run = |models: [&[u8]; 2]| {
         let mut benches = Side::BOTH.map(Cleaned::of);
-        let refused = run_benches(&mut Memory([&both[0], &both[1]]), models, Way::Own, &mut benches, |_| ()).unwrap();
+        let refused = run_benches(&mut Memory([&both[0], &both[1]]), models, Way::Crate, &mut benches, |_| ()).unwrap();
         (refused, benches.map(|bench| bench.after))
     };
     let (refused, whole) = run([HOUSE; 2]);
@@ -251,7 +251,7 @@ fn more_than_a_file_can_hold() {
     let mut benches = Side::BOTH.map(Cleaned::of);
     let mut memory = Memory([&both[0], &both[1][..9_000]]);
     let mut limited = Limited::new(&mut memory, 10_007);
-    assert_eq!(run_benches(&mut limited, [HOUSE; 2], Way::Own, &mut benches, |_| ()), Ok([None, None]));
+    assert_eq!(run_benches(&mut limited, [HOUSE; 2], Way::Crate, &mut benches, |_| ()), Ok([None, None]));
     assert_eq!(limited.cut, [true, false]);
     assert_eq!(benches.map(|bench| bench.after.len()), [10_007, 9_000]);
 }

@@ -2,7 +2,7 @@
 
 use tuppencehop::block::Block;
 use tuppencehop::demo::HOUSE;
-use tuppencehop::recorder::{Recorder, Side, Way};
+use tuppencehop::recorder::{Recorder, Side, Way, RECORD};
 use tuppencehop::refusal::Refusal;
 use tuppencehop::FRAME;
 
@@ -29,7 +29,7 @@ fn weights_of_0_give_halves() {
 
 #[test]
 fn a_lag_of_768_passes_and_769_gives_6() {
-    let (mut store, mut record) = (vec![1.0; 98_304], [0; 10]);
+    let (mut store, mut record) = (vec![1.0; 98_304], [0; RECORD]);
     let (mut window, mut sums) = ([2.0; 960], [3.0; 22]);
     assert_eq!(tuppence::open(&mut record, &mut store, 1, &smallest()), 0);
     assert_eq!(tuppence::call1(&mut record, &mut store, 1, &[100.0; 480], &mut window), 0);
@@ -37,7 +37,7 @@ fn a_lag_of_768_passes_and_769_gives_6() {
     assert_eq!(tuppence::call2(&mut record, &mut store, 1, &[0.5; 961], 769, &mut window, &mut sums), 6);
     assert!(before == (store.clone(), record, window, sums));
     assert_eq!(tuppence::call2(&mut record, &mut store, 1, &[0.5; 961], 768, &mut window, &mut sums), 0);
-    assert_eq!(record, [3, 0, 1, 1, 1, 0, 0, 0, 0, 0]);
+    assert_eq!(record, [3, 0, 1, 1, 1, 0, 0, 0, 0, 0, 0]);
     // The other fifteen shares were never opened, and are as they were.
     assert!(store[..6_144].iter().chain(&store[12_288..]).all(|x| *x == 1.0));
 }
@@ -45,7 +45,7 @@ fn a_lag_of_768_passes_and_769_gives_6() {
 #[test]
 fn the_sister_of_call_2_is_call_2_with_the_lag_of_that_sides_own_input() {
     const PERIODS: [usize; 2] = [300, 500];
-    let (mut store, mut records) = (vec![1.0; 98_304], [[0; 10]; 2]);
+    let (mut store, mut records) = (vec![1.0; 98_304], [[0; RECORD]; 2]);
     for (side, period) in PERIODS.into_iter().enumerate() {
         assert_eq!(tuppence::open(&mut records[side], &mut store, side as u32, &smallest()), 0);
         records[side][0] = 2;
@@ -80,9 +80,27 @@ fn even_benches_are_left_and_odd_ones_right() {
 
 #[test]
 fn bench_15_is_the_last_and_98_304_numbers_are_the_only_store() {
-    let open = |side, len| tuppence::open(&mut [0; 10], &mut vec![1.0; len], side, &smallest());
+    let open = |side, len| tuppence::open(&mut [0; RECORD], &mut vec![1.0; len], side, &smallest());
     assert_eq!((open(15, 98_304), open(16, 98_304)), (0, 1));
     assert_eq!([12_288, 98_303, 98_305].map(|len| open(0, len)), [2; 3]);
+}
+
+/// The eleventh number of a record is the way of its bench.
+#[test]
+fn an_opening_settles_the_way() {
+    for (way, number) in [(Way::Asked, 0), (Way::Crate, 1)] {
+        let (mut store, mut record) = (vec![1.0; 98_304], [0; RECORD]);
+        assert_eq!(way.open(&mut record, &mut store, 0, &smallest()), Ok(()));
+        assert_eq!(record, [1, 0, 1, 1, 1, 0, 0, 0, 0, 0, number]);
+        let mut frame = |record: &mut [u32]| {
+            let (mut out, mut answer) = ([0.0; FRAME], [0.0; 3]);
+            tuppence::frame(record, &mut store, 0, &[100.0; FRAME], &smallest(), &mut out, &mut answer)
+        };
+        assert_eq!((frame(&mut record), record[10]), (0, number));
+        // no other way, and no record of ten numbers
+        record[10] = 2;
+        assert_eq!([frame(&mut record), frame(&mut record[..10])], [2; 2]);
+    }
 }
 
 /// Pulses 120 samples apart, of which every other one grows weak: whether the lag stays 120 or becomes 240 hangs on what the finder remembers.
@@ -109,7 +127,7 @@ fn disturbed(way: Way, by: Option<&[u8]>) -> Vec<u8> {
 
 #[test]
 fn a_refused_opening_changes_nothing() {
-    for way in [Way::Own, Way::Text] {
+    for way in [Way::Crate, Way::Asked] {
         assert!(disturbed(way, Some(b"")) == disturbed(way, None), "{way:?}");
     }
 }

@@ -119,7 +119,7 @@ fn every_command_of_the_pages() {
     assert!(shown.len() > 10, "{shown:?}");
     for command in &shown {
         // these take their time and change nothing; and tests/box.rs installs
-        let measures = ["dev bench", "dev lags", "dev logs"].contains(&&**command);
+        let measures = ["dev bench", "dev lags", "dev logs", "dev text"].contains(&&**command);
         if !measures && !["install", "package"].iter().any(|word| command.starts_with(word)) {
             run(&folder, command);
         }

@@ -11,7 +11,7 @@ use std::process::{Command, Stdio};
 use tuppencehop::wav;
 
 const COMMANDS: [&str; 8] = ["clean", "side", "mend", "demo", "import", "export", "pack", "unpack"];
-const DEV: [&str; 5] = ["bench", "lags", "logs", "man", "completion"];
+const DEV: [&str; 6] = ["bench", "lags", "logs", "text", "man", "completion"];
 
 /// A folder with a short recording of each bench.
 fn given(name: &str) -> PathBuf {
@@ -69,7 +69,7 @@ fn help_for_the_whole_and_for_each() {
         }
         assert!(help.lines().all(|line| line.chars().count() <= 100), "{help}");
     }
-    for word in ["--left", "--both", "--side", "--raw", "--out DIR", "--name NAME", "--model", "--lag own|crate"] {
+    for word in ["--left", "--both", "--side", "--raw", "--out DIR", "--name NAME", "--model", "--lag crate|own"] {
         assert!(good(&path, &["help", "clean"]).contains(&format!("\n  {word}")), "{word}");
     }
     let dev = good(&path, &["dev", "--help"]);
@@ -95,7 +95,7 @@ fn errors_name_what_is_wrong() {
         (of(&["--ot=out"]), 2, "clean: unknown option --ot; did you mean --out?"),
         (of(&["--out", "out", "--wash"]), 2, "clean: unknown option --wash"),
         (of(&["--out", "out", "--model", "M.rnn"]), 1, "clean: --model M.rnn: no such file"),
-        (of(&["--out", "out", "--lag", "mine"]), 2, "clean: --lag mine: own or crate is wanted"),
+        (of(&["--out", "out", "--lag", "mine"]), 2, "clean: --lag mine: crate or own is wanted"),
         (of(&[]), 2, "clean: --out DIR is missing"),
         (of(&["--out"]), 2, "clean: --out: DIR is missing behind it"),
         (of(&["--out", "--force"]), 2, "clean: --out: DIR is missing behind it; --force follows"),
@@ -325,7 +325,8 @@ fn answers_as_json() {
 fn speed_as_json() {
     let told = good(&given("speed"), &["dev", "bench", "--json"]);
     let fields: Vec<&str> = told.split('"').skip(1).step_by(2).collect();
-    assert_eq!((&fields[..], told.lines().count()), (&["pieces", "calls", "rust", "calls_to_rust"][..], 1), "{told}");
+    let wanted = ["pieces", "own", "calls", "rust", "calls_to_rust", "idle"];
+    assert_eq!((&fields[..], told.lines().count()), (&wanted[..], 1), "{told}");
 }
 
 /// What can't be cleaned has an object too, and the status is that without `--json`.

@@ -2,9 +2,11 @@
 //! others, their moments, the store's first contents and what the one's answer buffers held differ. What the one receives
 //! is compared bit for bit. Every bench is the one in its turn.
 
-use crate::ask::{Ask, Caller, OURS};
+use crate::answers::Answers;
+use crate::ask::{Ask, Caller, FRAME, TAKE};
 use crate::desk::{BENCHES, RECORD, STORE};
 use crate::rng::{Mood, Rng};
+use crate::surface::OURS;
 use crate::tally::{Given, Tally};
 use crate::Options;
 use std::ops::Range;
@@ -67,7 +69,7 @@ fn received(lent: &[f32], held: &[f32], written: Range<usize>) -> Vec<u32> {
 }
 
 /// So many calls of one bench.
-fn compare_one(tally: &mut Tally, one: usize, seed: u64, calls: u64) {
+fn compare_one(tally: &mut Tally, answers: &mut Answers, one: usize, seed: u64, calls: u64) {
     let mut caller = Caller::with_whole(one as u32, PIECES, WHOLE);
     let rng = &mut Rng::new(seed);
     let mut runs = [Run::new(seed + 1), Run::new(seed + 2)];
@@ -88,16 +90,19 @@ fn compare_one(tally: &mut Tally, one: usize, seed: u64, calls: u64) {
             &[(&other).into(), (&gots).into(), (&b.records[one]).into()],
         );
         caller.answered(&ask, number, &lent);
+        answers.count(ask.call, number, &runs[0].records[one]);
     }
 }
 
 pub fn compare(options: &Options) -> Tally {
     let mut tally = Tally::new("apart");
-    let calls = options.calls(100_000);
+    let (calls, mut answers) = (options.calls(100_000), Answers::default());
     for one in 0..BENCHES {
         let turn = one as u64;
         let calls = calls * (turn + 1) / BENCHES as u64 - calls * turn / BENCHES as u64;
-        compare_one(&mut tally, one, options.seed + 3 * turn, calls);
+        compare_one(&mut tally, &mut answers, one, options.seed + 3 * turn, calls);
     }
+    let whole = |call: u32| format!("{}, {} in the crate's way", answers.done(call), answers.of_crate(call));
+    tally.note(&format!("the one's frames in one call {}; its pieces in one call {}", whole(FRAME), whole(TAKE)));
     tally
 }

@@ -1,53 +1,14 @@
 //! Openings and calls as a caller makes them: mostly the one that is due with arguments that fit, now and then another.
 
-use crate::desk::{DUE, PROGRESS, UNFINISHED, WAITING};
+use crate::desk::{Way, DUE, PROGRESS, UNFINISHED, WAITING};
 use crate::dictation::{completed, under_way, LONGEST};
+use crate::finder;
 use crate::lent;
 use crate::models::{self, Shape};
 use crate::rng::{Mood, Rng};
+use crate::surface::Surface;
 use crate::tally::Value;
 use std::ops::Range;
-
-/// The functions of a desk, and the logarithms that belong to it.
-pub struct Surface {
-    pub open: fn(&mut [u32], &mut [f32], u32, &[u8]) -> u32,
-    pub call1: fn(&mut [u32], &mut [f32], u32, &[f32], &mut [f32]) -> u32,
-    pub call2: fn(&mut [u32], &mut [f32], u32, &[f32], u32, &mut [f32], &mut [f32]) -> u32,
-    pub call2_own: fn(&mut [u32], &mut [f32], u32, &[f32], &mut [f32], &mut [f32]) -> u32,
-    pub call3: fn(&mut [u32], &mut [f32], u32, &[f32], &[f32], &[u8], &mut [f32], &mut [f32]) -> u32,
-    pub call4: fn(&mut [u32], &mut [f32], u32, &[f32], &mut [f32]) -> u32,
-    pub first_half: fn(&mut [u32], &mut [f32], u32, &[f32], &mut [f32]) -> u32,
-    pub second_half: fn(&mut [u32], &mut [f32], u32, &[f32], &[u8], &mut [f32], &mut [f32]) -> u32,
-    pub piece: fn(&mut [u32], &mut [f32], u32, &[f32], &mut [f32], &mut [f32]) -> u32,
-    pub resume: fn(&mut [u32], &mut [f32], u32, &[f32], &[f32], &[u8], &mut [f32], &mut [f32], &mut [f32]) -> u32,
-    pub logs: fn(&mut [f32], &[f32]) -> u32,
-    /// None where a whole call is made of the calls that it is by definition.
-    pub whole: Option<Whole>,
-}
-
-/// A frame and a piece in one call.
-pub struct Whole {
-    pub frame: WholeCall,
-    pub take: WholeCall,
-}
-
-type WholeCall = fn(&mut [u32], &mut [f32], u32, &[f32], &[u8], &mut [f32], &mut [f32]) -> u32;
-
-/// The proved desk.
-pub const OURS: Surface = Surface {
-    open: tuppence::open,
-    call1: tuppence::call1,
-    call2: tuppence::call2,
-    call2_own: tuppence::call2_own,
-    call3: tuppence::call3,
-    call4: tuppence::call4,
-    first_half: tuppence::first_half,
-    second_half: tuppence::second_half,
-    piece: tuppence::piece,
-    resume: tuppence::resume,
-    logs: tuppence::logs,
-    whole: Some(Whole { frame: tuppence::frame, take: tuppence::take }),
-};
 
 /// Calls 1 and 2, and calls 3 and 4, in one.
 pub const FIRST_HALF: u32 = 5;
@@ -69,19 +30,21 @@ pub struct Ask {
     pub given: Vec<Vec<f32>>,
     /// Call 2's; none for its sister, which finds its own.
     pub lag: Option<u32>,
+    /// That of an opening.
+    pub way: Way,
     pub model: Vec<u8>,
     pub held: Vec<Vec<f32>>,
 }
 
 impl Ask {
-    /// The numbers of a call: its own, the side, and call 2's lag.
+    /// The numbers of a call: its own, the side, an opening's way, and call 2's lag.
     pub fn words(&self) -> Vec<u32> {
-        [self.call, self.side].into_iter().chain(self.lag).collect()
+        [self.call, self.side, self.way as u32].into_iter().chain(self.lag).collect()
     }
 
     /// What a call is given to read, by name; `words` are its numbers.
     pub fn named<'a>(&'a self, words: &'a [u32]) -> Vec<(&'static str, Value<'a>)> {
-        let mut named = vec![("call, side, lag", words.into()), ("model", (&self.model).into())];
+        let mut named = vec![("call, side, way, lag", words.into()), ("model", (&self.model).into())];
         named.extend(self.given.iter().map(|list| ("given", list.into())));
         named
     }
@@ -96,7 +59,7 @@ impl Ask {
     /// The same with answer buffers that hold something else beforehand.
     pub fn put_lending(&self, lent: &mut [Vec<f32>], desk: &Surface, record: &mut [u32], store: &mut [f32]) -> u32 {
         match (self.call, &self.given[..], lent) {
-            (0, [], []) => (desk.open)(record, store, self.side, &self.model),
+            (0, [], []) => desk.opening(self.way)(record, store, self.side, &self.model),
             (1, [samples], [window]) => (desk.call1)(record, store, self.side, samples, window),
             (2, [spectrum], [window, sums]) => match self.lag {
                 Some(lag) => (desk.call2)(record, store, self.side, spectrum, lag, window, sums),
@@ -150,6 +113,9 @@ fn noted(record: &[u32], at: usize) -> usize {
     record.get(at).map_or(0, |number| *number as usize)
 }
 
+/// The samples of a sound: twenty frames.
+const SOUND: usize = 9_600;
+
 /// What an opening began.
 #[derive(Clone, Default)]
 struct Session {
@@ -157,6 +123,8 @@ struct Session {
     wild: bool,
     shape: Shape,
     model: Vec<u8>,
+    /// What is recorded, over and over; where it is nothing, any numbers are.
+    sound: Vec<f32>,
 }
 
 /// The caller of one side. What it asks follows from its own numbers and from what it was answered.
@@ -171,6 +139,8 @@ pub struct Caller {
     /// Where call 1 is due, so many of 80 calls begin a piece, and so many are whole.
     pieces: usize,
     whole: usize,
+    /// So many samples of the sound were recorded.
+    recorded: usize,
     /// The piece last lent, and its output as it was left.
     piece: Vec<f32>,
     out: Vec<f32>,
@@ -260,18 +230,29 @@ impl Caller {
     fn opening(&mut self, rng: &mut Rng) -> Ask {
         let shape = models::shape(rng);
         let model = if rng.once_in(8) { models::any(rng) } else { models::of_shape(rng, shape) };
-        self.next = Session { wild: rng.once_in(2), shape, model: model.clone() };
-        Ask { model, ..Ask::default() }
+        let sound = if rng.once_in(2) { finder::recorded(rng, SOUND) } else { vec![] };
+        self.next = Session { wild: rng.once_in(2), shape, model: model.clone(), sound };
+        Ask { model, way: Way::any(rng), ..Ask::default() }
     }
 
     /// Mostly what a recorder gives. Now and then a sample is at an end or beyond it: the first, the last or any.
-    fn recorded(&self, rng: &mut Rng, len: usize) -> Vec<f32> {
-        let mut samples = self.list(rng, len, Mood::Audio);
+    fn recorded(&mut self, rng: &mut Rng, len: usize) -> Vec<f32> {
+        let mut samples = match self.session.sound.len() {
+            0 => self.list(rng, len, Mood::Audio),
+            _ => self.sounded(wrong(rng, len)),
+        };
         if rng.once_in(8) && !samples.is_empty() {
             let (last, any) = (samples.len() - 1, rng.below(samples.len()));
             samples[rng.pick(&[0, last, any])] = rng.pick(&ENDS);
         }
         samples
+    }
+
+    /// The next samples of the sound.
+    fn sounded(&mut self, len: usize) -> Vec<f32> {
+        let from = self.recorded;
+        self.recorded += len;
+        self.session.sound.iter().cycle().skip(from % SOUND).take(len).copied().collect()
     }
 
     fn samples(&mut self, rng: &mut Rng) -> Ask {

@@ -1,8 +1,9 @@
 //! Any desk beside the desk by the text, or beside another: both are asked the same, and all that they answer and leave is compared.
 
-use crate::ask::{Ask, Caller, Surface, FRAME, PIECE, RESUME, SECOND_HALF, TAKE};
-use crate::desk::{self, BENCHES, COUNTS, EX, LAG, RECORD, SHARE, STORE, WAIT, X};
+use crate::ask::{Ask, Caller, FRAME, PIECE, RESUME, SECOND_HALF, TAKE};
+use crate::desk::{self, BENCHES, COUNTS, EX, FINDER_MEM, LAG, RECORD, SHARE, STORE, WAIT, WAY, X};
 use crate::rng::{Mood, Rng};
+use crate::surface::Surface;
 use crate::tally::{floats, kept, signed, By, Given, Tally, Value};
 use crate::{dictation, logs};
 use std::ops::Range;
@@ -10,6 +11,7 @@ use std::ops::Range;
 /// The desk by the text.
 pub const TEXT: Surface = Surface {
     open: desk::open,
+    open_crate: desk::open_crate,
     call1: desk::call1,
     call2: desk::call2,
     call2_own: desk::call2_own,
@@ -107,13 +109,13 @@ impl Beside<'_> {
             let written = ask.written(&before.records[side], &theirs.records[side]);
             // a maximum, which leaves the signs of zeros open, stands in call 3 alone
             let by = if matches!(ask.call, 3 | SECOND_HALF | RESUME | FRAME | TAKE) { floats } else { signed };
-            let left = all(&number, parts(&lent, &written, [floats; 2]), ours, side, [floats; 2]);
-            let right = all(&want, parts(&wanted, &written, [kept, by]), theirs, side, [kept, floats]);
+            let left = all(&number, parts(&lent, &written, [floats; 2]), ours, side, [floats; 3]);
+            let right = all(&want, parts(&wanted, &written, [kept, by]), theirs, side, [signed, kept, floats]);
             tally.judge(what(ask), given, &left, &right);
         } else {
             let (lents, world) = if want == 0 { (&wanted, &*theirs) } else { (&ask.held, &held) };
-            let left = all(&number, whole(&lent, floats), ours, side, [floats; 2]);
-            let right = all(&want, whole(lents, kept), world, side, [kept; 2]);
+            let left = all(&number, whole(&lent, floats), ours, side, [floats; 3]);
+            let right = all(&want, whole(lents, kept), world, side, [kept; 3]);
             tally.judge(what(ask), given, &left, &right);
         }
         if let Some([a, b]) = saved {
@@ -163,20 +165,22 @@ fn whole(lent: &[Vec<f32>], by: By) -> Vec<Value<'_>> {
     lent.iter().map(|list| by(list)).collect()
 }
 
-/// All that a call leaves: the number, the answer buffers, the records, the places of the side's samples that wait, and the store; and how
-/// these two are compared. (A refused call may have named a side, or been lent a store, that has no such places.)
+/// All that a call leaves: the number, the answer buffers, the records, the side's places of what its finder remembers and of the samples
+/// that wait, and the store; and how these three are compared. (A refused call may have named a side, or been lent a store, that has no such
+/// places.)
 fn all<'a>(
     number: &'a u32,
     lent: Vec<Value<'a>>,
     world: &'a World,
     side: usize,
-    [by_waiting, by_store]: [By; 2],
+    [by_finder, by_waiting, by_store]: [By; 3],
 ) -> Vec<Value<'a>> {
     let mut all = vec![Value::from(number)];
     all.extend(lent);
     all.extend(world.records.iter().map(Value::from));
-    let start = side * SHARE;
-    all.push(by_waiting(world.store.get(start + WAIT.start..start + WAIT.end).unwrap_or(&[])));
+    let share = world.store.get(side * SHARE..).unwrap_or(&[]);
+    all.push(by_finder(share.get(FINDER_MEM).unwrap_or(&[])));
+    all.push(by_waiting(share.get(WAIT).unwrap_or(&[])));
     all.push(by_store(&world.store));
     all
 }
@@ -219,6 +223,12 @@ impl Damage {
             // a lag that no call kept
             38..=41 => Damage::Store(share + LAG, vec![rng.pick(&LAGS)]),
             37 => Damage::Store(rng.below(STORE), vec![rng.of(mood)]),
+            // a last period that no finder kept
+            42..=45 => Damage::Store(share + FINDER_MEM.start, vec![rng.pick(&LAGS)]),
+            46 => Damage::Store(share + FINDER_MEM.start, vec![rng.float(), rng.float()]),
+            47..=58 => Damage::Record(vec![(WAY, rng.pick(&[2, 3, u32::MAX]))]),
+            // a closed side has no way
+            59..=62 => Damage::Record((0..WAY).map(|at| (at, 0)).chain([(WAY, 1)]).collect()),
             _ => Damage::None,
         }
     }
@@ -256,7 +266,7 @@ impl Damage {
     }
 }
 
-/// Lags at the borders of what a second half reads, between whole numbers, and none.
+/// Lags at the borders of what a second half and a finder read, between whole numbers, and none.
 const LAGS: [f32; 12] =
     [-0.0, -1.0, 0.999, 1.0, 59.5, 767.999, 768.0, 768.5, 1e9, f32::INFINITY, f32::NEG_INFINITY, f32::NAN];
 

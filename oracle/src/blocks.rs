@@ -3,13 +3,15 @@
 
 use crate::answers::Answers;
 use crate::desk::{
-    self, gate, pass, Due, BENCHES, COUNTS, DUE, FRAMES, INDEX, RECORD, STORE, UNFINISHED, WAIT, WAITING,
+    self, gate, pass, Due, Way, BENCHES, COUNTS, DUE, FRAMES, INDEX, RECORD, STORE, UNFINISHED, WAIT, WAITING, WAY,
 };
 use crate::dictation::{completed, LONGEST};
+use crate::faults::{befallen, closed_with_a_way, unfinished, Fault, SHAPE, SIDE};
 use crate::models::{self, Shape};
 use crate::pcm::NO_FORMATS;
 use crate::plain_pcm::{self as plain, Layout};
 use crate::rng::{Mood, Rng};
+use crate::surface::OURS;
 use crate::tally::{Given, Tally, Value};
 use crate::Options;
 
@@ -43,7 +45,7 @@ struct Case {
 }
 
 impl Case {
-    /// A bench that is opened, with nothing to take yet.
+    /// A bench that is opened, in either way, with nothing to take yet.
     fn opened(rng: &mut Rng, side: u32, store: Vec<f32>, shape: Shape) -> Case {
         let mut case = Case {
             record: vec![0; RECORD],
@@ -57,7 +59,8 @@ impl Case {
             answers: vec![],
             frames: 0,
         };
-        assert_eq!(tuppence::open(&mut case.record, &mut case.store, side, &case.model), 0);
+        let open = OURS.opening(Way::any(rng));
+        assert_eq!(open(&mut case.record, &mut case.store, side, &case.model), 0);
         case
     }
 
@@ -159,7 +162,7 @@ struct Met {
 
 impl Met {
     fn count(&mut self, number: u32, before: &Case, left: &Case) {
-        self.answers.count(0, number);
+        self.answers.count(0, number, &left.record);
         if number == 0 {
             self.frames += u64::from(left.record[FRAMES].wrapping_sub(before.record[FRAMES]));
             self.heard += u64::from(left.record[desk::HEARD].wrapping_sub(before.record[desk::HEARD]));
@@ -168,7 +171,9 @@ impl Met {
 
     fn told(&self) -> String {
         let Met { answers, frames, heard } = self;
-        format!("{} blocks of {frames} frames, {heard} heard; refused {}", answers.done(0), answers.refused(0))
+        let [done, crates] = [answers.done(0), answers.of_crate(0)];
+        let refused = answers.refused(0);
+        format!("{done} blocks of {frames} frames, {heard} heard, {crates} in the crate's way; refused {refused}")
     }
 }
 
@@ -223,18 +228,12 @@ fn damage(rng: &mut Rng, case: &mut Case) -> bool {
     true
 }
 
-/// A change to a case, and the refusal that it brings: 0 for none.
-type Fault = (u32, fn(&mut Case));
-
-const SIDE: u32 = 15;
-const SHAPE: Shape = [2, 3, 4, 5];
-
 /// The first number of the samples that wait.
 fn first_waiting(case: &mut Case) -> &mut f32 {
     &mut desk::share_of(&mut case.store, SIDE)[WAIT.start]
 }
 
-const ANY: &[Fault] = &[
+const ANY: &[Fault<Case>] = &[
     (0, |c| c.out.push(7)),
     (0, |c| c.entries.push(7)),
     (0, |c| c.answers.push(0.5)),
@@ -249,13 +248,12 @@ const ANY: &[Fault] = &[
     (2, |c| c.record[COUNTS.end - 1] = 128),
     (2, |c| c.record[WAITING] = 480),
     (2, |c| c.record[UNFINISHED] = LONGEST as u32 + 1),
+    (2, |c| c.record[WAY] = 2),
+    (2, |c| c.record[WAY] = u32::MAX),
+    (2, |c| closed_with_a_way(&mut c.record)),
     (3, |c| c.record.fill(0)),
     (4, |c| (c.record[DUE], c.record[WAITING]) = (2, 0)),
-    (4, |c| {
-        let unfinished = [0, LONGEST as u32, 1];
-        c.record[DUE] = 3;
-        c.record[WAITING..].copy_from_slice(&unfinished);
-    }),
+    (4, |c| unfinished(&mut c.record)),
     (5, |c| c.layout.format = 0),
     (5, |c| c.layout.format += 1),
     (5, |c| c.layout.channels = 0),
@@ -274,17 +272,17 @@ const ANY: &[Fault] = &[
 ];
 
 /// Where a frame is completed.
-const COMPLETING: &[Fault] = &[
+const COMPLETING: &[Fault<Case>] = &[
     (5, |c| c.out.truncate(960 * c.frames - 1)),
     (5, |c| c.entries.truncate(c.frames - 1)),
     (5, |c| c.answers.truncate(3 * c.frames - 1)),
 ];
 
 /// Where samples wait.
-const OF_WAITING: &[Fault] = &[(9, |c| *first_waiting(c) = f32::NAN)];
+const OF_WAITING: &[Fault<Case>] = &[(9, |c| *first_waiting(c) = f32::NAN)];
 
 /// Of floats of three channels, of which the last is the bench's.
-const OF_FLOATS: &[Fault] = &[
+const OF_FLOATS: &[Fault<Case>] = &[
     (0, |c| c.bytes[..4].copy_from_slice(&f32::NAN.to_le_bytes())),
     (0, |c| c.bytes[4..8].copy_from_slice(&f32::INFINITY.to_le_bytes())),
     (0, |c| c.bytes[8..12].copy_from_slice(&2.0f32.to_le_bytes())),
@@ -294,15 +292,6 @@ const OF_FLOATS: &[Fault] = &[
         c.bytes[last..].copy_from_slice(&f32::NEG_INFINITY.to_le_bytes());
     }),
 ];
-
-/// A case with these faults: those that bring no refusal first, and then the lower ones over the higher; and the lowest number.
-fn befallen(case: &Case, mut faults: Vec<Fault>) -> (Case, u32) {
-    faults.sort_by_key(|(number, _)| std::cmp::Reverse(number.wrapping_sub(1)));
-    let mut case = case.clone();
-    faults.iter().for_each(|(_, change)| change(&mut case));
-    let lowest = faults.iter().map(|(number, _)| *number).filter(|number| *number > 0).min();
-    (case, lowest.unwrap_or(0))
-}
 
 /// Blocks without a fault, with each, and with every two at once. Of two with one number one may undo the other.
 fn every_two_faults(tally: &mut Tally, rng: &mut Rng, feed: Feed) {
@@ -324,7 +313,7 @@ fn every_two_faults(tally: &mut Tally, rng: &mut Rng, feed: Feed) {
         case.judge(tally, feed, Some(0));
         let parts = [(case.frames > 0, COMPLETING), (waiting > 0, OF_WAITING), (format == 32, OF_FLOATS)];
         let more = parts.iter().filter(|(there, _)| *there).flat_map(|(_, faults)| faults.iter());
-        let faults: Vec<Fault> = ANY.iter().chain(more).copied().collect();
+        let faults: Vec<Fault<Case>> = ANY.iter().chain(more).copied().collect();
         for (i, one) in faults.iter().enumerate() {
             let (faulty, lowest) = befallen(&case, vec![*one]);
             faulty.judge(tally, feed, Some(lowest));
@@ -445,6 +434,7 @@ mod tests {
         let met = interleaved(&mut tally, &mut Rng::new(7), tuppence::feed, 400);
         assert_eq!(met.answers.numbers(0), [0, 1, 2, 3, 4, 5, 7, 8, 9], "{}", met.told());
         assert!(met.heard > 0 && met.heard < met.frames, "{}", met.told());
+        assert!((1..met.answers.done(0)).contains(&met.answers.of_crate(0)), "{}", met.told());
         assert_eq!(tally.differences, 0, "{}", tally.report());
     }
 

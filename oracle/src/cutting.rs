@@ -1,10 +1,11 @@
 //! Request 12: the same samples with the same logarithms and models, cut in two ways, give the same output, answers, sums, record and store.
 
-use crate::ask::{piece_length, Ask, Surface, PIECE, RESUME};
-use crate::desk::{BENCHES, RECORD, STORE, UNFINISHED, WAITING};
+use crate::ask::{piece_length, Ask, PIECE, RESUME};
+use crate::desk::{Way, BENCHES, RECORD, STORE, UNFINISHED, WAITING};
 use crate::dictation::{completed, LONGEST};
 use crate::models::{self, Shape};
 use crate::rng::{Mood, Rng};
+use crate::surface::Surface;
 use crate::tally::{kept, Given, Tally, Value};
 
 /// What a frame is lent besides its samples: no logarithms for those of its sums.
@@ -46,7 +47,7 @@ impl Bench<'_> {
         let shape = std::array::from_fn(|_| 1 + rng.below(6));
         let mut bench =
             Bench { desk, side: rng.below(BENCHES) as u32, shape, record: vec![0; RECORD], store: rng.list(STORE) };
-        bench.put(Ask { model: models::of_shape(rng, shape), ..Ask::default() });
+        bench.put(Ask { model: models::of_shape(rng, shape), way: Way::any(rng), ..Ask::default() });
         bench
     }
 

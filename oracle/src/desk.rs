@@ -5,9 +5,13 @@
 //! text's functions for that part of the frame, and writes the memories back. The module
 //! `shadow` runs the same frames once more, whole, by `process_frame`.
 
+use crate::fft::{fast_forward, fast_inverse};
+use crate::finder::whole;
 use crate::lag;
 use crate::reader::{self, Refusal};
+use crate::rng::Rng;
 use crate::transforms::{cosines, plain_forward, plain_inverse};
+use nnnoiseless_text::probe::pitch::PitchFinder;
 use nnnoiseless_text::probe::{bands, features, rnn};
 use nnnoiseless_text::{DenoiseFeatures, RnnModel};
 use std::ops::Range;
@@ -27,10 +31,11 @@ pub const MEM_HP_X: Range<usize> = 3192..3194;
 pub const LASTG: Range<usize> = 3194..3216;
 pub const CEPSTRAL_MEM: Range<usize> = 3216..3392;
 pub const STATES: [usize; 3] = [3392, 3520, 3648];
-pub const WAIT: Range<usize> = 3776..4255;
+pub const FINDER_MEM: Range<usize> = 3776..3778;
+pub const WAIT: Range<usize> = 3778..4257;
 
 // A record: due call, cepstral index, the three GRU counts, frames and heard frames; how many samples wait, the length of an
-// unfinished piece, and how many of its samples are in frames.
+// unfinished piece, and how many of its samples are in frames; the way.
 pub const DUE: usize = 0;
 pub const INDEX: usize = 1;
 pub const COUNTS: Range<usize> = 2..5;
@@ -39,15 +44,69 @@ pub const HEARD: usize = 6;
 pub const WAITING: usize = 7;
 pub const UNFINISHED: usize = 8;
 pub const PROGRESS: usize = 9;
-pub const RECORD: usize = 10;
+pub const WAY: usize = 10;
+pub const RECORD: usize = 11;
+
+/// A bench's way, which its opening settles: our own lag and the plain sums, or the text's finder and the fast transforms.
+#[derive(Clone, Copy, Default, PartialEq)]
+pub enum Way {
+    #[default]
+    Asked,
+    Crate,
+}
+
+impl Way {
+    pub const BOTH: [Way; 2] = [Way::Asked, Way::Crate];
+
+    pub fn any(rng: &mut Rng) -> Way {
+        rng.pick(&Way::BOTH)
+    }
+
+    /// That of a record that is in range.
+    fn noted(record: &[u32]) -> Way {
+        Way::BOTH[record[WAY] as usize]
+    }
+
+    fn forward(self, window: &[f32; 960]) -> [f32; 961] {
+        let mut spectrum = [0.0; 961];
+        match self {
+            Way::Asked => plain_forward(&cosines(), &mut spectrum, window),
+            Way::Crate => fast_forward(&cosines(), &mut spectrum, window),
+        }
+        spectrum
+    }
+
+    fn inverse(self, spectrum: &[f32; 961]) -> [f32; 960] {
+        let mut window = [0.0; 960];
+        match self {
+            Way::Asked => plain_inverse(&cosines(), &mut window, spectrum),
+            Way::Crate => fast_inverse(&cosines(), &mut window, spectrum),
+        }
+        window
+    }
+
+    /// The lag of a share's `input_mem`. The text's finder goes on from the last period and the last gain that stand there, whoever wrote
+    /// them, and leaves its own.
+    fn lag(self, share: &mut [f32]) -> u32 {
+        match self {
+            Way::Asked => lag::joined(&share[INPUT_MEM]),
+            Way::Crate => {
+                let [last_period, last_gain] = [0, 1].map(|i| share[FINDER_MEM][i]);
+                let (period, gain) = PitchFinder::after(whole(last_period), last_gain).process(&share[INPUT_MEM]);
+                share[FINDER_MEM].copy_from_slice(&[period as f32, gain]);
+                period as u32
+            }
+        }
+    }
+}
 
 fn in_range(record: &[u32]) -> bool {
-    let [due, index, vad, noise, denoise, _, _, waiting, piece, progress] = *record else { return false };
+    let [due, index, vad, noise, denoise, _, _, waiting, piece, progress, way] = *record else { return false };
     if due == 0 {
         return record.iter().all(|n| *n == 0);
     }
     let counted = [vad, noise, denoise].iter().all(|n| (1..=127).contains(n));
-    let frames = due <= 4 && index <= 7 && counted;
+    let frames = due <= 4 && index <= 7 && counted && way <= 1;
     let waits = waiting <= 479 && (waiting == 0 || due == 1);
     let unfinished = piece <= 4_096
         && match piece {
@@ -181,6 +240,14 @@ fn save(text: &mut DenoiseFeatures, share: &mut [f32], record: &mut [u32]) {
 }
 
 pub fn open(record: &mut [u32], store: &mut [f32], side: u32, model: &[u8]) -> u32 {
+    opened(record, store, side, Way::Asked, model)
+}
+
+pub fn open_crate(record: &mut [u32], store: &mut [f32], side: u32, model: &[u8]) -> u32 {
+    opened(record, store, side, Way::Crate, model)
+}
+
+fn opened(record: &mut [u32], store: &mut [f32], side: u32, way: Way, model: &[u8]) -> u32 {
     pass!(entrance(record, store, side));
     let layers = match reader::read(model, true) {
         Ok(layers) => layers,
@@ -190,6 +257,7 @@ pub fn open(record: &mut [u32], store: &mut [f32], side: u32, model: &[u8]) -> u
     record.fill(0);
     record[DUE] = 1;
     record[COUNTS].copy_from_slice(&counts(&layers));
+    record[WAY] = way as u32;
     0
 }
 
@@ -308,16 +376,17 @@ fn heard(text: &mut DenoiseFeatures, share: &mut [f32], model: &RnnModel) -> f32
     voice[0]
 }
 
-/// Request 08: call 1, the forward transform of its window as plain sums, and the sister of call 2.
+/// Request 08: call 1, and call 2 with the forward transform of its window and the lag, both by the bench's way.
 pub fn first_half(record: &mut [u32], store: &mut [f32], side: u32, samples: &[f32], sums: &mut [f32]) -> u32 {
     asked!(Due::Call(1), record, store, side, samples 480, sums 22);
-    let (mut window, mut spectrum) = ([0.0; 960], [0.0; 961]);
+    let (way, mut window) = (Way::noted(record), [0.0; 960]);
     pass!(call1(record, store, side, samples, &mut window));
-    plain_forward(&cosines(), &mut spectrum, &window);
-    call2_own(record, store, side, &spectrum, &mut window, sums)
+    let (spectrum, lag) = (way.forward(&window), way.lag(share_of(store, side)));
+    call2(record, store, side, &spectrum, lag, &mut window, sums)
 }
 
-/// Request 08: call 3 with the spectrum of the window for the lag that call 2 kept, and call 4 with the inverse of what it wrote.
+/// Request 08: call 3 with the spectrum of the window for the lag that call 2 kept, and call 4 with the inverse of what it wrote, both
+/// transforms by the bench's way.
 pub fn second_half(
     record: &mut [u32],
     store: &mut [f32],
@@ -328,18 +397,14 @@ pub fn second_half(
     answer: &mut [f32],
 ) -> u32 {
     let share = share!(Due::Call(3), record, store, side, logs 22, out 480, answer 3);
-    let mut text = loaded(share, record);
-    // the largest whole number of 0 to 768 that is not above what stands there
-    let lag = (0..=768).rev().find(|lag| *lag as f32 <= share[LAG]).unwrap_or(0);
+    let (way, mut text) = (Way::noted(record), loaded(share, record));
     feed::start();
     feed::spectrum(&[0.0; 961]);
-    let mut window = features::window(&mut text, lag);
+    let window = features::window(&mut text, whole(share[LAG]));
     feed::finish();
-    let (mut spectrum, mut inverse) = ([0.0; 961], [0.0; 961]);
-    plain_forward(&cosines(), &mut spectrum, &window);
-    pass!(call3(record, store, side, &spectrum, logs, model, &mut inverse, answer));
-    plain_inverse(&cosines(), &mut window, &inverse);
-    call4(record, store, side, &window, out)
+    let mut spectrum = [0.0; 961];
+    pass!(call3(record, store, side, &way.forward(&window), logs, model, &mut spectrum, answer));
+    call4(record, store, side, &way.inverse(&spectrum), out)
 }
 
 pub fn call4(record: &mut [u32], store: &mut [f32], side: u32, inverse: &[f32], out: &mut [f32]) -> u32 {

@@ -1,15 +1,15 @@
 //! Whole calls with every fault at its limit, and with every two at once: the lower number answers, and nothing changes.
 
-use crate::ask::{Ask, Surface, FRAME, TAKE};
-use crate::desk::{self, COUNTS, DUE, INDEX, PROGRESS, RECORD, STORE, UNFINISHED, WAIT, WAITING};
+use crate::ask::{Ask, FRAME, TAKE};
+use crate::desk::{self, Way, COUNTS, DUE, FINDER_MEM, INDEX, PROGRESS, RECORD, STORE, UNFINISHED, WAIT, WAITING, WAY};
 use crate::dictation::{completed, LONGEST};
 use crate::models::{self, Shape};
 use crate::rng::{Mood, Rng};
+use crate::surface::{Surface, LENT};
 use crate::tally::{floats, kept, By, Given, Tally, Value};
-use crate::whole::LENT;
 
-const SIDE: u32 = 15;
-const SHAPE: Shape = [2, 3, 4, 5];
+pub const SIDE: u32 = 15;
+pub const SHAPE: Shape = [2, 3, 4, 5];
 
 /// A call, and what it meets.
 #[derive(Clone)]
@@ -34,6 +34,11 @@ impl Case {
         (&mut behind[0], wait)
     }
 
+    /// What its finder remembers.
+    fn found(&mut self) -> &mut [f32] {
+        &mut desk::share_of(&mut self.store, SIDE)[FINDER_MEM]
+    }
+
     /// The same bench, asked for so many samples to be taken; every buffer is as short as may be.
     fn asking(mut self, rng: &mut Rng, call: u32, samples: usize) -> Case {
         self.frames = completed(self.record[WAITING] as usize, samples);
@@ -45,12 +50,27 @@ impl Case {
 }
 
 /// A change to a case, and the refusal that it brings: 0 for none.
-type Fault = (u32, fn(&mut Case));
+pub type Fault<C> = (u32, fn(&mut C));
+
+/// A record of the longest piece, of which one sample is in a frame.
+pub fn unfinished(record: &mut [u32]) {
+    for (at, number) in [(DUE, 3), (WAITING, 0), (UNFINISHED, LONGEST as u32), (PROGRESS, 1)] {
+        record[at] = number;
+    }
+}
+
+/// A closed side's record that notes a way.
+pub fn closed_with_a_way(record: &mut [u32]) {
+    record.fill(0);
+    record[WAY] = 1;
+}
 
 /// What any whole call is refused by.
-const ANY: &[Fault] = &[
+const ANY: &[Fault<Case>] = &[
     (0, |c| c.given()[0] = -32_768.0),
     (0, |c| *c.given().last_mut().unwrap() = 32_767.0),
+    (0, |c| c.found().fill(f32::NAN)),
+    (0, |c| c.found().fill(f32::INFINITY)),
     (1, |c| c.ask.side = 16),
     (1, |c| c.ask.side = u32::MAX),
     (2, |c| c.store.truncate(STORE - 1)),
@@ -65,14 +85,14 @@ const ANY: &[Fault] = &[
     (2, |c| (c.record[DUE], c.record[UNFINISHED], c.record[PROGRESS]) = (1, 1, 1)),
     (2, |c| (c.record[UNFINISHED], c.record[PROGRESS]) = (0, 1)),
     (2, |c| c.record[UNFINISHED] = LONGEST as u32 + 1),
+    (2, |c| c.record[WAY] = 2),
+    (2, |c| c.record[WAY] = 3),
+    (2, |c| c.record[WAY] = u32::MAX),
+    (2, |c| closed_with_a_way(&mut c.record)),
     (3, |c| c.record.fill(0)),
     (4, |c| (c.record[DUE], c.record[WAITING]) = (2, 0)),
     (4, |c| (c.record[DUE], c.record[WAITING]) = (3, 0)),
-    (4, |c| {
-        let unfinished = [0, LONGEST as u32, 1];
-        c.record[DUE] = 3;
-        c.record[WAITING..].copy_from_slice(&unfinished);
-    }),
+    (4, |c| unfinished(&mut c.record)),
     (5, |c| c.given().clear()),
     (7, |c| _ = c.ask.model.pop()),
     (7, |c| c.ask.model.push(0)),
@@ -86,7 +106,7 @@ const ANY: &[Fault] = &[
     (9, |c| *c.given().last_mut().unwrap() = f32::NAN),
 ];
 
-const OF_FRAMES: &[Fault] = &[
+const OF_FRAMES: &[Fault<Case>] = &[
     (4, |c| c.record[WAITING] = 1),
     (4, |c| c.record[WAITING] = 479),
     (5, |c| _ = c.given().pop()),
@@ -95,25 +115,25 @@ const OF_FRAMES: &[Fault] = &[
     (5, |c| c.ask.held[1].push(0.0)),
 ];
 
-const OF_TAKES: &[Fault] =
+const OF_TAKES: &[Fault<Case>] =
     &[(0, |c| c.ask.held[0].push(0.5)), (0, |c| c.ask.held[1].push(0.5)), (5, |c| c.given().resize(LONGEST + 1, 0.0))];
 
 /// Where a frame is completed.
-const COMPLETING: &[Fault] =
+const COMPLETING: &[Fault<Case>] =
     &[(5, |c| c.ask.held[0].truncate(480 * c.frames - 1)), (5, |c| c.ask.held[1].truncate(3 * c.frames - 1))];
 
 /// Where samples wait.
-const OF_WAITING: &[Fault] = &[
+const OF_WAITING: &[Fault<Case>] = &[
     (0, |c| *c.waits().0 = f32::NAN),
     (9, |c| *c.waits().1.last_mut().unwrap() = f32::INFINITY),
     (9, |c| c.waits().1[0] = f32::NAN),
 ];
 
-/// A bench that has done two frames, and where so many samples wait.
-fn bench(rng: &mut Rng, waiting: usize) -> Case {
+/// A bench of a way that has done two frames, and where so many samples wait.
+fn bench(rng: &mut Rng, way: Way, waiting: usize) -> Case {
     let (mut record, mut store, model) = (vec![0; RECORD], rng.list(STORE), models::of_shape(rng, SHAPE));
-    assert_eq!(tuppence::open(&mut record, &mut store, SIDE, &model), 0);
-    let ask = Ask { side: SIDE, model, ..Ask::default() };
+    assert_eq!(LENT.opening(way)(&mut record, &mut store, SIDE, &model), 0);
+    let ask = Ask { side: SIDE, way, model, ..Ask::default() };
     let mut case = Case { ask, frames: 0, record, store }.asking(rng, TAKE, 960 + waiting);
     let (number, _) = case.ask.put(&LENT, &mut case.record, &mut case.store);
     assert_eq!((number, case.record[WAITING] as usize), (0, waiting));
@@ -121,7 +141,7 @@ fn bench(rng: &mut Rng, waiting: usize) -> Case {
 }
 
 /// The lists of faults that a case may have.
-fn faults(case: &Case) -> Vec<Fault> {
+fn faults(case: &Case) -> Vec<Fault<Case>> {
     let mut faults = ANY.to_vec();
     faults.extend(if case.ask.call == FRAME { OF_FRAMES } else { OF_TAKES });
     if case.frames > 0 {
@@ -133,8 +153,8 @@ fn faults(case: &Case) -> Vec<Fault> {
     faults
 }
 
-/// A case with these faults: those that bring no refusal first, and then the lower ones over the higher.
-fn befallen(case: &Case, mut faults: Vec<Fault>) -> (Case, u32) {
+/// A case with these faults: those that bring no refusal first, and then the lower ones over the higher; and the lowest number.
+pub fn befallen<C: Clone>(case: &C, mut faults: Vec<Fault<C>>) -> (C, u32) {
     faults.sort_by_key(|(number, _)| std::cmp::Reverse(number.wrapping_sub(1)));
     let mut case = case.clone();
     faults.iter().for_each(|(_, change)| change(&mut case));
@@ -163,11 +183,12 @@ fn judge(tally: &mut Tally, desk: &Surface, case: &Case, lowest: u32) {
     tally.judge("a whole call with two faults", given, &left, &right);
 }
 
-/// Each case without a fault, with each, and with every two of different numbers.
+/// Each case of either way without a fault, with each, and with every two of different numbers.
 pub fn every_two(tally: &mut Tally, rng: &mut Rng, desk: &Surface) {
     let calls = [(FRAME, 0, 480), (TAKE, 0, 480), (TAKE, 100, 5), (TAKE, 100, 1_000), (TAKE, 479, LONGEST)];
-    for (call, waiting, samples) in calls {
-        let case = bench(rng, waiting).asking(rng, call, samples);
+    let cases = Way::BOTH.into_iter().flat_map(|way| calls.map(|call| (way, call)));
+    for (way, (call, waiting, samples)) in cases {
+        let case = bench(rng, way, waiting).asking(rng, call, samples);
         judge(tally, desk, &case, 0);
         let faults = faults(&case);
         for (i, one) in faults.iter().enumerate() {

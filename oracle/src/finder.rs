@@ -6,6 +6,7 @@ use crate::rng::{Mood, Rng};
 use crate::tally::{kept, signed, Given, Tally};
 use crate::{values, Options};
 use nnnoiseless_text::probe::pitch::PitchFinder;
+use std::f32::consts::TAU;
 
 /// The frames of a recording.
 const FRAMES: usize = 24;
@@ -52,7 +53,7 @@ fn recording(tally: &mut Tally, rng: &mut Rng) {
     }
 }
 
-/// Stretches of voices, high ones among them, noise and silence, some with special numbers; or numbers of any one kind.
+/// Stretches of voices, high and wavering ones among them, noise and silence, some with special numbers; or numbers of any one kind.
 fn sound(rng: &mut Rng, len: usize) -> Vec<f32> {
     if rng.once_in(8) {
         return rng.list(len);
@@ -64,11 +65,32 @@ fn sound(rng: &mut Rng, len: usize) -> Vec<f32> {
             0 => vec![0.0; stretch],
             1 => rng.list_of(stretch, Mood::Audio),
             2 => rng.list_of(stretch, Mood::Sprinkled),
+            3 => wavering(rng, stretch),
             _ => voice(rng, stretch),
         });
     }
     sound.truncate(len);
     sound
+}
+
+/// A voice whose every other period is another, more and less so by turns: whether one period is found or two depends on what was found last, in
+/// one frame of five.
+fn wavering(rng: &mut Rng, len: usize) -> Vec<f32> {
+    let (period, slow) = (70.0 + 250.0 * rng.unit(), 2000.0 + 4000.0 * rng.unit());
+    let (loud, noise) = (300.0 + 6000.0 * rng.unit(), rng.pick(&[0.0, 0.01, 0.1]));
+    let angle = |i: usize, period: f32| TAU * (i as f32 / period).fract();
+    let tone = |i: usize, period: f32| (1..6).map(|k| angle(i, period / k as f32).sin() / k as f32).sum::<f32>();
+    let sample = |i: usize| {
+        let other = 0.5 + 0.25 * angle(i, slow).sin();
+        loud * ((1.0 - other) * tone(i, period) + other * tone(i, 2.0 * period) + noise * rng.of(Mood::Small))
+    };
+    (0..len).map(sample).collect()
+}
+
+/// What a recorder gives of a sound, or of one voice that wavers.
+pub fn recorded(rng: &mut Rng, len: usize) -> Vec<f32> {
+    let sound = if rng.once_in(2) { wavering(rng, len) } else { sound(rng, len) };
+    sound.into_iter().map(|x| if x.is_nan() { 0.0 } else { x.clamp(-32_768.0, 32_767.0) }).collect()
 }
 
 /// Any numbers, lengths around those that fit.
@@ -89,7 +111,7 @@ fn forged(tally: &mut Tally, rng: &mut Rng) {
 }
 
 /// The largest whole number of 0 to 768 that is not above x, 0 where there is none.
-fn whole(x: f32) -> usize {
+pub(crate) fn whole(x: f32) -> usize {
     (0..=768).rev().find(|k| *k as f32 <= x).unwrap_or(0)
 }
 

@@ -1,9 +1,9 @@
 //! A frame and a piece in one call as they are by definition: the halves, and a piece resumed to its end, with the desk's logarithms lent.
 //! What is to be refused is worked out from the ruling, before any call is made.
 
-use crate::ask::Surface;
 use crate::desk::{asked, broken, gate, pass, unfit, Due, UNFINISHED, WAITING};
 use crate::dictation::{behind_waiting, completed, LONGEST};
+use crate::surface::Surface;
 
 /// Refusals 7, 8 and 9, or 0.
 fn unfit_or_broken(model: &[u8], record: &[u32], samples: &[f32]) -> u32 {

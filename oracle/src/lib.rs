@@ -11,6 +11,8 @@ pub mod plain_sheet;
 pub mod plain_wav;
 pub mod reader;
 pub mod rng;
+#[cfg(feature = "frame")]
+pub mod surface;
 pub mod tally;
 
 #[cfg(feature = "frame")]

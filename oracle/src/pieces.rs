@@ -1,10 +1,11 @@
 //! Request 12: dictation in pieces of any lengths on sixteen interleaved benches, against the text's; and the same samples cut in two ways.
 
 use crate::answers::Answers;
-use crate::ask::{Caller, Surface, OURS, PIECE, RESUME};
+use crate::ask::{Caller, PIECE, RESUME};
 use crate::beside::{Beside, Damage};
 use crate::desk::{BENCHES, DUE, PROGRESS, SHARE, UNFINISHED, WAIT, WAITING};
 use crate::rng::Rng;
+use crate::surface::{Surface, OURS};
 use crate::tally::Tally;
 use crate::{cutting, Options};
 
@@ -27,15 +28,16 @@ struct Met {
 }
 
 impl Met {
-    fn count(&mut self, call: u32, number: u32, paused: bool) {
-        self.answers.count(call, number);
-        self.paused[(call - PIECE) as usize] += u64::from(number == 0 && paused);
+    fn count(&mut self, call: u32, number: u32, record: &[u32]) {
+        self.answers.count(call, number, record);
+        self.paused[(call - PIECE) as usize] += u64::from(number == 0 && record[UNFINISHED] > 0);
     }
 
     fn told(&self) -> String {
         let Met { answers, paused } = self;
         let one = |call: u32, name: &str, paused: u64| {
-            format!("{} {name}, {paused} paused; refused {}", answers.done(call), answers.refused(call))
+            let [done, crates] = [answers.done(call), answers.of_crate(call)];
+            format!("{done} {name}, {crates} in the crate's way, {paused} paused; refused {}", answers.refused(call))
         };
         format!("{}\n  {}", one(PIECE, "pieces", paused[0]), one(RESUME, "resumes, a frame each", paused[1]))
     }
@@ -50,7 +52,7 @@ fn compare_with(tally: &mut Tally, seed: u64, frames: u64, desk: &Surface) -> Me
     while met.answers.done(RESUME) < frames {
         let (side, ask, answered) = both.turn(tally, rng, &mut callers, damage);
         if ask.call >= PIECE {
-            met.count(ask.call, answered.number, both.theirs.records[side][UNFINISHED] > 0);
+            met.count(ask.call, answered.number, &both.theirs.records[side]);
         }
     }
     met
@@ -92,11 +94,12 @@ mod tests {
     #[test]
     fn every_refusal_is_met() {
         let mut tally = Tally::new("pieces");
-        let met = compare_with(&mut tally, 3, 400, &TEXT);
+        let met = compare_with(&mut tally, 3, 600, &TEXT);
         assert_eq!(met.answers.numbers(PIECE), [0, 1, 2, 3, 4, 5, 9], "{}", met.told());
         assert_eq!(met.answers.numbers(RESUME), [0, 1, 2, 3, 4, 5, 7, 8, 9], "{}", met.told());
         for (call, paused) in [PIECE, RESUME].into_iter().zip(met.paused) {
-            assert!((1..met.answers.done(call)).contains(&paused), "{}", met.told());
+            let some = 1..met.answers.done(call);
+            assert!(some.contains(&paused) && some.contains(&met.answers.of_crate(call)), "{}", met.told());
         }
         assert_eq!(tally.differences, 0, "{}", tally.report());
     }

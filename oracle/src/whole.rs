@@ -2,16 +2,14 @@
 //! are by definition, on a second store. And every two faults at once, of which the lower number answers.
 
 use crate::answers::Answers;
-use crate::ask::{Ask, Caller, Surface, FRAME, OURS, TAKE};
+use crate::ask::{Ask, Caller, FRAME, TAKE};
 use crate::beside::{Beside, Damage};
 use crate::desk::{BENCHES, SHARE, WAIT, WAITING};
 use crate::dictation::completed;
 use crate::rng::Rng;
+use crate::surface::{LENT, OURS};
 use crate::tally::Tally;
 use crate::{faults, pieces, Options};
-
-/// The proved desk without its whole calls: they are made of the others.
-pub const LENT: Surface = Surface { whole: None, ..OURS };
 
 pub fn compare(options: &Options) -> Tally {
     let mut tally = Tally::new("whole");
@@ -34,7 +32,7 @@ struct Met {
 
 impl Met {
     fn count(&mut self, ask: &Ask, number: u32, before: &[u32]) {
-        self.answers.count(ask.call, number);
+        self.answers.count(ask.call, number, before);
         if ask.call == TAKE && number == 0 {
             let frames = completed(before[WAITING] as usize, ask.given[0].len());
             self.in_takes += frames as u64;
@@ -48,13 +46,12 @@ impl Met {
 
     fn told(&self) -> String {
         let Met { answers, in_takes, without } = self;
-        format!(
-            "{} frames; refused {}\n  {} pieces of {in_takes} frames, {without} of none; refused {}",
-            answers.done(FRAME),
-            answers.refused(FRAME),
-            answers.done(TAKE),
-            answers.refused(TAKE)
-        )
+        let one = |call: u32, name: &str| {
+            let [done, crates] = [answers.done(call), answers.of_crate(call)];
+            format!("{done} {name}, {crates} in the crate's way; refused {}", answers.refused(call))
+        };
+        let pieces = format!("pieces of {in_takes} frames, {without} of none");
+        format!("{}\n  {}", one(FRAME, "frames"), one(TAKE, &pieces))
     }
 }
 
@@ -87,9 +84,9 @@ fn damage(rng: &mut Rng, side: usize, record: &[u32]) -> Damage {
 #[cfg(test)]
 mod tests {
     use super::*;
-    use crate::ask::Whole;
     use crate::desk::broken;
     use crate::lent::{frame, take};
+    use crate::surface::{Surface, Whole};
 
     /// What is counted where these whole calls stand beside those that are made of the others.
     fn beside(whole: Option<Whole>, frames: u64) -> (Met, Tally) {
@@ -105,6 +102,7 @@ mod tests {
         let (met, tally) = beside(None, 1_000);
         for call in [FRAME, TAKE] {
             assert_eq!(met.answers.numbers(call), [0, 1, 2, 3, 4, 5, 7, 8, 9], "{}", met.told());
+            assert!((1..met.answers.done(call)).contains(&met.answers.of_crate(call)), "{}", met.told());
         }
         assert!(met.without > 0 && met.in_takes > met.answers.done(TAKE), "{}", met.told());
         assert_eq!(tally.differences, 0, "{}", tally.report());

@@ -1,12 +1,15 @@
 //! What memory is made of: each bench's memory is rebuilt from its heard frames alone, and compared with what its share and
 //! its record hold.
 
-use nnnoiseless_text::probe::{bands, rnn};
+use nnnoiseless_text::probe::{bands, pitch::PitchFinder, rnn};
 use nnnoiseless_text::RnnModel;
-use oracle::ask::{Ask, Caller, FIRST_HALF, OURS, PIECE, RESUME, SECOND_HALF};
+use oracle::ask::{Ask, Caller, FIRST_HALF, PIECE, RESUME, SECOND_HALF};
 use oracle::bins;
-use oracle::desk::{BENCHES, CEPSTRAL_MEM, DUE, INDEX, INPUT_MEM, LASTG, RECORD, SHARE, STATES, STORE, UNFINISHED};
+use oracle::desk::{
+    Way, BENCHES, CEPSTRAL_MEM, DUE, INDEX, INPUT_MEM, LASTG, RECORD, SHARE, STATES, STORE, UNFINISHED,
+};
 use oracle::rng::{Mood, Rng};
+use oracle::surface::OURS;
 use oracle::tally::exactly;
 
 const FRAMES: usize = 20_000;
@@ -123,16 +126,23 @@ fn own_lag(samples: &[f32]) -> usize {
 }
 
 /// The transform of the window that lies so long ago.
-fn transformed(samples: &[f32], lag: usize) -> Vec<f32> {
+fn transformed(way: Way, samples: &[f32], lag: usize) -> Vec<f32> {
     let (mut window, mut spectrum) = ([0.0; 960], vec![0.0; 961]);
     bands::apply_window(&mut window, &samples[768 - lag..][..960]);
-    assert_eq!(tuppence::forward(&mut spectrum, &window), 0);
+    let forward = match way {
+        Way::Asked => tuppence::forward,
+        Way::Crate => tuppence::fft_forward,
+    };
+    assert_eq!(forward(&mut spectrum, &window), 0);
     spectrum
 }
 
 /// A bench as its own calls and their answers tell it.
 struct Bench {
     caller: Caller,
+    way: Way,
+    /// What the joined calls of the crate's way find the lag by.
+    finder: PitchFinder,
     memory: Memory,
     /// The first spectrum and the lag, from call 2 to call 3.
     noted: (Vec<f32>, usize),
@@ -147,6 +157,7 @@ struct Count {
     silent: usize,
     broken: usize,
     in_pieces: usize,
+    in_crates_way: usize,
     refused: usize,
 }
 
@@ -163,19 +174,27 @@ impl Bench {
     ) {
         let [before, after] = input_mem;
         match (ask.call, number) {
-            (0, 0) => (self.memory, self.faded) = (BLANK, BLANK.gains),
+            (0, 0) => {
+                (self.memory, self.faded) = (BLANK, BLANK.gains);
+                (self.way, self.finder) = (ask.way, PitchFinder::new());
+            }
             (2, 0) => self.noted = (ask.given[0].clone(), ask.lag.map_or_else(|| own_lag(after), |lag| lag as usize)),
             (3, 0) => self.frame(ask, &ask.given[0], &answer[1], count),
             (SECOND_HALF | RESUME, 0) => {
-                let second = transformed(before, self.noted.1);
+                let second = transformed(self.way, before, self.noted.1);
                 self.frame(ask, &second, answer.last().unwrap(), count);
+                count.in_crates_way += usize::from(self.way == Way::Crate);
             }
             (_, 0) => {}
             _ => count.refused += 1,
         }
-        // a frame is begun, with our own transform and lag
+        // a frame is begun, with the transform and the lag of its way
         if number == 0 && (ask.call == FIRST_HALF || (paused && matches!(ask.call, PIECE | RESUME))) {
-            self.noted = (transformed(after, 0), own_lag(after));
+            let lag = match self.way {
+                Way::Asked => own_lag(after),
+                Way::Crate => self.finder.process(after).0,
+            };
+            self.noted = (transformed(self.way, after, 0), lag);
         }
         count.in_pieces += usize::from((ask.call, number) == (RESUME, 0));
     }
@@ -216,7 +235,14 @@ fn memory_is_made_of_heard_frames() {
     let rng = &mut Rng::new(13);
     let (mut store, mut records) = (rng.list_of(STORE, Mood::Any), vec![vec![0; RECORD]; BENCHES]);
     let mut benches: Vec<Bench> = (0..BENCHES as u32)
-        .map(|side| Bench { caller: Caller::in_pieces(side, 2), memory: BLANK, noted: (vec![], 0), faded: BLANK.gains })
+        .map(|side| Bench {
+            caller: Caller::in_pieces(side, 2),
+            way: Way::Asked,
+            finder: PitchFinder::new(),
+            memory: BLANK,
+            noted: (vec![], 0),
+            faded: BLANK.gains,
+        })
         .collect();
     let mut count = Count::default();
     while count.heard + count.silent < FRAMES {
@@ -242,6 +268,7 @@ fn memory_is_made_of_heard_frames() {
             && count.silent > FRAMES / 20
             && count.broken > FRAMES / 100
             && count.in_pieces > FRAMES / 20
+            && count.in_crates_way > FRAMES / 20
             && count.refused > FRAMES / 20,
         "{count:?}"
     );

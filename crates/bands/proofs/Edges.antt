@@ -1,11 +1,10 @@
 -- What the proofs need of the band edges: they rise, band i's is at least i, the last is 400, and no band has more than 88 bins. Assumes nothing.
 use mathlib.Core.Path.{_≡_}
-use mathlib.Core.Bool.{Bool}
 use mathlib.Core.List.{List}
 use Prim.Native.Nat.{ℕ, _+_, _-_, _≤_, _<_}
-use lib.Dec.{T, leb, ltb, leb→le, ltb→lt}
-use lib.ListN.{getD, take}
-use Rattle.rules.proofs.Table.{every, at}
+use lib.Dec.{leb, ltb, leb→le, ltb→lt}
+use lib.ListN.{getD}
+use Rattle.rules.proofs.Below.{at-each}
 use Rattle.bands.specs.Bands.{edges, edge}
 
 pub record Edge (i : ℕ) : Type 0 where
@@ -14,19 +13,14 @@ pub record Edge (i : ℕ) : Type 0 where
   pub ends : edge (i + 1) ≤ 400
   pub small : edge (i + 1) - edge i ≤ 88
 
--- a test that all 21 bands pass, at band i
-holds : (f : ℕ → Bool) → T (every (λ k x. f k) 0 (take 21 edges)) → (i : ℕ) → i < 21 → T (f i)
-unfolding edges
-holds f t i h = at (λ k x. f k) (take 21 edges) t i h
-
 pub edges-rule : (i : ℕ) → i < 21 → Edge i
 unfolding edge edges
 edges-rule i h =
     record {
-      far = leb→le _ _ (holds (λ k. leb k (edge k)) tt i h);
-      rises = ltb→lt _ _ (holds (λ k. ltb (edge k) (edge (k + 1))) tt i h);
-      ends = leb→le _ _ (holds (λ k. leb (edge (k + 1)) 400) tt i h);
-      small = leb→le _ _ (holds (λ k. leb (edge (k + 1) - edge k) 88) tt i h);
+      far = leb→le _ _ (at-each 21 (λ k. leb k (edge k)) tt i h);
+      rises = ltb→lt _ _ (at-each 21 (λ k. ltb (edge k) (edge (k + 1))) tt i h);
+      ends = leb→le _ _ (at-each 21 (λ k. leb (edge (k + 1)) 400) tt i h);
+      small = leb→le _ _ (at-each 21 (λ k. leb (edge (k + 1) - edge k) 88) tt i h);
     }
 
 -- what the table says of band i

@@ -13,7 +13,7 @@ ghost use Rattle.bands.specs.Norm.{wnorm};
 ghost use Rattle.bands.specs.Windowed.{windowedBy, windowed, WindowFits};
 
 mod dct_table;
-mod window;
+pub mod window;
 
 // EBAND_5MS times 4.
 const EDGES: [usize; 22] = [

@@ -145,7 +145,7 @@ samples-both xs ys format channels channel p q =
 -- a second half is no numbering
 unnumbered : (frame : ℕ) (rec : Record) (share xs : List Float) (l : Lent) → nextFrame frame (second rec share xs l .reply) ≡ frame
 unnumbered frame rec share xs l =
-    second-half-by (first rec share xs l .share) (λ f. nextFrame frame (f .reply) ≡ frame) (λ _. refl) (rec .index) (rec .vad) (rec .noise) (rec .denoise) (l .logs) (l .model) 480
+    second-half-by (first rec share xs l .share) (λ f. nextFrame frame (f .reply) ≡ frame) (λ _. refl) (rec .hearing) (l .logs) (l .model) 480
     (λ _ _ _. refl) (λ _. refl) (λ _ _ _ _ _. refl)
 
 one-more : (n : ℕ) → n < 4294967296 → oneMore n ≡ (n + 1) % 4294967296

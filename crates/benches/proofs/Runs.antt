@@ -37,6 +37,7 @@ use Rattle.whole.proofs.Dictations.{as-dictated}
 use Rattle.whole.proofs.Ranged.{take-by}
 use Rattle.isolation.specs.Run.{Gives, On, on, State, recordAt, after, ended, received, done}
 use Rattle.isolation.proofs.Isolated.{beside}
+use Rattle.isolation.proofs.Runs.{reads}
 use Rattle.surface.specs.Surface.{take, called}
 use Rattle.surface.proofs.Numbers.{zero-is-done}
 use Rattle.surface.proofs.Refusing.{refused-leaves}
@@ -135,7 +136,6 @@ module _ (n s : ℕ) (inside : s < n) (ns : List ℕ) (store : List Float) (l : 
   gave-said : passed (feeding.feed n s rec store b model cleaned entries answers .answer .reply) ≡ true
       → (told : List frames.Told) × Says rec share (samplesOf b) model told
       × (gaveOf s (every n s ns store (feed b model cleaned entries answers)) ≡ hasSaid rec share (samplesOf b) model told)
-  unfolding recordIn
   gave-said p =
       let f = fed-is p in
       let t = as-dictated n s rec store (samplesOf b) model ROOM answers (f .1) in
@@ -148,7 +148,7 @@ module _ (n s : ℕ) (inside : s < n) (ns : List ℕ) (store : List Float) (l : 
       (share-size rec share (waitingIn (rec .waiting) share ++ samplesOf b) (map (lentTo model) told) full) in (
         told,
         record { same = t .1 .2; count = t .1 .0; waits = sizes .0; some = sizes .1 },
-        ap (λ (o : Fed). gaveOf s (ofBytes ns o)) (f .0) ∙ ap (λ (g : Given). gaveOf s (ofBytes ns (fedBy (rec .frame) g))) (t .1 .3) ∙ rw (f .1, back),
+        ap (λ (o : Fed). gaveOf s (ofBytes ns o)) (f .0) ∙ ap (λ (g : Given). gaveOf s (ofBytes ns (fedBy (rec .frame) g))) (t .1 .3) ∙ rw (f .1, back, reads (d .rec)),
       )
 
 -- ---- calls that are done, one after the other

@@ -16,7 +16,7 @@ use lib.Dec.{eqb, ltb}
 use lib.ListN.{length}
 use lib.Ieee.{Float}
 use Rattle.rules.specs.Place.{get, put}
-use Rattle.rules.proofs.Places.{Within, Apart, length-get, length-put, get-put, get-put-apart, put-get}
+use Rattle.rules.proofs.Places.{Within, length-get, length-put, get-put, get-put-apart, put-get}
 use Rattle.rules.proofs.Wholes.{get-whole, put-whole}
 use Rattle.model.specs.Model.{readOf}
 use Rattle.model.specs.declared.Reading.{Reading}
@@ -24,10 +24,13 @@ use Rattle.model.specs.declared.Reading.the-variants.{Good, Refused as Unread}
 use Rattle.frame.specs.Share.{SHARE}
 use Rattle.frame.specs.Reply.{passed}
 use Rattle.frame.specs.declared.Reply.the-variants.{Refused}
+use Rattle.frame.specs.declared.Way.{Way}
 use Rattle.pieces.specs.Pieces.{Outcome, refused}
 use Rattle.desk.specs.declared.Record.{Record}
 use Rattle.desk.specs.Gate.{shareOf, gate, inRange, allZero, idle}
 use Rattle.desk.specs.Desk.{Ask, opening, call1, call2, call2Own, call3, call4, firstHalf, secondHalf, piece, resume, callOf, closed, answered, opened, onShare, admitted, Given, desk}
+pub use Rattle.desk.specs.Laws.{placed}
+use Rattle.desk.specs.Laws.{SharesApart, ItsOwn, SameLength, OtherShare, AnsweredAlike, ClosedAlike, OpensAnew}
 use Rattle.desk.proofs.Settled.{admitted-kept}
 use Rattle.desk.proofs.Turned.{through, gate-own, closed-opens}
 
@@ -40,14 +43,8 @@ lt-or-ge a b = go (ltb a b) refl
     go true e = inl (ltb-true a b e)
     go false e = inr (ltb-false a b e)
 
-pub apart : (a b : ℕ) → (a ≡ b → ⊥) → Apart (shareOf a) (shareOf b)
+pub apart : SharesApart
 apart a b ne = ⊎-elim (λ h. inl (omega arith)) (λ h. inr (omega arith)) (lt-or-ge a b)
-
--- ---- one call on a desk of n benches
-
--- an outcome on a store that is the share of a side, in the store that the share is a part of
-abbrev pub placed : ℕ → List Float → Given → Given
-placed side store o = record { answer = o .answer; store = put (shareOf side) store (o .store); written = o .written }
 
 -- ---- a desk of one bench, whose store is the share
 
@@ -81,11 +78,11 @@ module _ (n side : ℕ) (b : Record) (store : List Float) (ask : Ask) (l : lengt
     unfolding desk
     asked = rw (gate-own n side b (length store) (callOf ask) h l)
 
-    pub its-own : desk n side b store ask ≡ placed side store (desk 1 0 b share ask)
-    its-own = asked ∙ ap (placed side store) (sym (one-bench b share ask fits))
+    its : desk n side b store ask ≡ placed side store (desk 1 0 b share ask)
+    its = asked ∙ ap (placed side store) (sym (one-bench b share ask fits))
 
     stored : after ≡ put (shareOf side) store (desk 1 0 b share ask .store)
-    stored = ap (λ (o : Given). o .store) its-own
+    stored = ap (λ (o : Given). o .store) its
 
     whole : length (desk 1 0 b share ask .store) ≡ SHARE
     whole = one-length b share ask fits
@@ -100,70 +97,72 @@ module _ (n side : ℕ) (b : Record) (store : List Float) (ask : Ask) (l : lengt
       let shut : gate n side b (length store) (callOf ask) ≡ 0 → ⊥ = λ z. omega (arith, through n side b (length store) (callOf ask) z .0) in
       rw (ne-eqb (gate n side b (length store) (callOf ask)) 0 shut) (put-get (shareOf side) store)
 
-  pub same-length : length after ≡ length store
-  same-length =
+  long : length after ≡ length store
+  long =
       ⊎-elim
       (λ h. ap length (stored h) ∙ length-put (shareOf side) store (desk 1 0 b share ask .store) (within h) (whole h))
       (λ h. ap length (no-side h))
       (lt-or-ge side n)
 
-  pub other-share : (s : ℕ) → (side ≡ s → ⊥) → get (shareOf s) after ≡ get (shareOf s) store
-  other-share s ne =
+  elsewhere : (s : ℕ) → (side ≡ s → ⊥) → get (shareOf s) after ≡ get (shareOf s) store
+  elsewhere s ne =
       ⊎-elim
       (λ h. ap (get (shareOf s)) (stored h) ∙ get-put-apart (shareOf side) (shareOf s) store (desk 1 0 b share ask .store) (within h) (whole h) (apart side s ne))
       (λ h. ap (get (shareOf s)) (no-side h))
       (lt-or-ge side n)
 
+pub its-own : ItsOwn
+its-own n side b store ask l h = its n side b store ask l h
+
+pub same-length : SameLength
+same-length n side b store ask l = long n side b store ask l
+
+pub other-share : OtherShare
+other-share n side b store ask l s ne = elsewhere n side b store ask l s ne
+
 -- ---- what a share held before an opening is never told
 
--- two outcomes that answer alike, and leave the same store or a closed record
-pub record Alike (o u : Given) : Type 0 where
-  pub answer : o .answer ≡ u .answer
-  pub written : o .written ≡ u .written
-  pub store : (o .store ≡ u .store) ⊎ (o .answer .rec .due ≡ 0)
+pub closed-alike : ClosedAlike
+closed-alike b xs ys l k ask z = rw (one-bench b xs ask l, one-bench b ys ask k) (go (eqb number 0) refl)
+  where
+    number : ℕ
+    number = gate 1 0 b SHARE (callOf ask)
 
-module _ (b : Record) (xs ys : List Float) (l : length xs ≡ SHARE) (k : length ys ≡ SHARE) where
-  pub closed-alike : (ask : Ask) → b .due ≡ 0 → Alike (desk 1 0 b xs ask) (desk 1 0 b ys ask)
-  closed-alike ask z = rw (one-bench b xs ask l, one-bench b ys ask k) (go (eqb number 0) refl)
-    where
-      number : ℕ
-      number = gate 1 0 b SHARE (callOf ask)
+    opens : (read : Reading) (w : Way) (m : List ℕ) → AnsweredAlike (givenOf b (opening w m) (opened xs read)) (givenOf b (opening w m) (opened ys read))
+    opens (Good m) _ _ = record { answer = refl; written = refl; store = inl refl }
+    opens (Unread n l) _ _ = record { answer = refl; written = refl; store = inr z }
 
-      opens : (read : Reading) (m : List ℕ) → Alike (givenOf b (opening m) (opened xs read)) (givenOf b (opening m) (opened ys read))
-      opens (Good m) _ = record { answer = refl; written = refl; store = inl refl }
-      opens (Unread n l) _ = record { answer = refl; written = refl; store = inr z }
+    -- of a closed side only an opening gets through
+    admit : (a : Ask) → callOf a ≡ 0 → AnsweredAlike (givenOf b a (onShare b xs a)) (givenOf b a (onShare b ys a))
+    admit (opening w m) e = opens (readOf m) w m
+    admit (call1 x w) e = absurd (omega arith)
+    admit (call2 x g w s) e = absurd (omega arith)
+    admit (call2Own x w s) e = absurd (omega arith)
+    admit (call3 x g m o) e = absurd (omega arith)
+    admit (call4 x o) e = absurd (omega arith)
+    admit (firstHalf x s) e = absurd (omega arith)
+    admit (secondHalf g m o) e = absurd (omega arith)
+    admit (piece x o s) e = absurd (omega arith)
+    admit (resume x g m o s) e = absurd (omega arith)
 
-      -- of a closed side only an opening gets through
-      admit : (a : Ask) → callOf a ≡ 0 → Alike (givenOf b a (onShare b xs a)) (givenOf b a (onShare b ys a))
-      admit (opening m) e = opens (readOf m) m
-      admit (call1 x w) e = absurd (omega arith)
-      admit (call2 x g w s) e = absurd (omega arith)
-      admit (call2Own x w s) e = absurd (omega arith)
-      admit (call3 x g m o) e = absurd (omega arith)
-      admit (call4 x o) e = absurd (omega arith)
-      admit (firstHalf x s) e = absurd (omega arith)
-      admit (secondHalf g m o) e = absurd (omega arith)
-      admit (piece x o s) e = absurd (omega arith)
-      admit (resume x g m o s) e = absurd (omega arith)
+    go : (t : Bool) → eqb number 0 ≡ t → AnsweredAlike (givenOf b ask (admitted b xs ask number)) (givenOf b ask (admitted b ys ask number))
+    go true e = rw e (admit ask (closed-opens 1 0 b SHARE (callOf ask) z (eqb-true number 0 e)))
+    go false e = rw e (record { answer = refl; written = refl; store = inr z })
 
-      go : (t : Bool) → eqb number 0 ≡ t → Alike (givenOf b ask (admitted b xs ask number)) (givenOf b ask (admitted b ys ask number))
-      go true e = rw e (admit ask (closed-opens 1 0 b SHARE (callOf ask) z (eqb-true number 0 e)))
-      go false e = rw e (record { answer = refl; written = refl; store = inr z })
+-- the closed record, too, gets through
+pub anew : OpensAnew
+unfolding gate inRange allZero idle
+anew b xs ys l k w m = rw (one-bench b xs (opening w m) l, one-bench closed ys (opening w m) k) (go (eqb number 0))
+  where
+    number : ℕ
+    number = gate 1 0 b SHARE 0
 
-  -- the closed record, too, gets through
-  pub anew : (m : List ℕ) → passed (desk 1 0 b xs (opening m) .answer .reply) ≡ true → desk 1 0 b xs (opening m) ≡ desk 1 0 closed ys (opening m)
-  unfolding gate inRange allZero idle
-  anew m = rw (one-bench b xs (opening m) l, one-bench closed ys (opening m) k) (go (eqb number 0))
-    where
-      number : ℕ
-      number = gate 1 0 b SHARE 0
+    opens : (read : Reading) → readOf m ≡ read → passed (opened xs read .reply) ≡ true
+        → givenOf b (opening w m) (opened xs read) ≡ givenOf closed (opening w m) (opened ys read)
+    opens (Good m) e h = rw e
+    opens (Unread n l) e h = let one : _≡_ {A = ℕ} 0 1 = cc in absurd (omega arith)
 
-      opens : (read : Reading) → readOf m ≡ read → passed (opened xs read .reply) ≡ true
-          → givenOf b (opening m) (opened xs read) ≡ givenOf closed (opening m) (opened ys read)
-      opens (Good m) e h = rw e
-      opens (Unread n l) e h = let one : _≡_ {A = ℕ} 0 1 = cc in absurd (omega arith)
-
-      go : (t : Bool) → passed (cond t (opened xs (readOf m)) (refused (Refused number) xs) .reply) ≡ true
-          → givenOf b (opening m) (cond t (opened xs (readOf m)) (refused (Refused number) xs)) ≡ givenOf closed (opening m) (admitted closed ys (opening m) (gate 1 0 closed SHARE 0))
-      go true h = opens (readOf m) refl h
-      go false h = let one : _≡_ {A = ℕ} 0 1 = cc in absurd (omega arith)
+    go : (t : Bool) → passed (cond t (opened xs (readOf m)) (refused (Refused number) xs) .reply) ≡ true
+        → givenOf b (opening w m) (cond t (opened xs (readOf m)) (refused (Refused number) xs)) ≡ givenOf closed (opening w m) (admitted closed ys (opening w m) (gate 1 0 closed SHARE 0))
+    go true h = opens (readOf m) refl h
+    go false h = let one : _≡_ {A = ℕ} 0 1 = cc in absurd (omega arith)

@@ -1,4 +1,4 @@
--- How many answer buffers a call is lent, and that it writes to each of them, or is refused and writes to none (`buffers`). Assumes nothing.
+-- A call writes to each answer buffer that it is lent, or is refused and writes to none (`buffers`). Assumes nothing.
 use Prim.Native.Nat.{ℕ, _*_, _-_}
 use mathlib.Core.Bool.{Bool, true, false, cond}
 use mathlib.Core.List.{List, [], _++_, map}
@@ -13,6 +13,7 @@ use Rattle.model.specs.declared.Reading.{Reading}
 use Rattle.model.specs.declared.Reading.the-variants.{Good, Refused as Unread}
 use Rattle.frame.specs.declared.Reply.{Reply}
 use Rattle.frame.specs.declared.Reply.the-variants.{Done, Refused}
+use Rattle.frame.specs.declared.Way.{Way}
 use Rattle.frame.specs.Reply.{passed}
 use Rattle.frame.specs.Frame.{Effect}
 use Rattle.frame.proofs.Cases.{call1-by, call2-by, call3-by, call4-by}
@@ -26,18 +27,8 @@ use Rattle.pieces.proofs.Shares.{part-length}
 use Rattle.desk.specs.declared.Record.{Record}
 use Rattle.desk.specs.Gate.{gate, shareOf}
 use Rattle.desk.specs.Desk.{Ask, opening, call1, call2, call2Own, call3, call4, firstHalf, secondHalf, piece, resume, callOf, opened, onShare, desk}
-
-abbrev pub buffersOf : Ask → ℕ
-buffersOf (opening m) = 0
-buffersOf (call1 x w) = 1
-buffersOf (call2 x l w s) = 2
-buffersOf (call2Own x w s) = 2
-buffersOf (call3 x l m o) = 1
-buffersOf (call4 x o) = 1
-buffersOf (firstHalf x s) = 1
-buffersOf (secondHalf l m o) = 1
-buffersOf (piece x o s) = 2
-buffersOf (resume x l m o s) = 2
+pub use Rattle.desk.specs.Laws.{buffersOf}
+use Rattle.desk.specs.Laws.{Buffers}
 
 -- n of them are written to
 abbrev Writes : ℕ → Outcome → Type 0
@@ -50,11 +41,11 @@ opens : (read : Reading) (share : List Float) → Writes 0 (opened share read)
 opens (Good m) share = refl
 opens (Unread n l) share = refl
 
-further-two : (reply : Reply) (share rest : List Float) (out : Written) → passed reply ≡ true → Writes 2 (further reply share rest out)
+further-two : (reply : Reply) (share : List Float) (way : Way) (rest : List Float) (out : Written) → passed reply ≡ true → Writes 2 (further reply share way rest out)
 unfolding further
-further-two reply share rest out p = go (ltb (length rest) 480)
+further-two reply share way rest out p = go (ltb (length rest) 480)
   where
-    go : (t : Bool) → Writes 2 (cond t (atEnd reply share rest out) (paused reply share rest out))
+    go : (t : Bool) → Writes 2 (cond t (atEnd reply share rest out) (paused reply share way rest out))
     go true = rw p
     go false = rw p
 
@@ -63,26 +54,25 @@ module _ (b : Record) (share : List Float) where
   part = get framePart share
 
   written : (ask : Ask) → Writes (buffersOf ask) (onShare b share ask)
-  written (opening m) = opens (readOf m) share
+  written (opening w m) = opens (readOf m) share
   written (call1 x w) = call1-by part (WritesOf 1) (λ _. refl) x w (λ _ _. refl)
   written (call2 x l w s) = call2-by part (WritesOf 2) (λ _. refl) x l w s (λ _. refl)
   written (call2Own x w s) = call2-own-by part (WritesOf 2) (λ _. refl) x w s (λ _. refl)
-  written (call3 x l m o) = call3-by part (WritesOf 1) (λ _. refl) (b .index) (b .vad) (b .noise) (b .denoise) x l m o (λ _ _ _. refl) refl (λ _ _ _ _ _. refl)
+  written (call3 x l m o) = call3-by part (WritesOf 1) (λ _. refl) (b .hearing) x l m o (λ _ _ _. refl) refl (λ _ _ _ _ _. refl)
   written (call4 x o) = call4-by part (WritesOf 1) (λ _. refl) (b .frame) (b .heard) x o (λ _. refl)
-  written (firstHalf x s) = first-half-by part (WritesOf 1) (λ _. refl) x s (λ _ _. refl)
+  written (firstHalf x s) = first-half-by part (WritesOf 1) (λ _. refl) (b .hearing .way) x s (λ _ _. refl)
   written (secondHalf l m o) =
-      second-half-by part (WritesOf 1) (λ _. refl) (b .index) (b .vad) (b .noise) (b .denoise) l m o (λ _ _ _. refl) (λ _. refl) (λ _ _ _ _ _. refl)
+      second-half-by part (WritesOf 1) (λ _. refl) (b .hearing) l m o (λ _ _ _. refl) (λ _. refl) (λ _ _ _ _ _. refl)
   written (piece x o s) =
-      piece-by share (Writes 2) (λ _. refl) (b .waiting) x o s (λ _. further-two Done (waits share []) (waitingIn (b .waiting) share ++ x) nothing refl)
+      piece-by share (Writes 2) (λ _. refl) (b .hearing .way) (b .waiting) x o s (λ _. further-two Done (waits share []) (b .hearing .way) (waitingIn (b .waiting) share ++ x) nothing refl)
   written (resume x l m o s) =
-      resume-by share (Writes 2) (λ _. refl) (b .index) (b .vad) (b .noise) (b .denoise) (b .piece) (b .progress) x l m o s (λ _ _ _. refl)
+      resume-by share (Writes 2) (λ _. refl) (b .hearing) (b .piece) (b .progress) x l m o s (λ _ _ _. refl)
       (λ k.
-      let h = halves.secondHalf part (b .index) (b .vad) (b .noise) (b .denoise) l m 480 in
-      let p = second-passes part (b .index) (b .vad) (b .noise) (b .denoise) l m (part-length share (k .size)) (k .taken) (k .inside) (k .right) in
-      further-two (h .reply) (put framePart share (h .share)) (drop (b .progress) x) (from (480 * (frameAt (b .progress) - 1)) (halves.buffer h)) (p .passes))
+      let h = halves.secondHalf part (b .hearing) l m 480 in
+      let p = second-passes part (b .hearing) l m (part-length share (k .size)) (k .taken) (k .inside) (k .right) in
+      further-two (h .reply) (put framePart share (h .share)) (b .hearing .way) (drop (b .progress) x) (from (480 * (frameAt (b .progress) - 1)) (halves.buffer h)) (p .passes))
 
-pub buffers : (benches side : ℕ) (b : Record) (store : List Float) (ask : Ask)
-    → length (desk benches side b store ask .written) ≡ cond (passed (desk benches side b store ask .answer .reply)) (buffersOf ask) 0
+pub buffers : Buffers
 unfolding desk
 buffers benches side b store ask = go (eqb number 0)
   where

@@ -10,38 +10,33 @@ use lib.Dec.{eqb}
 use lib.ListN.{length, drop, getD}
 use lib.Ieee.{Float}
 use Rattle.rules.specs.Place.{get, put}
-use Rattle.rules.specs.Written.{Written, all, firstIn}
+use Rattle.rules.specs.Written.{all, firstIn}
 use Rattle.rules.proofs.Places.{Within, length-get, length-put, get-put, put-put}
 use Rattle.rules.proofs.Refused.{clear}
 use Rattle.rules.proofs.Truth.{both}
-use Rattle.transforms.specs.Transform.{forwardOf, inverseOf}
+use Rattle.transforms.specs.Transform.{forwardOf}
 use Rattle.frame.specs.Reply.{passed, oneMore}
 use Rattle.frame.specs.Share.{SHARE, PART}
 use Rattle.frame.specs.Frame.{Effect}
 use Rattle.frame.specs.Frame as frame
 use Rattle.frame.specs.declared.Reply.{Reply}
 use Rattle.frame.specs.declared.Reply.the-variants.{Done, Numbered, Refused}
+use Rattle.frame.specs.declared.Way.{Way}
+use Rattle.frame.specs.declared.Way.the-variants.{Asked}
 use Rattle.frame.proofs.Cases.{call1-by, call4-by}
 use Rattle.frame.proofs.Keeps.{call1-keeps, call3-keeps}
 use Rattle.halves.specs.Halves.{lookedBack}
 use Rattle.halves.specs.Halves as halves
-use Rattle.halves.proofs.Joined.{first-half-is, second-half-is}
+use Rattle.halves.specs.Ways.{forwardBy, inverseBy}
+use Rattle.halves.proofs.Joined.{asked-first, second-half-is}
 use Rattle.halves.proofs.Sister.{call2-own-by}
 use Rattle.pieces.specs.Pieces.{Outcome, framePart, refused, inPart}
 use Rattle.desk.specs.declared.Record.{Record}
 use Rattle.desk.specs.Gate.{idle, inRange, isDue, refusals, gate, shareOf}
 use Rattle.desk.specs.Desk.{Ask, call1, call2Own, call3, call4, firstHalf, secondHalf, callOf, nextDue, advanced, numbered, answered, onShare, Given, desk}
+use Rattle.desk.specs.Laws.{InTurn, FirstInTurn, SecondInTurn}
 use Rattle.desk.proofs.Turned.{none, through}
 use Rattle.desk.proofs.Ranged.{advanced-range}
-
--- a half that is two calls of the desk: both are done, it leaves the second's record and store, and this is its reply and what it writes
-pub record InTurn (one two half : Given) (reply : Reply) (written : List Written) : Type 0 where
-  pub first : passed (one .answer .reply) ≡ true
-  pub last : passed (two .answer .reply) ≡ true
-  pub replies : half .answer .reply ≡ reply
-  pub records : half .answer .rec ≡ two .answer .rec
-  pub stores : half .store ≡ two .store
-  pub writes : half .written ≡ written
 
 -- ---- the gate
 
@@ -89,12 +84,12 @@ module _ (n side : ℕ) (b : Record) (store : List Float) where
   abbrev of : Ask → Outcome → Given
   of ask f = record { answer = answered b ask (f .reply); store = put (shareOf side) store (f .share); written = f .written }
 
-  let-in : (ask : Ask) → number ask ≡ 0 → desk n side b store ask ≡ of ask (onShare b share ask)
+  pub let-in : (ask : Ask) → number ask ≡ 0 → desk n side b store ask ≡ of ask (onShare b share ask)
   unfolding desk
   let-in ask e = rw (eq-eqb (number ask) 0 e)
 
   -- a call that is done was let through
-  was-let-in : (ask : Ask) → passed (desk n side b store ask .answer .reply) ≡ true → number ask ≡ 0
+  pub was-let-in : (ask : Ask) → passed (desk n side b store ask .answer .reply) ≡ true → number ask ≡ 0
   unfolding desk
   was-let-in ask = go (eqb (number ask) 0) refl
     where
@@ -192,14 +187,17 @@ module _ (n side : ℕ) (b : Record) (store : List Float) where
     abbrev two : Given
     two = desk n side (one .answer .rec) (one .store) (call2Own (forwardOf (firstIn (one .written))) 960 sums)
 
-    pub first-half-in-turn : let half = desk n side b store (firstHalf samples sums) in passed (half .answer .reply) ≡ true → InTurn one two half (two .answer .reply) (drop 1 (two .written))
-    first-half-in-turn p =
+    first-turn : let half = desk n side b store (firstHalf samples sums) in
+        b .hearing .way ≡ Asked → passed (half .answer .reply) ≡ true → InTurn one two half (two .answer .reply) (drop 1 (two .written))
+    first-turn asked p =
         let e = was-let-in n side b store (firstHalf samples sums) p in
         let right = through n side b (length store) 1 e in
-        let h = let-in n side b store (firstHalf samples sums) e in
+        let h =
+        let-in n side b store (firstHalf samples sums) e
+        ∙ ap (λ (w : Way). of n side b store (firstHalf samples sums) (inPart mine (halves.firstHalf part w samples sums))) asked in
         let o = let-in n side b store (call1 samples 960) e in
         let a = frame.call1 part samples 960 in
-        let both = first-half-is part samples sums (ap (λ (g : Given). passed (g .answer .reply)) (sym h) ∙ p) in
+        let both = asked-first part samples sums (ap (λ (g : Given). passed (g .answer .reply)) (sym h) ∙ p) in
         let spectrum = forwardOf (halves.buffer a) in
         let w =
         ap (λ (g : Given). desk n side (g .answer .rec) (g .store) (call2Own (forwardOf (firstIn (g .written))) 960 sums)) o
@@ -225,29 +223,31 @@ module _ (n side : ℕ) (b : Record) (store : List Float) where
 
   module _ (logs : List Float) (model : List ℕ) (out : ℕ) where
     abbrev three : Given
-    three = desk n side b store (call3 (forwardOf (lookedBack part)) logs model 961)
+    three = desk n side b store (call3 (forwardBy (b .hearing .way) (lookedBack part)) logs model 961)
 
     abbrev four : Given
-    four = desk n side (three .answer .rec) (three .store) (call4 (inverseOf (firstIn (three .written))) out)
+    four = desk n side (three .answer .rec) (three .store) (call4 (inverseBy (b .hearing .way) (firstIn (three .written))) out)
 
-    pub second-half-in-turn : let half = desk n side b store (secondHalf logs model out) in passed (half .answer .reply) ≡ true → InTurn three four half (three .answer .reply) (four .written) × (four .answer .reply ≡ Numbered (half .answer .rec .frame) (half .answer .rec .heard))
-    second-half-in-turn p =
+    second-turn : let half = desk n side b store (secondHalf logs model out) in
+        passed (half .answer .reply) ≡ true
+        → InTurn three four half (three .answer .reply) (four .written) × (four .answer .reply ≡ Numbered (half .answer .rec .frame) (half .answer .rec .heard))
+    second-turn p =
         let e = was-let-in n side b store (secondHalf logs model out) p in
         let right = through n side b (length store) 3 e in
         let h = let-in n side b store (secondHalf logs model out) e in
-        let spectrum = forwardOf (lookedBack part) in
+        let spectrum = forwardBy (b .hearing .way) (lookedBack part) in
         let o = let-in n side b store (call3 spectrum logs model 961) e in
-        let a = frame.call3 part (b .index) (b .vad) (b .noise) (b .denoise) spectrum logs model 961 in
+        let a = frame.call3 part (b .hearing) spectrum logs model 961 in
         let next = advanced b (a .reply) in
         let both =
-        second-half-is part (b .index) (b .vad) (b .noise) (b .denoise) logs model out (next .frame) (next .heard)
+        second-half-is part (b .hearing) logs model out (next .frame) (next .heard)
         (ap (λ (g : Given). passed (g .answer .reply)) (sym h) ∙ p) in
-        let inverse = inverseOf (halves.buffer a) in
+        let inverse = inverseBy (b .hearing .way) (halves.buffer a) in
         let w =
-        ap (λ (g : Given). desk n side (g .answer .rec) (g .store) (call4 (inverseOf (firstIn (g .written))) out)) o
-        ∙ ap (λ (xs : List Float). desk n side (cond (passed (a .reply)) next b) (put (shareOf side) store (put framePart mine (a .share))) (call4 (inverseOf xs) out)) (the-first (a .written))
+        ap (λ (g : Given). desk n side (g .answer .rec) (g .store) (call4 (inverseBy (b .hearing .way) (firstIn (g .written))) out)) o
+        ∙ ap (λ (xs : List Float). desk n side (cond (passed (a .reply)) next b) (put (shareOf side) store (put framePart mine (a .share))) (call4 (inverseBy (b .hearing .way) xs) out)) (the-first (a .written))
         ∙ ap (λ (r : Record). desk n side r (put (shareOf side) store (put framePart mine (a .share))) (call4 inverse out)) (done-record b (a .reply) (both .first))
-        ∙ part-in right next (a .share) (call3-keeps part (b .index) (b .vad) (b .noise) (b .denoise) spectrum logs model 961 .size)
+        ∙ part-in right next (a .share) (call3-keeps part (b .hearing) spectrum logs model 961 .size)
         (λ xs. frame.call4 xs (next .frame) (next .heard) inverse out) (call4 inverse out) (λ s. refl)
         (gate-next n side b (length store) 3 (a .reply) (omega arith) (omega arith) e) in
         let last = done-4 (a .share) (next .frame) (next .heard) inverse out (both .last) in
@@ -267,3 +267,9 @@ module _ (n side : ℕ) (b : Record) (store : List Float) where
               ∙ answered-in next _ last
               ∙ ap (λ (r : Record). Numbered (r .frame) (r .heard)) (sym (ap (λ (g : Given). g .answer .rec) w) ∙ sym records),
         )
+
+pub first-half-in-turn : FirstInTurn
+first-half-in-turn n side b store samples sums asked p = first-turn n side b store samples sums asked p
+
+pub second-half-in-turn : SecondInTurn
+second-half-in-turn n side b store logs model out p = second-turn n side b store logs model out p

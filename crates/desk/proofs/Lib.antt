@@ -10,3 +10,4 @@ mod Serve
 pub mod Settled
 pub mod Turned
 mod Twice
+pub mod Zeros

@@ -1,29 +1,34 @@
 -- The record that a call hands back is in range: a host that hands back what it received is never turned away for it.
 --     range-kept    where a call is done, the record that it was given and the one that it gives back are in range
 --     bounded       what in range says, in numbers
+--     opens         with a record in range an opening is done, where side, store and model are right
 -- Assumes nothing.
-use Prim.Native.Nat.{ℕ, _+_, _-_, _≤_}
+use Prim.Native.Nat.{ℕ, _+_, _-_, _*_, _≤_, _<_}
 use native.Mathlib.Omega.{arith}
 use mathlib.Core.Bool.{Bool, true, false, cond, _&&_}
 use mathlib.Core.List.{List}
 use mathlib.Core.Path.{_≡_, refl, sym}
-use borrow.Author.Tests.{ne-eqb, eqb-true, eqb-false, le-leb, leb-true, ltb-true, ltb-false, not-false}
+use borrow.Author.Tests.{lt-ltb, eq-eqb, ne-eqb, eqb-true, eqb-false, le-leb, leb-true, ltb-true, ltb-false, not-false}
 use lib.Dec.{eqb, leb, ltb}
 use lib.ListN.{length}
 use lib.Ieee.{Float}
 use Rattle.rules.specs.Place.{get}
 use Rattle.rules.proofs.Truth.{both}
 use Rattle.model.specs.Model.{readOf}
+use Rattle.model.specs.declared.Model.{Model}
 use Rattle.model.specs.declared.Reading.{Reading}
 use Rattle.model.specs.declared.Reading.the-variants.{Good, Refused as Unread}
 use Rattle.model.proofs.Shapes.{shaped}
-use Rattle.frame.specs.Reply.{passed, oneMore}
+use Rattle.frame.specs.Share.{SHARE}
+use Rattle.frame.specs.Reply.{passed, isHeard, oneMore}
 use Rattle.frame.specs.declared.Reply.{Reply}
-use Rattle.frame.specs.declared.Reply.the-variants.{Done, Silent, Heard, Numbered, Refused, Misread}
+use Rattle.frame.specs.declared.Reply.the-variants.{Done, Numbered, Refused}
+use Rattle.frame.specs.declared.Way.{Way}
 use Rattle.pieces.specs.Pieces.{refused}
 use Rattle.desk.specs.declared.Record.{Record}
-use Rattle.desk.specs.Gate.{idle, allZero, inCounts, resting, underWay, inPieces, inRange, notOpening, gate, shareOf}
-use Rattle.desk.specs.Desk.{Ask, opening, call1, call2, call2Own, call3, call4, firstHalf, secondHalf, piece, resume, callOf, holding, nextDue, nextIndex, advanced, numbered, carried, started, answered, onShare, opened, desk}
+use Rattle.desk.specs.Gate.{idle, wayNumber, allZero, inCounts, resting, underWay, inPieces, inRange, notOpening, gate, shareOf}
+use Rattle.desk.specs.Desk.{Ask, opening, call1, call2, call2Own, call3, call4, firstHalf, secondHalf, piece, resume, callOf, closed, holding, nextDue, nextIndex, advanced, numbered, carried, started, answered, onShare, opened, desk}
+use Rattle.desk.specs.Laws.{RangeKept, Opens}
 use Rattle.desk.proofs.Pieced.{piece-fitted, resume-fitted}
 use Rattle.desk.proofs.Turned.{none}
 
@@ -35,10 +40,10 @@ either false a b f g = g refl
 
 pub record Bounded (b : Record) : Type 0 where
   pub due : b .due ≤ 4
-  pub index : b .index ≤ 7
-  pub vad : b .vad ≤ 127
-  pub noise : b .noise ≤ 127
-  pub denoise : b .denoise ≤ 127
+  pub index : b .hearing .index ≤ 7
+  pub vad : b .hearing .vad ≤ 127
+  pub noise : b .hearing .noise ≤ 127
+  pub denoise : b .hearing .denoise ≤ 127
   pub waiting : b .waiting ≤ 479
   pub piece : b .piece ≤ 4096
   pub progress : b .progress ≤ 4096
@@ -77,24 +82,26 @@ bounded b e = go (eqb (b .due) 0) refl
     go : (t : Bool) → eqb (b .due) 0 ≡ t → Bounded b
     go true h =
         let zero = eqb-true (b .due) 0 h in
-        let pieces : Bool = idle b && eqb (b .progress) 0 in
+        let last : Bool = eqb (b .progress) 0 && eqb (wayNumber (b .hearing .way)) 0 in
+        let pieces : Bool = idle b && last in
         let numbers : Bool = eqb (b .frame) 0 && (eqb (b .heard) 0 && pieces) in
-        let i = both (eqb (b .index) 0) (eqb (b .vad) 0 && (eqb (b .noise) 0 && (eqb (b .denoise) 0 && numbers))) (rw h at e) in
-        let v = both (eqb (b .vad) 0) (eqb (b .noise) 0 && (eqb (b .denoise) 0 && numbers)) (i .1) in
-        let n = both (eqb (b .noise) 0) (eqb (b .denoise) 0 && numbers) (v .1) in
-        let d = both (eqb (b .denoise) 0) numbers (n .1) in
+        let i = both (eqb (b .hearing .index) 0) (eqb (b .hearing .vad) 0 && (eqb (b .hearing .noise) 0 && (eqb (b .hearing .denoise) 0 && numbers))) (rw h at e) in
+        let v = both (eqb (b .hearing .vad) 0) (eqb (b .hearing .noise) 0 && (eqb (b .hearing .denoise) 0 && numbers)) (i .1) in
+        let n = both (eqb (b .hearing .noise) 0) (eqb (b .hearing .denoise) 0 && numbers) (v .1) in
+        let d = both (eqb (b .hearing .denoise) 0) numbers (n .1) in
         let s = both (eqb (b .heard) 0) pieces (both (eqb (b .frame) 0) (eqb (b .heard) 0 && pieces) (d .1) .1) in
-        let k = both (idle b) (eqb (b .progress) 0) (s .1) in
+        let k = both (idle b) last (s .1) in
+        let p = both (eqb (b .progress) 0) (eqb (wayNumber (b .hearing .way)) 0) (k .1) in
         let w = both (eqb (b .waiting) 0) (eqb (b .piece) 0) (k .0) in
         record {
           due = omega arith;
-          index = omega (arith, eqb-true (b .index) 0 (i .0));
-          vad = omega (arith, eqb-true (b .vad) 0 (v .0));
-          noise = omega (arith, eqb-true (b .noise) 0 (n .0));
-          denoise = omega (arith, eqb-true (b .denoise) 0 (d .0));
+          index = omega (arith, eqb-true (b .hearing .index) 0 (i .0));
+          vad = omega (arith, eqb-true (b .hearing .vad) 0 (v .0));
+          noise = omega (arith, eqb-true (b .hearing .noise) 0 (n .0));
+          denoise = omega (arith, eqb-true (b .hearing .denoise) 0 (d .0));
           waiting = omega (arith, eqb-true (b .waiting) 0 (w .0));
           piece = omega (arith, eqb-true (b .piece) 0 (w .1));
-          progress = omega (arith, eqb-true (b .progress) 0 (k .1));
+          progress = omega (arith, eqb-true (b .progress) 0 (p .0));
         }
     go false h =
         let d = both _ _ (rw h at e) in
@@ -105,10 +112,10 @@ bounded b e = go (eqb (b .due) 0) refl
         let p = pieced b (c .1) in
         record {
           due = leb-true (b .due) 4 (d .0);
-          index = leb-true (b .index) 7 (i .0);
-          vad = count (b .vad) (v .0);
-          noise = count (b .noise) (n .0);
-          denoise = count (b .denoise) (n .1);
+          index = leb-true (b .hearing .index) 7 (i .0);
+          vad = count (b .hearing .vad) (v .0);
+          noise = count (b .hearing .noise) (n .0);
+          denoise = count (b .hearing .denoise) (n .1);
           waiting = p .0;
           piece = p .1;
           progress = p .2;
@@ -127,24 +134,20 @@ next-due d = go (ltb d 4) refl
     go false h = (omega arith, omega arith)
 
 pub next-index : (i : ℕ) (r : Reply) → i ≤ 7 → nextIndex i r ≤ 7
-next-index i (Heard v e) h = go (ltb i 7) refl
+next-index i r h = go (isHeard r) (ltb i 7) refl
   where
-    go : (t : Bool) → ltb i 7 ≡ t → cond t (i + 1) 0 ≤ 7
-    go true k = omega (arith, ltb-true i 7 k)
-    go false k = omega arith
-next-index i Done h = h
-next-index i Silent h = h
-next-index i (Numbered f n) h = h
-next-index i (Refused n) h = h
-next-index i (Misread n l) h = h
+    go : (s t : Bool) → ltb i 7 ≡ t → cond s (cond t (i + 1) 0) i ≤ 7
+    go true true k = omega (arith, ltb-true i 7 k)
+    go true false k = omega arith
+    go false t k = h
 
 -- of an open record its index, its counts and what a piece leaves
-pub open-range : (b : Record) → (b .due ≡ 0 → ⊥) → inRange b ≡ true → (b .index ≤ 7) × (inCounts b ≡ true) × (inPieces b ≡ true)
+pub open-range : (b : Record) → (b .due ≡ 0 → ⊥) → inRange b ≡ true → (b .hearing .index ≤ 7) × (inCounts b ≡ true) × (inPieces b ≡ true)
 unfolding inRange
 open-range b ne e =
-    let rest = both (leb (b .index) 7) (inCounts b && inPieces b) (both (leb (b .due) 4) _ (rw (ne-eqb (b .due) 0 ne) at e) .1) in
+    let rest = both (leb (b .hearing .index) 7) (inCounts b && inPieces b) (both (leb (b .due) 4) _ (rw (ne-eqb (b .due) 0 ne) at e) .1) in
     let last = both (inCounts b) (inPieces b) (rest .1) in
-    (leb-true (b .index) 7 (rest .0), last .0, last .1)
+    (leb-true (b .hearing .index) 7 (rest .0), last .0, last .1)
 
 module _ (b : Record) (reply : Reply) where
   pub advanced-range : (b .due ≡ 0 → ⊥) → inRange b ≡ true → inRange (advanced b reply) ≡ true
@@ -152,8 +155,8 @@ module _ (b : Record) (reply : Reply) where
   advanced-range ne e =
       let rest = open-range b ne e in
       let due = next-due (b .due) in
-      let i = next-index (b .index) reply (rest .0) in
-      rw (ne-eqb (nextDue (b .due)) 0 (λ z. omega arith), le-leb (nextDue (b .due)) 4 (due .1), le-leb (nextIndex (b .index) reply) 7 i, rest .1)
+      let i = next-index (b .hearing .index) reply (rest .0) in
+      rw (ne-eqb (nextDue (b .due)) 0 (λ z. omega arith), le-leb (nextDue (b .due)) 4 (due .1), le-leb (nextIndex (b .hearing .index) reply) 7 i, rest .1)
 
 -- what call 4 answers with this record
 abbrev lastly : Record → Reply
@@ -165,7 +168,7 @@ twice-range b reply last ne e =
     advanced-range (advanced b reply) last (λ z. let due = next-due (b .due) in omega arith) (advanced-range b reply ne e)
 
 -- samples of a piece that are in no frame yet wait, or a frame is under way
-carried-range : (b : Record) (rest size progress : ℕ) → b .index ≤ 7 → inCounts b ≡ true → size ≤ 4096 → 1 ≤ progress → (480 ≤ rest → progress ≤ size)
+carried-range : (b : Record) (rest size progress : ℕ) → b .hearing .index ≤ 7 → inCounts b ≡ true → size ≤ 4096 → 1 ≤ progress → (480 ≤ rest → progress ≤ size)
     → inRange (carried b rest size progress) ≡ true
 unfolding carried inRange inCounts inPieces resting underWay
 carried-range b rest size progress i c few some within = go (ltb rest 480) refl
@@ -177,25 +180,26 @@ carried-range b rest size progress i c few some within = go (ltb rest 480) refl
     go : (t : Bool) → ltb rest 480 ≡ t → inRange (cond t (holding 1 b rest 0 0) (holding 3 b 0 size progress)) ≡ true
     go true h =
         let less = ltb-true rest 480 h in
-        rw (le-leb (b .index) 7 i, c) (idle-or (eqb rest 0) (le-leb rest 479 (omega arith)))
+        rw (le-leb (b .hearing .index) 7 i, c) (idle-or (eqb rest 0) (le-leb rest 479 (omega arith)))
     go false h =
         let more = within (ltb-false rest 480 h) in
-        rw (le-leb (b .index) 7 i, c, ne-eqb size 0 (λ z. omega arith), le-leb size 4096 few, le-leb 1 progress some, le-leb progress size more)
+        rw (le-leb (b .hearing .index) 7 i, c, ne-eqb size 0 (λ z. omega arith), le-leb size 4096 few, le-leb 1 progress some, le-leb progress size more)
 
-started-range : (s : List ℕ) (read : Reading) (b : Record) (share : List Float) → readOf s ≡ read → passed (opened share read .reply) ≡ true → inRange (started b read) ≡ true
+started-range : (w : Way) (s : List ℕ) (read : Reading) (b : Record) (share : List Float) → readOf s ≡ read → passed (opened share read .reply) ≡ true
+    → inRange (started b w read) ≡ true
 unfolding inRange inCounts inPieces resting
-started-range s (Unread n l) b share e p = absurd (let z : _≡_ {A = ℕ} 0 1 = cc in omega arith)
-started-range s (Good m) b share e p =
-    let w = shaped s (sym e) in
+started-range w s (Unread n l) b share e p = absurd (let z : _≡_ {A = ℕ} 0 1 = cc in omega arith)
+started-range w s (Good m) b share e p =
+    let l = shaped s (sym e) in
     rw (
-      counted _ (w .layer1 .some) (omega (arith, w .layer1 .neurons)),
-      counted _ (w .layer2 .some) (omega (arith, w .layer2 .neurons)),
-      counted _ (w .layer3 .some) (omega (arith, w .layer3 .neurons)),
+      counted _ (l .layer1 .some) (omega (arith, l .layer1 .neurons)),
+      counted _ (l .layer2 .some) (omega (arith, l .layer2 .neurons)),
+      counted _ (l .layer3 .some) (omega (arith, l .layer3 .neurons)),
     )
 
 done-range : (b : Record) (share : List Float) (ask : Ask) → inRange b ≡ true → (notOpening (callOf ask) && eqb (b .due) 0) ≡ false
     → passed (onShare b share ask .reply) ≡ true → inRange (answered b ask (onShare b share ask .reply) .rec) ≡ true
-done-range b share (opening m) r o p = rw p (started-range m (readOf m) b share refl p)
+done-range b share (opening w m) r o p = rw p (started-range w m (readOf m) b share refl p)
 done-range b share (call1 x w) r o p = rw p (advanced-range b (onShare b share (call1 x w) .reply) (eqb-false (b .due) 0 o) r)
 done-range b share (call2 x l w s) r o p = rw p (advanced-range b (onShare b share (call2 x l w s) .reply) (eqb-false (b .due) 0 o) r)
 done-range b share (call2Own x w s) r o p = rw p (advanced-range b (onShare b share (call2Own x w s) .reply) (eqb-false (b .due) 0 o) r)
@@ -205,32 +209,48 @@ done-range b share (firstHalf x s) r o p = rw p (twice-range b (onShare b share 
 done-range b share (secondHalf l m k) r o p = rw p (twice-range b (onShare b share (secondHalf l m k) .reply) (lastly (advanced b (onShare b share (secondHalf l m k) .reply))) (eqb-false (b .due) 0 o) r)
 done-range b share (piece x k s) r o p =
     let ajar = open-range b (eqb-false (b .due) 0 o) r in
-    let f = piece-fitted share (b .waiting) x k s p in
+    let f = piece-fitted share (b .hearing .way) (b .waiting) x k s p in
     rw p (carried-range b (b .waiting + length x) (length x) (480 - b .waiting) (ajar .0) (ajar .1) (f .few) (omega (arith, f .waits)) (λ h. omega (arith, f .waits)))
 done-range b share (resume x l m k s) r o p =
     let reply = onShare b share (resume x l m k s) .reply in
     let next = numbered (advanced b reply) in
     let ne = eqb-false (b .due) 0 o in
     let ajar = open-range next (λ z. let due = next-due (advanced b reply .due) in omega arith) (twice-range b reply (lastly (advanced b reply)) ne r) in
-    let f = resume-fitted share (b .index) (b .vad) (b .noise) (b .denoise) (b .piece) (b .progress) x l m k s p in
+    let f = resume-fitted share (b .hearing) (b .piece) (b .progress) x l m k s p in
     rw p (carried-range next (length x - b .progress) (length x) (b .progress + 480) (ajar .0) (ajar .1) (omega (arith, f .same, f .few)) (omega arith) (λ h. omega (arith, f .same, f .within)))
 
-module _ (benches side : ℕ) (b : Record) (store : List Float) where
-  pub range-kept : (ask : Ask) → passed (desk benches side b store ask .answer .reply) ≡ true
-      → (inRange b ≡ true) × (inRange (desk benches side b store ask .answer .rec) ≡ true)
-  unfolding desk
-  range-kept ask = go (eqb number 0) refl
-    where
-      number : ℕ
-      number = gate benches side b (length store) (callOf ask)
+pub range-kept : RangeKept
+unfolding desk
+range-kept n side b store ask = go (eqb number 0) refl
+  where
+    number : ℕ
+    number = gate n side b (length store) (callOf ask)
 
-      share : List Float
-      share = get (shareOf side) store
+    share : List Float
+    share = get (shareOf side) store
 
-      go : (t : Bool) → eqb number 0 ≡ t → passed (cond t (onShare b share ask) (refused (Refused number) share) .reply) ≡ true
-          → (inRange b ≡ true) × (inRange (answered b ask (cond t (onShare b share ask) (refused (Refused number) share) .reply) .rec) ≡ true)
-      go false h p = absurd (let z : _≡_ {A = ℕ} 0 1 = cc in omega arith)
-      go true h p =
-          let clear = none benches side b (length store) (callOf ask) (eqb-true number 0 h) in
-          let r = not-false (inRange b) (clear .1 .1 .0) in
-          (r, done-range b share ask r (clear .1 .1 .1 .0) p)
+    go : (t : Bool) → eqb number 0 ≡ t → passed (cond t (onShare b share ask) (refused (Refused number) share) .reply) ≡ true
+        → (inRange b ≡ true) × (inRange (answered b ask (cond t (onShare b share ask) (refused (Refused number) share) .reply) .rec) ≡ true)
+    go false h p = absurd (let z : _≡_ {A = ℕ} 0 1 = cc in omega arith)
+    go true h p =
+        let clear = none n side b (length store) (callOf ask) (eqb-true number 0 h) in
+        let r = not-false (inRange b) (clear .1 .1 .0) in
+        (r, done-range b share ask r (clear .1 .1 .1 .0) p)
+
+-- ---- an opening gets through
+
+closed-range : inRange closed ≡ true
+unfolding inRange allZero idle
+closed-range = refl
+
+let-open : (n side : ℕ) (b : Record) (len : ℕ) → side < n → len ≡ n * SHARE → inRange b ≡ true → gate n side b len 0 ≡ 0
+unfolding gate
+let-open n side b len h l r = rw (lt-ltb side n h, eq-eqb len (n * SHARE) l, r)
+
+done-open : (n side : ℕ) (b : Record) (store : List Float) (w : Way) (s : List ℕ) (m : Model) → side < n → length store ≡ n * SHARE → inRange b ≡ true
+    → readOf s ≡ Good m → desk n side b store (opening w s) .answer .reply ≡ Done
+unfolding desk
+done-open n side b store w s m h l r e = rw (let-open n side b (length store) h l r, e)
+
+pub opens : Opens
+opens = (closed-range, done-open)

@@ -3,7 +3,7 @@
 --     no-out, no-half-out, no-resume-out    call 3 with no place for its spectrum, and a second half and a resume with none for their samples,
 --                                           are refused
 -- Assumes nothing.
-use Prim.Native.Nat.{ℕ, _*_, _-_, _≤_}
+use Prim.Native.Nat.{ℕ, _*_, _-_}
 use mathlib.Core.Bool.{Bool, true, false, cond}
 use mathlib.Core.List.{List, [], _++_}
 use mathlib.Core.Path.{_≡_, refl, ap}
@@ -16,8 +16,7 @@ use Rattle.model.specs.Model.{readOf}
 use Rattle.model.specs.declared.Reading.{Reading}
 use Rattle.model.specs.declared.Reading.the-variants.{Good, Refused as Unread}
 use Rattle.model.proofs.Bounds.{refused-in}
-use Rattle.frame.specs.declared.Reply.{Reply}
-use Rattle.frame.specs.declared.Reply.the-variants.{Done, Silent, Heard, Numbered, Refused, Misread}
+use Rattle.frame.specs.declared.Reply.the-variants.{Done, Refused, Misread}
 use Rattle.frame.specs.Frame.{Effect}
 use Rattle.frame.specs.Reply.{passed}
 use Rattle.frame.proofs.Done.{call3-no-out}
@@ -32,52 +31,46 @@ use Rattle.pieces.proofs.Kept.{further-reply}
 use Rattle.desk.specs.declared.Record.{Record}
 use Rattle.desk.specs.Gate.{gate, shareOf}
 use Rattle.desk.specs.Desk.{Ask, opening, call1, call2, call2Own, call3, call4, firstHalf, secondHalf, piece, resume, callOf, opened, onShare, desk}
+pub use Rattle.desk.specs.Laws.{SmallSeven}
+use Rattle.desk.specs.Laws.{SmallReplies}
 use Rattle.desk.proofs.Pieced.{resume-no-out}
 
-abbrev pub Small : Reply → Type 0
-Small (Misread n l) = (n ≤ 22) × (l ≤ 6)
-Small Done = Unit
-Small Silent = Unit
-Small (Heard v e) = Unit
-Small (Numbered f h) = Unit
-Small (Refused n) = Unit
-
-misread : (s : List ℕ) (n l : ℕ) → Unread n l ≡ readOf s → Small (Misread n l)
+misread : (s : List ℕ) (n l : ℕ) → Unread n l ≡ readOf s → SmallSeven (Misread n l)
 misread s n l e = let r = refused-in s e in (r .1, r .2)
 
-opens : (s : List ℕ) (read : Reading) (share : List Float) → read ≡ readOf s → Small (opened share read .reply)
+opens : (s : List ℕ) (read : Reading) (share : List Float) → read ≡ readOf s → SmallSeven (opened share read .reply)
 opens s (Good m) share e = tt
 opens s (Unread n l) share e = misread s n l e
 
 module _ (b : Record) (share : List Float) where
   abbrev SmallOf : Effect → Type 0
-  SmallOf f = Small (f .reply)
+  SmallOf f = SmallSeven (f .reply)
 
-  abbrev Small-after : Outcome → Type 0
-  Small-after o = Small (o .reply)
+  abbrev SmallSeven-after : Outcome → Type 0
+  SmallSeven-after o = SmallSeven (o .reply)
 
   abbrev part : List Float
   part = get framePart share
 
-  frames : (ask : Ask) → Small (onShare b share ask .reply)
-  frames (opening m) = opens m (readOf m) share refl
+  frames : (ask : Ask) → SmallSeven (onShare b share ask .reply)
+  frames (opening w m) = opens m (readOf m) share refl
   frames (call1 x w) = call1-by part SmallOf (λ _. tt) x w (λ _ _. tt)
   frames (call2 x l w s) = call2-by part SmallOf (λ _. tt) x l w s (λ _. tt)
   frames (call2Own x w s) = call2-own-by part SmallOf (λ _. tt) x w s (λ _. tt)
-  frames (call3 x l m o) = call3-by part SmallOf (λ _. tt) (b .index) (b .vad) (b .noise) (b .denoise) x l m o (misread m) tt (λ _ _ _ _ _. tt)
+  frames (call3 x l m o) = call3-by part SmallOf (λ _. tt) (b .hearing) x l m o (misread m) tt (λ _ _ _ _ _. tt)
   frames (call4 x o) = call4-by part SmallOf (λ _. tt) (b .frame) (b .heard) x o (λ _. tt)
-  frames (firstHalf x s) = first-half-by part SmallOf (λ _. tt) x s (λ _ _. tt)
-  frames (secondHalf l m o) = second-half-by part SmallOf (λ _. tt) (b .index) (b .vad) (b .noise) (b .denoise) l m o (misread m) (λ _. tt) (λ _ _ _ _ _. tt)
+  frames (firstHalf x s) = first-half-by part SmallOf (λ _. tt) (b .hearing .way) x s (λ _ _. tt)
+  frames (secondHalf l m o) = second-half-by part SmallOf (λ _. tt) (b .hearing) l m o (misread m) (λ _. tt) (λ _ _ _ _ _. tt)
   frames (piece x o s) =
-      piece-by share Small-after (λ _. tt) (b .waiting) x o s (λ _. rw (further-reply Done (waits share []) (waitingIn (b .waiting) share ++ x) nothing) tt)
+      piece-by share SmallSeven-after (λ _. tt) (b .hearing .way) (b .waiting) x o s (λ _. rw (further-reply Done (waits share []) (b .hearing .way) (waitingIn (b .waiting) share ++ x) nothing) tt)
   frames (resume x l m o s) =
-      resume-by share Small-after (λ _. tt) (b .index) (b .vad) (b .noise) (b .denoise) (b .piece) (b .progress) x l m o s (misread m)
+      resume-by share SmallSeven-after (λ _. tt) (b .hearing) (b .piece) (b .progress) x l m o s (misread m)
       (λ _.
-      let h = halves.secondHalf part (b .index) (b .vad) (b .noise) (b .denoise) l m 480 in
-      rw (further-reply (h .reply) (put framePart share (h .share)) (drop (b .progress) x) (from (480 * (frameAt (b .progress) - 1)) (halves.buffer h)))
-      (second-half-by part SmallOf (λ _. tt) (b .index) (b .vad) (b .noise) (b .denoise) l m 480 (misread m) (λ _. tt) (λ _ _ _ _ _. tt)))
+      let h = halves.secondHalf part (b .hearing) l m 480 in
+      rw (further-reply (h .reply) (put framePart share (h .share)) (b .hearing .way) (drop (b .progress) x) (from (480 * (frameAt (b .progress) - 1)) (halves.buffer h)))
+      (second-half-by part SmallOf (λ _. tt) (b .hearing) l m 480 (misread m) (λ _. tt) (λ _ _ _ _ _. tt)))
 
-pub small : (benches side : ℕ) (b : Record) (store : List Float) (ask : Ask) → Small (desk benches side b store ask .answer .reply)
+pub small : SmallReplies
 unfolding desk
 small benches side b store ask = go (eqb number 0)
   where
@@ -87,7 +80,7 @@ small benches side b store ask = go (eqb number 0)
     share : List Float
     share = get (shareOf side) store
 
-    go : (t : Bool) → Small (cond t (onShare b share ask) (refused (Refused number) share) .reply)
+    go : (t : Bool) → SmallSeven (cond t (onShare b share ask) (refused (Refused number) share) .reply)
     go true = frames b share ask
     go false = tt
 
@@ -112,14 +105,14 @@ module _ (benches side : ℕ) (b : Record) (store : List Float) where
   pub no-out : (spectrum logs : List Float) (model : List ℕ) → passed (desk benches side b store (call3 spectrum logs model 0) .answer .reply) ≡ false
   no-out spectrum logs model =
       shut-out (call3 spectrum logs model 0)
-      (ap (λ (f : Effect). passed (f .reply)) (call3-no-out lent (b .index) (b .vad) (b .noise) (b .denoise) spectrum logs model))
+      (ap (λ (f : Effect). passed (f .reply)) (call3-no-out lent (b .hearing) spectrum logs model))
 
   pub no-half-out : (logs : List Float) (model : List ℕ) → passed (desk benches side b store (secondHalf logs model 0) .answer .reply) ≡ false
   no-half-out logs model =
       shut-out (secondHalf logs model 0)
-      (ap (λ (f : Effect). passed (f .reply)) (second-half-no-out lent (b .index) (b .vad) (b .noise) (b .denoise) logs model))
+      (ap (λ (f : Effect). passed (f .reply)) (second-half-no-out lent (b .hearing) logs model))
 
   pub no-resume-out : (samples logs : List Float) (model : List ℕ) (sums : ℕ) → passed (desk benches side b store (resume samples logs model 0 sums) .answer .reply) ≡ false
   no-resume-out samples logs model sums =
       shut-out (resume samples logs model 0 sums)
-      (resume-no-out mine (b .index) (b .vad) (b .noise) (b .denoise) (b .piece) (b .progress) samples logs model sums)
+      (resume-no-out mine (b .hearing) (b .piece) (b .progress) samples logs model sums)

@@ -25,6 +25,7 @@ use Rattle.frame.specs.Frame.{Effect}
 use Rattle.frame.specs.Frame as frame
 use Rattle.frame.specs.Reply.{passed}
 use Rattle.frame.specs.declared.Reply.{Reply}
+use Rattle.frame.specs.declared.Way.{Way}
 use Rattle.halves.specs.Halves as halves
 use Rattle.pieces.specs.Pieces.{framePart, inPart, PieceWorked}
 use Rattle.desk.specs.declared.Record.{Record}
@@ -115,36 +116,36 @@ module _ (benches side : ℕ) (b : Record) (store : List Float) where
       framed benches side b store (window ∷ sums ∷ []) (call2Own x (length window) (length sums)) (λ xs. halves.call2Own xs x (length window) (length sums)) (λ _. refl) (call2-own-fills window sums x (length window) (length sums))
 
   pub call3-served : (x logs : List Float) (model : List ℕ) (out : List Float) → let o = length out in
-      Serves benches side b store (out ∷ []) (call3 x logs model o) (λ xs. frame.call3 xs (b .index) (b .vad) (b .noise) (b .denoise) x logs model o)
+      Serves benches side b store (out ∷ []) (call3 x logs model o) (λ xs. frame.call3 xs (b .hearing) x logs model o)
   call3-served x logs model out =
-      framed benches side b store (out ∷ []) (call3 x logs model (length out)) (λ xs. frame.call3 xs (b .index) (b .vad) (b .noise) (b .denoise) x logs model (length out)) (λ _. refl) (call3-fills out (b .index) (b .vad) (b .noise) (b .denoise) x logs model (length out))
+      framed benches side b store (out ∷ []) (call3 x logs model (length out)) (λ xs. frame.call3 xs (b .hearing) x logs model (length out)) (λ _. refl) (call3-fills out (b .hearing) x logs model (length out))
 
   pub call4-served : (x out : List Float) → let o = length out in Serves benches side b store (out ∷ []) (call4 x o) (λ xs. frame.call4 xs (b .frame) (b .heard) x o)
   call4-served x out = framed benches side b store (out ∷ []) (call4 x (length out)) (λ xs. frame.call4 xs (b .frame) (b .heard) x (length out)) (λ _. refl) (call4-fills out (b .frame) (b .heard) x (length out))
 
-  pub first-half-served : (x sums : List Float) → let s = length sums in Serves benches side b store (sums ∷ []) (firstHalf x s) (λ xs. halves.firstHalf xs x s)
-  first-half-served x sums = framed benches side b store (sums ∷ []) (firstHalf x (length sums)) (λ xs. halves.firstHalf xs x (length sums)) (λ _. refl) (first-half-fills sums x (length sums))
+  pub first-half-served : (x sums : List Float) → let s = length sums in Serves benches side b store (sums ∷ []) (firstHalf x s) (λ xs. halves.firstHalf xs (b .hearing .way) x s)
+  first-half-served x sums = framed benches side b store (sums ∷ []) (firstHalf x (length sums)) (λ xs. halves.firstHalf xs (b .hearing .way) x (length sums)) (λ _. refl) (first-half-fills sums (b .hearing .way) x (length sums))
 
   pub second-half-served : (logs : List Float) (model : List ℕ) (out : List Float) → let o = length out in
-      Serves benches side b store (out ∷ []) (secondHalf logs model o) (λ xs. halves.secondHalf xs (b .index) (b .vad) (b .noise) (b .denoise) logs model o)
+      Serves benches side b store (out ∷ []) (secondHalf logs model o) (λ xs. halves.secondHalf xs (b .hearing) logs model o)
   second-half-served logs model out =
-      framed benches side b store (out ∷ []) (secondHalf logs model (length out)) (λ xs. halves.secondHalf xs (b .index) (b .vad) (b .noise) (b .denoise) logs model (length out)) (λ _. refl)
-      (second-half-fills out (b .index) (b .vad) (b .noise) (b .denoise) logs model (length out))
+      framed benches side b store (out ∷ []) (secondHalf logs model (length out)) (λ xs. halves.secondHalf xs (b .hearing) logs model (length out)) (λ _. refl)
+      (second-half-fills out (b .hearing) logs model (length out))
 
 -- what an opening makes of a model that is refused, and of one that reads
-kept : (read : Reading) (b : Record) (share : List Float) → passed (openedOf b read .reply) ≡ false → opened share read .share ≡ share
-kept (Unread n l) b share e = refl
-kept (Good m) b share e = let one : _≡_ {A = ℕ} 0 1 = cc in absurd (omega arith)
+kept : (read : Reading) (b : Record) (w : Way) (share : List Float) → passed (openedOf b w read .reply) ≡ false → opened share read .share ≡ share
+kept (Unread n l) b w share e = refl
+kept (Good m) b w share e = let one : _≡_ {A = ℕ} 0 1 = cc in absurd (omega arith)
 
-cleared : (read : Reading) (b : Record) (share : List Float) → passed (openedOf b read .reply) ≡ true → opened share read .share ≡ replicate SHARE (f32 0)
-cleared (Good m) b share e = refl
-cleared (Unread n l) b share e = let one : _≡_ {A = ℕ} 0 1 = cc in absurd (omega arith)
+cleared : (read : Reading) (b : Record) (w : Way) (share : List Float) → passed (openedOf b w read .reply) ≡ true → opened share read .share ≡ replicate SHARE (f32 0)
+cleared (Good m) b w share e = refl
+cleared (Unread n l) b w share e = let one : _≡_ {A = ℕ} 0 1 = cc in absurd (omega arith)
 
 -- the answer of an opening, as the desk has it
-answers : (m : List ℕ) (b : Record) (share : List Float) → openedOf b (readOf m) ≡ answered b (opening m) (opened share (readOf m) .reply)
-answers m b share = go (readOf m)
+answers : (w : Way) (m : List ℕ) (b : Record) (share : List Float) → openedOf b w (readOf m) ≡ answered b (opening w m) (opened share (readOf m) .reply)
+answers w m b share = go (readOf m)
   where
-    go : (read : Reading) → openedOf b read ≡ record { reply = opened share read .reply; rec = cond (passed (opened share read .reply)) (started b read) b }
+    go : (read : Reading) → openedOf b w read ≡ record { reply = opened share read .reply; rec = cond (passed (opened share read .reply)) (started b w read) b }
     go (Good m) = refl
     go (Unread n l) = refl
 
@@ -153,31 +154,31 @@ silent : (read : Reading) (share : List Float) → [] ≡ onto (opened share rea
 silent (Good m) share = refl
 silent (Unread n l) share = refl
 
-module _ (benches side : ℕ) (b : Record) (store : List Float) (m : List ℕ) (n : ℕ) (read : Reading) (r : Answer) (p : Bool)
-    (e : n ≡ gate benches side b (length store) 0) (z : n ≡ 0) (d : read ≡ readOf m) (a : r ≡ openedOf b read) (q : p ≡ passed (r .reply)) where
+module _ (benches side : ℕ) (b : Record) (store : List Float) (w : Way) (m : List ℕ) (n : ℕ) (read : Reading) (r : Answer) (p : Bool)
+    (e : n ≡ gate benches side b (length store) 0) (z : n ≡ 0) (d : read ≡ readOf m) (a : r ≡ openedOf b w read) (q : p ≡ passed (r .reply)) where
   -- past the gate, with the share as it was left
   left-with : (new : List Float) → new ≡ opened (get (shareOf side) store) (readOf m) .share
-      → Served (desk benches side b store (opening m)) r (put (shareOf side) store new) [] []
+      → Served (desk benches side b store (opening w m)) r (put (shareOf side) store new) [] []
   unfolding desk
   left-with new f =
       rw (← e, eq-eqb n 0 z)
       (record {
-        answers = a ∙ ap (λ (x : Reading). openedOf b x) d ∙ answers m b (get (shareOf side) store);
+        answers = a ∙ ap (λ (x : Reading). openedOf b w x) d ∙ answers w m b (get (shareOf side) store);
         stores = ap (put (shareOf side) store) f;
         writes = silent (readOf m) (get (shareOf side) store);
       })
 
-  pub misread : not p ≡ true → Served (desk benches side b store (opening m)) r store [] []
+  pub misread : not p ≡ true → Served (desk benches side b store (opening w m)) r store [] []
   misread h =
-      let no : passed (openedOf b (readOf m) .reply) ≡ false = rw (← d, ← a, ← q) (not-true p h) in
-      rw (put-get (shareOf side) store) at (left-with (get (shareOf side) store) (sym (kept (readOf m) b (get (shareOf side) store) no)))
+      let no : passed (openedOf b w (readOf m) .reply) ≡ false = rw (← d, ← a, ← q) (not-true p h) in
+      rw (put-get (shareOf side) store) at (left-with (get (shareOf side) store) (sym (kept (readOf m) b w (get (shareOf side) store) no)))
 
   pub wiped : (start part end : ℕ) (new : List Float) → not p ≡ false → (n ≡ 0 → Lies side start part end)
-      → new ≡ zeros (length (get (lent start end) store)) → Served (desk benches side b store (opening m)) r (put (lent start end) store new) [] []
+      → new ≡ zeros (length (get (lent start end) store)) → Served (desk benches side b store (opening w m)) r (put (lent start end) store new) [] []
   wiped start part end new h place f =
-      let yes : passed (openedOf b (readOf m) .reply) ≡ true = rw (← d, ← a, ← q) (not-false p h) in
+      let yes : passed (openedOf b w (readOf m) .reply) ≡ true = rw (← d, ← a, ← q) (not-false p h) in
       let t = through benches side b (length store) 0 (sym e ∙ z) in
       let all = length-get (shareOf side) store (omega arith) in
       let same = lent-share side start part end (place z) in
       let f′ = rw (same, all) at f in
-      rw same (left-with new (f′ ∙ sym (cleared (readOf m) b (get (shareOf side) store) yes)))
+      rw same (left-with new (f′ ∙ sym (cleared (readOf m) b w (get (shareOf side) store) yes)))

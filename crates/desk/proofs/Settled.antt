@@ -24,19 +24,16 @@ use Rattle.halves.proofs.Kept.{first-half-keeps, second-half-keeps}
 use Rattle.halves.proofs.Sister.{call2-own-keeps}
 use Rattle.pieces.specs.Pieces.{Outcome, framePart, refused, inPart}
 use Rattle.pieces.proofs.Kept.{piece-kept, resume-kept}
-use Rattle.desk.specs.declared.Answer.{Answer}
 use Rattle.desk.specs.declared.Record.{Record}
 use Rattle.desk.specs.Gate.{shareOf, gate}
-use Rattle.desk.specs.Desk.{Ask, opening, call1, call2, call2Own, call3, call4, firstHalf, secondHalf, piece, resume, callOf, opened, onShare, admitted, Given, desk, Served}
-use Rattle.desk.specs.Surface.{Hosted}
+use Rattle.desk.specs.Desk.{Ask, opening, call1, call2, call2Own, call3, call4, firstHalf, secondHalf, piece, resume, callOf, opened, onShare, admitted, desk}
+use Rattle.desk.specs.Laws.{Settled, HostSettled, RefusedKeeps}
 
-pub settled : {o : Given} {a a′ : Answer} {store store′ : List Float} {held out out′ : List (List Float)}
-    → Served o a store held out → Served o a′ store′ held out′ → (a ≡ a′) × (store ≡ store′) × (out ≡ out′)
-settled s t = (s .answers ∙ sym (t .answers), s .stores ∙ sym (t .stores), s .writes ∙ sym (t .writes))
+pub settled : Settled
+settled o a a′ store store′ held out out′ s t = (s .answers ∙ sym (t .answers), s .stores ∙ sym (t .stores), s .writes ∙ sym (t .writes))
 
-pub host-settled : {o : Given} {n n′ : ℕ} {ns ms ms′ : List ℕ} {store store′ : List Float} {held out out′ : List (List Float)}
-    → Hosted o n ns ms store held out → Hosted o n′ ns ms′ store′ held out′ → (n ≡ n′) × (ms ≡ ms′) × (store ≡ store′) × (out ≡ out′)
-host-settled s t =
+pub host-settled : HostSettled
+host-settled o n n′ ns ms ms′ store store′ held out out′ s t =
     (s .numbers ∙ sym (t .numbers), s .records ∙ sym (t .records), s .stores ∙ sym (t .stores), s .writes ∙ sym (t .writes))
 
 -- what a call keeps of a share of the right length: its length; and, refused, all of it
@@ -63,26 +60,24 @@ module _ (b : Record) (share : List Float) where
   admitted-kept ask number = go (eqb number 0)
     where
       kept : (a : Ask) → Kept share (onShare b share a)
-      kept (opening m) = opened-kept (readOf m)
+      kept (opening w m) = opened-kept (readOf m)
       kept (call1 x w) = frame-kept (call1-keeps part x w)
       kept (call2 x l w s) = frame-kept (call2-keeps part x l w s)
       kept (call2Own x w s) = frame-kept (call2-own-keeps part x w s)
-      kept (call3 x l m o) = frame-kept (call3-keeps part (b .index) (b .vad) (b .noise) (b .denoise) x l m o)
+      kept (call3 x l m o) = frame-kept (call3-keeps part (b .hearing) x l m o)
       kept (call4 x o) = frame-kept (call4-keeps part (b .frame) (b .heard) x o)
-      kept (firstHalf x s) = frame-kept (first-half-keeps part x s)
-      kept (secondHalf l m o) = frame-kept (second-half-keeps part (b .index) (b .vad) (b .noise) (b .denoise) l m o)
-      kept (piece x o s) = let k = piece-kept share (b .waiting) x o s in record { size = k .size; still = k .still }
+      kept (firstHalf x s) = frame-kept (first-half-keeps part (b .hearing .way) x s)
+      kept (secondHalf l m o) = frame-kept (second-half-keeps part (b .hearing) l m o)
+      kept (piece x o s) = let k = piece-kept share (b .hearing .way) (b .waiting) x o s in record { size = k .size; still = k .still }
       kept (resume x l m o s) =
-          let k = resume-kept share (b .index) (b .vad) (b .noise) (b .denoise) (b .piece) (b .progress) x l m o s in
+          let k = resume-kept share (b .hearing) (b .piece) (b .progress) x l m o s in
           record { size = k .size; still = k .still }
 
       go : (t : Bool) → Kept share (cond t (onShare b share ask) (refused (Refused number) share))
       go true = kept ask
       go false = record { size = λ h. h; still = λ _. refl }
 
-module _ (benches side : ℕ) (b : Record) (store : List Float) (ask : Ask) where
-  pub refused-keeps : passed (desk benches side b store ask .answer .reply) ≡ false
-      → (desk benches side b store ask .answer .rec ≡ b) × (desk benches side b store ask .store ≡ store)
-  unfolding desk
-  refused-keeps e =
-      (rw e, ap (put (shareOf side) store) (admitted-kept b (get (shareOf side) store) ask (gate benches side b (length store) (callOf ask)) .still e) ∙ put-get (shareOf side) store)
+pub refused-keeps : RefusedKeeps
+unfolding desk
+refused-keeps n side b store ask e =
+    (rw e, ap (put (shareOf side) store) (admitted-kept b (get (shareOf side) store) ask (gate n side b (length store) (callOf ask)) .still e) ∙ put-get (shareOf side) store)

@@ -17,16 +17,19 @@ use Rattle.frame.specs.Frame as frame
 use Rattle.halves.specs.Halves as halves
 use Rattle.pieces.specs.Pieces.{Outcome, framePart, refused, inPart}
 use Rattle.pieces.specs.Pieces as pieces
-use Rattle.frame.specs.Reply.{passed, oneMore}
+use Rattle.frame.specs.Reply.{passed, isHeard, oneMore}
+use Rattle.frame.specs.declared.Hearing.{Hearing}
 use Rattle.frame.specs.declared.Reply.{Reply}
 use Rattle.frame.specs.declared.Reply.the-variants.{Done, Silent, Heard, Numbered, Refused, Misread}
+use Rattle.frame.specs.declared.Way.{Way}
+use Rattle.frame.specs.declared.Way.the-variants.{Asked}
 use Rattle.desk.specs.Gate.{PIECE, RESUME, gate, shareOf}
 use Rattle.desk.specs.declared.Record.{Record}
 use Rattle.desk.specs.declared.Answer.{Answer}
 
 -- what is asked of a side: a call with its arguments. Of an answer buffer its length is an argument; what it held is none.
 pub data Ask : Type 0 where
-  opening : (model : List ℕ) → Ask
+  opening : (way : Way) (model : List ℕ) → Ask
   call1 : (samples : List Float) (window : ℕ) → Ask
   call2 : (spectrum : List Float) (lag window sums : ℕ) → Ask
   call2Own : (spectrum : List Float) (window sums : ℕ) → Ask
@@ -39,7 +42,7 @@ pub data Ask : Type 0 where
 
 -- the call's number, 0 for an opening; a half's is that of the first of its two
 abbrev pub callOf : Ask → ℕ
-callOf (opening m) = 0
+callOf (opening w m) = 0
 callOf (call1 x w) = 1
 callOf (call2 x l w s) = 2
 callOf (call2Own x w s) = 2
@@ -52,7 +55,7 @@ callOf (resume x l m o s) = RESUME
 
 -- the number of the last call that is done; a piece may begin a frame, and a resume ends one
 abbrev pub lastOf : Ask → ℕ
-lastOf (opening m) = 0
+lastOf (opening w m) = 0
 lastOf (call1 x w) = 1
 lastOf (call2 x l w s) = 2
 lastOf (call2Own x w s) = 2
@@ -66,30 +69,16 @@ lastOf (resume x l m o s) = 4
 -- ---- one side's record
 
 -- every record is made here: one at which nothing waits and no piece is unfinished
-abbrev pub recordOf : ℕ → ℕ → ℕ → ℕ → ℕ → ℕ → ℕ → Record
-recordOf due index vad noise denoise frame heard =
-    record {
-      due = due;
-      index = index;
-      vad = vad;
-      noise = noise;
-      denoise = denoise;
-      frame = frame;
-      heard = heard;
-      waiting = 0;
-      piece = 0;
-      progress = 0;
-    }
+abbrev pub recordOf : ℕ → Hearing → ℕ → ℕ → Record
+recordOf due hearing frame heard =
+    record { due = due; hearing = hearing; frame = frame; heard = heard; waiting = 0; piece = 0; progress = 0 }
 
 -- and one that is as another is, but for the call that is due, the samples that wait and the piece under way
 abbrev pub holding : ℕ → Record → ℕ → ℕ → ℕ → Record
 holding due rec waiting size progress =
     record {
       due = due;
-      index = rec .index;
-      vad = rec .vad;
-      noise = rec .noise;
-      denoise = rec .denoise;
+      hearing = rec .hearing;
       frame = rec .frame;
       heard = rec .heard;
       waiting = waiting;
@@ -97,8 +86,12 @@ holding due rec waiting size progress =
       progress = progress;
     }
 
+-- where no opening noted anything
+abbrev pub noHearing : Hearing
+noHearing = record { index = 0; vad = 0; noise = 0; denoise = 0; way = Asked }
+
 abbrev pub closed : Record
-closed = recordOf 0 0 0 0 0 0 0
+closed = recordOf 0 noHearing 0 0
 
 -- call 1 is due after call 4
 abbrev pub nextDue : ℕ → ℕ
@@ -106,12 +99,18 @@ nextDue call = cond (ltb call 4) (call + 1) 1
 
 -- a heard frame moves the cepstral index on, round and round: `mem_id` in `compute_frame_features`
 abbrev pub nextIndex : ℕ → Reply → ℕ
-nextIndex i (Heard v e) = cond (ltb i 7) (i + 1) 0
-nextIndex i Done = i
-nextIndex i Silent = i
-nextIndex i (Numbered f h) = i
-nextIndex i (Refused n) = i
-nextIndex i (Misread n l) = i
+nextIndex i reply = cond (isHeard reply) (cond (ltb i 7) (i + 1) 0) i
+
+-- and nothing else of what its opening noted
+abbrev pub nextHearing : Hearing → Reply → Hearing
+nextHearing hearing reply =
+    record {
+      index = nextIndex (hearing .index) reply;
+      vad = hearing .vad;
+      noise = hearing .noise;
+      denoise = hearing .denoise;
+      way = hearing .way;
+    }
 
 -- request 07: the frames are numbered as call 4 answers, and a heard call 3 is one more
 abbrev pub nextFrame : ℕ → Reply → ℕ
@@ -123,17 +122,11 @@ nextFrame n (Refused r) = n
 nextFrame n (Misread r l) = n
 
 abbrev pub nextHeard : ℕ → Reply → ℕ
-nextHeard n (Heard v e) = oneMore n
-nextHeard n Done = n
-nextHeard n Silent = n
-nextHeard n (Numbered f h) = n
-nextHeard n (Refused r) = n
-nextHeard n (Misread r l) = n
+nextHeard n reply = cond (isHeard reply) (oneMore n) n
 
 abbrev pub advanced : Record → Reply → Record
 advanced rec reply =
-    recordOf (nextDue (rec .due)) (nextIndex (rec .index) reply) (rec .vad) (rec .noise) (rec .denoise)
-    (nextFrame (rec .frame) reply) (nextHeard (rec .heard) reply)
+    recordOf (nextDue (rec .due)) (nextHearing (rec .hearing) reply) (nextFrame (rec .frame) reply) (nextHeard (rec .heard) reply)
 
 -- as what call 4 answers moves it on
 abbrev pub numbered : Record → Record
@@ -143,14 +136,16 @@ numbered rec = advanced rec (Numbered (oneMore (rec .frame)) (rec .heard))
 unfoldable pub carried : Record → ℕ → ℕ → ℕ → Record
 carried rec rest size progress = cond (ltb rest 480) (holding 1 rec rest 0 0) (holding 3 rec 0 size progress)
 
--- an opening notes the GRU counts, makes call 1 due and numbers the frames from 0
-abbrev pub started : Record → Reading → Record
-started rec (Good m) = recordOf 1 0 (m .«vad_gru» .neurons) (m .«noise_gru» .neurons) (m .«denoise_gru» .neurons) 0 0
-started rec (Unread n l) = rec
+-- an opening notes the GRU counts and the way, makes call 1 due and numbers the frames from 0
+abbrev pub started : Record → Way → Reading → Record
+started rec way (Good m) =
+    recordOf 1
+    (record { index = 0; vad = m .«vad_gru» .neurons; noise = m .«noise_gru» .neurons; denoise = m .«denoise_gru» .neurons; way = way }) 0 0
+started rec way (Unread n l) = rec
 
 -- a half moves it on twice, the second by call 3's reply and then by call 4's; so does a resume
 abbrev pub recorded : Record → Ask → Reply → Record
-recorded rec (opening m) reply = started rec (readOf m)
+recorded rec (opening w m) reply = started rec w (readOf m)
 recorded rec (call1 x w) reply = advanced rec reply
 recorded rec (call2 x l w s) reply = advanced rec reply
 recorded rec (call2Own x w s) reply = advanced rec reply
@@ -174,19 +169,16 @@ opened share (Unread n l) = refused (Misread n l) share
 
 -- a call of a frame is lent its part alone, a piece all of it
 abbrev pub onShare : Record → List Float → Ask → Outcome
-onShare rec share (opening m) = opened share (readOf m)
+onShare rec share (opening w m) = opened share (readOf m)
 onShare rec share (call1 x w) = inPart share (frame.call1 (get framePart share) x w)
 onShare rec share (call2 x l w s) = inPart share (frame.call2 (get framePart share) x l w s)
 onShare rec share (call2Own x w s) = inPart share (halves.call2Own (get framePart share) x w s)
-onShare rec share (call3 x l m o) =
-    inPart share (frame.call3 (get framePart share) (rec .index) (rec .vad) (rec .noise) (rec .denoise) x l m o)
+onShare rec share (call3 x l m o) = inPart share (frame.call3 (get framePart share) (rec .hearing) x l m o)
 onShare rec share (call4 x o) = inPart share (frame.call4 (get framePart share) (rec .frame) (rec .heard) x o)
-onShare rec share (firstHalf x s) = inPart share (halves.firstHalf (get framePart share) x s)
-onShare rec share (secondHalf l m o) =
-    inPart share (halves.secondHalf (get framePart share) (rec .index) (rec .vad) (rec .noise) (rec .denoise) l m o)
-onShare rec share (piece x o s) = pieces.piece share (rec .waiting) x o s
-onShare rec share (resume x l m o s) =
-    pieces.resume share (rec .index) (rec .vad) (rec .noise) (rec .denoise) (rec .piece) (rec .progress) x l m o s
+onShare rec share (firstHalf x s) = inPart share (halves.firstHalf (get framePart share) (rec .hearing .way) x s)
+onShare rec share (secondHalf l m o) = inPart share (halves.secondHalf (get framePart share) (rec .hearing) l m o)
+onShare rec share (piece x o s) = pieces.piece share (rec .hearing .way) (rec .waiting) x o s
+onShare rec share (resume x l m o s) = pieces.resume share (rec .hearing) (rec .piece) (rec .progress) x l m o s
 
 -- a call that the gate lets through, with 0, or its refusal
 abbrev pub admitted : Record → List Float → Ask → ℕ → Outcome

@@ -6,6 +6,8 @@ use lib.Dec.{eqb, leb, ltb}
 use Rattle.rules.specs.Refusals.{Row, _when_, refusing}
 use Rattle.rules.specs.Place.{Place}
 use Rattle.frame.specs.Share.{SHARE}
+use Rattle.frame.specs.declared.Way.{Way}
+use Rattle.frame.specs.declared.Way.the-variants.{Asked, Crate}
 use Rattle.desk.specs.declared.Record.{Record}
 
 abbrev pub BENCHES : ℕ
@@ -23,19 +25,24 @@ shareOf side = record { at = side * SHARE; size = SHARE }
 unfoldable pub idle : Record → Bool
 idle rec = eqb (rec .waiting) 0 && eqb (rec .piece) 0
 
--- cepstral index, GRU counts, both numbers of frames, and what a piece leaves in the record are all 0
+-- a way as a number: 0 for what is asked, 1 for the crate's own
+abbrev pub wayNumber : Way → ℕ
+wayNumber Asked = 0
+wayNumber Crate = 1
+
+-- cepstral index, GRU counts, both numbers of frames, what a piece leaves in the record, and the way are all 0
 unfoldable pub allZero : Record → Bool
 allZero rec =
-    eqb (rec .index) 0
-    && (eqb (rec .vad) 0 && (eqb (rec .noise) 0 && (eqb (rec .denoise) 0 && (eqb (rec .frame) 0 && (eqb (rec .heard) 0
-    && (idle rec && eqb (rec .progress) 0))))))
+    eqb (rec .hearing .index) 0
+    && (eqb (rec .hearing .vad) 0 && (eqb (rec .hearing .noise) 0 && (eqb (rec .hearing .denoise) 0 && (eqb (rec .frame) 0 && (eqb (rec .heard) 0
+    && (idle rec && (eqb (rec .progress) 0 && eqb (wayNumber (rec .hearing .way)) 0)))))))
 
 -- a GRU count is 1 to 127
 abbrev pub inCount : ℕ → Bool
 inCount n = leb 1 n && leb n 127
 
 unfoldable pub inCounts : Record → Bool
-inCounts rec = inCount (rec .vad) && (inCount (rec .noise) && inCount (rec .denoise))
+inCounts rec = inCount (rec .hearing .vad) && (inCount (rec .hearing .noise) && inCount (rec .hearing .denoise))
 
 -- request 12: no piece is unfinished, and where samples wait, call 1 is due
 unfoldable pub resting : Record → Bool
@@ -52,7 +59,7 @@ inPieces rec = cond (eqb (rec .piece) 0) (resting rec) (underWay rec)
 
 -- a record is closed and all zeros, or open and within its limits
 unfoldable pub inRange : Record → Bool
-inRange rec = cond (eqb (rec .due) 0) (allZero rec) (leb (rec .due) 4 && (leb (rec .index) 7 && (inCounts rec && inPieces rec)))
+inRange rec = cond (eqb (rec .due) 0) (allZero rec) (leb (rec .due) 4 && (leb (rec .hearing .index) 7 && (inCounts rec && inPieces rec)))
 
 -- an opening is call 0, and the calls of a frame are 1 to 4; behind these stand a piece and a resume
 abbrev pub PIECE : ℕ

@@ -1,4 +1,5 @@
 pub mod Gate
 pub mod Desk
 pub mod Surface
+pub mod Laws
 pub mod Parts

@@ -8,6 +8,7 @@ use Rattle.frame.specs.Share.{SHARE, PART}
 use Rattle.frame.specs.Reply.{passed}
 use Rattle.frame.specs.declared.Reply.{Reply}
 use Rattle.frame.specs.declared.Reply.the-variants.{Done, Refused, Misread}
+use Rattle.frame.specs.declared.Way.{Way}
 use Rattle.desk.specs.Gate.{gate, shareOf}
 use Rattle.desk.specs.Desk.{advanced, numbered, carried, started}
 use Rattle.desk.specs.declared.Record.{Record}
@@ -45,6 +46,6 @@ toldResume rec size reply =
     record { reply = reply; rec = cond (passed reply) (carried (numbered (advanced rec reply)) (size - rec .progress) size (rec .progress + 480)) rec }
 
 -- of an opening
-abbrev pub openedOf : Record → Reading → Answer
-openedOf rec (Good m) = record { reply = Done; rec = started rec (Good m) }
-openedOf rec (Unread n l) = record { reply = Misread n l; rec = rec }
+abbrev pub openedOf : Record → Way → Reading → Answer
+openedOf rec way (Good m) = record { reply = Done; rec = started rec way (Good m) }
+openedOf rec way (Unread n l) = record { reply = Misread n l; rec = rec }

@@ -1,34 +1,45 @@
 -- The desk for a host that has numbers alone: what the functions of the C surface return and leave.
 use Prim.Native.Nat.{ℕ, _+_, _*_}
-use mathlib.Core.Bool.{cond}
+use mathlib.Core.Bool.{cond, _&&_}
 use mathlib.Core.List.{List, [], _∷_, _++_}
 use mathlib.Core.Path.{_≡_}
-use lib.Dec.{eqb}
+use lib.Dec.{eqb, leb}
 use lib.ListN.{length, getD, replicate}
 use lib.Ieee.{Float}
 use Rattle.rules.specs.F32.{f32}
 use Rattle.rules.specs.Written.{Written, all, onto}
 use Rattle.frame.specs.Reply.{passed}
+use Rattle.frame.specs.declared.Hearing.{Hearing}
 use Rattle.frame.specs.declared.Reply.{Reply}
 use Rattle.frame.specs.declared.Reply.the-variants.{Done, Silent, Heard, Numbered, Refused, Misread}
-use Rattle.desk.specs.Desk.{Ask, opening, call1, call2, call2Own, call3, call4, firstHalf, secondHalf, piece, resume, recordOf, holding, Given, desk}
+use Rattle.frame.specs.declared.Way.{Way}
+use Rattle.frame.specs.declared.Way.the-variants.{Asked, Crate}
+use Rattle.desk.specs.Gate.{wayNumber}
+use Rattle.desk.specs.Desk.{Ask, opening, call1, call2, call2Own, call3, call4, firstHalf, secondHalf, piece, resume, recordOf, holding, noHearing, Given, desk}
 use Rattle.desk.specs.declared.Record.{Record}
 use Rattle.desk.specs.declared.Answer.{Answer}
 
--- a record is so many numbers; a list of another length is out of range
+-- a record is so many numbers, the way last
 abbrev pub RECORD : ℕ
-RECORD = 10
+RECORD = 11
 
 abbrev pub numbersOf : Record → List ℕ
 numbersOf rec =
-    rec .due ∷ rec .index ∷ rec .vad ∷ rec .noise ∷ rec .denoise ∷ rec .frame ∷ rec .heard ∷ rec .waiting ∷ rec .piece ∷ rec .progress ∷ []
+    let h = rec .hearing in
+    rec .due ∷ h .index ∷ h .vad ∷ h .noise ∷ h .denoise ∷ rec .frame ∷ rec .heard ∷ rec .waiting ∷ rec .piece ∷ rec .progress ∷ wayNumber (h .way) ∷ []
 
+abbrev pub wayIn : ℕ → Way
+wayIn n = cond (eqb n 0) Asked Crate
+
+abbrev pub hearingIn : List ℕ → Hearing
+hearingIn ns = record { index = getD ns 1 0; vad = getD ns 2 0; noise = getD ns 3 0; denoise = getD ns 4 0; way = wayIn (getD ns 10 0) }
+
+-- a list of another length, or with a number that is no way's, is out of range
 unfoldable pub recordIn : List ℕ → Record
 recordIn ns =
-    cond (eqb (length ns) RECORD)
-    (holding (getD ns 0 0)
-    (recordOf 0 (getD ns 1 0) (getD ns 2 0) (getD ns 3 0) (getD ns 4 0) (getD ns 5 0) (getD ns 6 0)) (getD ns 7 0) (getD ns 8 0) (getD ns 9 0))
-    (recordOf 5 0 0 0 0 0 0)
+    cond (eqb (length ns) RECORD && leb (getD ns 10 0) 1)
+    (holding (getD ns 0 0) (recordOf 0 (hearingIn ns) (getD ns 5 0) (getD ns 6 0)) (getD ns 7 0) (getD ns 8 0) (getD ns 9 0))
+    (recordOf 5 noHearing 0 0)
 
 -- a reply is a number: 0, or the refusal; 7 with the model's number and layer
 abbrev pub sevenOf : ℕ → ℕ → ℕ
@@ -56,7 +67,7 @@ toldBesides reply = cond (passed reply) (all (heardOf reply) ∷ []) []
 
 abbrev pub besides : Ask → Reply → List Written
 besides (call3 x l m o) reply = toldBesides reply
-besides (opening m) reply = []
+besides (opening w m) reply = []
 besides (call1 x w) reply = []
 besides (call2 x l w s) reply = []
 besides (call2Own x w s) reply = []

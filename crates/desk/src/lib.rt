@@ -4,24 +4,23 @@ ghost use Prim.Native.Nat.{_≤_};
 ghost use mathlib.Core.Bool.{true};
 ghost use mathlib.Core.List.{[], _∷_};
 ghost use lib.ListN.{length};
-ghost use Rattle.desk.specs.Gate.{BENCHES, sideOf, idle, allZero, inCounts, resting, underWay, inPieces, inRange, isDue, gate};
-ghost use Rattle.desk.specs.Desk.{opening, call1, call2, call2Own, call3, call4, firstHalf, secondHalf, piece, resume, recordOf, holding, nextIndex, nextFrame, nextHeard, nextDue, carried, desk, Served};
+ghost use Rattle.desk.specs.Gate.{BENCHES, sideOf, idle, wayNumber, allZero, inCounts, resting, underWay, inPieces, inRange, isDue, gate};
+ghost use Rattle.desk.specs.Desk.{opening, call1, call2, call2Own, call3, call4, firstHalf, secondHalf, piece, resume, recordOf, holding, nextIndex, nextHearing, nextFrame, nextHeard, nextDue, carried, desk, Served};
 ghost use Rattle.desk.specs.Parts.{Admits, turnedAway, toldOf, toldFirst, toldSecond, toldPiece, toldResume, openedOf};
 ghost use Rattle.frame.specs.Reply.{passed};
+use frame::Hearing;
 use frame::Lag;
 use frame::Reply;
+use frame::Way;
 use model::Reading;
 
 // A side, which is a bench: 0 to 15, the even ones left and the odd ones right.
 pub struct Side(pub usize);
 
-// A side's record, which goes in and comes back by value; closed, it is all zeros. It is called `rec`: `record` is a word of the logic.
+// A side's record, which goes in and comes back by value; closed, it is all zeros, and its way is what is asked. It is called `rec`: `record` is a word of the logic.
 pub struct Record {
     pub due: usize,
-    pub index: usize,
-    pub vad: usize,
-    pub noise: usize,
-    pub denoise: usize,
+    pub hearing: Hearing,
     pub frame: u32,
     pub heard: u32,
     pub waiting: usize,
@@ -56,23 +55,12 @@ pub fn side_of(bench: u32) -> u32
 }
 
 // Every record is made here: one at which nothing waits and no piece is unfinished.
-pub fn record_of(
-    due: usize,
-    index: usize,
-    vad: usize,
-    noise: usize,
-    denoise: usize,
-    frame: u32,
-    heard: u32,
-) -> Record
-    ensures { λ r. ⌜ r ≡ recordOf due index vad noise denoise frame heard ⌝ }
+pub fn record_of(due: usize, hearing: Hearing, frame: u32, heard: u32) -> Record
+    ensures { λ r. ⌜ r ≡ recordOf due hearing frame heard ⌝ }
 {
     Record {
         due,
-        index,
-        vad,
-        noise,
-        denoise,
+        hearing,
         frame,
         heard,
         waiting: 0,
@@ -85,12 +73,10 @@ pub fn record_of(
 pub fn holding(due: usize, rec: Record, waiting: usize, size: usize, progress: usize) -> Record
     ensures { λ r. ⌜ r ≡ holding due rec waiting size progress ⌝ }
 {
+    let hearing = rec.hearing;
     Record {
         due,
-        index: rec.index,
-        vad: rec.vad,
-        noise: rec.noise,
-        denoise: rec.denoise,
+        hearing,
         frame: rec.frame,
         heard: rec.heard,
         waiting,
@@ -109,20 +95,30 @@ fn idle(rec: Record) -> bool
     rec.piece == 0
 }
 
+// A way as a number.
+pub fn way_number(way: Way) -> u32
+    ensures { λ r. ⌜ r ≡ wayNumber way ⌝ }
+{
+    match way {
+        Way::Asked => 0,
+        Way::Crate => 1,
+    }
+}
+
 // Whether everything in a closed record is 0.
 fn all_zero(rec: Record) -> bool
     ensures { λ r. ⌜ r ≡ allZero rec ⌝ }
 {
-    if rec.index != 0 {
+    if rec.hearing.index != 0 {
         return false;
     }
-    if rec.vad != 0 {
+    if rec.hearing.vad != 0 {
         return false;
     }
-    if rec.noise != 0 {
+    if rec.hearing.noise != 0 {
         return false;
     }
-    if rec.denoise != 0 {
+    if rec.hearing.denoise != 0 {
         return false;
     }
     if rec.frame != 0 {
@@ -134,29 +130,34 @@ fn all_zero(rec: Record) -> bool
     if !idle(rec) {
         return false;
     }
-    rec.progress == 0
+    if rec.progress != 0 {
+        return false;
+    }
+    let hearing = rec.hearing;
+    let way = hearing.way;
+    way_number(way) == 0
 }
 
 // Whether the GRU counts of an open record are in range.
 fn in_counts(rec: Record) -> bool
     ensures { λ r. ⌜ r ≡ inCounts rec ⌝ }
 {
-    if rec.vad < 1 {
+    if rec.hearing.vad < 1 {
         return false;
     }
-    if rec.vad > 127 {
+    if rec.hearing.vad > 127 {
         return false;
     }
-    if rec.noise < 1 {
+    if rec.hearing.noise < 1 {
         return false;
     }
-    if rec.noise > 127 {
+    if rec.hearing.noise > 127 {
         return false;
     }
-    if rec.denoise < 1 {
+    if rec.hearing.denoise < 1 {
         return false;
     }
-    rec.denoise <= 127
+    rec.hearing.denoise <= 127
 }
 
 // Whether a record with no unfinished piece is right so: where samples wait, call 1 is due.
@@ -213,7 +214,7 @@ fn in_range(rec: Record) -> bool
     if rec.due > 4 {
         return false;
     }
-    if rec.index > 7 {
+    if rec.hearing.index > 7 {
         return false;
     }
     if !in_counts(rec) {
@@ -321,6 +322,20 @@ fn next_index(index: usize, reply: Reply) -> usize
     }
 }
 
+// What a bench needs to hear, after a reply: its index, and what its opening noted.
+fn next_hearing(hearing: Hearing, reply: Reply) -> Hearing
+    ensures { λ r. ⌜ r ≡ nextHearing hearing reply ⌝ }
+{
+    let way = hearing.way;
+    Hearing {
+        index: next_index(hearing.index, reply),
+        vad: hearing.vad,
+        noise: hearing.noise,
+        denoise: hearing.denoise,
+        way,
+    }
+}
+
 // The number of frames after a reply: call 4 answers with it.
 fn next_frame(number: u32, reply: Reply) -> u32
     ensures { λ r. ⌜ r ≡ nextFrame number reply ⌝ }
@@ -367,12 +382,12 @@ fn told(rec: Record, reply: Reply) -> Answer
         return Answer { reply, rec };
     }
     let due = next_due(rec.due);
-    let index = next_index(rec.index, reply);
+    let hearing = next_hearing(rec.hearing, reply);
     let frame = next_frame(rec.frame, reply);
     let heard = next_heard(rec.heard, reply);
     Answer {
         reply,
-        rec: record_of(due, index, rec.vad, rec.noise, rec.denoise, frame, heard),
+        rec: record_of(due, hearing, frame, heard),
     }
 }
 
@@ -443,8 +458,8 @@ fn told_resume(rec: Record, size: usize, reply: Reply) -> Answer
 }
 
 // The answer to an opening, once the model is read.
-fn opened(rec: Record, read: Reading) -> Answer
-    ensures { λ r. ⌜ r ≡ openedOf rec read ⌝ }
+fn opened(rec: Record, way: Way, read: Reading) -> Answer
+    ensures { λ r. ⌜ r ≡ openedOf rec way read ⌝ }
 {
     match read {
         Reading::Refused(number, layer) => Answer {
@@ -455,10 +470,13 @@ fn opened(rec: Record, read: Reading) -> Answer
             reply: Reply::Done,
             rec: record_of(
                 1,
-                0,
-                m.vad_gru.neurons,
-                m.noise_gru.neurons,
-                m.denoise_gru.neurons,
+                Hearing {
+                    index: 0,
+                    vad: m.vad_gru.neurons,
+                    noise: m.noise_gru.neurons,
+                    denoise: m.denoise_gru.neurons,
+                    way,
+                },
                 FIRST,
                 FIRST,
             ),
@@ -466,10 +484,10 @@ fn opened(rec: Record, read: Reading) -> Answer
     }
 }
 
-// An opening: a model that reads wipes the side's share and makes call 1 due. It has no answer buffer.
-pub fn open(side: Side, rec: Record, store: &mut [f32], model: &[u8]) -> Answer
+// An opening in a way: a model that reads wipes the side's share and makes call 1 due. It has no answer buffer.
+pub fn open(side: Side, rec: Record, store: &mut [f32], way: Way, model: &[u8]) -> Answer
     ensures { λ r. ⌜ Served
-        (desk BENCHES (side .0) rec (now (store .entry)) (opening (now (model .entry))))
+        (desk BENCHES (side .0) rec (now (store .entry)) (opening way (now (model .entry))))
         r (now (store .exit)) [] [] ⌝ }
 {
     let Admission {
@@ -481,7 +499,7 @@ pub fn open(side: Side, rec: Record, store: &mut [f32], model: &[u8]) -> Answer
     if number != 0 {
         return turned_away(rec, number);
     }
-    let answer = opened(rec, model::read(model));
+    let answer = opened(rec, way, model::read(model));
     let reply = answer.reply;
     if !frame::passed(reply) {
         return answer;
@@ -597,10 +615,7 @@ pub fn call3(
     }
     let reply = frame::call3(
         &mut store[start..part],
-        rec.index,
-        rec.vad,
-        rec.noise,
-        rec.denoise,
+        rec.hearing,
         spectrum,
         logs,
         model,
@@ -651,7 +666,9 @@ pub fn first_half(
     if number != 0 {
         return turned_away(rec, number);
     }
-    let reply = halves::first_half(&mut store[start..part], samples, sums);
+    let hearing = rec.hearing;
+    let way = hearing.way;
+    let reply = halves::first_half(&mut store[start..part], way, samples, sums);
     told_first(rec, reply)
 }
 
@@ -678,16 +695,7 @@ pub fn second_half(
     if number != 0 {
         return turned_away(rec, number);
     }
-    let reply = halves::second_half(
-        &mut store[start..part],
-        rec.index,
-        rec.vad,
-        rec.noise,
-        rec.denoise,
-        logs,
-        model,
-        out,
-    );
+    let reply = halves::second_half(&mut store[start..part], rec.hearing, logs, model, out);
     told_second(rec, reply)
 }
 
@@ -714,7 +722,9 @@ pub fn piece(
     if number != 0 {
         return turned_away(rec, number);
     }
-    let reply = pieces::piece(&mut store[start..end], rec.waiting, samples, out, sums);
+    let hearing = rec.hearing;
+    let way = hearing.way;
+    let reply = pieces::piece(&mut store[start..end], way, rec.waiting, samples, out, sums);
     told_piece(rec, samples.len(), reply)
 }
 
@@ -746,10 +756,7 @@ pub fn resume(
     }
     let reply = pieces::resume(
         &mut store[start..end],
-        rec.index,
-        rec.vad,
-        rec.noise,
-        rec.denoise,
+        rec.hearing,
         rec.piece,
         rec.progress,
         samples,

@@ -73,7 +73,7 @@ module _ (n side : ℕ) (h : side < n) (store : List Float) (size : length store
 
     -- what is known of it, where it is not refused
     abbrev pub Known : Type 0
-    Known = Resume (get (shareOf side) storeHere) (rec .index) (rec .vad) (rec .noise) (rec .denoise) (length samples) progress samples (l .logs) (l .model) room 22
+    Known = Resume (get (shareOf side) storeHere) (rec .hearing) (length samples) progress samples (l .logs) (l .model) room 22
 
     pub fits-in : Known → place progress + 480 ≤ room
     fits-in t = omega (arith, t .room, t .begun, t .within)

@@ -22,10 +22,10 @@ use Rattle.dictation.specs.Dictation.{Lent, Dictated, dictate}
 
 module _ (rec : Record) (share xs : List Float) (l : Lent) where
   abbrev pub first : Effect
-  first = firstHalf (get framePart share) (take 480 xs) 22
+  first = firstHalf (get framePart share) (rec .hearing .way) (take 480 xs) 22
 
   abbrev pub second : Effect
-  second = secondHalf (first .share) (rec .index) (rec .vad) (rec .noise) (rec .denoise) (l .logs) (l .model) 480
+  second = secondHalf (first .share) (rec .hearing) (l .logs) (l .model) 480
 
   abbrev pub shareAfter : List Float
   shareAfter = put framePart share (second .share)
@@ -35,10 +35,10 @@ module _ (rec : Record) (share xs : List Float) (l : Lent) where
 
   module _ (k : length share ≡ SHARE) where
     pub first-part : length (first .share) ≡ PART
-    first-part = first-length (get framePart share) (take 480 xs) 22 (part-length share k)
+    first-part = first-length (get framePart share) (rec .hearing .way) (take 480 xs) 22 (part-length share k)
 
     pub second-part : length (second .share) ≡ PART
-    second-part = second-length (first .share) (rec .index) (rec .vad) (rec .noise) (rec .denoise) (l .logs) (l .model) 480 first-part
+    second-part = second-length (first .share) (rec .hearing) (l .logs) (l .model) 480 first-part
 
     pub after-length : length shareAfter ≡ SHARE
     after-length = frame-length share k (second .share) second-part

@@ -1,4 +1,4 @@
--- Laws of a record and of one piece: its numbers, and that an accepted piece comes to its end. Assumes nothing.
+-- Laws of a record and of one piece: its numbers, where it is accepted, and that an accepted piece comes to its end and makes a cut. Assumes nothing.
 use Prim.Native.Nat.{ℕ, _+_, _-_, _*_, _/_, _≤_, _<_}
 use native.Mathlib.Omega.{arith}
 use mathlib.Core.Bool.{Bool, true, false}
@@ -6,13 +6,13 @@ use mathlib.Core.List.{List, [], _∷_, _++_}
 use mathlib.Core.Path.{_≡_, refl, sym, ap, _∙_}
 use borrow.Author.Tests.{eqb-true, eqb-false, leb-true, eq-eqb, ne-eqb, le-leb, lt-ltb, not-false}
 use lib.Dec.{eqb, leb}
-use lib.ListN.{length, drop, length-append, length-drop}
+use lib.ListN.{length, take, drop, length-append, length-drop}
 use lib.Seq.{drop-drop, drop-append-add}
 use lib.Ieee.{Float}
 use Rattle.rules.specs.F32.{zeros}
 use Rattle.rules.specs.Place.{get, put}
 use Rattle.rules.specs.Written.{Written, from, nothing, over, onto}
-use Rattle.rules.proofs.Places.{length-put}
+use Rattle.rules.proofs.Places.{length-get, length-put}
 use Rattle.rules.proofs.Writing.{over-none}
 use Rattle.rules.proofs.Truth.{both}
 use Rattle.samples.specs.Samples.{good}
@@ -22,17 +22,19 @@ use Rattle.frame.specs.Reply.{passed}
 use Rattle.frame.specs.Share.{SHARE}
 use Rattle.halves.specs.Halves.{buffer}
 use Rattle.pieces.specs.Pieces.{waitingIn, waits, waitedOf, completes}
+use Rattle.pieces.proofs.Accepted.{Piece, piece-taken}
+use Rattle.pieces.proofs.Kept.{further-reply}
 use Rattle.pieces.proofs.Shares.{waiting-length, waits-length}
 use Rattle.desk.specs.declared.Record.{Record}
 use Rattle.desk.specs.Gate.{shareOf, idle, allZero, inCounts, underWay, inPieces, inRange, isDue, gate}
 use Rattle.desk.specs.Desk.{piece, resume, holding, Given, desk}
 use Rattle.dictation.specs.Dictation.{Lent, Dictated}
-use Rattle.dictation.specs.Cutting.{Led, ended, paused}
-use Rattle.dictation.specs.Resuming.{Numbered, Fitting, Completes}
-use Rattle.desk.proofs.Ranged.{next-index, open-range}
+use Rattle.dictation.specs.Cutting.{Led, ended, paused, last}
+use Rattle.dictation.specs.Resuming.{Numbered, Accepts, Fitting, Completes, MakesCut}
+use Rattle.desk.proofs.Ranged.{bounded, next-index, open-range}
 use Rattle.desk.proofs.Turned.{none, through}
 use Rattle.dictation.proofs.Joins.{first, second, shareAfter, recAfter, after-length}
-use Rattle.dictation.proofs.Taken.{onward, ends, pauses, piece-passed}
+use Rattle.dictation.proofs.Taken.{let-through, onward, ends, pauses, piece-passed}
 use Rattle.dictation.proofs.Follows.{place, shareHere, next, here-length, back, Known, fits-in, halved, admits}
 
 -- ---- the numbers of a record
@@ -41,13 +43,13 @@ use Rattle.dictation.proofs.Follows.{place, shareHere, next, here-lengt
 shut : (rec : Record) → allZero rec ≡ true → rec .piece ≡ 0
 unfolding allZero idle
 shut rec e =
-    let vad = both (eqb (rec .index) 0) _ e in
-    let noise = both (eqb (rec .vad) 0) _ (vad .1) in
-    let denoise = both (eqb (rec .noise) 0) _ (noise .1) in
-    let frames = both (eqb (rec .denoise) 0) _ (denoise .1) in
+    let vad = both (eqb (rec .hearing .index) 0) _ e in
+    let noise = both (eqb (rec .hearing .vad) 0) _ (vad .1) in
+    let denoise = both (eqb (rec .hearing .noise) 0) _ (noise .1) in
+    let frames = both (eqb (rec .hearing .denoise) 0) _ (denoise .1) in
     let heards = both (eqb (rec .frame) 0) _ (frames .1) in
     let pieces = both (eqb (rec .heard) 0) _ (heards .1) in
-    let none = both (idle rec) (eqb (rec .progress) 0) (pieces .1) in
+    let none = both (idle rec) _ (pieces .1) in
     eqb-true (rec .piece) 0 (both (eqb (rec .waiting) 0) (eqb (rec .piece) 0) (none .0) .1)
 
 unfinished : (rec : Record) → inRange rec ≡ true → (rec .piece ≡ 0 → ⊥) → (1 ≤ rec .progress) × (rec .progress ≤ rec .piece)
@@ -72,14 +74,14 @@ numbered rec e ne =
 -- ---- records under way pass
 
 -- a resume of a piece under way gets through the gate
-resume-due : (n side : ℕ) (rec : Record) (len size progress : ℕ) → side < n → len ≡ n * SHARE → rec .index ≤ 7 → inCounts rec ≡ true
+resume-due : (n side : ℕ) (rec : Record) (len size progress : ℕ) → side < n → len ≡ n * SHARE → rec .hearing .index ≤ 7 → inCounts rec ≡ true
     → size ≤ 4096 → 1 ≤ progress → progress ≤ size → gate n side (holding 3 rec 0 size progress) len 6 ≡ 0
 unfolding gate inRange inCounts inPieces underWay isDue
 resume-due n side rec len size progress h l i c few begun within =
     rw (
       lt-ltb side n h,
       eq-eqb len (n * SHARE) l,
-      le-leb (rec .index) 7 i,
+      le-leb (rec .hearing .index) 7 i,
       c,
       ne-eqb size 0 (λ z. omega arith),
       le-leb size 4096 few,
@@ -94,7 +96,8 @@ same-wait : (progress : ℕ) → waitedOf (progress + 480) ≡ waitedOf progress
 same-wait progress = omega arith
 
 -- the counts are the opening's, whatever frames make of the record
-fitting-on : (rec after : Record) (lent : List Lent) → after .vad ≡ rec .vad → after .noise ≡ rec .noise → after .denoise ≡ rec .denoise
+fitting-on : (rec after : Record) (lent : List Lent)
+    → after .hearing .vad ≡ rec .hearing .vad → after .hearing .noise ≡ rec .hearing .noise → after .hearing .denoise ≡ rec .hearing .denoise
     → Fitting rec lent → Fitting after lent
 fitting-on rec after [] a b c f = tt
 fitting-on rec after (l ∷ more) a b c f = (f .0, rw (a, b, c) (f .1), fitting-on rec after more a b c (f .2))
@@ -106,7 +109,7 @@ counts-on rec share xs l c = c
 module _ (n side : ℕ) (h : side < n) (store : List Float) (size : length store ≡ n * SHARE) (samples : List Float)
     (few : length samples ≤ 4096) (fine : good samples ≡ true) where
   comes : (lent : List Lent) (rec : Record) (reply : Reply) (share rest : List Float) (progress : ℕ) (w : Written) (held : List Float)
-      → passed reply ≡ true → length share ≡ SHARE → rec .index ≤ 7 → inCounts rec ≡ true
+      → passed reply ≡ true → length share ≡ SHARE → rec .hearing .index ≤ 7 → inCounts rec ≡ true
       → drop progress samples ≡ drop 480 rest → 1 ≤ progress → progress + length rest ≡ length samples + 480
       → 480 * completes (waitedOf progress) (length samples) ≤ length (over w held)
       → length lent ≡ length rest / 480 → Fitting rec lent
@@ -146,7 +149,7 @@ module _ (n side : ℕ) (h : side < n) (store : List Float) (size : length store
       let ih =
       comes more (recAfter rec share rest l) (s .reply) (shareAfter rec share rest l) (drop 480 rest) (progress + 480)
       (from (place progress) (buffer s)) out
-      (y .passes) (after-length rec share rest l k) (next-index (rec .index) (s .reply) i) (counts-on rec share rest l c)
+      (y .passes) (after-length rec share rest l k) (next-index (rec .hearing .index) (s .reply) i) (counts-on rec share rest l c)
       (sym (drop-drop 480 progress samples) ∙ ap (drop 480) same)
       (omega arith) (omega (arith, length-drop 480 rest)) (rw (kept, same-wait progress) room) (omega (arith, length-drop 480 rest))
       (fitting-on rec (recAfter rec share rest l) more refl refl refl (f .2)) in
@@ -182,3 +185,34 @@ completed n side rec store samples held lent p m f =
     (comes n side (side-and-store .0) store (side-and-store .1) samples (k .few) (k .fine)
     lent rec Done (waits share []) (ws ++ samples) (480 - rec .waiting) nothing held refl
     (waits-length share (k .size) []) (range .0) (range .1) same (omega (arith, k .waits)) (omega (arith, k .waits)) room (omega arith) f)
+
+-- ---- what is accepted
+
+let-piece : (n side : ℕ) (rec : Record) (len : ℕ) → side < n → len ≡ n * SHARE → inRange rec ≡ true → rec .due ≡ 1 → gate n side rec len 5 ≡ 0
+unfolding gate isDue
+let-piece n side rec len h l r d = rw (lt-ltb side n h, eq-eqb len (n * SHARE) l, r, d)
+
+pub accepts : Accepts
+accepts n side rec store samples held h l r d some few room waited fine =
+    let share = get (shareOf side) store in
+    let k : Piece share (rec .waiting) samples (length held) 22 =
+    record {
+      size = length-get (shareOf side) store (omega arith);
+      waits = bounded rec r .waiting;
+      some = some;
+      few = few;
+      room = room;
+      places = refl;
+      waited = waited;
+      fine = fine;
+    } in
+    rw (
+      let-through n side rec store (piece samples (length held) 22) (let-piece n side rec (length store) h l r d),
+      piece-taken share (rec .hearing .way) (rec .waiting) samples (length held) 22 k,
+      further-reply Done (waits share []) (rec .hearing .way) (waitingIn (rec .waiting) share ++ samples) nothing,
+    )
+
+pub makes-cut : MakesCut
+makes-cut n side rec store samples held lent p m f =
+    let t = completed n side rec store samples held lent p m f in
+    let d = t .0 in (record { rec = d .rec; store = d .store; told = d .told; out = take (480 * length lent) (d .out) }, last {held = held} {d = d} (t .1))

@@ -64,7 +64,7 @@ module _ (n side : ℕ) (rec : Record) (store : List Float) (ask : Ask) where
 
 abbrev pub onward : ℕ → List Float → Record → Reply → List Float → List Float → ℕ → ℕ → Written → Given
 onward side store rec reply share rest size progress w =
-    let f = further reply share rest w in
+    let f = further reply share (rec .hearing .way) rest w in
     record {
       answer = record { reply = reply; rec = carried rec (length rest) size progress };
       store = put (shareOf side) store (f .share);
@@ -83,7 +83,7 @@ module _ (side : ℕ) (store : List Float) (rec : Record) (reply : Reply) (share
   ends h = rw (lt-ltb (length rest) 480 h)
 
   pub pauses : 480 ≤ length rest
-      → let f = firstHalf (get framePart share) (take 480 rest) 22 in
+      → let f = firstHalf (get framePart share) (rec .hearing .way) (take 480 rest) 22 in
       onward side store rec reply share rest size progress w
       ≡ record {
         answer = record { reply = reply; rec = holding 3 rec 0 size progress };
@@ -105,19 +105,19 @@ module _ (n side : ℕ) (rec : Record) (store samples : List Float) (out sums : 
   abbrev pub begins : Given
   begins = onward side store rec Done (waits its []) (waitingIn (rec .waiting) its ++ samples) (length samples) (480 - rec .waiting) nothing
 
-  begun-onward : facts → on side store rec (piece samples out sums) (pieces.piece its (rec .waiting) samples out sums) ≡ begins
+  begun-onward : facts → on side store rec (piece samples out sums) (pieces.piece its (rec .hearing .way) (rec .waiting) samples out sums) ≡ begins
   begun-onward k =
       let rest = waitingIn (rec .waiting) its ++ samples in
       let long : length rest ≡ rec .waiting + length samples =
       length-append (waitingIn (rec .waiting) its) samples ∙ ap (λ (m : ℕ). m + length samples) (waiting-length its (k .size) (rec .waiting) (k .waits)) in
-      rw (piece-taken its (rec .waiting) samples out sums k, further-reply Done (waits its []) rest nothing, long)
+      rw (piece-taken its (rec .hearing .way) (rec .waiting) samples out sums k, further-reply Done (waits its []) (rec .hearing .way) rest nothing, long)
 
   pub piece-passed : passed (desk n side rec store (piece samples out sums) .answer .reply) ≡ true
       → (gate n side rec (length store) 5 ≡ 0) × facts × (desk n side rec store (piece samples out sums) ≡ begins)
   piece-passed p =
       let t = let-in n side rec store (piece samples out sums) p in
-      let q : passed (pieces.piece its (rec .waiting) samples out sums .reply) ≡ true = sym (ap (λ (o : Given). passed (o .answer .reply)) (t .1)) ∙ p in
-      let k = piece-by its (λ o. passed (o .reply) ≡ true → facts) (λ m e. absurd (false≢true e)) (rec .waiting) samples out sums (λ k _. k) q in
+      let q : passed (pieces.piece its (rec .hearing .way) (rec .waiting) samples out sums .reply) ≡ true = sym (ap (λ (o : Given). passed (o .answer .reply)) (t .1)) ∙ p in
+      let k = piece-by its (λ o. passed (o .reply) ≡ true → facts) (λ m e. absurd (false≢true e)) (rec .hearing .way) (rec .waiting) samples out sums (λ k _. k) q in
       (t .0, k, t .1 ∙ begun-onward k)
 
 -- ---- a resume
@@ -127,15 +127,15 @@ module _ (n side : ℕ) (rec : Record) (store samples logs : List Float) (model 
   mine = get (shareOf side) store
 
   abbrev known : Type 0
-  known = Resume mine (rec .index) (rec .vad) (rec .noise) (rec .denoise) (rec .piece) (rec .progress) samples logs model out sums
+  known = Resume mine (rec .hearing) (rec .piece) (rec .progress) samples logs model out sums
 
   abbrev half : Effect
-  half = secondHalf (get framePart mine) (rec .index) (rec .vad) (rec .noise) (rec .denoise) logs model 480
+  half = secondHalf (get framePart mine) (rec .hearing) logs model 480
 
   -- the second half is refused nothing
   pub half-passes : known → Halved 480 half
   half-passes k =
-      second-passes (get framePart mine) (rec .index) (rec .vad) (rec .noise) (rec .denoise) logs model
+      second-passes (get framePart mine) (rec .hearing) logs model
       (part-length mine (k .size)) (k .taken) (k .inside) (k .right)
 
   abbrev pub goes : Given
@@ -146,13 +146,13 @@ module _ (n side : ℕ) (rec : Record) (store samples logs : List Float) (model 
 
   pub resumed-onward : known
       → on side store rec (resume samples logs model out sums)
-      (pieces.resume mine (rec .index) (rec .vad) (rec .noise) (rec .denoise) (rec .piece) (rec .progress) samples logs model out sums)
+      (pieces.resume mine (rec .hearing) (rec .piece) (rec .progress) samples logs model out sums)
       ≡ goes
   resumed-onward k =
       let rest = drop (rec .progress) samples in
       rw (
-        resume-taken mine (rec .index) (rec .vad) (rec .noise) (rec .denoise) (rec .piece) (rec .progress) samples logs model out sums k,
-        further-reply (half .reply) (put framePart mine (half .share)) rest (from (480 * (frameAt (rec .progress) - 1)) (buffer half)),
+        resume-taken mine (rec .hearing) (rec .piece) (rec .progress) samples logs model out sums k,
+        further-reply (half .reply) (put framePart mine (half .share)) (rec .hearing .way) rest (from (480 * (frameAt (rec .progress) - 1)) (buffer half)),
         half-passes k .passes,
         length-drop (rec .progress) samples,
       )
@@ -161,10 +161,10 @@ module _ (n side : ℕ) (rec : Record) (store samples logs : List Float) (model 
       → (gate n side rec (length store) 6 ≡ 0) × known × (desk n side rec store (resume samples logs model out sums) ≡ goes)
   resume-passed p =
       let t = let-in n side rec store (resume samples logs model out sums) p in
-      let o = pieces.resume mine (rec .index) (rec .vad) (rec .noise) (rec .denoise) (rec .piece) (rec .progress) samples logs model out sums in
+      let o = pieces.resume mine (rec .hearing) (rec .piece) (rec .progress) samples logs model out sums in
       let q : passed (o .reply) ≡ true = sym (ap (λ (g : Given). passed (g .answer .reply)) (t .1)) ∙ p in
       let k =
       resume-by mine (λ o. passed (o .reply) ≡ true → known) (λ m e. absurd (false≢true e))
-      (rec .index) (rec .vad) (rec .noise) (rec .denoise) (rec .piece) (rec .progress) samples logs model out sums
+      (rec .hearing) (rec .piece) (rec .progress) samples logs model out sums
       (λ m l _ e. absurd (false≢true e)) (λ k _. k) q in
       (t .0, k, t .1 ∙ resumed-onward k)

@@ -26,8 +26,8 @@ pub record Dictated : Type 0 where
 unfoldable pub dictate : Record → List Float → List Float → List Lent → Dictated
 dictate rec share xs [] = record { rec = holding 1 rec (length xs) 0 0; store = waits share xs; told = []; out = [] }
 dictate rec share xs (l ∷ more) =
-    let f = firstHalf (get framePart share) (take 480 xs) 22 in
-    let s = secondHalf (f .share) (rec .index) (rec .vad) (rec .noise) (rec .denoise) (l .logs) (l .model) 480 in
+    let f = firstHalf (get framePart share) (rec .hearing .way) (take 480 xs) 22 in
+    let s = secondHalf (f .share) (rec .hearing) (l .logs) (l .model) 480 in
     let after = numbered (advanced (holding 3 rec 0 0 0) (s .reply)) in
     let d = dictate after (put framePart share (s .share)) (drop 480 xs) more in
     record { rec = d .rec; store = d .store; told = (buffer f, s .reply, after) ∷ d .told; out = buffer s ++ d .out }

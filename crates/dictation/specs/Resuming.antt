@@ -1,21 +1,24 @@
 -- Laws of a record and of one piece: what is claimed. The proofs are in proofs/Cuts.antt and proofs/Resumes.antt.
-use Prim.Native.Nat.{ℕ, _+_, _*_, _≤_}
+use Prim.Native.Nat.{ℕ, _+_, _*_, _≤_, _<_}
 use mathlib.Core.Bool.{true}
 use mathlib.Core.List.{List, [], _∷_}
 use mathlib.Core.Path.{_≡_}
 use lib.ListN.{length}
 use lib.Ieee.{Float}
+use Rattle.rules.specs.Place.{get}
 use Rattle.rules.specs.Written.{from, over}
+use Rattle.samples.specs.Samples.{good}
 use Rattle.model.specs.Model.{readOf}
 use Rattle.frame.specs.declared.Reply.the-variants.{Done}
 use Rattle.frame.specs.Frame.{counted, checked}
 use Rattle.frame.specs.Reply.{passed}
-use Rattle.pieces.specs.Pieces.{completes, frameAt, waitedOf}
+use Rattle.frame.specs.Share.{SHARE}
+use Rattle.pieces.specs.Pieces.{waitingIn, completes, frameAt, waitedOf}
 use Rattle.desk.specs.declared.Record.{Record}
-use Rattle.desk.specs.Gate.{inRange}
+use Rattle.desk.specs.Gate.{shareOf, inRange}
 use Rattle.desk.specs.Desk.{piece, Given, desk}
 use Rattle.dictation.specs.Dictation.{Lent, Dictated, dictated}
-use Rattle.dictation.specs.Cutting.{Led}
+use Rattle.dictation.specs.Cutting.{Led, Cut}
 
 -- any record that passes with a piece unfinished says which frame of it is under way and how many samples waited, and no other two numbers fit it
 abbrev pub Numbered : Type 0
@@ -28,6 +31,16 @@ Numbered =
 -- a piece of these samples, where the output held this
 abbrev pub handedIn : ℕ → ℕ → Record → List Float → List Float → List Float → Given
 handedIn n side rec store samples held = desk n side rec store (piece samples (length held) 22)
+
+-- where call 1 is due, a piece is accepted: 1 to 4,096 samples, nothing to refuse in them and in those that wait, and room for the frames that they
+-- complete
+abbrev pub Accepts : Type 0
+Accepts =
+    (n side : ℕ) (rec : Record) (store samples held : List Float)
+    → side < n → length store ≡ n * SHARE → inRange rec ≡ true → rec .due ≡ 1
+    → 1 ≤ length samples → length samples ≤ 4096 → 480 * completes (rec .waiting) (length samples) ≤ length held
+    → good (waitingIn (rec .waiting) (get (shareOf side) store)) ≡ true → good samples ≡ true
+    → handedIn n side rec store samples held .answer .reply ≡ Done
 
 -- a piece that is resumed to its end has as many frames as it completes; they fill its output from the front, and the places behind them stay
 abbrev pub Whole : Type 0
@@ -42,7 +55,7 @@ Whole =
 abbrev pub Fitting : Record → List Lent → Type 0
 Fitting rec [] = Unit
 Fitting rec (l ∷ more) =
-    (length (l .logs) ≡ 22) × (checked (counted (rec .vad) (rec .noise) (rec .denoise)) (readOf (l .model)) ≡ Done) × Fitting rec more
+    (length (l .logs) ≡ 22) × (checked (counted (rec .hearing)) (readOf (l .model)) ≡ Done) × Fitting rec more
 
 -- a piece that is accepted comes to its end: with the same samples and output, and what fits each frame, no resume is refused
 abbrev pub Completes : Type 0
@@ -51,3 +64,11 @@ Completes =
     → passed (handedIn n side rec store samples held .answer .reply) ≡ true
     → length lent ≡ completes (rec .waiting) (length samples) → Fitting rec lent
     → (d : Dictated) × Led n side samples (handedIn n side rec store samples held) held lent d
+
+-- and so it makes a cut: what the law of cutting asks for can be met
+abbrev pub MakesCut : Type 0
+MakesCut =
+    (n side : ℕ) (rec : Record) (store samples held : List Float) (lent : List Lent)
+    → passed (handedIn n side rec store samples held .answer .reply) ≡ true
+    → length lent ≡ completes (rec .waiting) (length samples) → Fitting rec lent
+    → (d : Dictated) × Cut n side rec store samples lent d

@@ -23,14 +23,14 @@ use Rattle.desk.specs.Gate.{inRange}
 use Rattle.desk.specs.Desk.{Given, Served}
 use Rattle.desk.specs.Surface.{RECORD, recordIn, numbersOf, replyNumber, heardOf, outOf, telling, Hosted}
 use Rattle.desk.proofs.Ranged.{bounded}
-use Rattle.desk.proofs.Replies.{Small}
+use Rattle.desk.proofs.Replies.{SmallSeven}
 use Rattle.export.specs.Parts.{HandsBack}
 
 -- ---- the answer as numbers
 
 -- what is known of an answer to a call with this record
 pub record Sound (b : Record) (a : Answer) : Type 0 where
-  pub small : Small (a .reply)
+  pub small : SmallSeven (a .reply)
   pub ranged : passed (a .reply) ≡ true → (inRange b ≡ true) × (inRange (a .rec) ≡ true)
 
 -- a record in range has all its places

@@ -8,9 +8,9 @@ use Rattle.frame.specs.Reply.{passed}
 use Rattle.desk.specs.declared.Answer.{Answer}
 use Rattle.desk.specs.Surface.{RECORD}
 use Rattle.desk.proofs.Ranged.{Bounded}
-use Rattle.desk.proofs.Replies.{Small}
+use Rattle.desk.proofs.Replies.{SmallSeven}
 
 -- an answer can be handed back
 pub record HandsBack (ns : List ℕ) (a : Answer) : Type 0 where
-  pub small : Small (a .reply)
+  pub small : SmallSeven (a .reply)
   pub fits : passed (a .reply) ≡ true → (length ns ≡ RECORD) × Bounded (a .rec)

@@ -1,6 +1,7 @@
-// desk: an opening, the frame calls and pieces of dictation, for a host that has numbers alone. `record` is a side's record as ten numbers: due call,
-// cepstral index, the three GRU counts, frames, heard frames, the samples that wait, the size of an unfinished piece and its progress. `answer` is
-// call 3's as three: heard or not, voice, energy. Returned is 0 or the refusal.
+// desk: an opening, the frame calls and pieces of dictation, for a host that has numbers alone. `record` is a side's record as eleven numbers: due
+// call, cepstral index, the three GRU counts, frames, heard frames, the samples that wait, the size of an unfinished piece and its progress, and the
+// side's way: 0 for our own lag and the plain sums, 1 for nnnoiseless's lag and the fast transforms. `answer` is call 3's as three: heard
+// or not, voice, energy. Returned is 0 or the refusal.
 // `store` is the one of all benches, of the length that is published, and `model` the bytes of a model file. Refusals,
 // the first that is due: 1 no such side; 2 another length of `store` or `record`, or a record out of range; 3 the side is
 // closed; 4 another call is due; 5 another wrong length; 6 a lag above 768; 7 + 256 times its refusal + 65,536 times the
@@ -10,20 +11,23 @@ ghost use mathlib.Core.Bool.{true, cond};
 ghost use mathlib.Core.List.{[], _∷_};
 ghost use lib.ListN.{length};
 ghost use Rattle.frame.specs.Reply.{passed};
+ghost use Rattle.frame.specs.declared.Way.the-variants.{Asked, Crate};
 ghost use Rattle.desk.specs.Gate.{BENCHES, sideOf};
-ghost use Rattle.desk.specs.Desk.{opening, call1, call2, call2Own, call3, call4, firstHalf, secondHalf, piece, resume};
-ghost use Rattle.desk.specs.Surface.{RECORD, numbersOf, recordIn, replyNumber, heardOf, outOf, hosted, Hosted};
+ghost use Rattle.desk.specs.Desk.{recordOf, noHearing, opening, call1, call2, call2Own, call3, call4, firstHalf, secondHalf, piece, resume};
+ghost use Rattle.desk.specs.Surface.{RECORD, numbersOf, wayIn, hearingIn, recordIn, replyNumber, heardOf, outOf, hosted, Hosted};
 ghost use Rattle.desk.proofs.Ranged.{Bounded};
-ghost use Rattle.desk.proofs.Replies.{Small};
+ghost use Rattle.desk.proofs.Replies.{SmallSeven};
 ghost use Rattle.export.specs.Parts.{HandsBack};
 use desk::Answer;
 use desk::Record;
 use desk::Side;
+use frame::Hearing;
 use frame::Lag;
 use frame::Reply;
+use frame::Way;
 
 // How many numbers a record is.
-const RECORD: usize = 10;
+const RECORD: usize = 11;
 
 fn wide(x: u32) -> usize
     ensures { λ r. ⌜ r ≡ x ⌝ }
@@ -31,22 +35,55 @@ fn wide(x: u32) -> usize
     x as usize
 }
 
-// A record from its numbers; a list of another length is out of range.
+// A way from its number.
+fn way_in(number: u32) -> Way
+    ensures { λ r. ⌜ r ≡ wayIn number ⌝ }
+{
+    if number == 0 {
+        return Way::Asked;
+    }
+    Way::Crate
+}
+
+// What a bench needs to hear, from a record's numbers.
+fn hearing_in(record: &[u32]) -> Hearing
+    requires { ⌜ length (now «record») ≡ RECORD ⌝ }
+    ensures { λ r. ⌜ r ≡ hearingIn (now («record» .entry)) ⌝ }
+{
+    Hearing {
+        index: wide(record[1]),
+        vad: wide(record[2]),
+        noise: wide(record[3]),
+        denoise: wide(record[4]),
+        way: way_in(record[10]),
+    }
+}
+
+// A record that is out of range.
+fn no_record() -> Record
+    ensures { λ r. ⌜ r ≡ recordOf 5 noHearing 0 0 ⌝ }
+{
+    let hearing = Hearing {
+        index: 0,
+        vad: 0,
+        noise: 0,
+        denoise: 0,
+        way: Way::Asked,
+    };
+    desk::record_of(5, hearing, 0, 0)
+}
+
+// A record from its numbers; a list of another length, or with a number that is no way's, is out of range.
 pub(crate) fn record_in(record: &[u32]) -> Record
     ensures { λ r. ⌜ r ≡ recordIn (now («record» .entry)) ⌝ }
 {
     if record.len() != RECORD {
-        return desk::record_of(5, 0, 0, 0, 0, 0, 0);
+        return no_record();
     }
-    let idle = desk::record_of(
-        0,
-        wide(record[1]),
-        wide(record[2]),
-        wide(record[3]),
-        wide(record[4]),
-        record[5],
-        record[6],
-    );
+    if record[10] > 1 {
+        return no_record();
+    }
+    let idle = desk::record_of(0, hearing_in(record), record[5], record[6]);
     desk::holding(
         wide(record[0]),
         idle,
@@ -62,20 +99,23 @@ fn put_record(record: &mut [u32], rec: Record)
     ensures { λ _. ⌜ now («record» .exit) ≡ numbersOf rec ⌝ }
 {
     record[0] = rec.due as u32;
-    record[1] = rec.index as u32;
-    record[2] = rec.vad as u32;
-    record[3] = rec.noise as u32;
-    record[4] = rec.denoise as u32;
+    record[1] = rec.hearing.index as u32;
+    record[2] = rec.hearing.vad as u32;
+    record[3] = rec.hearing.noise as u32;
+    record[4] = rec.hearing.denoise as u32;
     record[5] = rec.frame;
     record[6] = rec.heard;
     record[7] = rec.waiting as u32;
     record[8] = rec.piece as u32;
     record[9] = rec.progress as u32;
+    let hearing = rec.hearing;
+    let way = hearing.way;
+    record[10] = desk::way_number(way);
 }
 
 // A reply as a number.
 fn number_of(reply: Reply) -> u32
-    requires { ⌜ Small reply ⌝ }
+    requires { ⌜ SmallSeven reply ⌝ }
     ensures { λ r. ⌜ r ≡ replyNumber reply ⌝ }
 {
     match reply {
@@ -119,10 +159,39 @@ pub extern "C" fn tuppence_open(
     model: &[u8],
 ) -> u32
     ensures { λ r. ⌜ Hosted
-        (hosted BENCHES side (now («record» .entry)) (now (store .entry)) (opening (now (model .entry))))
+        (hosted BENCHES side (now («record» .entry)) (now (store .entry)) (opening Asked (now (model .entry))))
         r (now («record» .entry)) (now («record» .exit)) (now (store .exit)) [] [] ⌝ }
 {
-    let given = desk::open(Side(side as usize), record_in(record), store, model);
+    let given = desk::open(
+        Side(side as usize),
+        record_in(record),
+        store,
+        Way::Asked,
+        model,
+    );
+    hand_back(record, given)
+}
+
+// Opens a side likewise, for nnnoiseless's lag and the fast transforms: its halves and pieces, frames, takes and feeds
+// go that way until the next opening.
+#[no_mangle]
+pub extern "C" fn tuppence_open_crate(
+    record: &mut [u32],
+    store: &mut [f32],
+    side: u32,
+    model: &[u8],
+) -> u32
+    ensures { λ r. ⌜ Hosted
+        (hosted BENCHES side (now («record» .entry)) (now (store .entry)) (opening Crate (now (model .entry))))
+        r (now («record» .entry)) (now («record» .exit)) (now (store .exit)) [] [] ⌝ }
+{
+    let given = desk::open(
+        Side(side as usize),
+        record_in(record),
+        store,
+        Way::Crate,
+        model,
+    );
     hand_back(record, given)
 }
 
@@ -284,7 +353,7 @@ pub extern "C" fn tuppence_call4(
     hand_back(record, given)
 }
 
-// Calls 1 and 2 with our own transforms and lag: `samples` are a frame's 480, `sums` gets 22 numbers.
+// Calls 1 and 2 with the transforms and the lag of the side's way: `samples` are a frame's 480, `sums` gets 22 numbers.
 #[no_mangle]
 pub extern "C" fn tuppence_first_half(
     record: &mut [u32],

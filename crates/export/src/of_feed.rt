@@ -1,4 +1,4 @@
-// feed: a block of recorded bytes in one call. `record` is a side's record as ten numbers, and `store` 98,304, as in
+// feed: a block of recorded bytes in one call. `record` is a side's record as eleven numbers, and `store` 98,304, as in
 // `of_desk`; `model` is a model file's bytes. Returned is 0 or the refusal.
 ghost use lib.ListN.{length};
 ghost use Rattle.desk.specs.Gate.{BENCHES};

@@ -1,16 +1,14 @@
 -- A feed, as the code calls it.
---     of-samples, in-room         a take of samples that are others by name, and with room by another name
---     of-unpacked                 how many frames it completes
 --     handed, unhanded            what comes of a take is handed out, or is not
+--     sized, part-length, ready   the numbers of a feed that no row refuses
 --     turned, shut, fed           a feed that the gate turns away, one that a row refuses, and one that is neither
---     sized, part-length, ready   the numbers of one that is neither
 -- Assumes nothing.
 use Prim.Native.Nat.{ℕ, _-_, _*_, _/_, _≤_, _<_}
 use native.Mathlib.Nat.{sub-zero}
 use native.Mathlib.Omega.{arith}
 use mathlib.Core.Bool.{Bool, true, false, cond, not, _&&_, true≢false, false≢true}
 use mathlib.Core.List.{List, [], _∷_}
-use mathlib.Core.Path.{_≡_, refl, sym, ap, subst, _∙_}
+use mathlib.Core.Path.{_≡_, refl, sym, ap, _∙_}
 use borrow.Author.Tests.{ne-eqb, leb-true}
 use lib.Dec.{leb}
 use lib.ListN.{length, getD, drop, length-take, List·getD-append, take as list-take}
@@ -21,7 +19,7 @@ use Rattle.rules.specs.Place.{put}
 use Rattle.rules.specs.Refusals.{_when_, refusing}
 use Rattle.rules.specs.Tab.{tab}
 use Rattle.rules.specs.Written.{from, over}
-use Rattle.rules.proofs.Tabs.{length-tab, tab-same}
+use Rattle.rules.proofs.Tabs.{tab-same}
 use Rattle.rules.proofs.Tests.{answered-no, answered-yes}
 use Rattle.rules.proofs.Truth.{both}
 use Rattle.frame.specs.declared.Reply.the-variants.{Refused}
@@ -35,29 +33,12 @@ use Rattle.whole.specs.Whole.{takeEnds, take}
 use Rattle.whole.proofs.Accepted.{fits-sizes}
 use Rattle.whole.proofs.Dictations.{take-fills}
 use Rattle.whole.proofs.Ranged.{take-by}
-use Rattle.pcm.specs.Pcm.{unpacked, packed}
-use Rattle.feed.specs.Feed.{Block, ROOM, samplesIn, sizeOf, samplesOf, Fed, unfed, entryOf, entriesOf, fedBy, feed, atFront, FedTo}
+use Rattle.pcm.specs.Pcm.{unpacked, UnpackFits, packed}
+use Rattle.feed.specs.Feed.{Block, ROOM, sizeOf, samplesOf, Fed, unfed, entryOf, entriesOf, fedBy, feed, atFront, FedTo}
 use Rattle.feed.specs.Parts.{fitting, Ready}
 use Rattle.feed.proofs.Blocks.{block-fits}
 
 -- ---- a take
-
-pub of-samples : (n side : ℕ) (rec : Record) (store : List Float) (model : List ℕ) (out answers : ℕ) {a : Answer} {s : List Float} {held left : List (List Float)} {xs ys : List Float}
-    → xs ≡ ys → Served (take n side rec store xs model out answers) a s held left → Served (take n side rec store ys model out answers) a s held left
-of-samples n side rec store model out answers {a} {s} {held} {left} e w = subst (λ (zs : List Float). Served (take n side rec store zs model out answers) a s held left) e w
-
-pub in-room : (n side : ℕ) (rec : Record) (store samples : List Float) (model : List ℕ) (answers : ℕ) {m : ℕ} → m ≡ ROOM
-    → {a : Answer} {s : List Float} {c c′ d d′ : List ℕ} {t t′ : List Float}
-    → FedTo (fedBy (rec .frame) (take n side rec store samples model m answers)) a s c c′ d d′ t t′
-    → FedTo (fedBy (rec .frame) (take n side rec store samples model ROOM answers)) a s c c′ d d′ t t′
-in-room n side rec store samples model answers e {a} {s} {c} {c′} {d} {d′} {t} {t′} w =
-    subst (λ (x : ℕ). FedTo (fedBy (rec .frame) (take n side rec store samples model x answers)) a s c c′ d d′ t t′) e w
-
--- so many frames are completed by the samples that are unpacked
-pub of-unpacked : (waiting n : ℕ) (bytes : List ℕ) (format channels channel : ℕ)
-    → completes waiting n ≡ completes waiting (length (unpacked n bytes format channels channel))
-unfolding unpacked
-of-unpacked waiting n bytes format channels channel = ap (completes waiting) (sym (length-tab n _))
 
 -- what stands at the front of a buffer to which these were written
 module _ (k frame : ℕ) (xs held : List Float) {held′ : List Float} (o : held′ ≡ over (from 0 xs) held) where
@@ -107,6 +88,27 @@ module _ (n side : ℕ) (rec : Record) (store samples : List Float) (model : Lis
         (λ q v. record { answered = v .answers; stores = v .stores; cleans = refl; notes = refl; tells = ap (λ (xs : List (List Float)). getD xs 1 []) (v .writes) })
         w
 
+-- ---- the numbers
+
+pub sized : (waiting size cleaned entries answers : ℕ) → fitting waiting size cleaned entries answers ≡ true
+    → (waiting ≤ 479) × (1 ≤ size) × (size ≤ 4096) × (960 * completes waiting size ≤ cleaned) × (completes waiting size ≤ entries) × (3 * completes waiting size ≤ answers)
+sized waiting size cleaned entries answers e =
+    let p = both (pieceFits waiting size ROOM 22) _ e in
+    let q = both (leb (960 * completes waiting size) cleaned) _ (p .1) in
+    let r = both (leb (completes waiting size) entries) _ (q .1) in
+    let s = fits-sizes waiting size ROOM 22 (p .0) in
+    (s .0, s .1, s .2, leb-true _ cleaned (q .0), leb-true _ entries (r .0), leb-true _ answers (r .1))
+
+-- a part of 4,096 places
+pub part-length : (k : ℕ) (xs : List Float) → length xs ≡ 4096 → k ≤ 4096 → length (list-take (k - 0) xs) ≡ k
+part-length k xs l h = simp length-take (omega arith)
+
+pub ready : (waiting cleaned entries answers : ℕ) {k size : ℕ} {r : Bool} → r ≡ fitting waiting k cleaned entries answers → not r ≡ false → size ≡ k
+    → Ready waiting size cleaned entries answers
+ready waiting cleaned entries answers {k} asked h same =
+    let s = sized waiting k cleaned entries answers (answered-yes asked h) in
+    rw same (record { few = omega (arith, s .0, s .2); room = s .3; places = s .4; told = s .5 })
+
 -- ---- the rows
 
 four : {A : Type 0} (p q r s t : Bool) (f : ℕ → A) (right : A) → (p && (q && (r && s))) ≡ t
@@ -151,40 +153,15 @@ module _ (n side : ℕ) (rec : Record) (store : List Float) (b : Block) (model c
       pub shut : not r ≡ true → Refuses given 5
       shut h = rw (behind false (answer (answered-no asked h))) (refuses 5)
 
-      pub fed : not r ≡ false → {size : ℕ} → size ≡ k → {a : Answer} {s : List Float} {c d : List ℕ} {t : List Float}
-          → FedTo (fedBy (rec .frame) (take n side rec store (unpacked size (b .bytes) (b .format) (b .channels) (b .channel)) model ROOM (length answers)))
-          a s cleaned c entries d answers t
+      -- where the code takes what it unpacked of the block
+      pub fed : not r ≡ false → {size : ℕ} → size ≡ k → {xs : List Float}
+          → (UnpackFits size (length (b .bytes)) (b .format) (b .channels) (b .channel) → xs ≡ unpacked size (b .bytes) (b .format) (b .channels) (b .channel))
+          → {a : Answer} {s : List Float} {c d : List ℕ} {t : List Float}
+          → FedTo (fedBy (rec .frame) (take n side rec store xs model ROOM (length answers))) a s cleaned c entries d answers t
           → FedTo given a s cleaned c entries d answers t
-      fed h same w = rw (behind true (answer (answered-yes asked h))) (rw (same ∙ e) at w)
-
--- ---- the numbers
-
-pub sized : (waiting size cleaned entries answers : ℕ) → fitting waiting size cleaned entries answers ≡ true
-    → (waiting ≤ 479) × (1 ≤ size) × (size ≤ 4096) × (960 * completes waiting size ≤ cleaned) × (completes waiting size ≤ entries) × (3 * completes waiting size ≤ answers)
-sized waiting size cleaned entries answers e =
-    let p = both (pieceFits waiting size ROOM 22) _ e in
-    let q = both (leb (960 * completes waiting size) cleaned) _ (p .1) in
-    let r = both (leb (completes waiting size) entries) _ (q .1) in
-    let s = fits-sizes waiting size ROOM 22 (p .0) in
-    (s .0, s .1, s .2, leb-true _ cleaned (q .0), leb-true _ entries (r .0), leb-true _ answers (r .1))
-
--- a part of 4,096 places
-pub part-length : (k : ℕ) (xs : List Float) → length xs ≡ 4096 → k ≤ 4096 → length (list-take (k - 0) xs) ≡ k
-part-length k xs l h = simp length-take (omega arith)
-
-pub ready : (waiting bytes format channels channel cleaned entries answers : ℕ) {k size out : ℕ} {r : Bool}
-    → k ≡ samplesIn bytes format channels channel → r ≡ fitting waiting k cleaned entries answers → not r ≡ false → size ≡ k → out ≡ ROOM
-    → Ready waiting size bytes format channels channel out cleaned entries answers
-ready waiting bytes format channels channel cleaned entries answers {k} e asked h same outs =
-    let s = sized waiting k cleaned entries answers (answered-yes asked h) in
-    let n = samplesIn bytes format channels channel in
-    let some : 0 < n = omega (arith, e, s .1) in
-    rw same
-    (record {
-      fits = rw e (block-fits bytes format channels channel some);
-      few = omega (arith, s .0, s .2);
-      outs = outs;
-      room = s .3;
-      places = s .4;
-      told = s .5;
-    })
+      fed h {size} same reads w =
+          let yes = answered-yes asked h in
+          let some : 0 < sizeOf b = omega (arith, e, sized (rec .waiting) k (length cleaned) (length entries) (length answers) yes .1) in
+          let fits : UnpackFits size (length (b .bytes)) (b .format) (b .channels) (b .channel) =
+          rw (same ∙ e) (block-fits (length (b .bytes)) (b .format) (b .channels) (b .channel) some) in
+          rw (behind true (answer yes)) (rw (reads fits, same ∙ e) at w)

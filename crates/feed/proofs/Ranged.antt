@@ -19,7 +19,7 @@ use Rattle.desk.specs.declared.Answer.{Answer}
 use Rattle.desk.specs.declared.Record.{Record}
 use Rattle.desk.specs.Gate.{PIECE, inRange, gate}
 use Rattle.desk.specs.Desk.{Given}
-use Rattle.desk.proofs.Replies.{Small}
+use Rattle.desk.proofs.Replies.{SmallSeven}
 use Rattle.whole.specs.Whole.{take}
 use Rattle.whole.proofs.Ranged.{take-small, take-range, take-by}
 use Rattle.pcm.specs.Pcm.{packed}
@@ -34,8 +34,8 @@ module _ (n side : ℕ) (rec : Record) (store : List Float) (b : Block) (model :
   feed-by P bad good =
       by-rows (λ r. unfed rec store (Refused r)) _ P (feedRows (gate n side rec (length store) PIECE) (rec .waiting) (sizeOf b) cleaned entries answers) bad (λ _. good)
 
-  pub feed-small : Small (feed n side rec store b model cleaned entries answers .answer .reply)
-  feed-small = feed-by (λ o. Small (o .answer .reply)) (λ _. tt) (take-small n side (samplesOf b) model rec store ROOM answers)
+  pub feed-small : SmallSeven (feed n side rec store b model cleaned entries answers .answer .reply)
+  feed-small = feed-by (λ o. SmallSeven (o .answer .reply)) (λ _. tt) (take-small n side (samplesOf b) model rec store ROOM answers)
 
   pub feed-range : passed (feed n side rec store b model cleaned entries answers .answer .reply) ≡ true
       → (inRange rec ≡ true) × (inRange (feed n side rec store b model cleaned entries answers .answer .rec) ≡ true)

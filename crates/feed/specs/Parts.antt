@@ -1,10 +1,8 @@
 -- For the parts of the code.
 use Prim.Native.Nat.{ℕ, _+_, _*_, _≤_}
 use mathlib.Core.Bool.{Bool, _&&_}
-use mathlib.Core.Path.{_≡_}
 use lib.Dec.{leb}
 use Rattle.pieces.specs.Pieces.{completes, pieceFits}
-use Rattle.pcm.specs.Pcm.{UnpackFits}
 use Rattle.feed.specs.Feed.{ROOM}
 
 -- no row of 5 refuses a block of so many samples
@@ -13,11 +11,9 @@ fitting waiting size cleaned entries answers =
     let frames = completes waiting size in
     pieceFits waiting size ROOM 22 && (leb (960 * frames) cleaned && (leb frames entries && leb (3 * frames) answers))
 
--- nothing refuses a block but the take: so many samples wait, and so many it has; the lengths of what is lent
-pub record Ready (waiting size bytes format channels channel out cleaned entries answers : ℕ) : Type 0 where
-  pub fits : UnpackFits size bytes format channels channel
+-- nothing refuses so many samples but the take: so many wait before them; the lengths of what is lent
+pub record Ready (waiting size cleaned entries answers : ℕ) : Type 0 where
   pub few : waiting + size ≤ 4575
-  pub outs : out ≡ ROOM
   pub room : 960 * completes waiting size ≤ cleaned
   pub places : completes waiting size ≤ entries
   pub told : 3 * completes waiting size ≤ answers

@@ -1,11 +1,8 @@
 // A block of recorded bytes in one call: a bench's own channel of it is unpacked, taken, and packed again, with an entry of the side sheet for each
 // frame. What may refuse it is tested before anything changes.
-ghost use mathlib.Core.List.{[], _∷_};
 ghost use lib.ListN.{length};
 ghost use Rattle.desk.specs.Gate.{BENCHES};
-ghost use Rattle.desk.specs.Desk.{Served};
 ghost use Rattle.whole.specs.Whole.{take};
-ghost use Rattle.pcm.specs.Pcm.{UnpackFits, unpacked};
 ghost use Rattle.feed.specs.Feed.{ROOM, blockOf, fedBy, feed, FedTo};
 ghost use Rattle.feed.specs.Parts.{Ready};
 use desk::Answer;
@@ -16,74 +13,30 @@ use frame::Reply;
 mod out;
 mod tests;
 
-// The samples of a channel are taken.
-fn take_in(
-    side: Side,
-    rec: Record,
-    store: &mut [f32],
-    block: &[u8],
-    format: u32,
-    channels: usize,
-    channel: usize,
-    model: &[u8],
-    samples: &mut [f32],
-    out: &mut [f32],
-    answers: &mut [f32],
-) -> Answer
-    requires { ⌜ UnpackFits (length (now samples)) (length (now block)) format channels channel ⌝ }
-    ensures { λ r. ⌜ Served
-        (take BENCHES (side .0) rec (now (store .entry))
-        (unpacked (length (now (samples .entry))) (now (block .entry)) format channels channel) (now (model .entry))
-        (length (now (out .entry))) (length (now (answers .entry))))
-        r (now (store .exit)) (now (out .entry) ∷ now (answers .entry) ∷ []) (now (out .exit) ∷ now (answers .exit) ∷ []) ⌝ }
-{
-    pcm::unpack(samples, block, format, channels, channel);
-    whole::take(side, rec, store, &samples[..], model, out, answers)
-}
-
-// And what comes of them is handed out, where the take is not refused.
+// What comes of the samples of a channel is handed out, where their take is not refused.
 fn clean(
     side: Side,
     rec: Record,
     store: &mut [f32],
-    block: &[u8],
-    format: u32,
-    channels: usize,
-    channel: usize,
+    samples: &[f32],
     model: &[u8],
     cleaned: &mut [u8],
     entries: &mut [u64],
     answers: &mut [f32],
-    samples: &mut [f32],
-    out: &mut [f32],
 ) -> Answer
-    requires { ⌜ Ready (rec .waiting) (length (now samples)) (length (now block)) format channels channel
-        (length (now out)) (length (now cleaned)) (length (now entries)) (length (now answers)) ⌝ }
+    requires { ⌜ Ready (rec .waiting) (length (now samples)) (length (now cleaned)) (length (now entries)) (length (now answers)) ⌝ }
     ensures { λ r. ⌜ FedTo
         (fedBy (rec .frame)
-        (take BENCHES (side .0) rec (now (store .entry))
-        (unpacked (length (now (samples .entry))) (now (block .entry)) format channels channel) (now (model .entry))
-        ROOM (length (now (answers .entry)))))
+        (take BENCHES (side .0) rec (now (store .entry)) (now (samples .entry)) (now (model .entry)) ROOM (length (now (answers .entry)))))
         r (now (store .exit)) (now (cleaned .entry)) (now (cleaned .exit)) (now (entries .entry)) (now (entries .exit))
         (now (answers .entry)) (now (answers .exit)) ⌝ }
 {
     let frames = (rec.waiting + samples.len()) / 480;
-    let given = take_in(
-        side,
-        rec,
-        store,
-        block,
-        format,
-        channels,
-        channel,
-        model,
-        samples,
-        out,
-        answers,
-    );
+    let mut out = [0.0f32; 4320];
+    let given = whole::take(side, rec, store, samples, model, &mut out, answers);
     let reply = given.reply;
     if frame::passed(reply) {
-        out::hand_out(cleaned, entries, &out[..], &answers[..], rec.frame, frames);
+        out::hand_out(cleaned, entries, &out, &answers[..], rec.frame, frames);
     }
     given
 }
@@ -122,21 +75,17 @@ pub fn feed(
             rec,
         };
     }
-    let mut samples = [0.0f32; 4096];
-    let mut out = [0.0f32; 4320];
+    let mut places = [0.0f32; 4096];
+    let samples = &mut places[0..n];
+    pcm::unpack(samples, block, format, channels, channel);
     clean(
         side,
         rec,
         store,
-        block,
-        format,
-        channels,
-        channel,
+        &samples[..],
         model,
         cleaned,
         entries,
         answers,
-        &mut samples[0..n],
-        &mut out,
     )
 }

@@ -14,6 +14,7 @@ use lib.Ieee.Fits.{down-pos}
 use lib.Ieee.Order.{le-of-values}
 use Rattle.rules.specs.Loop.{loop, range}
 use Rattle.finder.specs.Kept.{lagStep, wholeLag}
+use Rattle.finder.specs.Laws.{LagIsSmall, LagIsBack}
 
 -- after n turns it is at most n
 upto : (x : Float) (n : ℕ) → loop n (λ k. lagStep x (1 + k)) 0 ≤ n
@@ -25,7 +26,7 @@ upto x (suc n) = either (le (ofInt binary32 (pos (1 + n))) x) (omega arith) (upt
     either true g h = g
     either false g h = omega arith
 
-pub lag-small : (x : Float) → wholeLag x ≤ 768
+pub lag-small : LagIsSmall
 unfolding wholeLag range
 lag-small x = upto x 768
 
@@ -74,6 +75,6 @@ module _ (lag : ℕ) (small : lag ≤ 768) where
           rw (above (ofInt binary32 (pos (1 + n))) kept (1 + n) lag (whole-value (1 + n) (omega arith)) (whole-value lag small) over)
           (d ∙ omega arith)
 
-  pub lag-back : wholeLag kept ≡ lag
-  unfolding wholeLag range
-  lag-back = counted 768 (omega arith) ∙ omega arith
+pub lag-back : LagIsBack
+unfolding wholeLag range
+lag-back lag small = counted lag small 768 (omega arith) ∙ omega arith

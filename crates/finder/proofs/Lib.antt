@@ -1,4 +1,3 @@
 pub mod Joined
 pub mod Lags
 pub mod Ranges
-pub mod Two

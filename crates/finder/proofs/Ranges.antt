@@ -16,14 +16,13 @@ use Rattle.rules.proofs.Table.{at as entry-of}
 use Rattle.pitch.specs.Xcorr.{pitchXcorr}
 use Rattle.pitch.specs.Downsample.{downsampled}
 use Rattle.pitch_search.specs.Best.{bestOf, firstOf, secondOf}
-use Rattle.pitch_search.proofs.Firsts.{first-below}
+use Rattle.pitch_search.proofs.Firsts.{first-below, second-below}
 use Rattle.finder.specs.declared.doubling.Asked.{Asked}
 use Rattle.finder.specs.declared.doubling.Chosen.{Chosen}
 use Rattle.finder.specs.Search.{leaning, everySecond, coarse, fine, interpolated, pitchSearch}
 use Rattle.finder.specs.Doubling.{shortened, secondCheck, secondPlace, pitchGain, productAt, threshold, preferred, shorterStep, shorter, periodAt, removed}
 use Rattle.finder.specs.Finder.{process}
 use Rattle.finder.specs.Laws.{PeriodInRange}
-use Rattle.finder.proofs.Two.{both-below}
 
 -- ---- the search
 
@@ -45,7 +44,7 @@ coarse-small buf =
     let x4 = everySecond 240 (drop 384 buf) in
     let y4 = everySecond 387 buf in
     let size : length (pitchXcorr x4 y4 147) ≡ 147 = length-tab 147 _ in
-    rw size at (both-below (pitchXcorr x4 y4 147) y4 240 (omega arith))
+    (rw size at (first-below (pitchXcorr x4 y4 147) y4 240 (omega arith)), rw size at (second-below (pitchXcorr x4 y4 147) y4 240 (omega arith)))
 
 pub length-fine : (buf : List Float) (first second : ℕ) → length (fine buf first second) ≡ 294
 unfolding fine

@@ -35,7 +35,7 @@ pub record Beside (q : Place) (share after : List Float) : Type 0 where
   pub same : get q after ≡ get q share
 
 module _ (q : Place) where
-  put-beside : (p : Place) (share ys : List Float) → p .at + p .size ≤ PART → Apart p q → length share ≡ PART → length ys ≡ p .size → Beside q share (put p share ys)
+  pub put-beside : (p : Place) (share ys : List Float) → p .at + p .size ≤ PART → Apart p q → length share ≡ PART → length ys ≡ p .size → Beside q share (put p share ys)
   put-beside p share ys inside apart whole l =
       record { size = length-put p share ys (omega arith) l ∙ whole; same = get-put-apart p q share ys (omega arith) l apart }
 

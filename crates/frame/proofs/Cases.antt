@@ -18,6 +18,7 @@ use Rattle.model.specs.declared.Reading.the-variants.{Good, Refused as Unread}
 use Rattle.features.specs.Silence.{energy, soundOf}
 use Rattle.features.specs.declared.Sound.{Sound}
 use Rattle.features.specs.declared.Sound.the-variants as sound
+use Rattle.frame.specs.declared.Hearing.{Hearing}
 use Rattle.frame.specs.declared.Reply.the-variants.{Refused, Misread}
 use Rattle.frame.specs.Share.{PART, keptEx}
 use Rattle.frame.specs.Heard.{spoken}
@@ -44,18 +45,18 @@ module _ (share : List Float) (P : Effect → Type 0) (bad : (n : ℕ) → P (re
       (λ r _. h (r .0))
 
   -- a model that is refused comes with what the reader says of it
-  pub call3-by : (index vad noise denoise : ℕ) (spectrum logs : List Float) (model : List ℕ) (out : ℕ)
+  pub call3-by : (hearing : Hearing) (spectrum logs : List Float) (model : List ℕ) (out : ℕ)
       → ((n l : ℕ) → Unread n l ≡ readOf model → P (refusal (Misread n l) share))
       → P (silent share)
-      → ((e : Float) (m : Model) → readOf model ≡ Good m → length share ≡ PART → index ≤ 7 → P (heard e (spoken share index spectrum logs model m)))
-      → P (call3 share index vad noise denoise spectrum logs model out)
+      → ((e : Float) (m : Model) → readOf model ≡ Good m → length share ≡ PART → hearing .index ≤ 7 → P (heard e (spoken share (hearing .index) spectrum logs model m)))
+      → P (call3 share hearing spectrum logs model out)
   unfolding call3 done3
-  call3-by index vad noise denoise spectrum logs model out misread still h =
-      by-table ((length share, PART) ∷ (length spectrum, 961) ∷ (length logs, 22) ∷ (out, 961) ∷ []) (5 when ltb 7 index ∷ [])
-      (modelled (counted vad noise denoise) (readOf model) share (done3 share index spectrum logs model))
-      (λ r c. by-model (r .0) (ltb-false 7 index (c .0)) (readOf model) refl)
+  call3-by hearing spectrum logs model out misread still h =
+      by-table ((length share, PART) ∷ (length spectrum, 961) ∷ (length logs, 22) ∷ (out, 961) ∷ []) (5 when ltb 7 (hearing .index) ∷ [])
+      (modelled (counted hearing) (readOf model) share (done3 share (hearing .index) spectrum logs model))
+      (λ r c. by-model (r .0) (ltb-false 7 (hearing .index) (c .0)) (readOf model) refl)
     where
-      by-sound : (m : Model) → readOf model ≡ Good m → length share ≡ PART → index ≤ 7 → (s : Sound) → P (sounded s share (spoken share index spectrum logs model m))
+      by-sound : (m : Model) → readOf model ≡ Good m → length share ≡ PART → hearing .index ≤ 7 → (s : Sound) → P (sounded s share (spoken share (hearing .index) spectrum logs model m))
       by-sound m e l i sound.Silent = still
       by-sound m e l i (sound.Heard a) = h a m e l i
       by-sound m e l i (sound.Refused n) = bad n
@@ -64,10 +65,10 @@ module _ (share : List Float) (P : Effect → Type 0) (bad : (n : ℕ) → P (re
       by-count true f k = k
       by-count false f k = bad 8
 
-      by-model : length share ≡ PART → index ≤ 7 → (r : Reading) → readOf model ≡ r
-          → P (modelled (counted vad noise denoise) r share (done3 share index spectrum logs model))
+      by-model : length share ≡ PART → hearing .index ≤ 7 → (r : Reading) → readOf model ≡ r
+          → P (modelled (counted hearing) r share (done3 share (hearing .index) spectrum logs model))
       by-model l i (Unread n k) e = misread n k (sym e)
-      by-model l i (Good m) e = by-count (counted vad noise denoise m) (done3 share index spectrum logs model m) (by-sound m e l i (soundOf (energy (get keptEx share))))
+      by-model l i (Good m) e = by-count (counted hearing m) (done3 share (hearing .index) spectrum logs model m) (by-sound m e l i (soundOf (energy (get keptEx share))))
 
   pub call4-by : (frame heard : ℕ) (inverse : List Float) (out : ℕ) → (length share ≡ PART → P (done4 share frame heard inverse))
       → P (call4 share frame heard inverse out)

@@ -11,6 +11,7 @@ use Rattle.model.specs.Model.{readOf}
 use Rattle.model.specs.declared.Model.{Model}
 use Rattle.model.specs.declared.Reading.{Reading}
 use Rattle.model.specs.declared.Reading.the-variants.{Good, Refused as Unread}
+use Rattle.frame.specs.declared.Hearing.{Hearing}
 use Rattle.frame.specs.declared.Reply.{Reply}
 use Rattle.frame.specs.declared.Reply.the-variants.{Done, Refused}
 use Rattle.frame.specs.Reply.{passed}
@@ -28,12 +29,12 @@ module _ (share : List Float) (whole : length share ≡ PART) where
   unfolding call2
   call2-done spectrum lag window sums a b d h = simp (eq-eqb _ _ whole, eq-eqb _ _ a, eq-eqb _ _ b, eq-eqb _ _ d, le-ltb 768 lag h)
 
-  pub call3-done : (index vad noise denoise : ℕ) (spectrum logs : List Float) (model : List ℕ) (out : ℕ)
-      → length spectrum ≡ 961 → length logs ≡ 22 → out ≡ 961 → index ≤ 7
-      → call3 share index vad noise denoise spectrum logs model out
-      ≡ modelled (counted vad noise denoise) (readOf model) share (done3 share index spectrum logs model)
+  pub call3-done : (hearing : Hearing) (spectrum logs : List Float) (model : List ℕ) (out : ℕ)
+      → length spectrum ≡ 961 → length logs ≡ 22 → out ≡ 961 → hearing .index ≤ 7
+      → call3 share hearing spectrum logs model out
+      ≡ modelled (counted hearing) (readOf model) share (done3 share (hearing .index) spectrum logs model)
   unfolding call3
-  call3-done index vad noise denoise spectrum logs model out a b d h = simp (eq-eqb _ _ whole, eq-eqb _ _ a, eq-eqb _ _ b, eq-eqb _ _ d, le-ltb 7 index h)
+  call3-done hearing spectrum logs model out a b d h = simp (eq-eqb _ _ whole, eq-eqb _ _ a, eq-eqb _ _ b, eq-eqb _ _ d, le-ltb 7 (hearing .index) h)
 
   pub call4-done : (frame heard : ℕ) (inverse : List Float) (out : ℕ) → length inverse ≡ 960 → out ≡ 480
       → call4 share frame heard inverse out ≡ done4 share frame heard inverse
@@ -44,10 +45,10 @@ pub or-true : (a : Bool) → (a || true) ≡ true
 or-true true = refl
 or-true false = refl
 
-pub call3-no-out : (share : List Float) (index vad noise denoise : ℕ) (spectrum logs : List Float) (model : List ℕ)
-    → call3 share index vad noise denoise spectrum logs model 0 ≡ refusal (Refused 5) share
+pub call3-no-out : (share : List Float) (hearing : Hearing) (spectrum logs : List Float) (model : List ℕ)
+    → call3 share hearing spectrum logs model 0 ≡ refusal (Refused 5) share
 unfolding call3
-call3-no-out share index vad noise denoise spectrum logs model = simp or-true
+call3-no-out share hearing spectrum logs model = simp or-true
 
 -- ---- what the model decides
 

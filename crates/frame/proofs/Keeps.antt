@@ -8,6 +8,7 @@ use mathlib.Core.Path.{_≡_, refl, sym, _∙_}
 use lib.ListN.{length}
 use lib.Ieee.{Float}
 use Rattle.rules.specs.Place.{Place}
+use Rattle.frame.specs.declared.Hearing.{Hearing}
 use Rattle.frame.specs.declared.Reply.{Reply}
 use Rattle.frame.specs.declared.Reply.the-variants.{Silent, Refused, Misread}
 use Rattle.frame.specs.Reply.{passed}
@@ -23,7 +24,7 @@ pub record Keeps (share : List Float) (f : Effect) : Type 0 where
 
 -- behind every field
 abbrev pub end : Place
-end = record { at = 3776; size = 0 }
+end = record { at = PART; size = 0 }
 
 module _ (share : List Float) where
   pub unmoved : (reply : Reply) (out : List (List Float)) → Keeps share (record { reply = reply; share = share; written = out })
@@ -45,13 +46,13 @@ module _ (share : List Float) where
       call2-by share (Keeps share) bad spectrum lag window sums
       (λ whole. moved (done2 share spectrum lag) refl whole (done2-beside end share spectrum lag (inl (omega arith), (inl (omega arith), (inl (omega arith), tt))) whole))
 
-  pub call3-keeps : (index vad noise denoise : ℕ) (spectrum logs : List Float) (model : List ℕ) (out : ℕ)
-      → Keeps share (call3 share index vad noise denoise spectrum logs model out)
-  call3-keeps index vad noise denoise spectrum logs model out =
-      call3-by share (Keeps share) bad index vad noise denoise spectrum logs model out (λ n l _. unmoved (Misread n l) _) (unmoved Silent _)
+  pub call3-keeps : (hearing : Hearing) (spectrum logs : List Float) (model : List ℕ) (out : ℕ)
+      → Keeps share (call3 share hearing spectrum logs model out)
+  call3-keeps hearing spectrum logs model out =
+      call3-by share (Keeps share) bad hearing spectrum logs model out (λ n l _. unmoved (Misread n l) _) (unmoved Silent _)
       (λ e m good whole inside.
-      moved (heard e (spoken share index spectrum logs model m)) refl whole
-      (done3-beside end share index spectrum logs model m
+      moved (heard e (spoken share (hearing .index) spectrum logs model m)) refl whole
+      (done3-beside end share (hearing .index) spectrum logs model m
       (inl (omega arith), (inl (omega arith), (inl (omega arith), (inl (omega arith), (inl (omega arith), tt))))) good whole inside))
 
   pub call4-keeps : (frame heard : ℕ) (inverse : List Float) (out : ℕ) → Keeps share (call4 share frame heard inverse out)

@@ -26,6 +26,7 @@ use Rattle.frame.specs.Reply.{left, oneMore}
 pub use Rattle.frame.specs.Share.{PART}
 use Rattle.frame.specs.Share.{inputMem, synthesisMem, keptX, keptEx, keptLag, memHpX}
 use Rattle.frame.specs.Heard.{scaled, energies, Spoken, spoken}
+use Rattle.frame.specs.declared.Hearing.{Hearing}
 use Rattle.frame.specs.declared.Reply.{Reply}
 use Rattle.frame.specs.declared.Reply.the-variants.{Done, Silent, Heard, Numbered, Refused, Misread}
 
@@ -123,9 +124,10 @@ unfoldable pub done3 : List Float → ℕ → List Float → List Float → List
 done3 share index spectrum logs bytes m = sounded (soundOf (energy (get keptEx share))) share (spoken share index spectrum logs bytes m)
 
 -- whether the model has the opening's counts
-abbrev pub counted : ℕ → ℕ → ℕ → Model → Bool
-counted vad noise denoise m =
-    eqb (m .«vad_gru» .neurons) vad && (eqb (m .«noise_gru» .neurons) noise && eqb (m .«denoise_gru» .neurons) denoise)
+abbrev pub counted : Hearing → Model → Bool
+counted hearing m =
+    eqb (m .«vad_gru» .neurons) (hearing .vad)
+    && (eqb (m .«noise_gru» .neurons) (hearing .noise) && eqb (m .«denoise_gru» .neurons) (hearing .denoise))
 
 -- whether a call with this model is refused: with 7, the number and the layer, or with 8
 unfoldable pub checked : (Model → Bool) → Reading → Reply
@@ -137,11 +139,11 @@ abbrev pub modelled : (Model → Bool) → Reading → List Float → (Model →
 modelled same (Unread n l) share f = refusal (Misread n l) share
 modelled same (Good m) share f = cond (same m) (f m) (refusal (Refused 8) share)
 
-unfoldable pub call3 : List Float → ℕ → ℕ → ℕ → ℕ → List Float → List Float → List ℕ → ℕ → Effect
-call3 share index vad noise denoise spectrum logs model out =
+unfoldable pub call3 : List Float → Hearing → List Float → List Float → List ℕ → ℕ → Effect
+call3 share hearing spectrum logs model out =
     unless
-    (5 when wrong ((length share, PART) ∷ (length spectrum, 961) ∷ (length logs, 22) ∷ (out, 961) ∷ []) ∷ 5 when ltb 7 index ∷ []) share
-    (modelled (counted vad noise denoise) (readOf model) share (done3 share index spectrum logs model))
+    (5 when wrong ((length share, PART) ∷ (length spectrum, 961) ∷ (length logs, 22) ∷ (out, 961) ∷ []) ∷ 5 when ltb 7 (hearing .index) ∷ []) share
+    (modelled (counted hearing) (readOf model) share (done3 share (hearing .index) spectrum logs model))
 
 -- ---- call 4, from `frame_synthesis` of features.rs
 

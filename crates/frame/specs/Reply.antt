@@ -16,6 +16,15 @@ passed (Numbered f h) = true
 passed (Refused n) = false
 passed (Misread n l) = false
 
+-- whether a reply is a heard call 3's
+abbrev pub isHeard : Reply → Bool
+isHeard (Heard v e) = true
+isHeard Done = false
+isHeard Silent = false
+isHeard (Numbered f h) = false
+isHeard (Refused n) = false
+isHeard (Misread n l) = false
+
 -- frames and heard frames are counted so: 0 after 4,294,967,295
 abbrev pub oneMore : ℕ → ℕ
 oneMore number = cond (ltb number 4294967295) (number + 1) 0

@@ -1,4 +1,4 @@
--- A share: 6,144 numbers, what the calls of one bench remember. The first 3,776 are a frame's, and no more is lent to its calls: their
+-- A share: 6,144 numbers, what the calls of one bench remember. The first 3,778 are a frame's, and no more is lent to its calls: their
 -- fields, place by place.
 use Prim.Native.Nat.{ℕ}
 use Rattle.rules.specs.Place.{Place}
@@ -7,7 +7,7 @@ abbrev pub SHARE : ℕ
 SHARE = 6144
 
 abbrev pub PART : ℕ
-PART = 3776
+PART = 3778
 
 -- `DenoiseFeatures::input_mem`, the last 1,728 filtered samples
 abbrev pub inputMem : Place
@@ -48,3 +48,7 @@ noiseState = record { at = 3520; size = 128 }
 
 abbrev pub denoiseState : Place
 denoiseState = record { at = 3648; size = 128 }
+
+-- `PitchFinder::last_period` as an f32, and `last_gain`
+abbrev pub finderMem : Place
+finderMem = record { at = 3776; size = 2 }

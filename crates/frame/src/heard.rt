@@ -12,24 +12,25 @@ ghost use Rattle.frame.specs.Share.{keptX, keptEx, lastg, vadState, nois
 ghost use Rattle.frame.specs.Heard.{energies, featured, rnnOf, heldGains, spokenFrom, spoken};
 ghost use Rattle.frame.specs.Frame.{Worked, done3, counted, checked};
 ghost use Rattle.frame.specs.Parts.{Reads, featuredAs, rnnAs, spokenAs, quiet, replyOf};
+use crate::Hearing;
 use crate::Reply;
 use features::Sound;
 use model::Reading;
 
 // Refusals 7 and 8, or done.
-fn judge(read: Reading, vad: usize, noise: usize, denoise: usize) -> Reply
-    ensures { λ r. ⌜ r ≡ checked (counted vad noise denoise) read ⌝ }
+fn judge(read: Reading, hearing: Hearing) -> Reply
+    ensures { λ r. ⌜ r ≡ checked (counted hearing) read ⌝ }
 {
     match read {
         Reading::Refused(number, layer) => Reply::Misread(number, layer),
         Reading::Good(m) => {
-            if m.vad_gru.neurons != vad {
+            if m.vad_gru.neurons != hearing.vad {
                 return Reply::Refused(8);
             }
-            if m.noise_gru.neurons != noise {
+            if m.noise_gru.neurons != hearing.noise {
                 return Reply::Refused(8);
             }
-            if m.denoise_gru.neurons != denoise {
+            if m.denoise_gru.neurons != hearing.denoise {
                 return Reply::Refused(8);
             }
             Reply::Done
@@ -37,10 +38,10 @@ fn judge(read: Reading, vad: usize, noise: usize, denoise: usize) -> Reply
     }
 }
 
-pub fn check(model: &[u8], vad: usize, noise: usize, denoise: usize) -> Reply
-    ensures { λ r. ⌜ r ≡ checked (counted vad noise denoise) (readOf (now (model .entry))) ⌝ }
+pub fn check(model: &[u8], hearing: Hearing) -> Reply
+    ensures { λ r. ⌜ r ≡ checked (counted hearing) (readOf (now (model .entry))) ⌝ }
 {
-    judge(model::read(model), vad, noise, denoise)
+    judge(model::read(model), hearing)
 }
 
 // The features, the correlations and the new cepstrum; x and ex are as the share keeps them.
@@ -55,7 +56,7 @@ fn sense(
     ep: &[f32],
     logs: &[f32],
 )
-    requires { ⌜ (length (now share) ≡ 3776) × (length (now features) ≡ 42) × (length (now exp) ≡ 22) × (index ≤ 7) ⌝ }
+    requires { ⌜ (length (now share) ≡ 3778) × (length (now features) ≡ 42) × (length (now exp) ≡ 22) × (index ≤ 7) ⌝ }
     requires { ⌜ (length (now p) ≡ 961) × (length (now ep) ≡ 22) × (length (now logs) ≡ 22) ⌝ }
     requires { ⌜ (now x ≡ get keptX (now share)) × (now ex ≡ get keptEx (now share)) ⌝ }
     ensures { λ _. ⌜ featuredAs (now (share .exit)) (now (features .exit)) (now (exp .exit))
@@ -78,7 +79,7 @@ fn sense(
 
 // The three states, out of the share.
 fn take_states(vad: &mut [f32], noise: &mut [f32], denoise: &mut [f32], share: &[f32])
-    requires { ⌜ (length (now share) ≡ 3776) × (length (now vad) ≡ 128) × (length (now noise) ≡ 128) × (length (now denoise) ≡ 128) ⌝ }
+    requires { ⌜ (length (now share) ≡ 3778) × (length (now vad) ≡ 128) × (length (now noise) ≡ 128) × (length (now denoise) ≡ 128) ⌝ }
     ensures { λ _. ⌜ now (vad .exit) ≡ get vadState (now (share .entry)) ⌝ }
     ensures { λ _. ⌜ now (noise .exit) ≡ get noiseState (now (share .entry)) ⌝ }
     ensures { λ _. ⌜ now (denoise .exit) ≡ get denoiseState (now (share .entry)) ⌝ }
@@ -90,7 +91,7 @@ fn take_states(vad: &mut [f32], noise: &mut [f32], denoise: &mut [f32], share: &
 
 // The three states, into the share.
 fn put_states(share: &mut [f32], vad: &[f32], noise: &[f32], denoise: &[f32])
-    requires { ⌜ (length (now share) ≡ 3776) × (length (now vad) ≡ 128) × (length (now noise) ≡ 128) × (length (now denoise) ≡ 128) ⌝ }
+    requires { ⌜ (length (now share) ≡ 3778) × (length (now vad) ≡ 128) × (length (now noise) ≡ 128) × (length (now denoise) ≡ 128) ⌝ }
     ensures { λ _. ⌜ now (share .exit)
         ≡ put denoiseState (put noiseState (put vadState (now (share .entry)) (now (vad .entry))) (now (noise .entry)))
         (now (denoise .entry)) ⌝ }
@@ -110,7 +111,7 @@ fn think_in(
     model: &[u8],
     features: &[f32],
 ) -> f32
-    requires { ⌜ (length (now share) ≡ 3776) × (length (now gains) ≡ 22) × (length (now voice) ≡ 1) × (length (now features) ≡ 42) ⌝ }
+    requires { ⌜ (length (now share) ≡ 3778) × (length (now gains) ≡ 22) × (length (now voice) ≡ 1) × (length (now features) ≡ 42) ⌝ }
     requires { ⌜ (length (now vad) ≡ 128) × (length (now noise) ≡ 128) × (length (now denoise) ≡ 128) ⌝ }
     ensures { λ r. ⌜ Reads (now (model .entry))
         (λ m. rnnAs (now (share .exit)) (now (gains .exit)) r
@@ -125,7 +126,7 @@ fn think_in(
 // The network, over the states in the share: the gains, and the voice. Three parts of one slice can't be lent at once, so the states
 // are copied.
 fn think(share: &mut [f32], gains: &mut [f32], model: &[u8], features: &[f32]) -> f32
-    requires { ⌜ (length (now share) ≡ 3776) × (length (now gains) ≡ 22) × (length (now features) ≡ 42) ⌝ }
+    requires { ⌜ (length (now share) ≡ 3778) × (length (now gains) ≡ 22) × (length (now features) ≡ 42) ⌝ }
     ensures { λ r. ⌜ Reads (now (model .entry))
         (λ m. rnnAs (now (share .exit)) (now (gains .exit)) r
         ≡ rnnOf (now (share .entry)) (now (features .entry)) (now (model .entry)) m) ⌝ }
@@ -164,7 +165,7 @@ fn apply(out: &mut [f32], gains: &[f32])
 
 // The gains are raised, remembered and applied.
 fn raise(share: &mut [f32], out: &mut [f32], gains: &mut [f32])
-    requires { ⌜ (length (now share) ≡ 3776) × (length (now out) ≡ 961) × (length (now gains) ≡ 22) ⌝ }
+    requires { ⌜ (length (now share) ≡ 3778) × (length (now out) ≡ 961) × (length (now gains) ≡ 22) ⌝ }
     ensures { λ _. ⌜ now (share .exit) ≡ put lastg (now (share .entry)) (heldGains (now (share .entry)) (now (gains .entry))) ⌝ }
     ensures { λ _. ⌜ now (out .exit) ≡ applied (now (out .entry)) (bandGain (heldGains (now (share .entry)) (now (gains .entry)))) ⌝ }
 {
@@ -182,7 +183,7 @@ fn shape(
     ex: &[f32],
     ep: &[f32],
 )
-    requires { ⌜ (length (now share) ≡ 3776) × (length (now out) ≡ 961) × (length (now gains) ≡ 22) ⌝ }
+    requires { ⌜ (length (now share) ≡ 3778) × (length (now out) ≡ 961) × (length (now gains) ≡ 22) ⌝ }
     requires { ⌜ (length (now p) ≡ 961) × (length (now exp) ≡ 22) × (length (now ex) ≡ 22) × (length (now ep) ≡ 22) ⌝ }
     ensures { λ _. ⌜ now (share .exit) ≡ put lastg (now (share .entry)) (heldGains (now (share .entry)) (now (gains .entry))) ⌝ }
     ensures { λ _. ⌜ now (out .exit)
@@ -207,7 +208,7 @@ fn speak_in(
     logs: &[f32],
     model: &[u8],
 ) -> f32
-    requires { ⌜ (length (now share) ≡ 3776) × (length (now features) ≡ 42) × (length (now exp) ≡ 22)
+    requires { ⌜ (length (now share) ≡ 3778) × (length (now features) ≡ 42) × (length (now exp) ≡ 22)
         × (length (now gains) ≡ 22) × (index ≤ 7) ⌝ }
     requires { ⌜ (length (now p) ≡ 961) × (length (now ep) ≡ 22) × (length (now logs) ≡ 22) ⌝ }
     requires { ⌜ (now out ≡ get keptX (now share)) × (now ex ≡ get keptEx (now share)) ⌝ }
@@ -231,7 +232,7 @@ fn speak(
     logs: &[f32],
     model: &[u8],
 ) -> f32
-    requires { ⌜ (length (now share) ≡ 3776) × (index ≤ 7) × (length (now p) ≡ 961) × (length (now ep) ≡ 22) × (length (now logs) ≡ 22) ⌝ }
+    requires { ⌜ (length (now share) ≡ 3778) × (index ≤ 7) × (length (now p) ≡ 961) × (length (now ep) ≡ 22) × (length (now logs) ≡ 22) ⌝ }
     requires { ⌜ (now out ≡ get keptX (now share)) × (now ex ≡ get keptEx (now share)) ⌝ }
     ensures { λ r. ⌜ Reads (now (model .entry)) (λ m. spokenAs (now (share .exit)) r (now (out .exit))
         ≡ spokenFrom (now (share .entry)) index (now (p .entry)) (now (ep .entry)) (now (logs .entry)) (now (model .entry)) m) ⌝ }
@@ -265,7 +266,7 @@ fn hear_in(
     logs: &[f32],
     model: &[u8],
 ) -> f32
-    requires { ⌜ (length (now share) ≡ 3776) × (now out ≡ get keptX (now share)) × (index ≤ 7)
+    requires { ⌜ (length (now share) ≡ 3778) × (now out ≡ get keptX (now share)) × (index ≤ 7)
         × (length (now spectrum) ≡ 961) × (length (now logs) ≡ 22) ⌝ }
     requires { ⌜ (length (now p) ≡ 961) × (length (now ex) ≡ 22) × (length (now ep) ≡ 22) ⌝ }
     ensures { λ r. ⌜ Reads (now (model .entry)) (λ m. spokenAs (now (share .exit)) r (now (out .exit))
@@ -285,7 +286,7 @@ fn hear(
     logs: &[f32],
     model: &[u8],
 ) -> f32
-    requires { ⌜ (length (now share) ≡ 3776) × (now out ≡ get keptX (now share)) × (index ≤ 7)
+    requires { ⌜ (length (now share) ≡ 3778) × (now out ≡ get keptX (now share)) × (index ≤ 7)
         × (length (now spectrum) ≡ 961) × (length (now logs) ≡ 22) ⌝ }
     ensures { λ r. ⌜ Reads (now (model .entry)) (λ m. spokenAs (now (share .exit)) r (now (out .exit))
         ≡ spoken (now (share .entry)) index (now (spectrum .entry)) (now (logs .entry)) (now (model .entry)) m) ⌝ }
@@ -335,7 +336,7 @@ pub(crate) fn listen(
     logs: &[f32],
     model: &[u8],
 ) -> Reply
-    requires { ⌜ (length (now share) ≡ 3776) × (length (now out) ≡ 961) × (index ≤ 7)
+    requires { ⌜ (length (now share) ≡ 3778) × (length (now out) ≡ 961) × (index ≤ 7)
         × (length (now spectrum) ≡ 961) × (length (now logs) ≡ 22) ⌝ }
     ensures { λ r. ⌜ Reads (now (model .entry)) (λ m. Worked
         (done3 (now (share .entry)) index (now (spectrum .entry)) (now (logs .entry)) (now (model .entry)) m)

@@ -43,7 +43,7 @@ fn lift(ex: &mut [f32])
 
 // The share keeps the scaled spectrum, and ex is its band energies.
 fn analyse(share: &mut [f32], spectrum: &[f32], ex: &mut [f32])
-    requires { ⌜ (length (now share) ≡ 3776) × (length (now spectrum) ≡ 961) × (length (now ex) ≡ 22) ⌝ }
+    requires { ⌜ (length (now share) ≡ 3778) × (length (now spectrum) ≡ 961) × (length (now ex) ≡ 22) ⌝ }
     ensures { λ _. ⌜ now (share .exit) ≡ put keptX (now (share .entry)) (scaled (now (spectrum .entry))) ⌝ }
     ensures { λ _. ⌜ now (ex .exit) ≡ energies (now (spectrum .entry)) ⌝ }
 {
@@ -52,7 +52,7 @@ fn analyse(share: &mut [f32], spectrum: &[f32], ex: &mut [f32])
 
 // The share keeps the band energies and the lag.
 fn keep(share: &mut [f32], ex: &[f32], lag: usize)
-    requires { ⌜ (length (now share) ≡ 3776) × (length (now ex) ≡ 22) × (lag ≤ 768) ⌝ }
+    requires { ⌜ (length (now share) ≡ 3778) × (length (now ex) ≡ 22) × (lag ≤ 768) ⌝ }
     ensures { λ _. ⌜ now (share .exit)
         ≡ put keptLag (put keptEx (now (share .entry)) (now (ex .entry))) (ofInt binary32 (pos lag) ∷ []) ⌝ }
 {
@@ -62,7 +62,7 @@ fn keep(share: &mut [f32], ex: &[f32], lag: usize)
 
 // What call 2 does once its window is written.
 pub(crate) fn note(share: &mut [f32], spectrum: &[f32], lag: usize, sums: &mut [f32])
-    requires { ⌜ (length (now share) ≡ 3776) × (length (now spectrum) ≡ 961) × (length (now sums) ≡ 22) × (lag ≤ 768) ⌝ }
+    requires { ⌜ (length (now share) ≡ 3778) × (length (now spectrum) ≡ 961) × (length (now sums) ≡ 22) × (lag ≤ 768) ⌝ }
     ensures { λ _. ⌜ now (share .exit) ≡ putKept (now (share .entry)) (now (spectrum .entry)) lag ⌝ }
     ensures { λ _. ⌜ now (sums .exit) ≡ plusHundredth (energies (now (spectrum .entry))) ⌝ }
 {

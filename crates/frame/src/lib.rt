@@ -1,4 +1,4 @@
-// The four calls of a frame over its part of one share of the store: 3,776 numbers, that know of no side. What is refused changes nothing.
+// The four calls of a frame over its part of one share of the store: 3,778 numbers, that know of no side. What is refused changes nothing.
 ghost use mathlib.Core.Path.{_≡_};
 ghost use mathlib.Core.List.{[], _∷_};
 ghost use lib.ListN.{length};
@@ -41,10 +41,26 @@ pub fn passed(reply: Reply) -> bool
 // How long ago the pitch was, in samples.
 pub struct Lag(pub usize);
 
+// A bench's way, settled by its opening: what requests 04 and 08 ask, our own lag and the plain sums; or the crate's own, its finder and
+// the fast transforms.
+pub enum Way {
+    Asked,
+    Crate,
+}
+
+// What a bench needs to hear a frame: where its cepstra go on, the GRU counts that its opening noted, and its way.
+pub struct Hearing {
+    pub index: usize,
+    pub vad: usize,
+    pub noise: usize,
+    pub denoise: usize,
+    pub way: Way,
+}
+
 pub const SHARE: usize = 6144;
 
 // What of a share is lent to a frame.
-pub const PART: usize = 3776;
+pub const PART: usize = 3778;
 
 // One more, and 0 after the last number.
 pub fn one_more(number: u32) -> u32
@@ -118,20 +134,17 @@ pub fn call2(
 }
 
 // Call 3: the second spectrum, 22 logarithms and the model in, 961 numbers written; silent, or heard with voice and energy. Of the
-// record it is told the cepstral index and the GRU counts.
+// record it is told the hearing, of which it reads the cepstral index and the GRU counts.
 pub fn call3(
     share: &mut [f32],
-    index: usize,
-    vad: usize,
-    noise: usize,
-    denoise: usize,
+    hearing: Hearing,
     spectrum: &[f32],
     logs: &[f32],
     model: &[u8],
     out: &mut [f32],
 ) -> Reply
     ensures { λ r. ⌜ Worked
-        (call3 (now (share .entry)) index vad noise denoise
+        (call3 (now (share .entry)) hearing
         (now (spectrum .entry)) (now (logs .entry)) (now (model .entry)) (length (now (out .entry))))
         r (now (share .exit)) (now (out .entry) ∷ []) (now (out .exit) ∷ []) ⌝ }
 {
@@ -147,14 +160,14 @@ pub fn call3(
     if out.len() != 961 {
         return Reply::Refused(5);
     }
-    if index > 7 {
+    if hearing.index > 7 {
         return Reply::Refused(5);
     }
-    let reply = heard::check(model, vad, noise, denoise);
+    let reply = heard::check(model, hearing);
     if !passed(reply) {
         return reply;
     }
-    heard::listen(share, out, index, spectrum, logs, model)
+    heard::listen(share, out, hearing.index, spectrum, logs, model)
 }
 
 // Call 4: 960 inverse samples in, 480 numbers written. Of the record it is told how many frames and heard frames there were; it

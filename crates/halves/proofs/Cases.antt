@@ -12,34 +12,33 @@ use Rattle.rules.specs.Refusals.{_when_}
 use Rattle.model.specs.Model.{readOf}
 use Rattle.model.specs.declared.Model.{Model}
 use Rattle.model.specs.declared.Reading.the-variants.{Good, Refused as Unread}
-use Rattle.transforms.specs.Transform.{forwardOf, inverseOf}
-use Rattle.lag.specs.Lag.{ownLag}
-use Rattle.lag.proofs.Ranges.{in-range}
+use Rattle.frame.specs.declared.Hearing.{Hearing}
 use Rattle.frame.specs.declared.Reply.{Reply}
 use Rattle.frame.specs.declared.Reply.the-variants.{Silent, Heard, Refused, Misread}
-use Rattle.frame.specs.Share.{PART, inputMem, keptX}
+use Rattle.frame.specs.declared.Way.{Way}
+use Rattle.frame.specs.Share.{PART, keptX}
 use Rattle.frame.specs.Heard.{spoken}
 use Rattle.frame.specs.Frame.{Effect, refusal, done1, call1, done2, call3, done4}
 use Rattle.frame.proofs.Beside.{done1-beside, done3-beside}
 use Rattle.frame.proofs.Cases.{by-table, call1-by, call3-by}
 use Rattle.frame.proofs.Done.{call2-done, call4-done}
 use Rattle.frame.proofs.Keeps.{end}
-use Rattle.halves.specs.Own.{call2Own}
+use Rattle.halves.specs.Ways.{lagBy, remembered, forwardBy, inverseBy}
 use Rattle.halves.specs.Halves.{onward, buffer, analysed, firstHalf, lookedBack, synthesised, secondHalf}
-use Rattle.halves.proofs.Onward.{length-forward, length-inverse}
+use Rattle.halves.proofs.EitherWay.{lag-fits, length-forward, length-inverse, whole-remembered}
 
 -- ---- what the two calls of a half give, where nothing is refused
 
-abbrev pub doneFirst : List Float → List Float → Effect
-doneFirst share samples =
+abbrev pub doneFirst : List Float → Way → List Float → Effect
+doneFirst share way samples =
     let a = done1 share samples in
-    let b = done2 (a .share) (forwardOf (buffer a)) (ownLag (get inputMem (a .share))) in
+    let b = done2 (remembered way (a .share)) (forwardBy way (buffer a)) (lagBy way (a .share)) in
     record { reply = b .reply; share = b .share; written = drop 1 (b .written) }
 
 -- from call 3's reply, its share and its spectrum on
-abbrev pub doneSecond : Reply → List Float → List Float → Effect
-doneSecond reply share spectrum =
-    let b = done4 share 0 0 (inverseOf spectrum) in
+abbrev pub doneSecond : Reply → List Float → Way → List Float → Effect
+doneSecond reply share way spectrum =
+    let b = done4 share 0 0 (inverseBy way spectrum) in
     record { reply = reply; share = b .share; written = b .written }
 
 module _ (share samples : List Float) (whole : length share ≡ PART) (l : length samples ≡ 480) where
@@ -47,52 +46,51 @@ module _ (share samples : List Float) (whole : length share ≡ PART) (l : lengt
   pub whole-after-1 : length (done1 share samples .share) ≡ PART
   whole-after-1 = done1-beside end share samples (inl (omega arith), (inl (omega arith), tt)) whole l .size
 
-  analysed-done : (sums : ℕ) → sums ≡ 22 → let a = done1 share samples in analysed (a .share) (buffer a) sums ≡ doneFirst share samples
-  unfolding call2Own
-  analysed-done sums e =
+  analysed-done : (way : Way) (sums : ℕ) → sums ≡ 22 → let a = done1 share samples in analysed (a .share) way (buffer a) sums ≡ doneFirst share way samples
+  analysed-done way sums e =
       let a = done1 share samples in
-      rw (call2-done (a .share) whole-after-1 (forwardOf (buffer a)) (ownLag (get inputMem (a .share))) 960 sums (length-forward (buffer a)) refl e (in-range (get inputMem (a .share)) .1))
+      rw (call2-done (remembered way (a .share)) (whole-remembered (a .share) way whole-after-1) (forwardBy way (buffer a)) (lagBy way (a .share)) 960 sums (length-forward way (buffer a)) refl e (lag-fits way (a .share)))
 
-synthesised-done : (reply : Reply) (share spectrum : List Float) (out : ℕ) → length share ≡ PART → out ≡ 480
-    → synthesised reply share spectrum out ≡ doneSecond reply share spectrum
-synthesised-done reply share spectrum out whole e = rw (call4-done share whole 0 0 (inverseOf spectrum) out (length-inverse spectrum) e)
+synthesised-done : (reply : Reply) (share : List Float) (way : Way) (spectrum : List Float) (out : ℕ) → length share ≡ PART → out ≡ 480
+    → synthesised reply share way spectrum out ≡ doneSecond reply share way spectrum
+synthesised-done reply share way spectrum out whole e = rw (call4-done share whole 0 0 (inverseBy way spectrum) out (length-inverse way spectrum) e)
 
 -- ---- the halves, for a claim P that every refusal meets
 
 module _ (share : List Float) (P : Effect → Type 0) (bad : (n : ℕ) → P (refusal (Refused n) share)) where
-  pub first-half-by : (samples : List Float) (sums : ℕ) → (length share ≡ PART → length samples ≡ 480 → P (doneFirst share samples)) → P (firstHalf share samples sums)
+  pub first-half-by : (way : Way) (samples : List Float) (sums : ℕ) → (length share ≡ PART → length samples ≡ 480 → P (doneFirst share way samples)) → P (firstHalf share way samples sums)
   unfolding firstHalf
-  first-half-by samples sums h =
+  first-half-by way samples sums h =
       by-table share P bad ((length share, PART) ∷ (length samples, 480) ∷ (sums, 22) ∷ []) [] (onward (call1 share samples 960) second)
-      (λ r _. call1-by share (λ f. P (onward f second)) bad samples 960 (λ whole l. subst P (sym (analysed-done share samples whole l sums (r .1 .1 .0))) (h whole l)))
+      (λ r _. call1-by share (λ f. P (onward f second)) bad samples 960 (λ whole l. subst P (sym (analysed-done share samples whole l way sums (r .1 .1 .0))) (h whole l)))
     where
       second : Effect → Effect
-      second a = analysed (a .share) (buffer a) sums
+      second a = analysed (a .share) way (buffer a) sums
 
   -- a model that is refused comes with what the reader says of it
-  pub second-half-by : (index vad noise denoise : ℕ) (logs : List Float) (model : List ℕ) (out : ℕ)
+  pub second-half-by : (hearing : Hearing) (logs : List Float) (model : List ℕ) (out : ℕ)
       → ((n l : ℕ) → Unread n l ≡ readOf model → P (refusal (Misread n l) share))
-      → (length share ≡ PART → P (doneSecond Silent share (get keptX share)))
-      → ((e : Float) (m : Model) → readOf model ≡ Good m → length share ≡ PART → index ≤ 7
-      → let s = spoken share index (forwardOf (lookedBack share)) logs model m in P (doneSecond (Heard (s .voice) e) (s .share) (s .spectrum)))
-      → P (secondHalf share index vad noise denoise logs model out)
+      → (length share ≡ PART → P (doneSecond Silent share (hearing .way) (get keptX share)))
+      → ((e : Float) (m : Model) → readOf model ≡ Good m → length share ≡ PART → hearing .index ≤ 7
+      → let s = spoken share (hearing .index) (forwardBy (hearing .way) (lookedBack share)) logs model m in P (doneSecond (Heard (s .voice) e) (s .share) (hearing .way) (s .spectrum)))
+      → P (secondHalf share hearing logs model out)
   unfolding secondHalf
-  second-half-by index vad noise denoise logs model out misread still h =
-      by-table share P bad ((length share, PART) ∷ (length logs, 22) ∷ (out, 480) ∷ []) (5 when ltb 7 index ∷ []) (onward (call3 share index vad noise denoise spectrum logs model 961) second)
+  second-half-by hearing logs model out misread still h =
+      by-table share P bad ((length share, PART) ∷ (length logs, 22) ∷ (out, 480) ∷ []) (5 when ltb 7 (hearing .index) ∷ []) (onward (call3 share hearing spectrum logs model 961) second)
       (λ r c.
-      call3-by share (λ f. P (onward f second)) bad index vad noise denoise spectrum logs model 961 misread
-      (subst P (sym (synthesised-done Silent share (get keptX share) out (r .0) (r .1 .1 .0))) (still (r .0)))
+      call3-by share (λ f. P (onward f second)) bad hearing spectrum logs model 961 misread
+      (subst P (sym (synthesised-done Silent share (hearing .way) (get keptX share) out (r .0) (r .1 .1 .0))) (still (r .0)))
       (λ e m good whole inside.
-      let s = spoken share index spectrum logs model m in
-      subst P (sym (synthesised-done (Heard (s .voice) e) (s .share) (s .spectrum) out (whole-after-3 m good whole inside) (r .1 .1 .0))) (h e m good whole inside)))
+      let s = spoken share (hearing .index) spectrum logs model m in
+      subst P (sym (synthesised-done (Heard (s .voice) e) (s .share) (hearing .way) (s .spectrum) out (whole-after-3 m good whole inside) (r .1 .1 .0))) (h e m good whole inside)))
     where
       spectrum : List Float
-      spectrum = forwardOf (lookedBack share)
+      spectrum = forwardBy (hearing .way) (lookedBack share)
 
       second : Effect → Effect
-      second a = synthesised (a .reply) (a .share) (buffer a) out
+      second a = synthesised (a .reply) (a .share) (hearing .way) (buffer a) out
 
-      whole-after-3 : (m : Model) → readOf model ≡ Good m → length share ≡ PART → index ≤ 7 → length (spoken share index spectrum logs model m .share) ≡ PART
+      whole-after-3 : (m : Model) → readOf model ≡ Good m → length share ≡ PART → hearing .index ≤ 7 → length (spoken share (hearing .index) spectrum logs model m .share) ≡ PART
       whole-after-3 m good whole inside =
-          done3-beside end share index spectrum logs model m
+          done3-beside end share (hearing .index) spectrum logs model m
           (inl (omega arith), (inl (omega arith), (inl (omega arith), (inl (omega arith), (inl (omega arith), tt))))) good whole inside .size

@@ -1,4 +1,5 @@
 pub mod Cases
+pub mod EitherWay
 pub mod Joined
 pub mod Kept
 pub mod Lagged

@@ -6,45 +6,38 @@ use mathlib.Core.Path.{_≡_, refl, sym, ap, _∙_}
 use borrow.Author.Tests.{eq-eqb, le-ltb}
 use lib.ListN.{length, getD, drop}
 use lib.Ieee.{Float}
-use Rattle.rules.proofs.Tabs.{length-tab}
-use Rattle.transforms.specs.Transform.{forwardOf, inverseOf}
+use Rattle.frame.specs.declared.Hearing.{Hearing}
 use Rattle.frame.specs.declared.Reply.{Reply}
 use Rattle.frame.specs.declared.Reply.the-variants.{Refused}
+use Rattle.frame.specs.declared.Way.{Way}
 use Rattle.frame.specs.Reply.{passed}
 use Rattle.frame.specs.Share.{PART}
-use Rattle.frame.specs.Frame.{Effect, Worked, refusal, call1, call3, call4}
+use Rattle.frame.specs.Frame.{Effect, Worked, refusal, call1, call2, call3, call4}
 use Rattle.frame.proofs.Done.{call4-done, or-true}
-use Rattle.halves.specs.Own.{call2Own}
+use Rattle.halves.specs.Ways.{lagBy, remembered, forwardBy, inverseBy}
 use Rattle.halves.specs.Halves.{onward, buffer, analysed, firstHalf, lookedBack, synthesised, secondHalf}
-
-pub length-forward : (samples : List Float) → length (forwardOf samples) ≡ 961
-unfolding forwardOf
-length-forward samples = length-tab 961 _
-
-pub length-inverse : (spectrum : List Float) → length (inverseOf spectrum) ≡ 960
-unfolding inverseOf
-length-inverse spectrum = length-tab 960 _
+use Rattle.halves.proofs.EitherWay.{length-inverse}
 
 -- ---- where no length is wrong
 
 module _ (share : List Float) (whole : length share ≡ PART) where
-  pub first-half-done : (samples : List Float) (sums : ℕ) → length samples ≡ 480 → sums ≡ 22
-      → firstHalf share samples sums ≡ onward (call1 share samples 960) (λ a. analysed (a .share) (buffer a) sums)
+  pub first-half-done : (way : Way) (samples : List Float) (sums : ℕ) → length samples ≡ 480 → sums ≡ 22
+      → firstHalf share way samples sums ≡ onward (call1 share samples 960) (λ a. analysed (a .share) way (buffer a) sums)
   unfolding firstHalf
-  first-half-done samples sums a b = simp (eq-eqb _ _ whole, eq-eqb _ _ a, eq-eqb _ _ b)
+  first-half-done way samples sums a b = simp (eq-eqb _ _ whole, eq-eqb _ _ a, eq-eqb _ _ b)
 
-  pub second-half-done : (index vad noise denoise : ℕ) (logs : List Float) (model : List ℕ) (out : ℕ) {spectrum : List Float} → length logs ≡ 22 → out ≡ 480 → index ≤ 7
-      → spectrum ≡ forwardOf (lookedBack share)
-      → secondHalf share index vad noise denoise logs model out
-      ≡ onward (call3 share index vad noise denoise spectrum logs model 961) (λ a. synthesised (a .reply) (a .share) (buffer a) out)
+  pub second-half-done : (hearing : Hearing) (logs : List Float) (model : List ℕ) (out : ℕ) {spectrum : List Float} → length logs ≡ 22 → out ≡ 480 → hearing .index ≤ 7
+      → spectrum ≡ forwardBy (hearing .way) (lookedBack share)
+      → secondHalf share hearing logs model out
+      ≡ onward (call3 share hearing spectrum logs model 961) (λ a. synthesised (a .reply) (a .share) (hearing .way) (buffer a) out)
   unfolding secondHalf
-  second-half-done index vad noise denoise logs model out a b h e = simp (eq-eqb _ _ whole, eq-eqb _ _ a, eq-eqb _ _ b, le-ltb 7 index h, e)
+  second-half-done hearing logs model out a b h e = simp (eq-eqb _ _ whole, eq-eqb _ _ a, eq-eqb _ _ b, le-ltb 7 (hearing .index) h, e)
 
 -- the second half, where `out` has no place
-pub second-half-no-out : (share : List Float) (index vad noise denoise : ℕ) (logs : List Float) (model : List ℕ)
-    → secondHalf share index vad noise denoise logs model 0 ≡ refusal (Refused 5) share
+pub second-half-no-out : (share : List Float) (hearing : Hearing) (logs : List Float) (model : List ℕ)
+    → secondHalf share hearing logs model 0 ≡ refusal (Refused 5) share
 unfolding secondHalf
-second-half-no-out share index vad noise denoise logs model = simp or-true
+second-half-no-out share hearing logs model = simp or-true
 
 -- ---- the first call refused, and done
 
@@ -78,18 +71,21 @@ behind : (t : Bool) (a b : List (List Float)) → drop 1 (cond t a b) ≡ cond t
 behind true a b = refl
 behind false a b = refl
 
-pub analysed-by : (share window : List Float) (sums : ℕ) {reply : Reply} {after spectrum held new held′ new′ : List Float} {n : ℕ} → spectrum ≡ forwardOf window → n ≡ 960
-    → Worked (call2Own share spectrum n sums) reply after (held′ ∷ held ∷ []) (new′ ∷ new ∷ [])
-    → Worked (analysed share window sums) reply after (held ∷ []) (new ∷ [])
-analysed-by share window sums {spectrum = spectrum} {n = n} e l w =
-    let same : call2Own share (forwardOf window) 960 sums ≡ call2Own share spectrum n sums = rw (e, l) in
-    let v = as-is same w in
-    record { replies = v .replies; shares = v .shares; writes = ap (drop 1) (v .writes) ∙ behind (passed (call2Own share (forwardOf window) 960 sums .reply)) _ _ }
+module _ (share : List Float) (way : Way) where
+  pub analysed-by : (window : List Float) (sums : ℕ) {reply : Reply} {noted after spectrum held new held′ new′ : List Float} {lag n : ℕ} → noted ≡ remembered way share
+      → spectrum ≡ forwardBy way window → lag ≡ lagBy way share → n ≡ 960
+      → Worked (call2 noted spectrum lag n sums) reply after (held′ ∷ held ∷ []) (new′ ∷ new ∷ [])
+      → Worked (analysed share way window sums) reply after (held ∷ []) (new ∷ [])
+  analysed-by window sums {noted = noted} {spectrum = spectrum} {lag = lag} {n = n} r e g l w =
+      let two : Effect = call2 (remembered way share) (forwardBy way window) (lagBy way share) 960 sums in
+      let same : two ≡ call2 noted spectrum lag n sums = rw (r, e, g, l) in
+      let v = as-is same w in
+      record { replies = v .replies; shares = v .shares; writes = ap (drop 1) (v .writes) ∙ behind (passed (two .reply)) _ _ }
 
-pub synthesised-by : {reply last : Reply} (share spectrum : List Float) (out : ℕ) {after : List Float} {held new : List (List Float)} → passed reply ≡ true
-    → length share ≡ PART → out ≡ 480 → Worked (call4 share 0 0 (inverseOf spectrum) out) last after held new
-    → Worked (synthesised reply share spectrum out) reply after held new
-synthesised-by {reply} {last} share spectrum out e whole l w =
-    let done = call4-done share whole 0 0 (inverseOf spectrum) out (length-inverse spectrum) l in
-    let yes : passed last ≡ true = ap passed (w .replies) ∙ ap (λ (f : Effect). passed (f .reply)) done in
-    record { replies = refl; shares = w .shares; writes = rw e (wrote w yes) }
+  pub synthesised-by : {reply last : Reply} (spectrum : List Float) (out : ℕ) {after : List Float} {held new : List (List Float)} → passed reply ≡ true
+      → length share ≡ PART → out ≡ 480 → Worked (call4 share 0 0 (inverseBy way spectrum) out) last after held new
+      → Worked (synthesised reply share way spectrum out) reply after held new
+  synthesised-by {reply} {last} spectrum out e whole l w =
+      let done = call4-done share whole 0 0 (inverseBy way spectrum) out (length-inverse way spectrum) l in
+      let yes : passed last ≡ true = ap passed (w .replies) ∙ ap (λ (f : Effect). passed (f .reply)) done in
+      record { replies = refl; shares = w .shares; writes = rw e (wrote w yes) }

@@ -9,11 +9,15 @@ use Rattle.rules.specs.Place.{get}
 use Rattle.rules.specs.Refusals.{_when_, wrong}
 use Rattle.lag.specs.Lag.{ownLag}
 use Rattle.transforms.specs.Transform.{forwardOf, inverseOf}
+use Rattle.frame.specs.declared.Hearing.{Hearing}
 use Rattle.frame.specs.declared.Reply.{Reply}
+use Rattle.frame.specs.declared.Way.{Way}
+use Rattle.frame.specs.declared.Way.the-variants.{Asked}
 use Rattle.frame.specs.Reply.{passed}
 use Rattle.frame.specs.Share.{PART, inputMem}
 use Rattle.frame.specs.Frame.{Effect, unless, call1, done2, call2, call3, call4}
 use Rattle.halves.specs.Own.{call2Own}
+use Rattle.halves.specs.Ways.{lagBy, remembered, forwardBy, inverseBy}
 use Rattle.halves.specs.Halves.{buffer, firstHalf, lookedBack, secondHalf}
 
 -- the sister keeps call 2's refusals, of which 6 is never due (request 04): 5 for a wrong length, or done with our own lag
@@ -43,20 +47,37 @@ pub record Both (a b half : Effect) (reply : Reply) (written : List (List Float)
   pub shares : half .share ≡ b .share
   pub writes : half .written ≡ written
 
--- accepted, a half is its two calls, one after the other, with those spectra lent
+-- accepted, a half is its two calls, one after the other, with the spectra and the lag of its way lent
 abbrev pub FirstIsCalls : Type 0
 FirstIsCalls =
-    (share samples : List Float) (sums : ℕ)
+    (share : List Float) (way : Way) (samples : List Float) (sums : ℕ)
     → let one = call1 share samples 960 in
-    let two = call2Own (one .share) (forwardOf (buffer one)) 960 sums in
-    let half = firstHalf share samples sums in
+    let two = call2 (remembered way (one .share)) (forwardBy way (buffer one)) (lagBy way (one .share)) 960 sums in
+    let half = firstHalf share way samples sums in
     passed (half .reply) ≡ true → Both one two half (two .reply) (drop 1 (two .written))
 
 -- whatever numbers of frames call 4 is told
 abbrev pub SecondIsCalls : Type 0
 SecondIsCalls =
-    (share : List Float) (index vad noise denoise : ℕ) (logs : List Float) (model : List ℕ) (out frame heard : ℕ)
-    → let three = call3 share index vad noise denoise (forwardOf (lookedBack share)) logs model 961 in
+    (share : List Float) (hearing : Hearing) (logs : List Float) (model : List ℕ) (out frame heard : ℕ)
+    → let three = call3 share hearing (forwardBy (hearing .way) (lookedBack share)) logs model 961 in
+    let four = call4 (three .share) frame heard (inverseBy (hearing .way) (buffer three)) out in
+    let half = secondHalf share hearing logs model out in
+    passed (half .reply) ≡ true → Both three four half (three .reply) (four .written)
+
+-- the way that requests 04 and 08 ask: call 2's sister, and the plain sums
+abbrev pub AskedFirst : Type 0
+AskedFirst =
+    (share samples : List Float) (sums : ℕ)
+    → let one = call1 share samples 960 in
+    let two = call2Own (one .share) (forwardOf (buffer one)) 960 sums in
+    let half = firstHalf share Asked samples sums in
+    passed (half .reply) ≡ true → Both one two half (two .reply) (drop 1 (two .written))
+
+abbrev pub AskedSecond : Type 0
+AskedSecond =
+    (share : List Float) (hearing : Hearing) (logs : List Float) (model : List ℕ) (out frame heard : ℕ) → hearing .way ≡ Asked
+    → let three = call3 share hearing (forwardOf (lookedBack share)) logs model 961 in
     let four = call4 (three .share) frame heard (inverseOf (buffer three)) out in
-    let half = secondHalf share index vad noise denoise logs model out in
+    let half = secondHalf share hearing logs model out in
     passed (half .reply) ≡ true → Both three four half (three .reply) (four .written)

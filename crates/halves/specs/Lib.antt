@@ -1,3 +1,4 @@
 pub mod Own
+pub mod Ways
 pub mod Halves
 pub mod Laws

@@ -1,26 +1,29 @@
-// The first half of a frame: call 1, the forward transform of its window, and call 2's sister.
+// The first half of a frame: call 1, the forward transform of its window, and call 2 with the lag.
 ghost use mathlib.Core.List.{[], _∷_};
 ghost use mathlib.Core.Path.{_≡_};
 ghost use lib.ListN.{length};
 ghost use Rattle.frame.specs.Frame.{Worked};
 ghost use Rattle.halves.specs.Halves.{analysed, firstHalf};
+use frame::Lag;
 use frame::PART;
 use frame::Reply;
+use frame::Way;
 
-// Call 2's sister with the spectrum of call 1's window, in whose place it writes its own.
-fn analyse(share: &mut [f32], window: &mut [f32], sums: &mut [f32]) -> Reply
-    requires { ⌜ (length (now share) ≡ 3776) × (length (now window) ≡ 960) × (length (now sums) ≡ 22) ⌝ }
-    ensures { λ r. ⌜ Worked (analysed (now (share .entry)) (now (window .entry)) (length (now (sums .entry))))
+// Call 2 with the spectrum of call 1's window, in whose place it writes its own.
+fn analyse(share: &mut [f32], way: Way, window: &mut [f32], sums: &mut [f32]) -> Reply
+    requires { ⌜ (length (now share) ≡ 3778) × (length (now window) ≡ 960) × (length (now sums) ≡ 22) ⌝ }
+    ensures { λ r. ⌜ Worked (analysed (now (share .entry)) way (now (window .entry)) (length (now (sums .entry))))
         r (now (share .exit)) (now (sums .entry) ∷ []) (now (sums .exit) ∷ []) ⌝ }
 {
     let mut spectrum = [0.0f32; 961];
-    transforms::forward(&mut spectrum, window);
-    crate::own::call2_own(share, &spectrum, window, sums)
+    crate::ways::forward(&mut spectrum, window, way);
+    let lag = crate::ways::lag(share, way);
+    frame::call2(share, &spectrum, Lag(lag), window, sums)
 }
 
 // 480 samples in, 22 sums written, for the logarithms of the second half.
-pub fn first_half(share: &mut [f32], samples: &[f32], sums: &mut [f32]) -> Reply
-    ensures { λ r. ⌜ Worked (firstHalf (now (share .entry)) (now (samples .entry)) (length (now (sums .entry))))
+pub fn first_half(share: &mut [f32], way: Way, samples: &[f32], sums: &mut [f32]) -> Reply
+    ensures { λ r. ⌜ Worked (firstHalf (now (share .entry)) way (now (samples .entry)) (length (now (sums .entry))))
         r (now (share .exit)) (now (sums .entry) ∷ []) (now (sums .exit) ∷ []) ⌝ }
 {
     if share.len() != PART {
@@ -37,5 +40,5 @@ pub fn first_half(share: &mut [f32], samples: &[f32], sums: &mut [f32]) -> Reply
     if !frame::passed(reply) {
         return reply;
     }
-    analyse(share, &mut window, sums)
+    analyse(share, way, &mut window, sums)
 }

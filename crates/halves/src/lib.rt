@@ -1,8 +1,9 @@
 // Calls over one share that are made of the calls of `frame`: the sister of call 2 that finds its own lag (request 04), and a frame in two
-// halves (request 08).
+// halves (request 08), each by its bench's way.
 mod first;
 mod own;
 mod second;
+mod ways;
 
 pub use first::first_half;
 pub use own::call2_own;

@@ -2,48 +2,47 @@
 ghost use mathlib.Core.List.{[], _∷_};
 ghost use mathlib.Core.Path.{_≡_};
 ghost use lib.ListN.{length};
-ghost use Rattle.transforms.specs.Transform.{forwardOf, inverseOf};
 ghost use Rattle.frame.specs.Frame.{Worked, call4};
+ghost use Rattle.halves.specs.Ways.{forwardBy, inverseBy};
 ghost use Rattle.halves.specs.Halves.{lookedBack, secondHalf};
+use frame::Hearing;
 use frame::PART;
 use frame::Reply;
+use frame::Way;
 
 // The spectrum of the window that call 2 gave, for the lag that stands in the share.
-fn look_back(spectrum: &mut [f32], share: &[f32])
-    requires { ⌜ (length (now spectrum) ≡ 961) × (length (now share) ≡ 3776) ⌝ }
-    ensures { λ _. ⌜ now (spectrum .exit) ≡ forwardOf (lookedBack (now (share .entry))) ⌝ }
+fn look_back(spectrum: &mut [f32], share: &[f32], way: Way)
+    requires { ⌜ (length (now spectrum) ≡ 961) × (length (now share) ≡ 3778) ⌝ }
+    ensures { λ _. ⌜ now (spectrum .exit) ≡ forwardBy way (lookedBack (now (share .entry))) ⌝ }
 {
     let lag = finder::kept::whole_lag(share[3191]);
     let from = 768 - lag;
     let mut window = [0.0f32; 960];
     bands::apply_window(&mut window, &share[from..from + 960]);
-    transforms::forward(spectrum, &window);
+    crate::ways::forward(spectrum, &window, way);
 }
 
 // Call 4 with the inverse of what call 3 wrote.
-fn synthesise(share: &mut [f32], spectrum: &[f32], out: &mut [f32]) -> Reply
+fn synthesise(share: &mut [f32], way: Way, spectrum: &[f32], out: &mut [f32]) -> Reply
     requires { ⌜ length (now spectrum) ≡ 961 ⌝ }
-    ensures { λ r. ⌜ Worked (call4 (now (share .entry)) 0 0 (inverseOf (now (spectrum .entry))) (length (now (out .entry))))
+    ensures { λ r. ⌜ Worked (call4 (now (share .entry)) 0 0 (inverseBy way (now (spectrum .entry))) (length (now (out .entry))))
         r (now (share .exit)) (now (out .entry) ∷ []) (now (out .exit) ∷ []) ⌝ }
 {
     let mut samples = [0.0f32; 960];
-    transforms::inverse(&mut samples, spectrum);
+    crate::ways::inverse(&mut samples, spectrum, way);
     frame::call4(share, 0, 0, &samples, out)
 }
 
 // 22 logarithms and the model in, 480 samples written; silent, or heard with voice and energy.
 pub fn second_half(
     share: &mut [f32],
-    index: usize,
-    vad: usize,
-    noise: usize,
-    denoise: usize,
+    hearing: Hearing,
     logs: &[f32],
     model: &[u8],
     out: &mut [f32],
 ) -> Reply
     ensures { λ r. ⌜ Worked
-        (secondHalf (now (share .entry)) index vad noise denoise (now (logs .entry)) (now (model .entry)) (length (now (out .entry))))
+        (secondHalf (now (share .entry)) hearing (now (logs .entry)) (now (model .entry)) (length (now (out .entry))))
         r (now (share .exit)) (now (out .entry) ∷ []) (now (out .exit) ∷ []) ⌝ }
 {
     if share.len() != PART {
@@ -55,26 +54,17 @@ pub fn second_half(
     if out.len() != 480 {
         return Reply::Refused(5);
     }
-    if index > 7 {
+    if hearing.index > 7 {
         return Reply::Refused(5);
     }
+    let way = hearing.way;
     let mut spectrum = [0.0f32; 961];
-    look_back(&mut spectrum, share);
+    look_back(&mut spectrum, share, way);
     let mut shaped = [0.0f32; 961];
-    let reply = frame::call3(
-        share,
-        index,
-        vad,
-        noise,
-        denoise,
-        &spectrum,
-        logs,
-        model,
-        &mut shaped,
-    );
+    let reply = frame::call3(share, hearing, &spectrum, logs, model, &mut shaped);
     if !frame::passed(reply) {
         return reply;
     }
-    synthesise(share, &shaped, out);
+    synthesise(share, way, &shaped, out);
     reply
 }

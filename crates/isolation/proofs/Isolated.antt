@@ -29,10 +29,7 @@ use Rattle.isolation.specs.Plan.{Came, perform}
 use Rattle.isolation.specs.Run.{Returned, Gives, Kind, On, on, State, given, after, received}
 use Rattle.isolation.specs.Isolation.{givenBy, allZeros, own, alone, Isolated, Undisturbed, Planned}
 use Rattle.isolation.proofs.Performed.{sized, its-own, no-side, unseen}
-
-reads : (b : Record) → recordIn (numbersOf b) ≡ b
-unfolding recordIn
-reads b = refl
+use Rattle.isolation.proofs.Runs.{reads}
 
 -- in the store that a share is a part of
 abbrev inStore : {O : Type 0} → ℕ → List Float → Gives O → Gives O

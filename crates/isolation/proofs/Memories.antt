@@ -16,7 +16,7 @@ use lib.Ieee.{Float, nan, isNan, ofBits}
 use Rattle.rules.specs.F32.{at, f32}
 use Rattle.rules.specs.Place.{get}
 use Rattle.rules.proofs.Places.{length-get}
-use Rattle.frame.specs.Reply.{passed}
+use Rattle.frame.specs.Reply.{passed, isHeard}
 use Rattle.frame.specs.Share.{SHARE}
 use Rattle.frame.specs.declared.Reply.{Reply}
 use Rattle.frame.specs.declared.Reply.the-variants.{Done, Silent, Heard, Numbered, Refused, Misread}
@@ -25,7 +25,7 @@ use Rattle.desk.specs.Gate.{shareOf}
 use Rattle.desk.specs.Desk.{Ask, callOf, Given, desk}
 use Rattle.desk.proofs.Apart.{its-own, own-share, other-share, same-length}
 use Rattle.memory.specs.Hear.{Recalled, blank, HeardFrame, heardAll, faded}
-use Rattle.memory.specs.Brought.{recalledIn, isHeard, Noted, unnoted, brought}
+use Rattle.memory.specs.Brought.{recalledIn, Noted, unnoted, brought}
 use Rattle.memory.proofs.Heard.{notedIn}
 use Rattle.memory.proofs.Calls.{Remembers, remembers, opens, either}
 use Rattle.memory.proofs.Gains.{stays-number, at-least}
@@ -79,10 +79,10 @@ module _ (n s : ℕ) (inside : s < n) where
     replies : replied n st c ≡ lone .answer .reply
     replies = ap (λ (a : Answer). a .reply) answers
 
-    recorded : recordAt s (after desks n st c) .index ≡ lone .answer .rec .index
-    recorded = rw (record-after n s st c, eq-eqb (c .side) s e) (ap (λ (a : Answer). a .rec .index) answers)
+    recorded : recordAt s (after desks n st c) .hearing .index ≡ lone .answer .rec .hearing .index
+    recorded = rw (record-after n s st c, eq-eqb (c .side) s e) (ap (λ (a : Answer). a .rec .hearing .index) answers)
 
-    recalled-then : recalled s (after desks n st c) ≡ recalledIn (lone .answer .rec .index) (lone .store)
+    recalled-then : recalled s (after desks n st c) ≡ recalledIn (lone .answer .rec .hearing .index) (lone .store)
     recalled-then = ap₂ recalledIn recorded own
 
   abbrev brings : State → On Ask → Noted × List HeardFrame
@@ -108,7 +108,7 @@ module _ (n s : ℕ) (inside : s < n) where
     other-moves f =
         let same : share (after desks n st c) ≡ share st =
         rw (store-after n st c) (other-share n (c .side) (recordAt (c .side) st) (st .store) (c .call) l s (eqb-false (c .side) s f)) in
-        let index : recordAt s (after desks n st c) .index ≡ recordAt s st .index = rw (record-after n s st c, f) in
+        let index : recordAt s (after desks n st c) .hearing .index ≡ recordAt s st .hearing .index = rw (record-after n s st c, f) in
         rw f (record { recalls = ap₂ recalledIn index same; notes = ap notedIn same; counts = refl })
 
     one : (c .side ≡ s → callOf (c .call) ≡ 0 → passed (replied n st c) ≡ false) → Moves st c (brings st c) (counted st c)
@@ -147,8 +147,8 @@ module _ (n s : ℕ) (inside : s < n) where
   fresh : (st : State) → Opened n s st → (recalled s st ≡ blank) × (notedIn (share st) ≡ unnoted) × Whole st
   fresh st k =
       let was = k .before in
-      let c = openingOf s (k .model) in
-      let o = opens (recordAt s was) (share was) (fits was (k .sized)) (k .model) (ap passed (sym (replies was (k .sized) c refl)) ∙ k .opens) in
+      let c = openingOf s (k .way) (k .model) in
+      let o = opens (recordAt s was) (share was) (fits was (k .sized)) (k .way) (k .model) (ap passed (sym (replies was (k .sized) c refl)) ∙ k .opens) in
       rw (← k .now)
       (recalled-then was (k .sized) c refl ∙ o .forgets, ap notedIn (own was (k .sized) c refl) ∙ o .unnotes, kept was (k .sized) c)
 

@@ -22,6 +22,7 @@ use Rattle.model.specs.declared.Reading.the-variants.{Good, Refused as Unread}
 use Rattle.frame.specs.Reply.{passed, oneMore}
 use Rattle.frame.specs.Frame.{Effect}
 use Rattle.frame.specs.declared.Reply.{Reply}
+use Rattle.frame.specs.declared.Way.{Way}
 use Rattle.frame.specs.declared.Reply.the-variants.{Done, Refused}
 use Rattle.frame.proofs.Cases.{call1-by, call2-by, call3-by, call4-by}
 use Rattle.halves.specs.Halves.{buffer}
@@ -74,33 +75,33 @@ same-heard r = carried-leaves (λ (x : Record). x .heard) r (λ _ _ _ _. refl)
 
 module _ (b : Record) (share : List Float) where
   frame-step : (ask : Ask) → (callOf ask ≡ 0 → passed (onShare b share ask .reply) ≡ false) → Counted b ask (onShare b share ask .reply)
-  frame-step (opening m) shut = go (readOf m) (shut refl)
+  frame-step (opening w m) shut = go (readOf m) (shut refl)
     where
-      go : (r : Reading) → passed (opened share r .reply) ≡ false → Counted b (opening m) (opened share r .reply)
+      go : (r : Reading) → passed (opened share r .reply) ≡ false → Counted b (opening w m) (opened share r .reply)
       go (Good k) e = absurd (false≢true (sym e))
       go (Unread n l) e = both refl refl
   frame-step (call1 x w) shut = call1-by (get framePart share) (CountedOf b (call1 x w)) (uncounted b (call1 x w)) x w (λ _ _. both refl refl)
   frame-step (call2 x l w s) shut = call2-by (get framePart share) (CountedOf b (call2 x l w s)) (uncounted b (call2 x l w s)) x l w s (λ _. both refl refl)
   frame-step (call2Own x w s) shut = call2-own-by (get framePart share) (CountedOf b (call2Own x w s)) (uncounted b (call2Own x w s)) x w s (λ _. both refl refl)
   frame-step (call3 x l m o) shut =
-      call3-by (get framePart share) (CountedOf b (call3 x l m o)) (uncounted b (call3 x l m o)) (b .index) (b .vad) (b .noise) (b .denoise) x l m o
+      call3-by (get framePart share) (CountedOf b (call3 x l m o)) (uncounted b (call3 x l m o)) (b .hearing) x l m o
       (λ _ _ _. both refl refl) (both refl refl) (λ _ _ _ _ _. both refl refl)
   frame-step (call4 x o) shut =
       call4-by (get framePart share) (CountedOf b (call4 x o)) (uncounted b (call4 x o)) (b .frame) (b .heard) x o (λ _. both refl refl)
-  frame-step (firstHalf x s) shut = first-half-by (get framePart share) (CountedOf b (firstHalf x s)) (uncounted b (firstHalf x s)) x s (λ _ _. both refl refl)
+  frame-step (firstHalf x s) shut = first-half-by (get framePart share) (CountedOf b (firstHalf x s)) (uncounted b (firstHalf x s)) (b .hearing .way) x s (λ _ _. both refl refl)
   frame-step (secondHalf l m o) shut =
-      second-half-by (get framePart share) (CountedOf b (secondHalf l m o)) (uncounted b (secondHalf l m o)) (b .index) (b .vad) (b .noise) (b .denoise) l m o
+      second-half-by (get framePart share) (CountedOf b (secondHalf l m o)) (uncounted b (secondHalf l m o)) (b .hearing) l m o
       (λ _ _ _. both refl refl) (λ _. both refl refl) (λ _ _ _ _ _. both refl refl)
   frame-step (piece x o s) shut =
-      piece-by share (λ f. Counted b (piece x o s) (f .reply)) (uncounted b (piece x o s)) (b .waiting) x o s
-      (λ _. rw (further-reply Done (waits share []) (waitingIn (b .waiting) share ++ x) nothing) (both (same-frame b _ _ _) (same-heard b _ _ _)))
+      piece-by share (λ f. Counted b (piece x o s) (f .reply)) (uncounted b (piece x o s)) (b .hearing .way) (b .waiting) x o s
+      (λ _. rw (further-reply Done (waits share []) (b .hearing .way) (waitingIn (b .waiting) share ++ x) nothing) (both (same-frame b _ _ _) (same-heard b _ _ _)))
   frame-step (resume x l m o s) shut =
-      resume-by share (λ f. Counted b (resume x l m o s) (f .reply)) (uncounted b (resume x l m o s)) (b .index) (b .vad) (b .noise) (b .denoise) (b .piece) (b .progress) x l m o s
+      resume-by share (λ f. Counted b (resume x l m o s) (f .reply)) (uncounted b (resume x l m o s)) (b .hearing) (b .piece) (b .progress) x l m o s
       (λ _ _ _. both refl refl)
       (λ _.
-      let h = halves.secondHalf (get framePart share) (b .index) (b .vad) (b .noise) (b .denoise) l m 480 in
-      rw (further-reply (h .reply) (put framePart share (h .share)) (drop (b .progress) x) (from (480 * (frameAt (b .progress) - 1)) (buffer h)))
-      (second-half-by (get framePart share) (CountedOf b (resume x l m o s)) (uncounted b (resume x l m o s)) (b .index) (b .vad) (b .noise) (b .denoise) l m 480
+      let h = halves.secondHalf (get framePart share) (b .hearing) l m 480 in
+      rw (further-reply (h .reply) (put framePart share (h .share)) (b .hearing .way) (drop (b .progress) x) (from (480 * (frameAt (b .progress) - 1)) (buffer h)))
+      (second-half-by (get framePart share) (CountedOf b (resume x l m o s)) (uncounted b (resume x l m o s)) (b .hearing) l m 480
       (λ _ _ _. both refl refl) (λ _. both (same-frame _ _ _ _) (same-heard _ _ _ _)) (λ _ _ _ _ _. both (same-frame _ _ _ _) (same-heard _ _ _ _))))
 
 step : (n side : ℕ) (b : Record) (store : List Float) (ask : Ask)
@@ -184,17 +185,17 @@ module _ (n s : ℕ) where
 -- ---- what is claimed
 
 -- an opening that is done numbers from 0
-from-0 : (n s : ℕ) (b : Record) (store : List Float) (m : List ℕ) → passed (desk n s b store (opening m) .answer .reply) ≡ true
-    → (desk n s b store (opening m) .answer .rec .frame ≡ 0) × (desk n s b store (opening m) .answer .rec .heard ≡ 0)
+from-0 : (n s : ℕ) (b : Record) (store : List Float) (w : Way) (m : List ℕ) → passed (desk n s b store (opening w m) .answer .reply) ≡ true
+    → (desk n s b store (opening w m) .answer .rec .frame ≡ 0) × (desk n s b store (opening w m) .answer .rec .heard ≡ 0)
 unfolding desk
-from-0 n s b store m = go (eqb (gate n s b (length store) 0) 0) (readOf m)
+from-0 n s b store w m = go (eqb (gate n s b (length store) 0) 0) (readOf m)
   where
     share : List Float
     share = get (shareOf s) store
 
     go : (t : Bool) (r : Reading)
         → let reply = cond t (opened share r) (refused (Refused (gate n s b (length store) 0)) share) .reply in
-        passed reply ≡ true → (cond (passed reply) (started b r) b .frame ≡ 0) × (cond (passed reply) (started b r) b .heard ≡ 0)
+        passed reply ≡ true → (cond (passed reply) (started b w r) b .frame ≡ 0) × (cond (passed reply) (started b w r) b .heard ≡ 0)
     go true (Good k) p = (refl, refl)
     go true (Unread i l) p = absurd (false≢true p)
     go false r p = absurd (false≢true p)
@@ -202,8 +203,8 @@ from-0 n s b store m = go (eqb (gate n s b (length store) 0) 0) (readOf m)
 module _ (n s : ℕ) (st : State) (o : Opened n s st) where
   starts : Stand n s st 0 0
   starts =
-      let zero = from-0 n s (recordAt s (o .before)) (o .before .store) (o .model) (o .opens) in
-      rw (← o .now, record-after n s (o .before) (openingOf s (o .model)), eq-eqb s s refl) zero
+      let zero = from-0 n s (recordAt s (o .before)) (o .before .store) (o .way) (o .model) (o .opens) in
+      rw (← o .now, record-after n s (o .before) (openingOf s (o .way) (o .model)), eq-eqb s s refl) zero
 
 pub numbering : {C O : Type 0} (serve : Kind C O) (asksOf : Made C) (n : ℕ) → Expands serve asksOf n → Numbering serve asksOf n
 numbering serve asksOf n expanded s h st o calls u =

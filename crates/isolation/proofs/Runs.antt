@@ -1,5 +1,6 @@
 -- Runs, of any kind of calls and of the desk's.
 --     joined           one run after the other
+--     reads            a record as numbers is read as itself
 --     record-after     a side's record behind a call of the desk; store-after, the store
 --     expanding        where each call is made of the desk's calls, any run is
 -- Assumes nothing.
@@ -7,11 +8,15 @@ use Prim.Native.Nat.{ℕ}
 use mathlib.Core.Bool.{Bool, true, false, cond}
 use mathlib.Core.List.{List, [], _∷_, _++_, map}
 use mathlib.Core.Path.{_≡_, refl, sym, ap, _∙_}
-use lib.Dec.{eqb}
+use lib.Dec.{eqb, leb}
 use Rattle.frame.specs.Reply.{passed}
+use Rattle.frame.specs.declared.Way.{Way}
+use Rattle.frame.specs.declared.Way.the-variants.{Asked, Crate}
 use Rattle.desk.specs.declared.Answer.{Answer}
+use Rattle.desk.specs.declared.Record.{Record}
 use Rattle.desk.specs.Desk.{Ask, desk}
-use Rattle.desk.specs.Surface.{numbersOf, recordIn, handedBack, hosted}
+use Rattle.desk.specs.Gate.{wayNumber}
+use Rattle.desk.specs.Surface.{numbersOf, wayIn, recordIn, handedBack, hosted}
 use Rattle.desk.proofs.Settled.{refused-keeps}
 use Rattle.isolation.specs.Run.{Kind, On, on, State, recordAt, after, ended, desks, Made, expand, Expands}
 
@@ -23,13 +28,21 @@ joined serve n (c ∷ first) rest st = joined serve n first rest (after serve n 
 
 -- ---- the desk's calls
 
+way-back : (w : Way) → (leb (wayNumber w) 1 ≡ true) × (wayIn (wayNumber w) ≡ w)
+way-back Asked = (refl, refl)
+way-back Crate = (refl, refl)
+
+pub reads : (b : Record) → recordIn (numbersOf b) ≡ b
+unfolding recordIn
+reads b = let k = way-back (b .hearing .way) in rw (k .0, k .1)
+
 -- the record that is handed back, where a refusal leaves it
 handed : (ns : List ℕ) (a : Answer) → (passed (a .reply) ≡ false → a .rec ≡ recordIn ns) → recordIn (handedBack a ns) ≡ a .rec
 unfolding recordIn
 handed ns a keeps = go (passed (a .reply)) refl
   where
     go : (t : Bool) → passed (a .reply) ≡ t → recordIn (cond t (numbersOf (a .rec)) ns) ≡ a .rec
-    go true p = refl
+    go true p = reads (a .rec)
     go false p = sym (keeps p)
 
 pub record-after : (n s : ℕ) (st : State) (c : On Ask)

@@ -24,7 +24,7 @@ use Rattle.isolation.specs.Numbering.{hears, replied, howMany, Unopened,
 
 -- what side s remembers, in its share and in its record
 abbrev pub recalled : ℕ → State → Recalled
-recalled s st = recalledIn (recordAt s st .index) (get (shareOf s) (st .store))
+recalled s st = recalledIn (recordAt s st .hearing .index) (get (shareOf s) (st .store))
 
 -- the frames that side s hears in a run, in order: what its own calls bring, where a call 2 before the run noted k
 unfoldable pub frames : ℕ → ℕ → Noted → State → List (On Ask) → List HeardFrame

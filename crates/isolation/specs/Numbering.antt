@@ -8,11 +8,11 @@ use mathlib.Core.List.{List, [], _∷_}
 use mathlib.Core.Path.{_≡_}
 use lib.Dec.{eqb}
 use lib.ListN.{length}
-use Rattle.frame.specs.Reply.{passed}
+use Rattle.frame.specs.Reply.{passed, isHeard}
 use Rattle.frame.specs.Share.{SHARE}
 use Rattle.frame.specs.declared.Reply.{Reply}
+use Rattle.frame.specs.declared.Way.{Way}
 use Rattle.desk.specs.Desk.{Ask, opening, callOf, lastOf, desk}
-use Rattle.memory.specs.Brought.{isHeard}
 use Rattle.isolation.specs.Run.{Kind, On, on, State, recordAt, after, ended, desks, Made, expand}
 
 -- a call 4 that is done, by itself, in a second half or in a resume
@@ -38,16 +38,17 @@ Unopened n s st [] = Unit
 Unopened n s st (c ∷ cs) =
     (c .side ≡ s → callOf (c .call) ≡ 0 → passed (replied n st c) ≡ false) × Unopened n s (after desks n st c) cs
 
-abbrev pub openingOf : ℕ → List ℕ → On Ask
-openingOf side model = on side (opening model)
+abbrev pub openingOf : ℕ → Way → List ℕ → On Ask
+openingOf side way model = on side (opening way model)
 
 -- behind an opening of side s that was done, by whatever call it is made: by `Expands` this leaves what the desk's opening leaves
 pub record Opened (n s : ℕ) (st : State) : Type 0 where
   pub before : State
   pub sized : length (before .store) ≡ n * SHARE
+  pub way : Way
   pub model : List ℕ
-  pub opens : passed (replied n before (openingOf s model)) ≡ true
-  pub now : after desks n before (openingOf s model) ≡ st
+  pub opens : passed (replied n before (openingOf s way model)) ≡ true
+  pub now : after desks n before (openingOf s way model) ≡ st
 
 -- over calls of any kind that is made of the desk's, with n benches
 module _ {C O : Type 0} (serve : Kind C O) (asksOf : Made C) (n : ℕ) where

@@ -14,8 +14,7 @@ use mathlib.Core.Logic.{_⊎_, inl, inr}
 use mathlib.Core.Path.{_≡_, refl, sym, ap, ap₂, subst, _∙_}
 use borrow.Author.Tests.{ltb-false}
 use lib.Dec.{eqb, ltb}
-use lib.ListN.{length, take, drop, length-take, replicate, length-replicate, replicate-append-replicate}
-use lib.Seq.{take-at, drop-at}
+use lib.ListN.{length, take, drop, length-take, replicate}
 use lib.IntN.{pos}
 use lib.Ieee.{Float, binary32, ofInt}
 use Rattle.rules.specs.F32.{at, f32}
@@ -28,8 +27,7 @@ use Rattle.model.specs.Model.{readOf}
 use Rattle.model.specs.declared.Reading.{Reading}
 use Rattle.model.specs.declared.Reading.the-variants.{Good, Refused as Unread}
 use Rattle.samples.specs.Samples.{good}
-use Rattle.frame.specs.Reply.{passed}
-use Rattle.transforms.specs.Transform.{forwardOf, inverseOf}
+use Rattle.frame.specs.Reply.{passed, isHeard}
 use Rattle.lag.specs.Lag.{ownLag}
 use Rattle.frame.specs.Share.{SHARE, PART, inputMem, keptX, keptEx, keptLag, lastg, cepstralMem, vadState, noiseState, denoiseState}
 use Rattle.frame.specs.Heard.{scaled, energies, spoken}
@@ -37,14 +35,17 @@ use Rattle.frame.specs.Frame.{Effect, done1, putKept, done4}
 use Rattle.frame.specs.Frame as frame
 use Rattle.frame.specs.declared.Reply.{Reply}
 use Rattle.frame.specs.declared.Reply.the-variants.{Done, Silent, Heard, Refused}
+use Rattle.frame.specs.declared.Way.{Way}
 use Rattle.frame.proofs.Keeps.{Keeps, end, call1-keeps, call2-keeps, call3-keeps, call4-keeps}
 use Rattle.frame.proofs.Beside.{Beside, AllApart, done1-beside, done2-beside, done3-beside, done4-beside}
 use Rattle.frame.proofs.Cases.{call1-by, call2-by, call3-by, call4-by}
+use Rattle.halves.specs.Ways.{lagBy, remembered, forwardBy, inverseBy}
 use Rattle.halves.specs.Halves.{buffer, lookedBack}
 use Rattle.halves.specs.Halves as halves
 use Rattle.halves.proofs.Sister.{call2-own-by, call2-own-keeps}
 use Rattle.halves.proofs.Cases.{doneFirst, doneSecond, whole-after-1, first-half-by, second-half-by}
 use Rattle.halves.proofs.Kept.{done-first-beside, done-second-beside, first-half-keeps, second-half-keeps}
+use Rattle.halves.proofs.EitherWay.{whole-remembered}
 use Rattle.pieces.specs.Pieces.{framePart, waitingIn, waits, frameAt, Outcome, refused, inPart, atEnd, paused, further}
 use Rattle.pieces.specs.Pieces as pieces
 use Rattle.pieces.proofs.Cases.{piece-by, resume-by}
@@ -56,16 +57,23 @@ use Rattle.desk.specs.declared.Record.{Record}
 use Rattle.desk.specs.Gate.{gate}
 use Rattle.desk.specs.Desk.{Ask, opening, call1, call2, call2Own, call3, call4, firstHalf, secondHalf, piece, resume, callOf, advanced, numbered, carried, answered, opened, onShare, Given, desk}
 use Rattle.desk.proofs.Apart.{givenOf, one-bench}
+use Rattle.desk.proofs.Zeros.{get-replicate}
 use Rattle.desk.proofs.Leaves.{carried-leaves}
 use Rattle.memory.specs.Hear.{blank, HeardFrame, heardAll}
-use Rattle.memory.specs.Brought.{recalledIn, isHeard, Noted, unnoted, noting, firstNotes, restNotes, brought}
+use Rattle.memory.specs.Brought.{recalledIn, Noted, unnoted, noting, firstNotes, restNotes, brought}
 use Rattle.memory.proofs.Heard.{notedIn, heard-frame}
 
 -- ---- what is left alone
 
-same-recalled : (index : ℕ) (xs ys : List Float) → ((q : Place) → 3194 ≤ q .at → get q ys ≡ get q xs) → recalledIn index ys ≡ recalledIn index xs
+same-recalled : (index : ℕ) (xs ys : List Float) → ((q : Place) → 3194 ≤ q .at → q .at + q .size ≤ 3776 → get q ys ≡ get q xs) → recalledIn index ys ≡ recalledIn index xs
 same-recalled index xs ys same =
-    cc (same lastg (omega arith), same cepstralMem (omega arith), same vadState (omega arith), same noiseState (omega arith), same denoiseState (omega arith))
+    cc (
+      same lastg (omega arith) (omega arith),
+      same cepstralMem (omega arith) (omega arith),
+      same vadState (omega arith) (omega arith),
+      same noiseState (omega arith) (omega arith),
+      same denoiseState (omega arith) (omega arith),
+    )
 
 same-noted : (xs ys : List Float) → ((q : Place) → 2208 ≤ q .at → q .at + q .size ≤ 3192 → get q ys ≡ get q xs) → notedIn ys ≡ notedIn xs
 same-noted xs ys same = cc (same keptX (omega arith) (omega arith), same keptEx (omega arith) (omega arith), same keptLag (omega arith) (omega arith))
@@ -90,6 +98,18 @@ kept-noted share spectrum lag whole =
     let third = ap (λ (xs : List Float). at xs 0) (get-put keptLag with-ex (ofInt binary32 (pos lag) ∷ []) (omega arith) refl) in
     cc (first, second, third)
 
+-- so does a first half; and it leaves what is remembered of the voice
+module _ (part : List Float) (way : Way) (x : List Float) (whole : length part ≡ PART) (l : length x ≡ 480) where
+  first-recalled : (index : ℕ) → recalledIn index (doneFirst part way x .share) ≡ recalledIn index part
+  first-recalled index =
+      same-recalled index part (doneFirst part way x .share)
+      (λ q h k. done-first-beside q part way x (inl (omega arith), (inl (omega arith), (inl (omega arith), (inl (omega arith), (inl (omega arith), (inr (omega arith), tt)))))) whole l .same)
+
+  first-noted : notedIn (doneFirst part way x .share) ≡ firstNotes way part x
+  first-noted =
+      let a = done1 part x in
+      kept-noted (remembered way (a .share)) (forwardBy way (buffer a)) (lagBy way (a .share)) (whole-remembered (a .share) way (whole-after-1 part x whole l))
+
 -- ---- all of it stands in a frame's part of a share
 
 module _ (share : List Float) (whole : length share ≡ SHARE) where
@@ -106,13 +126,13 @@ module _ (share : List Float) (whole : length share ≡ SHARE) where
 -- ---- one call on a share
 
 pub record Remembers (b : Record) (share : List Float) (ask : Ask) (o : Given) : Type 0 where
-  pub recalls : recalledIn (o .answer .rec .index) (o .store) ≡ heardAll (recalledIn (b .index) share) (brought b share (notedIn share) ask (o .answer .reply) .1)
+  pub recalls : recalledIn (o .answer .rec .hearing .index) (o .store) ≡ heardAll (recalledIn (b .hearing .index) share) (brought b share (notedIn share) ask (o .answer .reply) .1)
   pub notes : notedIn (o .store) ≡ brought b share (notedIn share) ask (o .answer .reply) .0
   pub counts : length (brought b share (notedIn share) ask (o .answer .reply) .1) ≡ cond (isHeard (o .answer .reply)) 1 0
 
 -- an opening that is done
 pub record Opens (o : Given) : Type 0 where
-  pub forgets : recalledIn (o .answer .rec .index) (o .store) ≡ blank
+  pub forgets : recalledIn (o .answer .rec .hearing .index) (o .store) ≡ blank
   pub unnotes : notedIn (o .store) ≡ unnoted
   pub unheard : isHeard (o .answer .reply) ≡ false
 
@@ -125,7 +145,7 @@ module _ (b : Record) (share : List Float) (whole : length share ≡ SHARE) wher
   brings ask reply = brought b share (notedIn part) ask reply
 
   record Leaves (ask : Ask) (reply : Reply) (after : List Float) : Type 0 where
-    recalls : recalledIn (answered b ask reply .rec .index) after ≡ heardAll (recalledIn (b .index) part) (brings ask reply .1)
+    recalls : recalledIn (answered b ask reply .rec .hearing .index) after ≡ heardAll (recalledIn (b .hearing .index) part) (brings ask reply .1)
     notes : notedIn after ≡ brings ask reply .0
     counts : length (brings ask reply .1) ≡ cond (isHeard reply) 1 0
 
@@ -134,9 +154,9 @@ module _ (b : Record) (share : List Float) (whole : length share ≡ SHARE) wher
       let noted = part-noted share whole in
       record {
         recalls =
-            sym (part-recalled (o .share) left (answered b ask (o .reply) .rec .index))
+            sym (part-recalled (o .share) left (answered b ask (o .reply) .rec .hearing .index))
             ∙ r .recalls
-            ∙ ap₂ (λ m k. heardAll m (brought b share k ask (o .reply) .1)) (part-recalled share whole (b .index)) noted;
+            ∙ ap₂ (λ m k. heardAll m (brought b share k ask (o .reply) .1)) (part-recalled share whole (b .hearing .index)) noted;
         notes = sym (part-noted (o .share) left) ∙ r .notes ∙ ap (λ k. brought b share k ask (o .reply) .0) noted;
         counts = ap (λ k. length (brought b share k ask (o .reply) .1)) (sym noted) ∙ r .counts;
       }
@@ -153,7 +173,7 @@ module _ (b : Record) (share : List Float) (whole : length share ≡ SHARE) wher
   -- a refusal leaves all alone
   unmoved : (ask : Ask) (n : ℕ) → Leaves ask (Refused n) part
   unfolding heardAll
-  unmoved (opening m) n = record { recalls = refl; notes = refl; counts = refl }
+  unmoved (opening w m) n = record { recalls = refl; notes = refl; counts = refl }
   unmoved (call1 x w) n = record { recalls = refl; notes = refl; counts = refl }
   unmoved (call2 x l w s) n = record { recalls = refl; notes = refl; counts = refl }
   unmoved (call2Own x w s) n = record { recalls = refl; notes = refl; counts = refl }
@@ -169,7 +189,7 @@ module _ (b : Record) (share : List Float) (whole : length share ≡ SHARE) wher
   call1-leaves x w =
       call1-by part (LeavesOf (call1 x w)) (unmoved (call1 x w)) x w
       (λ whole l. record {
-        recalls = same-recalled (b .index) part (done1 part x .share) (λ q h. done1-beside q part x (inl (omega arith), (inl (omega arith), tt)) whole l .same);
+        recalls = same-recalled (b .hearing .index) part (done1 part x .share) (λ q h k. done1-beside q part x (inl (omega arith), (inl (omega arith), tt)) whole l .same);
         notes = same-noted part (done1 part x .share) (λ q h k. done1-beside q part x (inl (omega arith), (inr (omega arith), tt)) whole l .same);
         counts = refl;
       })
@@ -179,7 +199,7 @@ module _ (b : Record) (share : List Float) (whole : length share ≡ SHARE) wher
   call2-leaves x l w s =
       call2-by part (LeavesOf (call2 x l w s)) (unmoved (call2 x l w s)) x l w s
       (λ whole. record {
-        recalls = same-recalled (b .index) part (putKept part x l) (λ q h. done2-beside q part x l (inl (omega arith), (inl (omega arith), (inl (omega arith), tt))) whole .same);
+        recalls = same-recalled (b .hearing .index) part (putKept part x l) (λ q h k. done2-beside q part x l (inl (omega arith), (inl (omega arith), (inl (omega arith), tt))) whole .same);
         notes = kept-noted part x l whole;
         counts = refl;
       })
@@ -189,20 +209,20 @@ module _ (b : Record) (share : List Float) (whole : length share ≡ SHARE) wher
   call2-own-leaves x w s =
       call2-own-by part (LeavesOf (call2Own x w s)) (unmoved (call2Own x w s)) x w s
       (λ whole. let l = ownLag (get inputMem part) in record {
-        recalls = same-recalled (b .index) part (putKept part x l) (λ q h. done2-beside q part x l (inl (omega arith), (inl (omega arith), (inl (omega arith), tt))) whole .same);
+        recalls = same-recalled (b .hearing .index) part (putKept part x l) (λ q h k. done2-beside q part x l (inl (omega arith), (inl (omega arith), (inl (omega arith), tt))) whole .same);
         notes = kept-noted part x l whole;
         counts = refl;
       })
 
-  call3-leaves : (x l : List Float) (m : List ℕ) (o : ℕ) → LeavesOf (call3 x l m o) (frame.call3 part (b .index) (b .vad) (b .noise) (b .denoise) x l m o)
+  call3-leaves : (x l : List Float) (m : List ℕ) (o : ℕ) → LeavesOf (call3 x l m o) (frame.call3 part (b .hearing) x l m o)
   unfolding heardAll
   call3-leaves x l m o =
-      call3-by part (LeavesOf (call3 x l m o)) (unmoved (call3 x l m o)) (b .index) (b .vad) (b .noise) (b .denoise) x l m o
+      call3-by part (LeavesOf (call3 x l m o)) (unmoved (call3 x l m o)) (b .hearing) x l m o
       (λ _ _ _. record { recalls = refl; notes = refl; counts = refl })
       (record { recalls = refl; notes = refl; counts = refl })
       (λ e k good whole inside. record {
-        recalls = heard-frame part (b .index) x l m k good whole inside;
-        notes = same-noted part (spoken part (b .index) x l m k .share) (λ q h j. done3-beside q part (b .index) x l m k
+        recalls = heard-frame part (b .hearing .index) x l m k good whole inside;
+        notes = same-noted part (spoken part (b .hearing .index) x l m k .share) (λ q h j. done3-beside q part (b .hearing .index) x l m k
             (inr (omega arith), (inr (omega arith), (inr (omega arith), (inr (omega arith), (inr (omega arith), tt))))) good whole inside .same);
         counts = refl;
       })
@@ -212,156 +232,142 @@ module _ (b : Record) (share : List Float) (whole : length share ≡ SHARE) wher
   call4-leaves x o =
       call4-by part (LeavesOf (call4 x o)) (unmoved (call4 x o)) (b .frame) (b .heard) x o
       (λ whole. record {
-        recalls = same-recalled (b .index) part (done4 part (b .frame) (b .heard) x .share) (λ q h. done4-beside q part (b .frame) (b .heard) x (inl (omega arith), tt) whole .same);
+        recalls = same-recalled (b .hearing .index) part (done4 part (b .frame) (b .heard) x .share) (λ q h k. done4-beside q part (b .frame) (b .heard) x (inl (omega arith), tt) whole .same);
         notes = same-noted part (done4 part (b .frame) (b .heard) x .share) (λ q h k. done4-beside q part (b .frame) (b .heard) x (inl (omega arith), tt) whole .same);
         counts = refl;
       })
 
-  first-half-leaves : (x : List Float) (s : ℕ) → LeavesOf (firstHalf x s) (halves.firstHalf part x s)
+  first-half-leaves : (x : List Float) (s : ℕ) → LeavesOf (firstHalf x s) (halves.firstHalf part (b .hearing .way) x s)
   unfolding heardAll
   first-half-leaves x s =
-      first-half-by part (LeavesOf (firstHalf x s)) (unmoved (firstHalf x s)) x s
-      (λ whole l. let a = done1 part x in record {
-        recalls = same-recalled (b .index) part (doneFirst part x .share)
-            (λ q h. done-first-beside q part x (inl (omega arith), (inl (omega arith), (inl (omega arith), (inl (omega arith), (inl (omega arith), tt))))) whole l .same);
-        notes = kept-noted (a .share) (forwardOf (buffer a)) (ownLag (get inputMem (a .share))) (whole-after-1 part x whole l);
+      let way = b .hearing .way in
+      first-half-by part (LeavesOf (firstHalf x s)) (unmoved (firstHalf x s)) way x s
+      (λ whole l. record {
+        recalls = first-recalled part way x whole l (b .hearing .index);
+        notes = first-noted part way x whole l;
         counts = refl;
       })
 
-  second-half-leaves : (l : List Float) (m : List ℕ) (o : ℕ) → LeavesOf (secondHalf l m o) (halves.secondHalf part (b .index) (b .vad) (b .noise) (b .denoise) l m o)
+  second-half-leaves : (l : List Float) (m : List ℕ) (o : ℕ) → LeavesOf (secondHalf l m o) (halves.secondHalf part (b .hearing) l m o)
   unfolding heardAll
   second-half-leaves l m o =
-      second-half-by part (LeavesOf (secondHalf l m o)) (unmoved (secondHalf l m o)) (b .index) (b .vad) (b .noise) (b .denoise) l m o
+      let way = b .hearing .way in
+      second-half-by part (LeavesOf (secondHalf l m o)) (unmoved (secondHalf l m o)) (b .hearing) l m o
       (λ _ _ _. record { recalls = refl; notes = refl; counts = refl })
       (λ whole. record {
-        recalls = same-recalled (b .index) part (doneSecond Silent part (get keptX part) .share) (λ q h. done-second-beside q Silent part part (get keptX part) (inl (omega arith), tt) (record { size = whole; same = refl }) .same);
-        notes = same-noted part (doneSecond Silent part (get keptX part) .share) (λ q h k. done-second-beside q Silent part part (get keptX part) (inl (omega arith), tt) (record { size = whole; same = refl }) .same);
+        recalls = same-recalled (b .hearing .index) part (doneSecond Silent part way (get keptX part) .share) (λ q h k. done-second-beside q Silent part part way (get keptX part) (inl (omega arith), tt) (record { size = whole; same = refl }) .same);
+        notes = same-noted part (doneSecond Silent part way (get keptX part) .share) (λ q h k. done-second-beside q Silent part part way (get keptX part) (inl (omega arith), tt) (record { size = whole; same = refl }) .same);
         counts = refl;
       })
       (λ e k good whole inside.
-      let p = forwardOf (lookedBack part) in
-      let t = spoken part (b .index) p l m k in
+      let p = forwardBy way (lookedBack part) in
+      let t = spoken part (b .hearing .index) p l m k in
       let kept : (q : Place) → AllApart (lastg ∷ cepstralMem ∷ vadState ∷ noiseState ∷ denoiseState ∷ []) q → Beside q part (t .share)
-      = λ q apart. done3-beside q part (b .index) p l m k apart good whole inside in
+      = λ q apart. done3-beside q part (b .hearing .index) p l m k apart good whole inside in
       let size = kept end (inl (omega arith), (inl (omega arith), (inl (omega arith), (inl (omega arith), (inl (omega arith), tt))))) .size in
       record {
-        recalls = same-recalled _ (t .share) (doneSecond (Heard (t .voice) e) (t .share) (t .spectrum) .share) (λ q h. done4-beside q (t .share) 0 0 (inverseOf (t .spectrum)) (inl (omega arith), tt) size .same)
-            ∙ heard-frame part (b .index) p l m k good whole inside;
-        notes = same-noted part (doneSecond (Heard (t .voice) e) (t .share) (t .spectrum) .share) (λ q h j. done-second-beside q (Heard (t .voice) e) part (t .share) (t .spectrum) (inl (omega arith), tt)
+        recalls = same-recalled _ (t .share) (doneSecond (Heard (t .voice) e) (t .share) way (t .spectrum) .share) (λ q h j. done4-beside q (t .share) 0 0 (inverseBy way (t .spectrum)) (inl (omega arith), tt) size .same)
+            ∙ heard-frame part (b .hearing .index) p l m k good whole inside;
+        notes = same-noted part (doneSecond (Heard (t .voice) e) (t .share) way (t .spectrum) .share) (λ q h j. done-second-beside q (Heard (t .voice) e) part (t .share) way (t .spectrum) (inl (omega arith), tt)
             (kept q (inr (omega arith), (inr (omega arith), (inr (omega arith), (inr (omega arith), (inr (omega arith), tt)))))) .same);
         counts = refl;
       })
 
   -- ---- pieces: the rest of one waits, or begins a frame
 
-  first-notes : (index : ℕ) (q x : List Float) → passed (halves.firstHalf q x 22 .reply) ≡ true
-      → let f = halves.firstHalf q x 22 in (recalledIn index (f .share) ≡ recalledIn index q) × (notedIn (f .share) ≡ firstNotes q x)
-  first-notes index q x =
-      first-half-by q (λ f. passed (f .reply) ≡ true → (recalledIn index (f .share) ≡ recalledIn index q) × (notedIn (f .share) ≡ firstNotes q x)) (λ n e. absurd (false≢true e)) x 22
-      (λ sized l _. let a = done1 q x in (
-        same-recalled index q (doneFirst q x .share)
-            (λ p h. done-first-beside p q x (inl (omega arith), (inl (omega arith), (inl (omega arith), (inl (omega arith), (inl (omega arith), tt))))) sized l .same),
-        kept-noted (a .share) (forwardOf (buffer a)) (ownLag (get inputMem (a .share))) (whole-after-1 q x sized l),
-      ))
+  first-notes : (index : ℕ) (q : List Float) (way : Way) (x : List Float) → passed (halves.firstHalf q way x 22 .reply) ≡ true
+      → let f = halves.firstHalf q way x 22 in (recalledIn index (f .share) ≡ recalledIn index q) × (notedIn (f .share) ≡ firstNotes way q x)
+  first-notes index q way x =
+      first-half-by q (λ f. passed (f .reply) ≡ true → (recalledIn index (f .share) ≡ recalledIn index q) × (notedIn (f .share) ≡ firstNotes way q x)) (λ n e. absurd (false≢true e)) way x 22
+      (λ sized l _. (first-recalled q way x sized l index, first-noted q way x sized l))
 
-  rest-notes : (index : ℕ) (reply : Reply) (mid rest : List Float) (w : Written) → length mid ≡ SHARE → good rest ≡ true
-      → let o = further reply mid rest w in let q = get framePart mid in
-      (recalledIn index (get framePart (o .share)) ≡ recalledIn index q) × (notedIn (get framePart (o .share)) ≡ restNotes (notedIn q) q rest)
+  rest-notes : (index : ℕ) (reply : Reply) (mid : List Float) (way : Way) (rest : List Float) (w : Written) → length mid ≡ SHARE → good rest ≡ true
+      → let o = further reply mid way rest w in let q = get framePart mid in
+      (recalledIn index (get framePart (o .share)) ≡ recalledIn index q) × (notedIn (get framePart (o .share)) ≡ restNotes way (notedIn q) q rest)
   unfolding further
-  rest-notes index reply mid rest w l g = go (ltb (length rest) 480) refl
+  rest-notes index reply mid way rest w l g = go (ltb (length rest) 480) refl
     where
       go : (t : Bool) → ltb (length rest) 480 ≡ t
-          → let o = cond t (atEnd reply mid rest w) (paused reply mid rest w) in
+          → let o = cond t (atEnd reply mid rest w) (paused reply mid way rest w) in
           (recalledIn index (get framePart (o .share)) ≡ recalledIn index (get framePart mid))
-          × (notedIn (get framePart (o .share)) ≡ cond t (notedIn (get framePart mid)) (firstNotes (get framePart mid) (take 480 rest)))
+          × (notedIn (get framePart (o .share)) ≡ cond t (notedIn (get framePart mid)) (firstNotes way (get framePart mid) (take 480 rest)))
       go true e = (ap (recalledIn index) (frame-waits mid l rest), ap notedIn (frame-waits mid l rest))
       go false e =
           let q = get framePart mid in
           let more = ltb-false (length rest) 480 e in
-          let f = first-passes q (take 480 rest) (part-length mid l) (simp length-take (omega arith)) (good-take 480 rest g) in
-          let n = first-notes index q (take 480 rest) (f .passes) in
-          let back = frame-back mid l (halves.firstHalf q (take 480 rest) 22 .share) (f .part) in
+          let f = first-passes q way (take 480 rest) (part-length mid l) (simp length-take (omega arith)) (good-take 480 rest g) in
+          let n = first-notes index q way (take 480 rest) (f .passes) in
+          let back = frame-back mid l (halves.firstHalf q way (take 480 rest) 22 .share) (f .part) in
           (ap (recalledIn index) back ∙ n .0, ap notedIn back ∙ n .1)
 
   -- a piece moves no index
-  carried-index : (r : Record) (rest size progress : ℕ) → carried r rest size progress .index ≡ r .index
-  carried-index r = carried-leaves (λ (x : Record). x .index) r (λ _ _ _ _. refl)
+  carried-index : (r : Record) (rest size progress : ℕ) → carried r rest size progress .hearing .index ≡ r .hearing .index
+  carried-index r = carried-leaves (λ (x : Record). x .hearing .index) r (λ _ _ _ _. refl)
 
-  piece-leaves : (x : List Float) (o s : ℕ) → let f = pieces.piece share (b .waiting) x o s in Leaves (piece x o s) (f .reply) (get framePart (f .share))
+  piece-leaves : (x : List Float) (o s : ℕ) → let f = pieces.piece share (b .hearing .way) (b .waiting) x o s in Leaves (piece x o s) (f .reply) (get framePart (f .share))
   unfolding heardAll
   piece-leaves x o s =
-      piece-by share (λ f. Leaves (piece x o s) (f .reply) (get framePart (f .share))) (unmoved (piece x o s)) (b .waiting) x o s
+      piece-by share (λ f. Leaves (piece x o s) (f .reply) (get framePart (f .share))) (unmoved (piece x o s)) (b .hearing .way) (b .waiting) x o s
       (λ k.
+      let way = b .hearing .way in
       let mid = waits share [] in
       let rest = waitingIn (b .waiting) share ++ x in
-      let n = rest-notes (b .index) Done mid rest nothing (waits-length share whole []) (good-append _ x (k .waited) (k .fine)) in
+      let n = rest-notes (b .hearing .index) Done mid way rest nothing (waits-length share whole []) (good-append _ x (k .waited) (k .fine)) in
       let same = frame-waits share whole [] in
-      subst (λ r. Leaves (piece x o s) r (get framePart (further Done mid rest nothing .share))) (sym (further-reply Done mid rest nothing))
+      subst (λ r. Leaves (piece x o s) r (get framePart (further Done mid way rest nothing .share))) (sym (further-reply Done mid way rest nothing))
       (record {
-        recalls = ap (λ (i : ℕ). recalledIn i (get framePart (further Done mid rest nothing .share))) (carried-index b _ _ _) ∙ n .0 ∙ ap (recalledIn (b .index)) same;
-        notes = n .1 ∙ ap (λ (q : List Float). restNotes (notedIn q) q rest) same;
+        recalls = ap (λ (i : ℕ). recalledIn i (get framePart (further Done mid way rest nothing .share))) (carried-index b _ _ _) ∙ n .0 ∙ ap (recalledIn (b .hearing .index)) same;
+        notes = n .1 ∙ ap (λ (q : List Float). restNotes way (notedIn q) q rest) same;
         counts = refl;
       }))
 
   resume-leaves : (x l : List Float) (m : List ℕ) (o s : ℕ)
-      → let f = pieces.resume share (b .index) (b .vad) (b .noise) (b .denoise) (b .piece) (b .progress) x l m o s in Leaves (resume x l m o s) (f .reply) (get framePart (f .share))
+      → let f = pieces.resume share (b .hearing) (b .piece) (b .progress) x l m o s in Leaves (resume x l m o s) (f .reply) (get framePart (f .share))
   unfolding heardAll
   resume-leaves x l m o s =
       resume-by share (λ f. Leaves (resume x l m o s) (f .reply) (get framePart (f .share))) (unmoved (resume x l m o s))
-      (b .index) (b .vad) (b .noise) (b .denoise) (b .piece) (b .progress) x l m o s
+      (b .hearing) (b .piece) (b .progress) x l m o s
       (λ _ _ _. record { recalls = refl; notes = refl; counts = refl })
       (λ k.
-      let h = halves.secondHalf part (b .index) (b .vad) (b .noise) (b .denoise) l m 480 in
-      let p = second-passes part (b .index) (b .vad) (b .noise) (b .denoise) l m (part-length share whole) (k .taken) (k .inside) (k .right) in
+      let way = b .hearing .way in
+      let h = halves.secondHalf part (b .hearing) l m 480 in
+      let p = second-passes part (b .hearing) l m (part-length share whole) (k .taken) (k .inside) (k .right) in
       let c = second-half-leaves l m 480 in
       let mid = put framePart share (h .share) in
       let rest = drop (b .progress) x in
       let w = from (480 * (frameAt (b .progress) - 1)) (buffer h) in
       let next = numbered (advanced b (h .reply)) in
-      let n = rest-notes (next .index) (h .reply) mid rest w (frame-length share whole (h .share) (p .part)) (good-drop (b .progress) x (k .fine)) in
+      let n = rest-notes (next .hearing .index) (h .reply) mid way rest w (frame-length share whole (h .share) (p .part)) (good-drop (b .progress) x (k .fine)) in
       let same = frame-back share whole (h .share) (p .part) in
       let half = rw (p .passes) at (c .recalls) in
-      subst (λ r. Leaves (resume x l m o s) r (get framePart (further (h .reply) mid rest w .share))) (sym (further-reply (h .reply) mid rest w))
+      subst (λ r. Leaves (resume x l m o s) r (get framePart (further (h .reply) mid way rest w .share))) (sym (further-reply (h .reply) mid way rest w))
       (record {
         recalls =
             rw (p .passes)
-            (ap (λ (i : ℕ). recalledIn i (get framePart (further (h .reply) mid rest w .share))) (carried-index next _ _ _) ∙ n .0 ∙ ap (recalledIn (next .index)) same ∙ half);
-        notes = rw (p .passes) (n .1 ∙ ap (λ (q : List Float). restNotes (notedIn q) q rest) same ∙ ap (λ k. restNotes k (h .share) rest) (c .notes));
+            (ap (λ (i : ℕ). recalledIn i (get framePart (further (h .reply) mid way rest w .share))) (carried-index next _ _ _) ∙ n .0 ∙ ap (recalledIn (next .hearing .index)) same ∙ half);
+        notes = rw (p .passes) (n .1 ∙ ap (λ (q : List Float). restNotes way (notedIn q) q rest) same ∙ ap (λ k. restNotes way k (h .share) rest) (c .notes));
         counts = c .counts;
       }))
 
   on-share : (ask : Ask) → (callOf ask ≡ 0 → passed (onShare b share ask .reply) ≡ false) → Remembers b share ask (givenOf b ask (onShare b share ask))
   unfolding heardAll
-  on-share (opening m) shut = go (readOf m) (shut refl)
+  on-share (opening w m) shut = go (readOf m) (shut refl)
     where
-      go : (r : Reading) → passed (opened share r .reply) ≡ false → Remembers b share (opening m) (givenOf b (opening m) (opened share r))
+      go : (r : Reading) → passed (opened share r .reply) ≡ false → Remembers b share (opening w m) (givenOf b (opening w m) (opened share r))
       go (Good k) e = absurd (false≢true (sym e))
       go (Unread n l) e = record { recalls = refl; notes = refl; counts = refl }
   on-share (call1 x w) shut = in-part (call1 x w) _ (call1-keeps part x w) (call1-leaves x w)
   on-share (call2 x l w s) shut = in-part (call2 x l w s) _ (call2-keeps part x l w s) (call2-leaves x l w s)
   on-share (call2Own x w s) shut = in-part (call2Own x w s) _ (call2-own-keeps part x w s) (call2-own-leaves x w s)
-  on-share (call3 x l m o) shut = in-part (call3 x l m o) _ (call3-keeps part (b .index) (b .vad) (b .noise) (b .denoise) x l m o) (call3-leaves x l m o)
+  on-share (call3 x l m o) shut = in-part (call3 x l m o) _ (call3-keeps part (b .hearing) x l m o) (call3-leaves x l m o)
   on-share (call4 x o) shut = in-part (call4 x o) _ (call4-keeps part (b .frame) (b .heard) x o) (call4-leaves x o)
-  on-share (firstHalf x s) shut = in-part (firstHalf x s) _ (first-half-keeps part x s) (first-half-leaves x s)
-  on-share (secondHalf l m o) shut = in-part (secondHalf l m o) _ (second-half-keeps part (b .index) (b .vad) (b .noise) (b .denoise) l m o) (second-half-leaves l m o)
-  on-share (piece x o s) shut = lift (piece x o s) _ (piece-kept share (b .waiting) x o s .size whole) (piece-leaves x o s)
+  on-share (firstHalf x s) shut = in-part (firstHalf x s) _ (first-half-keeps part (b .hearing .way) x s) (first-half-leaves x s)
+  on-share (secondHalf l m o) shut = in-part (secondHalf l m o) _ (second-half-keeps part (b .hearing) l m o) (second-half-leaves l m o)
+  on-share (piece x o s) shut = lift (piece x o s) _ (piece-kept share (b .hearing .way) (b .waiting) x o s .size whole) (piece-leaves x o s)
   on-share (resume x l m o s) shut =
-      lift (resume x l m o s) _ (resume-kept share (b .index) (b .vad) (b .noise) (b .denoise) (b .piece) (b .progress) x l m o s .size whole) (resume-leaves x l m o s)
+      lift (resume x l m o s) _ (resume-kept share (b .hearing) (b .piece) (b .progress) x l m o s .size whole) (resume-leaves x l m o s)
 
 -- ---- an opening
-
--- a place of a list of one number
-get-replicate : (p : Place) (n : ℕ) (a : Float) → p .at + p .size ≤ n → get p (replicate n a) ≡ replicate (p .size) a
-unfolding get
-get-replicate p n a h =
-    let rest = n - (p .at + p .size) in
-    let sum : p .at + (p .size + rest) ≡ n = omega arith in
-    let split : replicate n a ≡ replicate (p .at) a ++ (replicate (p .size) a ++ replicate rest a) =
-    ap (λ (k : ℕ). replicate k a) (sym sum)
-    ∙ sym (replicate-append-replicate (p .at) (p .size + rest) a)
-    ∙ ap (λ (xs : List Float). replicate (p .at) a ++ xs) (sym (replicate-append-replicate (p .size) rest a)) in
-    rw (split, drop-at (replicate (p .at) a) (replicate (p .size) a ++ replicate rest a) (p .at) (length-replicate (p .at) a))
-    (take-at (replicate (p .size) a) (replicate rest a) (p .size) (length-replicate (p .size) a))
 
 wiped : (n : ℕ) → SHARE ≤ n → (recalledIn 0 (replicate n (f32 0)) ≡ blank) × (notedIn (replicate n (f32 0)) ≡ unnoted)
 wiped n h =
@@ -390,23 +396,23 @@ module _ (b : Record) (share : List Float) (whole : length share ≡ SHARE) (ask
       by-gate (λ o. (callOf ask ≡ 0 → passed (o .answer .reply) ≡ false) → Remembers b share ask o)
       (λ _. lift b share whole ask (refused (Refused number) share) whole (unmoved b share whole ask number)) (on-share b share whole ask)
 
-pub opens : (b : Record) (share : List Float) → length share ≡ SHARE → (m : List ℕ)
-    → passed (desk 1 0 b share (opening m) .answer .reply) ≡ true → Opens (desk 1 0 b share (opening m))
-opens b share whole m =
-    by-gate b share whole (opening m) (λ o. passed (o .answer .reply) ≡ true → Opens o) (λ e. absurd (false≢true e)) (go (readOf m) refl)
+pub opens : (b : Record) (share : List Float) → length share ≡ SHARE → (w : Way) (m : List ℕ)
+    → passed (desk 1 0 b share (opening w m) .answer .reply) ≡ true → Opens (desk 1 0 b share (opening w m))
+opens b share whole w m =
+    by-gate b share whole (opening w m) (λ o. passed (o .answer .reply) ≡ true → Opens o) (λ e. absurd (false≢true e)) (go (readOf m) refl)
   where
-    go : (r : Reading) → readOf m ≡ r → passed (opened share r .reply) ≡ true → Opens (givenOf b (opening m) (opened share r))
-    go (Good k) e p = let w = wiped SHARE (omega arith) in rw e (record { forgets = w .0; unnotes = w .1; unheard = refl })
+    go : (r : Reading) → readOf m ≡ r → passed (opened share r .reply) ≡ true → Opens (givenOf b (opening w m) (opened share r))
+    go (Good k) e p = let z = wiped SHARE (omega arith) in rw e (record { forgets = z .0; unnotes = z .1; unheard = refl })
     go (Unread n l) e p = absurd (false≢true p)
 
 -- there is no third way
 pub either : (b : Record) (share : List Float) → length share ≡ SHARE → (ask : Ask) → Opens (desk 1 0 b share ask) ⊎ Remembers b share ask (desk 1 0 b share ask)
-either b share whole (opening m) = go (passed (desk 1 0 b share (opening m) .answer .reply)) refl
+either b share whole (opening w m) = go (passed (desk 1 0 b share (opening w m) .answer .reply)) refl
   where
-    go : (t : Bool) → passed (desk 1 0 b share (opening m) .answer .reply) ≡ t
-        → Opens (desk 1 0 b share (opening m)) ⊎ Remembers b share (opening m) (desk 1 0 b share (opening m))
-    go true e = inl (opens b share whole m e)
-    go false e = inr (remembers b share whole (opening m) (λ _. e))
+    go : (t : Bool) → passed (desk 1 0 b share (opening w m) .answer .reply) ≡ t
+        → Opens (desk 1 0 b share (opening w m)) ⊎ Remembers b share (opening w m) (desk 1 0 b share (opening w m))
+    go true e = inl (opens b share whole w m e)
+    go false e = inr (remembers b share whole (opening w m) (λ _. e))
 either b share whole (call1 x w) = inr (remembers b share whole (call1 x w) (λ z. absurd (omega arith)))
 either b share whole (call2 x l w s) = inr (remembers b share whole (call2 x l w s) (λ z. absurd (omega arith)))
 either b share whole (call2Own x w s) = inr (remembers b share whole (call2Own x w s) (λ z. absurd (omega arith)))

@@ -11,15 +11,16 @@ use borrow.Author.Tests.{ltb-false, eq-eqb}
 use lib.Dec.{ltb}
 use lib.ListN.{length, getD, take, drop, length-append, length-drop}
 use lib.Seq.{getD-drop}
+use Rattle.rules.specs.Lists.{Bytes, sum}
 use Rattle.rules.specs.Refusals.{Row, _when_}
 use Rattle.rules.specs.Leaf.{_leaving_}
 use Rattle.rules.proofs.Refused.{Clear, clear}
 use Rattle.rules.proofs.Rows.{Each}
 use Rattle.model.specs.declared.Kind.{Kind}
-use Rattle.model.specs.Layer.{sum, activationOf, activationNumber}
-use Rattle.model.specs.Model.{kinds, mismatches}
-use Rattle.model.specs.Writer.{arraysOf, layersGiven, fileOf, layerFaults, inLayer, rowFaults, modelGiven, writerFaults, writeModel}
-use Rattle.model.specs.Parts.{faultIn, Few, ByteSized, headerBytes, layerBytes, threeBytes, overwritten, Put}
+use Rattle.model.specs.Layer.{activationOf, activationNumber}
+use Rattle.model.specs.Model.{kinds, matchFaults}
+use Rattle.model.specs.Writer.{arraysOf, layersGiven, fileOf, layerFaults, inLayer, rowFaults, countsGiven, writerFaults, writeModel}
+use Rattle.model.specs.Parts.{faultIn, Few, headerBytes, layerBytes, threeBytes, overwritten, Put}
 use Rattle.model.proofs.Rows.{Some, by-fault, by-its-fault, past, no-fault, shifted-clear, clear-both}
 use Rattle.model.proofs.Inverse.{number-of}
 
@@ -49,7 +50,7 @@ module _ (s ns : List ℕ) (file buffer : ℕ) where
   last = 24 when ltb buffer file ∷ []
 
   abbrev together : List Row
-  together = mismatches (modelGiven s) 0
+  together = matchFaults (countsGiven kinds s) 0
 
   some-together : Each Some (inLayer 6 together)
   some-together = ((λ e. omega arith), ((λ e. omega arith), ((λ e. omega arith), ((λ e. omega arith), ((λ e. omega arith), ((λ e. omega arith), tt))))))
@@ -73,8 +74,8 @@ module _ (s ns : List ℕ) (file buffer : ℕ) where
       past (λ r. r) 0 (rowFaults 0 kinds s ns) (inLayer 6 (together ++ last)) c
       ∙ past (λ r. r) 0 (inLayer 6 together) (inLayer 6 last) (no-fault (inLayer 6 together) some-together e none)
 
-  pub few-given : Clear (rowFaults 0 kinds s ns) → Few (modelGiven s)
-  unfolding modelGiven
+  pub few-given : Clear (rowFaults 0 kinds s ns) → Few (countsGiven kinds s)
+  unfolding countsGiven
   few-given c =
       let a = each-clear 0 kinds s ns c in
       record {
@@ -86,7 +87,7 @@ module _ (s ns : List ℕ) (file buffer : ℕ) where
   -- no refusal at all
   pub record Accepted : Type 0 where
     pub layers : EachClear kinds s ns
-    pub together : Clear (mismatches (modelGiven s) 0)
+    pub together : Clear (matchFaults (countsGiven kinds s) 0)
     pub enough : file ≤ buffer
 
   pub accepted : Clear (writerFaults s ns file buffer) → Accepted
@@ -109,7 +110,7 @@ module _ (s ns : List ℕ) (file buffer : ℕ) where
 
 -- ---- the numbers
 
-pub bytes-given : (ks : List Kind) (s ns : List ℕ) → length s ≡ 3 * length ks → EachClear ks s ns → ByteSized s
+pub bytes-given : (ks : List Kind) (s ns : List ℕ) → length s ≡ 3 * length ks → EachClear ks s ns → Bytes s
 bytes-given [] [] ns e c i = omega arith
 bytes-given [] (x ∷ s) ns e c i = absurd (omega arith)
 bytes-given (k ∷ ks) s ns e c zero = omega (arith, ltb-false 127 (getD s 0 0) (c .0 .0))
@@ -179,7 +180,7 @@ module _ (s : List ℕ) (x : Arrays) where
 
   module _ (out : List ℕ) (eighteen : length s ≡ 18) {r : ℕ} (e : r ≡ faultIn (rows (length out))) where
     -- what putting both halves asks for
-    pub bytes-so : r ≡ 0 → ByteSized s
+    pub bytes-so : r ≡ 0 → Bytes s
     bytes-so none =
         bytes-given kinds s (map length arrays) eighteen (no-refusal s (map length arrays) (18 + sum (map length arrays)) (length out) e none .layers)
 

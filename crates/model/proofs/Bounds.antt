@@ -16,16 +16,15 @@ use Rattle.model.specs.declared.Found.the-variants.{At, Nothing}
 use Rattle.model.specs.declared.Reading.{Reading}
 use Rattle.model.specs.declared.Reading.the-variants.{Good, Refused}
 use Rattle.model.specs.Layer.{lengths, sizeOf, Layer}
-use Rattle.model.specs.Model.{kinds, headersAt, modelOf, mismatches, goodUnless, readOf}
+use Rattle.model.specs.Model.{kinds, headersAt, modelOf, countsIn, matchFaults, goodUnless, readOf}
 use Rattle.model.specs.Array.{foundIn, lineIn}
-use Rattle.model.specs.Laws.{Largest, RefusedIn}
-use Rattle.model.specs.Parts.{LiesIn}
+use Rattle.model.specs.Laws.{LiesIn, Shaped, Largest, RefusedIn}
 use Rattle.model.proofs.Layer.{product}
 use Rattle.model.specs.Writer.{fileOf}
 use Rattle.model.proofs.Inverse.{length-joined, number-small, FitAll, Number, AllCome, layers, refusal, row-comes}
 use Rattle.model.proofs.File.{Written, writes-back}
 use Rattle.model.proofs.Places.{within}
-use Rattle.model.proofs.Shapes.{Shaped, shape}
+use Rattle.model.proofs.Shapes.{shape}
 
 -- ---- the largest file
 
@@ -108,20 +107,16 @@ abbrev InTable : Reading → Type 0
 InTable (Good m) = Unit
 InTable (Refused n j) = Number n × (j ≤ 6)
 
-matched-in : (m : Model) (left : ℕ) → InTable (goodUnless (mismatches m left) m)
+matched-in : (m : Model) (left : ℕ) → InTable (goodUnless (matchFaults (countsIn m) left) m)
 matched-in m left =
     let last : (n : ℕ) → Number n → Number n × (6 ≤ 6) = λ n small. (small, omega arith) in
-    by-each (λ n. Refused n 6) (Good m) InTable (mismatches m left) (
+    by-each (λ n. Refused n 6) (Good m) InTable (matchFaults (countsIn m) left) (
       last 17 (omega arith, omega arith),
       (
         last 18 (omega arith, omega arith),
         (last 19 (omega arith, omega arith), (last 20 (omega arith, omega arith), (last 21 (omega arith, omega arith), (last 22 (omega arith, omega arith), tt)))),
       ),
     ) tt
-
--- of six layers that do not go together
-pub last-in : (m : Model) {n j : ℕ} → Refused n j ≡ goodUnless (mismatches m 0) m → (n ≤ 22) × (j ≤ 6)
-last-in m e = let r = rw (← e) at (matched-in m 0) in (r .0 .1, r .1)
 
 reading-in : (s : List ℕ) → InTable (readOf s)
 unfolding readOf

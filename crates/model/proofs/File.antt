@@ -15,14 +15,14 @@ use Rattle.model.specs.declared.Reading.{Reading}
 use Rattle.model.specs.declared.Reading.the-variants.{Good, Refused}
 use Rattle.rules.proofs.Refused.{Clear, clear, by-rows}
 use Rattle.model.specs.Layer.{Layer}
-use Rattle.model.specs.Model.{kinds, readLayers, headersAt, modelOf, mismatches, readOf}
+use Rattle.model.specs.Model.{kinds, readLayers, headersAt, modelOf, countsIn, matchFaults, readOf}
 use Rattle.model.specs.Writer.{fileOf}
 use Rattle.model.proofs.Inverse.{FitAll, AllCome, layers, refusal, row-reads, row-comes}
 
 -- six layers that go together, and their file
 pub record Holds (ls : List Layer) (s : List ℕ) : Type 0 where
   pub fit : FitAll kinds ls
-  pub match : Clear (mismatches (modelOf (headersAt 0 ls)) 0)
+  pub match : Clear (matchFaults (countsIn (modelOf (headersAt 0 ls))) 0)
   pub file : s ≡ fileOf ls
 
 -- what is written reads back
@@ -30,7 +30,7 @@ pub reads-back : (ls : List Layer) (s : List ℕ) → Holds ls s → readOf s �
 unfolding readOf
 reads-back ls s h =
     let m = modelOf (headersAt 0 ls) in
-    rw (h .file, ← append-nil (fileOf ls)) (row-reads 0 kinds ls [] (h .fit) Refused _ ∙ clear (λ n. Refused n 6) (Good m) (mismatches m 0) (h .match))
+    rw (h .file, ← append-nil (fileOf ls)) (row-reads 0 kinds ls [] (h .fit) Refused _ ∙ clear (λ n. Refused n 6) (Good m) (matchFaults (countsIn m) 0) (h .match))
 
 -- layers that share a file are the same: no count, activation, weight or bias is lost
 pub same-layers : (ls ls′ : List Layer) → FitAll kinds ls → FitAll kinds ls′ → fileOf ls ≡ fileOf ls′ → ls ≡ ls′
@@ -61,5 +61,5 @@ writes-back s = of (row-comes 0 kinds s)
     of (layers ls rest fit is gives) =
         let m = modelOf (headersAt 0 ls) in
         rw (gives _ Refused _)
-        (by-rows (λ n. Refused n 6) (Good m) (WrittenIf s) (mismatches m (length rest)) (λ n. tt) (λ c.
+        (by-rows (λ n. Refused n 6) (Good m) (WrittenIf s) (matchFaults (countsIn m) (length rest)) (λ n. tt) (λ c.
         record { contents = ls; model = refl; holds = record { fit = fit; match = (refl, c .1); file = is ∙ rw (none-left rest (c .0)) (append-nil (fileOf ls)) } }))

@@ -10,18 +10,17 @@ use native.Mathlib.Omega.{arith}
 use borrow.Author.Tests.{eq-eqb, ne-eqb}
 use lib.ListN.{length, getD, take, drop}
 use lib.Seq.{drop-cons, take-all, getD-drop}
+use Rattle.rules.specs.Lists.{sum}
 use Rattle.rules.specs.Refusals.{Row, _when_, refusing}
 use Rattle.rules.proofs.Refused.{Clear}
-use Rattle.rules.proofs.Rows.{along, Each}
+use Rattle.rules.proofs.Rows.{Each}
 use Rattle.model.specs.declared.Kind.{Kind}
 use Rattle.model.specs.declared.Kind.the-variants.{Dense}
-use Rattle.model.specs.declared.Model.{Model}
-use Rattle.model.specs.declared.Reading.{Reading}
-use Rattle.model.specs.declared.Reading.the-variants.{Good, Refused}
-use Rattle.model.specs.Layer.{lengths, sum, headerFaults}
-use Rattle.model.specs.Model.{kinds, modelOf, mismatches, goodUnless}
-use Rattle.model.specs.Writer.{differ, layerFaults, inLayer, rowFaults, modelGiven}
-use Rattle.model.specs.Parts.{faultIn, headerGiven}
+use Rattle.model.specs.declared.Counts.{Counts}
+use Rattle.model.specs.Layer.{lengths, headerFaults}
+use Rattle.model.specs.Model.{kinds, matchFaults}
+use Rattle.model.specs.Writer.{differ, layerFaults, inLayer, rowFaults, countsGiven}
+use Rattle.model.specs.Parts.{faultIn, countsThere}
 use Rattle.model.proofs.Rows.{Some, by-fault, past, no-fault, fault-most, shifted, clear-shifted}
 use Rattle.model.proofs.Layer.{three}
 use Rattle.model.proofs.Places.{three-lengths}
@@ -91,24 +90,19 @@ none-behind shapes given = refl
 
 -- ---- the layers together
 
-pub six-headers : (s : List ℕ)
-    → modelOf (headerGiven s 0 ∷ headerGiven s 3 ∷ headerGiven s 6 ∷ headerGiven s 9 ∷ headerGiven s 12 ∷ headerGiven s 15 ∷ []) ≡ modelGiven s
-unfolding modelGiven
-six-headers s = simp getD-drop
+pub six-counts : (s : List ℕ)
+    → countsThere s 0 ∷ countsThere s 3 ∷ countsThere s 6 ∷ countsThere s 9 ∷ countsThere s 12 ∷ countsThere s 15 ∷ [] ≡ countsGiven kinds s
+unfolding countsGiven
+six-counts s = simp getD-drop
 
--- a reading's number with its layer
-abbrev codeOf : Reading → ℕ
-codeOf (Good m) = 0
-codeOf (Refused n j) = n + 65536 * j
+module _ (cs : List Counts) (left : ℕ) {r : ℕ} (e : r ≡ faultIn (matchFaults cs left)) where
+  pub match-small : r ≤ 22
+  match-small = rw e (fault-most 22 (matchFaults cs left) (omega arith, (omega arith, (omega arith, (omega arith, (omega arith, (omega arith, tt)))))))
 
-shifted-rows : (l : ℕ) (rows : List Row) → refusing rows (λ n. n + 65536 * l) 0 ≡ faultIn (inLayer l rows)
-shifted-rows l [] = refl
-shifted-rows l (n when true ∷ rows) = refl
-shifted-rows l (n when false ∷ rows) = shifted-rows l rows
-
-pub matched-number : (m : Model) {r : Reading} → r ≡ goodUnless (mismatches m 0) m → codeOf r ≡ faultIn (inLayer 6 (mismatches m 0))
-matched-number m e =
-    rw e (along codeOf (λ n. Refused n 6) (Good m) (λ n. n + 65536 * 6) 0 (mismatches m 0) (λ n. refl) (λ c. refl)) ∙ shifted-rows 6 (mismatches m 0)
+  pub match-clear : r ≡ 0 → Clear (matchFaults cs left)
+  match-clear none =
+      let some : Each Some (matchFaults cs left) = ((λ e. omega arith), ((λ e. omega arith), ((λ e. omega arith), ((λ e. omega arith), ((λ e. omega arith), ((λ e. omega arith), tt)))))) in
+      no-fault (matchFaults cs left) some e none
 
 -- ---- the buffer
 

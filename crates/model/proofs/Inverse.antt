@@ -9,13 +9,14 @@ use native.Mathlib.Omega.{arith}
 use borrow.Author.Tests.{le-ltb, ne-eqb, ltb-false, eqb-false}
 use lib.ListN.{length, drop, length-append, length-take, length-drop, take-append-drop}
 use lib.Seq.{take-append-seam, drop-append-seam}
+use Rattle.rules.specs.Lists.{sum}
 use Rattle.model.specs.declared.Activation.{Activation}
 use Rattle.model.specs.declared.Activation.the-variants.{Tanh, Sigmoid, Relu}
 use Rattle.model.specs.declared.Kind.{Kind}
 use Rattle.rules.specs.Refusals.{Row, _when_, refusing}
 use Rattle.rules.proofs.Refused.{Clear, clear}
 use Rattle.rules.proofs.Rows.{Each}
-use Rattle.model.specs.Layer.{lengths, sum, sizeOf, activationOf, activationNumber, joined, cut, bytesOf, Layer, faults, readLayer}
+use Rattle.model.specs.Layer.{lengths, sizeOf, activationOf, activationNumber, joined, cut, bytesOf, Layer, faults, readLayer}
 use Rattle.model.specs.Model.{readLayers}
 use Rattle.model.specs.Writer.{fileOf}
 use Rattle.model.proofs.Layer.{joined-cut}

@@ -19,8 +19,8 @@ use Rattle.model.specs.declared.Kind.{Kind}
 use Rattle.model.specs.declared.Kind.the-variants.{Dense, Gru}
 use Rattle.model.specs.declared.Model.{Model}
 use Rattle.model.specs.Layer.{lengths, Layer}
-use Rattle.model.specs.Model.{_≠_, kinds, headersAt, modelOf, mismatches, readOf}
-use Rattle.model.specs.Writer.{layersGiven, fileOf, differ, inLayer, rowFaults, modelGiven, writerFaults, writeModel}
+use Rattle.model.specs.Model.{_≠_, kinds, headersAt, modelOf, countsIn, matchFaults, readOf}
+use Rattle.model.specs.Writer.{layersGiven, fileOf, differ, inLayer, rowFaults, countsGiven, writerFaults, writeModel}
 use Rattle.model.specs.Laws.{layersRead, shapesOf, arraysIn, layerIn, ReadsBack, WritesBack, NoneShared, ArraysAreRead}
 use Rattle.model.proofs.Rows.{clear-shifted, clear-joined, answered}
 use Rattle.model.proofs.Layer.{three}
@@ -116,7 +116,7 @@ record Done (s : List ℕ) (xs : List (List ℕ)) (out after : List ℕ) : Type 
   left : after ≡ fileOf (layersGiven kinds s xs) ++ drop (length (fileOf (layersGiven kinds s xs))) out
 
 is-done : (s : List ℕ) (xs : List (List ℕ)) (out after : List ℕ) → (0 leaving after) ≡ writeModel s xs out → Done s xs out after
-unfolding writeModel modelGiven
+unfolding writeModel countsGiven
 is-done s xs out after e =
     let file = fileOf (layersGiven kinds s xs) in
     let ns = map length xs in
@@ -152,18 +152,18 @@ none-shared s s′ xs xs′ out out′ after after′ long long′ e e′ shared
     )
 
 -- layers that fit and go together are written as their file
-writes-layers : (ls : List Layer) (out : List ℕ) → FitAll kinds ls → Clear (mismatches (modelOf (headersAt 0 ls)) 0) → length (fileOf ls) ≤ length out
+writes-layers : (ls : List Layer) (out : List ℕ) → FitAll kinds ls → Clear (matchFaults (countsIn (modelOf (headersAt 0 ls))) 0) → length (fileOf ls) ≤ length out
     → (0 leaving fileOf ls ++ drop (length (fileOf ls)) out) ≡ writeModel (shapesOf ls) (arraysIn ls) out
-unfolding writeModel writerFaults modelGiven
+unfolding writeModel writerFaults countsGiven
 writes-layers ls out fit match enough =
     let s = shapesOf ls in
     let ns = map length (arraysIn ls) in
     let back = given-back kinds ls fit in
     let file = fileOf (layersGiven kinds s (arraysIn ls)) in
-    let match′ : Clear (mismatches (modelGiven s) 0) = subst (λ (ls : List Layer). Clear (mismatches (modelOf (headersAt 0 ls)) 0)) (sym back) match in
+    let match′ : Clear (matchFaults (countsGiven kinds s) 0) = subst (λ (ls : List Layer). Clear (matchFaults (countsIn (modelOf (headersAt 0 ls))) 0)) (sym back) match in
     let enough′ : length file ≤ length out = subst (λ (ls : List Layer). length (fileOf ls) ≤ length out) (sym back) enough in
     let last = 24 when ltb (length out) (length file) ∷ [] in
-    let together = mismatches (modelGiven s) 0 in
+    let together = matchFaults (countsGiven kinds s) 0 in
     let c =
     clear-joined (rowFaults 0 kinds s ns) (inLayer 6 (together ++ last)) (clear-back 0 kinds ls fit)
     (clear-shifted 6 (together ++ last) (clear-joined together last match′ (le-ltb _ _ enough′, tt))) in

@@ -1,15 +1,18 @@
--- What is claimed of the writer and the reader, each the other's inverse (proofs/Written), and of what reads (proofs/Bounds, proofs/Arrays).
-use Prim.Native.Nat.{ℕ, _≤_, _<_}
+-- What is claimed of the writer and the reader, each the other's inverse (proofs/Written), and of what reads (proofs/Shapes, proofs/Bounds, proofs/Arrays).
+use Prim.Native.Nat.{ℕ, _+_, _≤_, _<_}
 use mathlib.Core.List.{List, [], _∷_, _++_}
 use mathlib.Core.Path.{_≡_}
 use lib.ListN.{length, getD, take, drop}
 use Rattle.rules.specs.Leaf.{_leaving_}
 use Rattle.rules.specs.Place.{get}
 use Rattle.model.specs.declared.Activation.the-variants.{Tanh}
+use Rattle.model.specs.declared.Header.{Header}
+use Rattle.model.specs.declared.Kind.{Kind}
+use Rattle.model.specs.declared.Kind.the-variants.{Dense, Gru}
 use Rattle.model.specs.declared.Model.{Model}
 use Rattle.model.specs.declared.Reading.the-variants.{Good, Refused}
 use Rattle.model.specs.Array.{foundIn, arrayIn}
-use Rattle.model.specs.Layer.{activationNumber, Layer}
+use Rattle.model.specs.Layer.{sizeOf, activationNumber, Layer}
 use Rattle.model.specs.Model.{kinds, readLayers, headersAt, modelOf, readOf}
 use Rattle.model.specs.Writer.{layersGiven, fileOf, writeModel}
 
@@ -57,6 +60,35 @@ abbrev pub ArraysAreRead : Type 0
 ArraysAreRead =
     (s : List ℕ) (m : Model) → Good m ≡ readOf s → (j : ℕ) → j < 6 → (which : ℕ)
     → get (arrayIn (foundIn (readOf s) j) which) s ≡ getD (layerIn (layersRead s) j .arrays) which []
+
+-- a layer whose header and arrays are within so many bytes
+pub record LiesIn (size : ℕ) (k : Kind) (h : Header) : Type 0 where
+  pub inputs : h .inputs < 128
+  pub neurons : h .neurons < 128
+  pub some : 1 ≤ h .neurons
+  pub start : 3 ≤ h .start
+  pub reach : h .start + sizeOf k (h .inputs) (h .neurons) ≤ size
+
+-- a model of a file of this size
+pub record Shaped (size : ℕ) (m : Model) : Type 0 where
+  pub layer0 : LiesIn size Dense (m .«input_dense»)
+  pub layer1 : LiesIn size Gru (m .«vad_gru»)
+  pub layer2 : LiesIn size Gru (m .«noise_gru»)
+  pub layer3 : LiesIn size Gru (m .«denoise_gru»)
+  pub layer4 : LiesIn size Dense (m .«denoise_output»)
+  pub layer5 : LiesIn size Dense (m .«vad_output»)
+  pub features : m .«input_dense» .inputs ≡ 42
+  pub gains : m .«denoise_output» .neurons ≡ 22
+  pub voice : m .«vad_output» .neurons ≡ 1
+  pub vad-reads : m .«input_dense» .neurons ≡ m .«vad_gru» .inputs
+  pub voice-reads : m .«vad_gru» .neurons ≡ m .«vad_output» .inputs
+  pub noise-reads : 42 + m .«input_dense» .neurons + m .«vad_gru» .neurons ≡ m .«noise_gru» .inputs
+  pub denoise-reads : 42 + m .«vad_gru» .neurons + m .«noise_gru» .neurons ≡ m .«denoise_gru» .inputs
+  pub gains-read : m .«denoise_gru» .neurons ≡ m .«denoise_output» .inputs
+
+-- its layers lie within the file, and their counts go together
+abbrev pub WellShaped : Type 0
+WellShaped = (s : List ℕ) (m : Model) → Good m ≡ readOf s → Shaped (length s) m
 
 -- no file is longer
 abbrev pub Largest : Type 0

@@ -3,6 +3,7 @@ use Prim.Native.Nat.{ℕ, zero, suc, _+_, _*_}
 use mathlib.Core.List.{List, [], _∷_, _++_}
 use lib.Dec.{eqb, ltb}
 use lib.ListN.{length, take, drop}
+use Rattle.rules.specs.Lists.{sum}
 use Rattle.rules.specs.Refusals.{Row, _when_, refusing}
 use Rattle.model.specs.declared.Activation.{Activation}
 use Rattle.model.specs.declared.Activation.the-variants.{Tanh, Sigmoid, Relu}
@@ -17,10 +18,6 @@ use Rattle.model.specs.declared.Step.the-variants as step
 abbrev pub lengths : Kind → ℕ → ℕ → List ℕ
 lengths Dense i n = i * n ∷ 0 ∷ n ∷ []
 lengths Gru i n = 3 * i * n ∷ 3 * n * n ∷ 3 * n ∷ []
-
-abbrev pub sum : List ℕ → ℕ
-sum [] = 0
-sum (n ∷ ns) = n + sum ns
 
 abbrev pub sizeOf : Kind → ℕ → ℕ → ℕ
 sizeOf k i n = sum (lengths k i n)

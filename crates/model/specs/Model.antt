@@ -10,6 +10,7 @@ use Rattle.model.specs.declared.Activation.the-variants.{Tanh}
 use Rattle.model.specs.declared.Kind.{Kind}
 use Rattle.model.specs.declared.Kind.the-variants.{Dense, Gru}
 use Rattle.model.specs.declared.Header.{Header}
+use Rattle.model.specs.declared.Counts.{Counts}
 use Rattle.model.specs.declared.Model.{Model}
 use Rattle.model.specs.declared.Reading.{Reading}
 use Rattle.model.specs.declared.Reading.the-variants.{Good, Refused}
@@ -33,15 +34,19 @@ infix 50 _≠_
 abbrev pub _≠_ : ℕ → ℕ → Bool
 m ≠ n = not (eqb m n)
 
--- the refusals of six layers, where so many bytes are behind them
-abbrev pub mismatches : Model → ℕ → List Row
-mismatches m left =
-    let l0 = m .«input_dense» in
-    let l1 = m .«vad_gru» in
-    let l2 = m .«noise_gru» in
-    let l3 = m .«denoise_gru» in
-    let l4 = m .«denoise_output» in
-    let l5 = m .«vad_output» in
+-- the counts of layer j of some
+abbrev pub countsAt : List Counts → ℕ → Counts
+countsAt cs j = getD cs j (record { inputs = 0; neurons = 0 })
+
+-- the refusals of six layers by their counts, where so many bytes are behind them
+abbrev pub matchFaults : List Counts → ℕ → List Row
+matchFaults cs left =
+    let l0 = countsAt cs 0 in
+    let l1 = countsAt cs 1 in
+    let l2 = countsAt cs 2 in
+    let l3 = countsAt cs 3 in
+    let l4 = countsAt cs 4 in
+    let l5 = countsAt cs 5 in
     17 when (left ≠ 0)
     ∷ 18 when ((l0 .inputs ≠ 42) || ((l4 .neurons ≠ 22) || (l5 .neurons ≠ 1)))
     ∷ 19 when ((l0 .neurons ≠ l1 .inputs) || (l1 .neurons ≠ l5 .inputs))
@@ -65,10 +70,24 @@ modelOf hs =
       «vad_output» = headerIn hs 5;
     }
 
+-- and its counts
+abbrev pub countsOf : Header → Counts
+countsOf h = record { inputs = h .inputs; neurons = h .neurons }
+
+abbrev pub countsIn : Model → List Counts
+countsIn m =
+    countsOf (m .«input_dense»)
+    ∷ countsOf (m .«vad_gru»)
+    ∷ countsOf (m .«noise_gru»)
+    ∷ countsOf (m .«denoise_gru»)
+    ∷ countsOf (m .«denoise_output»)
+    ∷ countsOf (m .«vad_output»)
+    ∷ []
+
 -- the model, unless a row refuses it
 abbrev pub goodUnless : List Row → Model → Reading
 goodUnless rows m = refusing rows (λ n. Refused n 6) (Good m)
 
 -- what reading a file gives
 unfoldable pub readOf : List ℕ → Reading
-readOf s = readLayers 0 kinds s Refused (λ ls rest. let m = modelOf (headersAt 0 ls) in goodUnless (mismatches m (length rest)) m)
+readOf s = readLayers 0 kinds s Refused (λ ls rest. let m = modelOf (headersAt 0 ls) in goodUnless (matchFaults (countsIn m) (length rest)) m)

@@ -1,13 +1,13 @@
 -- What the private functions of the reader and the writer promise and ask for.
-use Prim.Native.Nat.{ℕ, _+_, _≤_, _<_}
+use Prim.Native.Nat.{ℕ, _+_, _<_}
 use mathlib.Core.Path.{_≡_}
 use mathlib.Core.List.{List, [], _∷_, _++_}
 use lib.ListN.{length, getD, take, drop}
 use Rattle.rules.specs.Refusals.{Row, refusing}
 use Rattle.model.specs.Layer.{sizeOf, activationOf, faults}
+use Rattle.model.specs.Model.{countsAt}
 use Rattle.model.specs.declared.Kind.{Kind}
-use Rattle.model.specs.declared.Header.{Header}
-use Rattle.model.specs.declared.Model.{Model}
+use Rattle.model.specs.declared.Counts.{Counts}
 use Rattle.model.specs.declared.Step.{Step}
 use Rattle.model.specs.declared.Step.the-variants.{Layer, Refused}
 
@@ -22,30 +22,16 @@ headed k i n a start left =
     (Layer (record { inputs = i; neurons = n; activation = activationOf a; start = start }) (record { at = start + sizeOf k i n }))
 
 -- counts whose sums do not wrap
-pub record Few (m : Model) : Type 0 where
-  pub dense : m .«input_dense» .neurons < 128
-  pub vad : m .«vad_gru» .neurons < 128
-  pub noise : m .«noise_gru» .neurons < 128
-
--- a layer whose header and arrays are within so many bytes
-pub record LiesIn (size : ℕ) (k : Kind) (h : Header) : Type 0 where
-  pub inputs : h .inputs < 128
-  pub neurons : h .neurons < 128
-  pub some : 1 ≤ h .neurons
-  pub start : 3 ≤ h .start
-  pub reach : h .start + sizeOf k (h .inputs) (h .neurons) ≤ size
+pub record Few (cs : List Counts) : Type 0 where
+  pub dense : countsAt cs 0 .neurons < 128
+  pub vad : countsAt cs 1 .neurons < 128
+  pub noise : countsAt cs 2 .neurons < 128
 
 -- ---- of the writer
 
--- a layer's header by three numbers of a row, as if no layer had arrays
-abbrev pub headerGiven : List ℕ → ℕ → Header
-headerGiven shapes at =
-    let a = activationOf (getD shapes (at + 2) 0) in
-    record { inputs = getD shapes at 0; neurons = getD shapes (at + 1) 0; activation = a; start = at + 3 }
-
--- numbers that are bytes
-abbrev pub ByteSized : List ℕ → Type 0
-ByteSized xs = (i : ℕ) → getD xs i 0 < 256
+-- a layer's counts by the numbers at a place of a row
+abbrev pub countsThere : List ℕ → ℕ → Counts
+countsThere shapes at = record { inputs = getD shapes at 0; neurons = getD shapes (at + 1) 0 }
 
 unfoldable pub headerBytes : List ℕ → ℕ → List ℕ
 headerBytes shapes at = getD shapes at 0 ∷ getD shapes (at + 1) 0 ∷ getD shapes (at + 2) 0 ∷ []

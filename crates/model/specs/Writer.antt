@@ -8,10 +8,9 @@ use lib.ListN.{length, getD, take, drop}
 use Rattle.rules.specs.Leaf.{_leaving_}
 use Rattle.rules.specs.Refusals.{Row, _when_, refusing}
 use Rattle.model.specs.Layer.{lengths, activationOf, activationNumber, Layer, joined, bytesOf, headerFaults}
-use Rattle.model.specs.Model.{_≠_, kinds, readLayers, headersAt, modelOf, mismatches, readOf}
+use Rattle.model.specs.Model.{_≠_, kinds, matchFaults}
 use Rattle.model.specs.declared.Kind.{Kind}
-use Rattle.model.specs.declared.Model.{Model}
-use Rattle.model.specs.declared.Reading.the-variants.{Good}
+use Rattle.model.specs.declared.Counts.{Counts}
 
 -- the fifteen arrays, three to a layer: a dense layer has no recurrent weights
 abbrev pub arraysOf : (w0 b0 w1 r1 b1 w2 r2 b2 w3 r3 b3 w4 b4 w5 b5 : List ℕ) → List (List ℕ)
@@ -53,14 +52,15 @@ rowFaults j (k ∷ ks) shapes given =
     inLayer j (layerFaults k (getD shapes 0 0) (getD shapes 1 0) (getD shapes 2 0) (take 3 given))
     ++ rowFaults (suc j) ks (drop 3 shapes) (drop 3 given)
 
--- the model of six layers' counts
-unfoldable pub modelGiven : List ℕ → Model
-modelGiven shapes = modelOf (headersAt 0 (layersGiven kinds shapes []))
+-- the counts of layers as they are given
+unfoldable pub countsGiven : List Kind → List ℕ → List Counts
+countsGiven [] shapes = []
+countsGiven (k ∷ ks) shapes = record { inputs = getD shapes 0 0; neurons = getD shapes 1 0 } ∷ countsGiven ks (drop 3 shapes)
 
 -- all of them in order: of each layer, of the layers together, and of a buffer that is shorter than the file
 unfoldable pub writerFaults : List ℕ → List ℕ → ℕ → ℕ → List Row
 writerFaults shapes given file buffer =
-    rowFaults 0 kinds shapes given ++ inLayer 6 (mismatches (modelGiven shapes) 0 ++ 24 when ltb buffer file ∷ [])
+    rowFaults 0 kinds shapes given ++ inLayer 6 (matchFaults (countsGiven kinds shapes) 0 ++ 24 when ltb buffer file ∷ [])
 
 -- ---- what is returned, and what the buffer then holds
 

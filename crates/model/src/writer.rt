@@ -6,14 +6,12 @@ ghost use Prim.Native.Nat.{_+_, _≤_, _<_};
 ghost use lib.Dec.{ltb};
 ghost use lib.ListN.{length};
 ghost use Rattle.rules.specs.Leaf.{_leaving_};
-ghost use Rattle.model.specs.Layer.{sum};
-ghost use Rattle.model.specs.Model.{kinds, mismatches};
-ghost use Rattle.model.specs.Writer.{arraysOf, layerFaults, inLayer, rowFaults, modelGiven, writerFaults, writeModel};
-ghost use Rattle.model.specs.Parts.{faultIn, Few, headerGiven, ByteSized, headerBytes, layerBytes, threeBytes, Put};
-use crate::Header;
+ghost use Rattle.rules.specs.Lists.{Bytes, sum};
+ghost use Rattle.model.specs.Model.{kinds, matchFaults};
+ghost use Rattle.model.specs.Writer.{arraysOf, layerFaults, inLayer, rowFaults, countsGiven, writerFaults, writeModel};
+ghost use Rattle.model.specs.Parts.{faultIn, Few, countsThere, headerBytes, layerBytes, threeBytes, Put};
+use crate::Counts;
 use crate::Kind;
-use crate::Model;
-use crate::Reading;
 
 fn wide(x: u32) -> usize
     ensures { λ r. ⌜ r ≡ x ⌝ }
@@ -74,41 +72,40 @@ fn layers_fault(shapes: &[u32], lengths: [usize; 18]) -> u32
     0
 }
 
-fn header_given(shapes: &[u32], at: usize) -> Header
-    requires { ⌜ at + 2 < length (now shapes) ⌝ }
-    ensures { λ r. ⌜ r ≡ headerGiven (now (shapes .entry)) at ⌝ }
+fn counts_there(shapes: &[u32], at: usize) -> Counts
+    requires { ⌜ at + 1 < length (now shapes) ⌝ }
+    ensures { λ r. ⌜ r ≡ countsThere (now (shapes .entry)) at ⌝ }
 {
-    Header {
+    Counts {
         inputs: wide(shapes[at]),
         neurons: wide(shapes[at + 1]),
-        activation: crate::activation_of(wide(shapes[at + 2])),
-        start: at + 3,
     }
 }
 
-fn model_given(shapes: &[u32]) -> Model
+fn counts_given(shapes: &[u32]) -> [Counts; 6]
     requires { ⌜ length (now shapes) ≡ 18 ⌝ }
-    ensures { λ r. ⌜ r ≡ modelGiven (now (shapes .entry)) ⌝ }
+    ensures { λ r. ⌜ r ≡ countsGiven kinds (now (shapes .entry)) ⌝ }
 {
-    crate::model_of([
-        header_given(shapes, 0),
-        header_given(shapes, 3),
-        header_given(shapes, 6),
-        header_given(shapes, 9),
-        header_given(shapes, 12),
-        header_given(shapes, 15),
-    ])
+    [
+        counts_there(shapes, 0),
+        counts_there(shapes, 3),
+        counts_there(shapes, 6),
+        counts_there(shapes, 9),
+        counts_there(shapes, 12),
+        counts_there(shapes, 15),
+    ]
 }
 
 // Refusals 18 to 22, with layer 6, or 0.
-fn model_fault(m: Model) -> u32
-    requires { ⌜ Few m ⌝ }
-    ensures { λ r. ⌜ r ≡ faultIn (inLayer 6 (mismatches m 0)) ⌝ }
+fn model_fault(counts: [Counts; 6]) -> u32
+    requires { ⌜ Few counts ⌝ }
+    ensures { λ r. ⌜ r ≡ faultIn (inLayer 6 (matchFaults counts 0)) ⌝ }
 {
-    match crate::matched(m, 0) {
-        Reading::Good(_) => 0,
-        Reading::Refused(number, layer) => number + 65536 * layer,
+    let fault = crate::match_fault(counts, 0);
+    if fault != 0 {
+        return fault + 65536 * 6;
     }
+    0
 }
 
 // Whether a buffer is shorter than the file: six headers, and the arrays. Nothing is added that could wrap.
@@ -137,7 +134,7 @@ fn fault_of(shapes: &[u32], lengths: [usize; 18], buffer: usize) -> u32
     if fault != 0 {
         return fault;
     }
-    let fault = model_fault(model_given(shapes));
+    let fault = model_fault(counts_given(shapes));
     if fault != 0 {
         return fault;
     }
@@ -159,7 +156,7 @@ fn put(out: &mut [u8], at: usize, bytes: &[u8]) -> usize
 }
 
 fn header_bytes(shapes: &[u32], first: usize) -> [u8; 3]
-    requires { ⌜ (first + 2 < length (now shapes)) × ByteSized (now shapes) ⌝ }
+    requires { ⌜ (first + 2 < length (now shapes)) × Bytes (now shapes) ⌝ }
     ensures { λ r. ⌜ r ≡ headerBytes (now (shapes .entry)) first ⌝ }
 {
     [
@@ -178,7 +175,7 @@ fn put_layer(
     recurrent: &[u8],
     bias: &[u8],
 ) -> usize
-    requires { ⌜ (first + 2 < length (now shapes)) × ByteSized (now shapes)
+    requires { ⌜ (first + 2 < length (now shapes)) × Bytes (now shapes)
         × (at + length (layerBytes (now shapes) first (now weights) (now recurrent) (now bias)) ≤ length (now out)) ⌝ }
     ensures { λ r. ⌜ Put at (layerBytes (now (shapes .entry)) first (now (weights .entry)) (now (recurrent .entry)) (now (bias .entry)))
         (now (out .entry)) r (now (out .exit)) ⌝ }
@@ -206,7 +203,7 @@ fn put_three(
     r2: &[u8],
     b2: &[u8],
 ) -> usize
-    requires { ⌜ (first + 8 < length (now shapes)) × ByteSized (now shapes)
+    requires { ⌜ (first + 8 < length (now shapes)) × Bytes (now shapes)
         × (at + length (threeBytes (now shapes) first (now w0) (now r0) (now b0) (now w1) (now r1) (now b1) (now w2) (now r2) (now b2))
         ≤ length (now out)) ⌝ }
     ensures { λ r. ⌜ Put at (threeBytes (now (shapes .entry)) first (now (w0 .entry)) (now (r0 .entry)) (now (b0 .entry))

@@ -12,7 +12,7 @@ use Rattle.matrix.proofs.Lengths.{length-mulAdd}
 use Rattle.network.specs.Layers.{copied, activateStep, blendStep, denseOf, gruOf}
 use Rattle.network.specs.Compute.{array, denseAt, gruAt}
 use Rattle.model.specs.Array.{placeOf}
-use Rattle.model.specs.Parts.{LiesIn}
+use Rattle.model.specs.Laws.{LiesIn}
 use Rattle.model.specs.declared.Activation.{Activation}
 use Rattle.model.specs.declared.Kind.{Kind}
 use Rattle.model.specs.declared.Kind.the-variants.{Dense, Gru}

@@ -9,8 +9,8 @@ use Rattle.rules.specs.F32.{one, at, _⊕_, _⊖_, _⊗_}
 use Rattle.rules.specs.Loop.{loop}
 use Rattle.rules.proofs.Floats.{mul-swap}
 use Rattle.rules.proofs.Fused.{fused}
-use Rattle.rules.proofs.Loops.{loop-same}
 use Rattle.rules.proofs.Mapped.{tab-map, each-map}
+use Rattle.rules.proofs.Runs.{loop-same}
 use Rattle.rules.proofs.Tabs.{getD-tab}
 use Rattle.numbers.specs.Activations.{sigmoidIn, sigmoidApprox}
 use Rattle.numbers.specs.Tansig.{tansig}
@@ -52,5 +52,5 @@ pub blend-joined : (activation : Activation) (z h state : List Float) {new left 
 blend-joined activation z h state {new} same made e =
     let f : Float → Float = λ x. activated activation (weightsScale ⊗ x) in
     e
-    ∙ loop-same (mixStep z new) (blendStep activation z h) (length state) state
-    (λ i inside t. ap (λ (v : Float). set t i (at z i ⊗ at t i ⊕ (one ⊖ at z i) ⊗ v)) (ap (λ (l : List Float). at l i) made ∙ at-map f h i (omega arith)))
+    ∙ loop-same (length state) (mixStep z new) (blendStep activation z h) state
+    (λ i t inside. ap (λ (v : Float). set t i (at z i ⊗ at t i ⊕ (one ⊖ at z i) ⊗ v)) (ap (λ (l : List Float). at l i) made ∙ at-map f h i (omega arith)))

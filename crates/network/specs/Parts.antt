@@ -5,7 +5,7 @@ use Prim.Native.Nat.{ℕ, _+_, _*_, _≤_}
 use lib.ListN.{set}
 use lib.Ieee.{Float}
 use Rattle.rules.specs.F32.{one, at, _⊕_, _⊖_, _⊗_}
-use Rattle.model.specs.Parts.{LiesIn}
+use Rattle.model.specs.Laws.{LiesIn}
 use Rattle.model.specs.declared.Kind.{Kind}
 use Rattle.model.specs.declared.Kind.the-variants.{Dense, Gru}
 use Rattle.model.specs.declared.Header.{Header}

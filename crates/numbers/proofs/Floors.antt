@@ -3,9 +3,8 @@ use mathlib.Core.Path.{_≡_, refl, sym, ap, subst, _∙_}
 use mathlib.Core.Bool.{Bool, true, false, cond, true≢false}
 use mathlib.Core.Logic.{⊎-elim}
 use Prim.Native.Nat.{ℕ, suc, _+_, _-_, _*_, _/_, _^_, _≤_, _<_, suc-le-suc}
-use native.Mathlib.Nat.{le-antisymm, le-of-lt, lt-of-lt-of-le, div-lt-iff-lt-mul, le-div-iff-mul-le, div-mul-le-self, mul-one, add-mul, suc-mul, mul-pos, mul-assoc, mul-right-comm, mul-le-mul-right, mul-lt-mul-of-pos-right, min-eq-left, eq-or-lt-of-le, not-le-of-lt, lt-of-not-le, div-one, mod-one}
+use native.Mathlib.Nat.{le-antisymm, le-of-lt, lt-of-lt-of-le, div-lt-iff-lt-mul, le-div-iff-mul-le, div-mul-le-self, mul-one, add-mul, suc-mul, mul-pos, mul-assoc, mul-right-comm, mul-le-mul-right, mul-lt-mul-of-pos-right, min-eq-left, eq-or-lt-of-le, div-one, mod-one}
 use native.Mathlib.Omega.{arith}
-use lib.Pow.{pow-mono}
 use borrow.Author.Tests.{lt-ltb, le-ltb}
 use lib.IntN.{ℤ, pos, natAbs}
 use lib.Signed.{nonNeg}
@@ -16,9 +15,9 @@ use lib.Count.{trailingZeros}
 use lib.Ieee.{Float, nan, inf, fin, binary32, up, down, units, odd, round, size, sub, add, neg, sum, climb, span, ofBits, ofFields, ofInt, lt, toUnsigned, toSigned, inSigned, isNan}
 use lib.Ieee.Exact.{HasValue}
 use lib.Ieee.Back.{round-whole, positive-back}
-use lib.Ieee.Digits.{size-lt, size-le}
 use lib.Ieee.Fits.{round-is, core, down-pos}
 use lib.Ieee.Nearest.{closest, closest-mono, closest-same}
+use Rattle.numbers.proofs.Pattern.{size-is}
 use Rattle.numbers.proofs.UpToEight.{Upto, in-table, half-up, within}
 use mathlib.Core.List.{List}
 use Rattle.numbers.specs.Activations.{magnitude, signOf, place, near, tansigIn}
@@ -27,10 +26,6 @@ use Rattle.rules.specs.F32.{f32, _⊕_, _⊖_, _⊗_}
 use Rattle.rules.proofs.Numbers.{casts}
 use Rattle.rules.proofs.Below.{at-each}
 use Rattle.rules.proofs.Floats.{same, floats}
-
--- digits of a number from 2 ^ j to below 2 ^ (j + 1)
-digits : (n j : ℕ) → 2 ^ j ≤ n → n < 2 ^ suc j → size n ≡ suc j
-digits n j least most = le-antisymm (size-le n (suc j) most) (lt-of-not-le (λ (g : size n ≤ j). not-le-of-lt (lt-of-lt-of-le (size-lt n) (pow-mono g)) least))
 
 closest-scaled : (a c s : ℕ) → 0 < c → 0 < s → closest (a * s) (c * s) ≡ closest a c
 closest-scaled a c s C S = closest-same (a * s) (c * s) a c (mul-pos C S) C (mul-right-comm a s c ∙ mul-assoc a c s)
@@ -44,7 +39,7 @@ pub round-binade : (a c : ℕ) → 0 < c → 8388608 * c ≤ a → a < 16777216 
 round-binade a c C least most =
     let b = between a c (2 ^ 149) 8388608 16777216 C (lit< tt) least most in
     round-is binary32 false a c
-    ∙ ap (λ (k : ℕ). core binary32 false (a * 2 ^ 149) c (k - 24)) (digits (a * 2 ^ 149 / c) 172 (b .0) (b .1))
+    ∙ ap (λ (k : ℕ). core binary32 false (a * 2 ^ 149) c (k - 24)) (size-is (a * 2 ^ 149 / c) 172 (b .0) (b .1))
     ∙ ap (λ (q : ℕ). units binary32 false q 149) (closest-scaled a c (2 ^ 149) C (lit< tt))
 
 closest-whole : (n : ℕ) → closest n 1 ≡ n

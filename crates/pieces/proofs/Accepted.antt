@@ -15,7 +15,9 @@ use Rattle.rules.proofs.Refused.{Clear, by-rows}
 use Rattle.rules.proofs.Truth.{both}
 use Rattle.samples.specs.Samples.{good}
 use Rattle.model.specs.Model.{readOf}
+use Rattle.frame.specs.declared.Hearing.{Hearing}
 use Rattle.frame.specs.declared.Reply.the-variants.{Done, Refused}
+use Rattle.frame.specs.declared.Way.{Way}
 use Rattle.frame.specs.Share.{SHARE}
 use Rattle.frame.specs.Reply.{passed}
 use Rattle.frame.specs.Frame.{counted, checked}
@@ -69,15 +71,16 @@ module _ (share : List Float) (waiting : ℕ) (samples : List Float) (out sums :
   fits k =
       rw (le-leb waiting 479 (k .waits), le-leb 1 (length samples) (k .some), le-leb (length samples) 4096 (k .few), le-leb _ out (k .room), eq-eqb sums 22 (k .places))
 
-  pub piece-taken : Piece share waiting samples out sums → piece share waiting samples out sums ≡ begun share waiting samples
+module _ (share : List Float) (way : Way) (waiting : ℕ) (samples : List Float) (out sums : ℕ) where
+  pub piece-taken : Piece share waiting samples out sums → piece share way waiting samples out sums ≡ begun share way waiting samples
   unfolding piece
-  piece-taken k = rw (eq-eqb (length share) SHARE (k .size), fits k, k .waited, k .fine)
+  piece-taken k = rw (eq-eqb (length share) SHARE (k .size), fits share waiting samples out sums k, k .waited, k .fine)
 
 -- ---- a resume
 
-pub record Resume (share : List Float) (index vad noise denoise noted progress : ℕ) (samples logs : List Float) (model : List ℕ) (out sums : ℕ) : Type 0 where
+pub record Resume (share : List Float) (hearing : Hearing) (noted progress : ℕ) (samples logs : List Float) (model : List ℕ) (out sums : ℕ) : Type 0 where
   pub size : length share ≡ SHARE
-  pub inside : index ≤ 7
+  pub inside : hearing .index ≤ 7
   pub begun : 1 ≤ progress
   pub within : progress ≤ noted
   pub few : noted ≤ 4096
@@ -85,19 +88,19 @@ pub record Resume (share : List Float) (index vad noise denoise noted progress :
   pub taken : length logs ≡ 22
   pub room : 480 * completes (waitedOf progress) (length samples) ≤ out
   pub places : sums ≡ 22
-  pub right : passed (checked (counted vad noise denoise) (readOf model)) ≡ true
+  pub right : passed (checked (counted hearing) (readOf model)) ≡ true
   pub fine : good samples ≡ true
 
-module _ (share : List Float) (index vad noise denoise noted progress : ℕ) (samples logs : List Float) (model : List ℕ) (out sums : ℕ) where
+module _ (share : List Float) (hearing : Hearing) (noted progress : ℕ) (samples logs : List Float) (model : List ℕ) (out sums : ℕ) where
   abbrev Taken : Type 0
-  Taken = Resume share index vad noise denoise noted progress samples logs model out sums
+  Taken = Resume share hearing noted progress samples logs model out sums
 
-  pub resume-cleared : Clear (resumeRows share index noted progress samples (length logs) out sums)
-      → passed (checked (counted vad noise denoise) (readOf model)) ≡ true → good samples ≡ true
-      → Resume share index vad noise denoise noted progress samples logs model out sums
+  pub resume-cleared : Clear (resumeRows share (hearing .index) noted progress samples (length logs) out sums)
+      → passed (checked (counted hearing) (readOf model)) ≡ true → good samples ≡ true
+      → Resume share hearing noted progress samples logs model out sums
   unfolding resumeFits
   resume-cleared c right fine =
-      let p = both (leb index 7) _ (not-false _ (c .1 .0)) in
+      let p = both (leb (hearing .index) 7) _ (not-false _ (c .1 .0)) in
       let q = both (leb 1 progress) _ (p .1) in
       let r = both (leb progress noted) _ (q .1) in
       let s = both (leb noted 4096) _ (r .1) in
@@ -106,7 +109,7 @@ module _ (share : List Float) (index vad noise denoise noted progress : ℕ) (sa
       let v = both (leb (480 * completes (waitedOf progress) (length samples)) out) _ (u .1) in
       record {
         size = eqb-true (length share) SHARE (not-false _ (c .0));
-        inside = leb-true index 7 (p .0);
+        inside = leb-true (hearing .index) 7 (p .0);
         begun = leb-true 1 progress (q .0);
         within = leb-true progress noted (r .0);
         few = leb-true noted 4096 (s .0);
@@ -118,26 +121,26 @@ module _ (share : List Float) (index vad noise denoise noted progress : ℕ) (sa
         fine = fine;
       }
 
-  pub resume-accepted : passed (resumeReply share index vad noise denoise noted progress samples logs model out sums) ≡ true
-      → Resume share index vad noise denoise noted progress samples logs model out sums
+  pub resume-accepted : passed (resumeReply share hearing noted progress samples logs model out sums) ≡ true
+      → Resume share hearing noted progress samples logs model out sums
   unfolding resumeReply
   resume-accepted =
-      by-rows Refused (lastTests vad noise denoise model (good samples)) (λ r. passed r ≡ true → Taken)
-      (resumeRows share index noted progress samples (length logs) out sums) (λ n e. absurd (false≢true e))
-      (λ c e. let p = last-passed vad noise denoise model (good samples) e in resume-cleared c (p .0) (p .1))
+      by-rows Refused (lastTests hearing model (good samples)) (λ r. passed r ≡ true → Taken)
+      (resumeRows share (hearing .index) noted progress samples (length logs) out sums) (λ n e. absurd (false≢true e))
+      (λ c e. let p = last-passed hearing model (good samples) e in resume-cleared c (p .0) (p .1))
 
   -- what is left of the samples, and the place of the frame under way
-  pub within-samples : Resume share index vad noise denoise noted progress samples logs model out sums → progress ≤ length samples
+  pub within-samples : Resume share hearing noted progress samples logs model out sums → progress ≤ length samples
   within-samples k = rw (k .same) (k .within)
 
-  pub frame-fits : Resume share index vad noise denoise noted progress samples logs model out sums → 480 * (frameAt progress - 1) + 480 ≤ out
+  pub frame-fits : Resume share hearing noted progress samples logs model out sums → 480 * (frameAt progress - 1) + 480 ≤ out
   frame-fits k = omega (arith, k .room, k .same, k .begun, k .within)
 
-  suits : Taken → resumeFits index noted progress (length samples) (length logs) out sums ≡ true
+  suits : Taken → resumeFits (hearing .index) noted progress (length samples) (length logs) out sums ≡ true
   unfolding resumeFits
   suits k =
       rw (
-        le-leb index 7 (k .inside),
+        le-leb (hearing .index) 7 (k .inside),
         le-leb 1 progress (k .begun),
         le-leb progress noted (k .within),
         le-leb noted 4096 (k .few),
@@ -147,7 +150,7 @@ module _ (share : List Float) (index vad noise denoise noted progress : ℕ) (sa
         eq-eqb sums 22 (k .places),
       )
 
-  pub resume-taken : Resume share index vad noise denoise noted progress samples logs model out sums
-      → resume share index vad noise denoise noted progress samples logs model out sums ≡ resumed share index vad noise denoise progress samples logs model
+  pub resume-taken : Resume share hearing noted progress samples logs model out sums
+      → resume share hearing noted progress samples logs model out sums ≡ resumed share hearing progress samples logs model
   unfolding resume resumeReply
   resume-taken k = rw (eq-eqb (length share) SHARE (k .size), suits k, k .right, k .fine)

@@ -9,36 +9,38 @@ use Rattle.rules.proofs.Refused.{by-rows}
 use Rattle.samples.specs.Samples.{good}
 use Rattle.model.specs.Model.{readOf}
 use Rattle.model.specs.declared.Reading.the-variants.{Refused as Unread}
+use Rattle.frame.specs.declared.Hearing.{Hearing}
 use Rattle.frame.specs.declared.Reply.{Reply}
 use Rattle.frame.specs.declared.Reply.the-variants.{Refused, Misread}
+use Rattle.frame.specs.declared.Way.{Way}
 use Rattle.frame.specs.Reply.{passed}
 use Rattle.pieces.specs.Pieces.{Outcome, refused, pieceRows, begun, piece, resumeRows, lastTests, resumeReply, resumed, resume}
 use Rattle.pieces.proofs.Accepted.{Piece, piece-cleared, Resume, resume-cleared}
 use Rattle.pieces.proofs.Tested.{last-tests-by}
 
 module _ (share : List Float) (P : Outcome → Type 0) (bad : (n : ℕ) → P (refused (Refused n) share)) where
-  pub piece-by : (waiting : ℕ) (samples : List Float) (out sums : ℕ) → (Piece share waiting samples out sums → P (begun share waiting samples))
-      → P (piece share waiting samples out sums)
+  pub piece-by : (way : Way) (waiting : ℕ) (samples : List Float) (out sums : ℕ) → (Piece share waiting samples out sums → P (begun share way waiting samples))
+      → P (piece share way waiting samples out sums)
   unfolding piece
-  piece-by waiting samples out sums h =
-      by-rows (λ n. refused (Refused n) share) (begun share waiting samples) P (pieceRows share waiting samples out sums) bad
+  piece-by way waiting samples out sums h =
+      by-rows (λ n. refused (Refused n) share) (begun share way waiting samples) P (pieceRows share waiting samples out sums) bad
       (λ c. h (piece-cleared share waiting samples out sums c))
 
   -- a model that is refused comes with what the reader says of it
-  module _ (index vad noise denoise noted progress : ℕ) (samples logs : List Float) (model : List ℕ) (out sums : ℕ) where
+  module _ (hearing : Hearing) (noted progress : ℕ) (samples logs : List Float) (model : List ℕ) (out sums : ℕ) where
     abbrev right : Outcome
-    right = resumed share index vad noise denoise progress samples logs model
+    right = resumed share hearing progress samples logs model
 
     abbrev given : Reply → Outcome
     given reply = cond (passed reply) right (refused reply share)
 
     pub resume-by : ((n l : ℕ) → Unread n l ≡ readOf model → P (refused (Misread n l) share))
-        → (Resume share index vad noise denoise noted progress samples logs model out sums → P (resumed share index vad noise denoise progress samples logs model))
-        → P (resume share index vad noise denoise noted progress samples logs model out sums)
+        → (Resume share hearing noted progress samples logs model out sums → P (resumed share hearing progress samples logs model))
+        → P (resume share hearing noted progress samples logs model out sums)
     unfolding resume resumeReply
     resume-by misread h =
-        by-rows Refused (lastTests vad noise denoise model (good samples)) (λ r. P (given r))
-        (resumeRows share index noted progress samples (length logs) out sums) bad
+        by-rows Refused (lastTests hearing model (good samples)) (λ r. P (given r))
+        (resumeRows share (hearing .index) noted progress samples (length logs) out sums) bad
         (λ c.
-        last-tests-by vad noise denoise model (good samples) (λ r. P (given r)) bad misread
-        (λ p g. h (resume-cleared share index vad noise denoise noted progress samples logs model out sums c p g)))
+        last-tests-by hearing model (good samples) (λ r. P (given r)) bad misread
+        (λ p g. h (resume-cleared share hearing noted progress samples logs model out sums c p g)))

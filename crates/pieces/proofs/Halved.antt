@@ -18,23 +18,23 @@ use Rattle.model.specs.Model.{readOf}
 use Rattle.model.specs.declared.Model.{Model}
 use Rattle.model.specs.declared.Reading.{Reading}
 use Rattle.model.specs.declared.Reading.the-variants.{Good, Refused as Unread}
-use Rattle.transforms.specs.Transform.{forwardOf}
-use Rattle.lag.specs.Lag.{ownLag}
-use Rattle.lag.proofs.Ranges.{in-range}
 use Rattle.features.specs.Silence.{energy, soundOf}
 use Rattle.features.specs.declared.Sound.the-variants as sound
+use Rattle.frame.specs.declared.Hearing.{Hearing}
 use Rattle.frame.specs.declared.Reply.{Reply}
 use Rattle.frame.specs.declared.Reply.the-variants.{Done, Silent, Heard, Refused}
+use Rattle.frame.specs.declared.Way.{Way}
 use Rattle.frame.specs.Reply.{passed}
-use Rattle.frame.specs.Share.{PART, inputMem, keptEx}
+use Rattle.frame.specs.Share.{PART, keptEx}
 use Rattle.frame.specs.Heard.{Spoken, spoken}
 use Rattle.frame.specs.Frame.{Effect, refusal, plusHundredth, overlapped, done1, counted, sounded, done3, modelled, call3, checked}
 use Rattle.frame.proofs.Done.{call1-done, call2-done, call3-done}
-use Rattle.halves.specs.Own.{call2Own}
+use Rattle.halves.specs.Ways.{lagBy, remembered, forwardBy}
 use Rattle.halves.specs.Halves.{buffer, lookedBack, firstHalf, secondHalf}
 use Rattle.halves.proofs.Cases.{doneFirst, whole-after-1, first-half-by, second-half-by}
 use Rattle.halves.proofs.Kept.{first-half-keeps, second-half-keeps}
-use Rattle.halves.proofs.Onward.{length-forward, first-half-done, second-half-done}
+use Rattle.halves.proofs.Onward.{first-half-done, second-half-done}
+use Rattle.halves.proofs.EitherWay.{lag-fits, length-forward, whole-remembered}
 
 -- a half that is refused nothing leaves a part of a share, and one buffer of n numbers
 pub record Halved (n : ℕ) (f : Effect) : Type 0 where
@@ -58,90 +58,89 @@ pub data Told : Reply → Type 0 where
 
 -- ---- the first half
 
-module _ (part samples : List Float) (sums : ℕ) where
-  pub first-length : length part ≡ PART → length (firstHalf part samples sums .share) ≡ PART
-  first-length whole = first-half-keeps part samples sums .size ∙ whole
+module _ (part : List Float) (way : Way) (samples : List Float) (sums : ℕ) where
+  pub first-length : length part ≡ PART → length (firstHalf part way samples sums .share) ≡ PART
+  first-length whole = first-half-keeps part way samples sums .size ∙ whole
 
-  first-wrote : Writes 22 (firstHalf part samples sums)
+  first-wrote : Writes 22 (firstHalf part way samples sums)
   unfolding plusHundredth
-  first-wrote = first-half-by part (Writes 22) (λ n e. absurd (false≢true e)) samples sums (λ _ _ _. record { one = refl; size = length-tab 22 _ })
+  first-wrote = first-half-by part (Writes 22) (λ n e. absurd (false≢true e)) way samples sums (λ _ _ _. record { one = refl; size = length-tab 22 _ })
 
-  pub sums-length : passed (firstHalf part samples sums .reply) ≡ true → length (buffer (firstHalf part samples sums)) ≡ 22
+  pub sums-length : passed (firstHalf part way samples sums .reply) ≡ true → length (buffer (firstHalf part way samples sums)) ≡ 22
   sums-length e = first-wrote e .size
 
-module _ (part samples : List Float) (whole : length part ≡ PART) (l : length samples ≡ 480) (g : good samples ≡ true) where
-  pub first-done : firstHalf part samples 22 ≡ doneFirst part samples
-  unfolding call2Own
+module _ (part : List Float) (way : Way) (samples : List Float) (whole : length part ≡ PART) (l : length samples ≡ 480) (g : good samples ≡ true) where
+  pub first-done : firstHalf part way samples 22 ≡ doneFirst part way samples
   first-done =
       let a = done1 part samples in
       let two =
-      call2-done (a .share) (whole-after-1 part samples whole l) (forwardOf (buffer a)) (ownLag (get inputMem (a .share))) 960 22 (length-forward (buffer a)) refl refl (in-range (get inputMem (a .share)) .1) in
-      first-half-done part whole samples 22 l refl ∙ rw (call1-done part whole samples 960 l refl g, two)
+      call2-done (remembered way (a .share)) (whole-remembered (a .share) way (whole-after-1 part samples whole l)) (forwardBy way (buffer a)) (lagBy way (a .share)) 960 22 (length-forward way (buffer a)) refl refl (lag-fits way (a .share)) in
+      first-half-done part whole way samples 22 l refl ∙ rw (call1-done part whole samples 960 l refl g, two)
 
-  pub first-passes : Halved 22 (firstHalf part samples 22)
+  pub first-passes : Halved 22 (firstHalf part way samples 22)
   first-passes =
-      let e : passed (firstHalf part samples 22 .reply) ≡ true = ap (λ (f : Effect). passed (f .reply)) first-done in
-      let w = first-wrote part samples 22 e in
-      record { passes = e; part = first-length part samples 22 whole; writes = w .one; fills = w .size }
+      let e : passed (firstHalf part way samples 22 .reply) ≡ true = ap (λ (f : Effect). passed (f .reply)) first-done in
+      let w = first-wrote part way samples 22 e in
+      record { passes = e; part = first-length part way samples 22 whole; writes = w .one; fills = w .size }
 
 -- ---- the second half
 
-module _ (part : List Float) (index vad noise denoise : ℕ) (logs : List Float) (model : List ℕ) where
+module _ (part : List Float) (hearing : Hearing) (logs : List Float) (model : List ℕ) where
   abbrev half : ℕ → Effect
-  half out = secondHalf part index vad noise denoise logs model out
+  half out = secondHalf part hearing logs model out
 
   module _ (out : ℕ) where
-    pub second-length : length part ≡ PART → length (secondHalf part index vad noise denoise logs model out .share) ≡ PART
-    second-length whole = second-half-keeps part index vad noise denoise logs model out .size ∙ whole
+    pub second-length : length part ≡ PART → length (secondHalf part hearing logs model out .share) ≡ PART
+    second-length whole = second-half-keeps part hearing logs model out .size ∙ whole
 
     second-wrote : Writes 480 (half out)
     unfolding overlapped
     second-wrote =
-        second-half-by part (Writes 480) (λ n e. absurd (false≢true e)) index vad noise denoise logs model out (λ n l _ e. absurd (false≢true e))
+        second-half-by part (Writes 480) (λ n e. absurd (false≢true e)) hearing logs model out (λ n l _ e. absurd (false≢true e))
         (λ _ _. record { one = refl; size = length-tab 480 _ })
         (λ _ _ _ _ _ _. record { one = refl; size = length-tab 480 _ })
 
-    pub out-length : passed (secondHalf part index vad noise denoise logs model out .reply) ≡ true
-        → length (buffer (secondHalf part index vad noise denoise logs model out)) ≡ 480
+    pub out-length : passed (secondHalf part hearing logs model out .reply) ≡ true
+        → length (buffer (secondHalf part hearing logs model out)) ≡ 480
     out-length e = second-wrote e .size
 
-    pub second-told : passed (secondHalf part index vad noise denoise logs model out .reply) ≡ true
-        → Told (secondHalf part index vad noise denoise logs model out .reply)
+    pub second-told : passed (secondHalf part hearing logs model out .reply) ≡ true
+        → Told (secondHalf part hearing logs model out .reply)
     second-told =
-        second-half-by part (λ f. passed (f .reply) ≡ true → Told (f .reply)) (λ n e. absurd (false≢true e)) index vad noise denoise logs model out (λ n l _ e. absurd (false≢true e))
+        second-half-by part (λ f. passed (f .reply) ≡ true → Told (f .reply)) (λ n e. absurd (false≢true e)) hearing logs model out (λ n l _ e. absurd (false≢true e))
         (λ _ _. silent)
         (λ e m _ _ _ _. heard _ e)
 
-  module _ (whole : length part ≡ PART) (l : length logs ≡ 22) (i : index ≤ 7) (right : passed (checked (counted vad noise denoise) (readOf model)) ≡ true) where
+  module _ (whole : length part ≡ PART) (l : length logs ≡ 22) (i : hearing .index ≤ 7) (right : passed (checked (counted hearing) (readOf model)) ≡ true) where
     abbrev three : Effect
-    three = call3 part index vad noise denoise (forwardOf (lookedBack part)) logs model 961
+    three = call3 part hearing (forwardBy (hearing .way) (lookedBack part)) logs model 961
 
     -- a frame is silent or heard, and so never refused for its sound
-    sounds : (m : Model) → passed (done3 part index (forwardOf (lookedBack part)) logs model m .reply) ≡ true
+    sounds : (m : Model) → passed (done3 part (hearing .index) (forwardBy (hearing .way) (lookedBack part)) logs model m .reply) ≡ true
     unfolding done3 soundOf
-    sounds m = go (lt (energy (get keptEx part)) (f32 0x3D23D70A)) (energy (get keptEx part)) (spoken part index (forwardOf (lookedBack part)) logs model m)
+    sounds m = go (lt (energy (get keptEx part)) (f32 0x3D23D70A)) (energy (get keptEx part)) (spoken part (hearing .index) (forwardBy (hearing .way) (lookedBack part)) logs model m)
       where
         go : (t : Bool) (e : Float) (s : Spoken) → passed (sounded (cond t sound.Silent (sound.Heard e)) part s .reply) ≡ true
         go true e s = refl
         go false e s = refl
 
-    by-reading : (r : Reading) → passed (checked (counted vad noise denoise) r) ≡ true
-        → passed (modelled (counted vad noise denoise) r part (done3 part index (forwardOf (lookedBack part)) logs model) .reply) ≡ true
+    by-reading : (r : Reading) → passed (checked (counted hearing) r) ≡ true
+        → passed (modelled (counted hearing) r part (done3 part (hearing .index) (forwardBy (hearing .way) (lookedBack part)) logs model) .reply) ≡ true
     unfolding checked
     by-reading (Unread n k) e = e
-    by-reading (Good m) e = go (counted vad noise denoise m) e
+    by-reading (Good m) e = go (counted hearing m) e
       where
         go : (t : Bool) → passed (cond t Done (Refused 8)) ≡ true
-            → passed (cond t (done3 part index (forwardOf (lookedBack part)) logs model m) (refusal (Refused 8) part) .reply) ≡ true
+            → passed (cond t (done3 part (hearing .index) (forwardBy (hearing .way) (lookedBack part)) logs model m) (refusal (Refused 8) part) .reply) ≡ true
         go true e = sounds m
         go false e = e
 
     three-passes : passed (three .reply) ≡ true
-    three-passes = rw (call3-done part whole index vad noise denoise (forwardOf (lookedBack part)) logs model 961 (length-forward (lookedBack part)) l refl i) (by-reading (readOf model) right)
+    three-passes = rw (call3-done part whole hearing (forwardBy (hearing .way) (lookedBack part)) logs model 961 (length-forward (hearing .way) (lookedBack part)) l refl i) (by-reading (readOf model) right)
 
-    pub second-passes : Halved 480 (secondHalf part index vad noise denoise logs model 480)
+    pub second-passes : Halved 480 (secondHalf part hearing logs model 480)
     second-passes =
-        let done = second-half-done part whole index vad noise denoise logs model 480 l refl i refl in
+        let done = second-half-done part whole hearing logs model 480 l refl i refl in
         let e : passed (half 480 .reply) ≡ true = rw (done, three-passes) three-passes in
         let w = second-wrote 480 e in
         record { passes = e; part = second-length 480 whole; writes = w .one; fills = w .size }

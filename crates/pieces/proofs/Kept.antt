@@ -8,8 +8,10 @@ use lib.ListN.{length, take, drop}
 use lib.Ieee.{Float}
 use Rattle.rules.specs.Place.{get, put}
 use Rattle.rules.specs.Written.{Written, nothing}
+use Rattle.frame.specs.declared.Hearing.{Hearing}
 use Rattle.frame.specs.declared.Reply.{Reply}
 use Rattle.frame.specs.declared.Reply.the-variants.{Done, Refused, Misread}
+use Rattle.frame.specs.declared.Way.{Way}
 use Rattle.frame.specs.Share.{SHARE}
 use Rattle.frame.specs.Reply.{passed}
 use Rattle.halves.specs.Halves.{secondHalf}
@@ -25,20 +27,20 @@ pub record Keeps (share : List Float) (o : Outcome) : Type 0 where
 
 -- ---- what becomes of the rest of a piece
 
-module _ (reply : Reply) (share rest : List Float) (w : Written) where
-  pub further-length : length share ≡ SHARE → length (further reply share rest w .share) ≡ SHARE
+module _ (reply : Reply) (share : List Float) (way : Way) (rest : List Float) (w : Written) where
+  pub further-length : length share ≡ SHARE → length (further reply share way rest w .share) ≡ SHARE
   unfolding further
   further-length l = go (ltb (length rest) 480)
     where
-      go : (t : Bool) → length (cond t (atEnd reply share rest w) (paused reply share rest w) .share) ≡ SHARE
+      go : (t : Bool) → length (cond t (atEnd reply share rest w) (paused reply share way rest w) .share) ≡ SHARE
       go true = waits-length share l rest
-      go false = frame-length share l _ (first-length (get framePart share) (take 480 rest) 22 (part-length share l))
+      go false = frame-length share l _ (first-length (get framePart share) way (take 480 rest) 22 (part-length share l))
 
-  pub further-reply : further reply share rest w .reply ≡ reply
+  pub further-reply : further reply share way rest w .reply ≡ reply
   unfolding further
   further-reply = go (ltb (length rest) 480)
     where
-      go : (t : Bool) → cond t (atEnd reply share rest w) (paused reply share rest w) .reply ≡ reply
+      go : (t : Bool) → cond t (atEnd reply share rest w) (paused reply share way rest w) .reply ≡ reply
       go true = refl
       go false = refl
 
@@ -51,18 +53,18 @@ module _ (share : List Float) where
   moved : {o : Outcome} → passed (o .reply) ≡ true → length (o .share) ≡ SHARE → Keeps share o
   moved p l = record { size = λ _. l; still = λ e. absurd (true≢false (sym p ∙ e)); mute = λ e. absurd (true≢false (sym p ∙ e)) }
 
-  pub piece-kept : (waiting : ℕ) (samples : List Float) (out sums : ℕ) → Keeps share (piece share waiting samples out sums)
-  piece-kept waiting samples out sums =
-      piece-by share (Keeps share) (λ n. unmoved (Refused n)) waiting samples out sums
+  pub piece-kept : (way : Way) (waiting : ℕ) (samples : List Float) (out sums : ℕ) → Keeps share (piece share way waiting samples out sums)
+  piece-kept way waiting samples out sums =
+      piece-by share (Keeps share) (λ n. unmoved (Refused n)) way waiting samples out sums
       (λ k.
-      moved (ap passed (further-reply Done (waits share []) _ nothing)) (further-length Done (waits share []) _ nothing (waits-length share (k .size) [])))
+      moved (ap passed (further-reply Done (waits share []) way _ nothing)) (further-length Done (waits share []) way _ nothing (waits-length share (k .size) [])))
 
-  pub resume-kept : (index vad noise denoise noted progress : ℕ) (samples logs : List Float) (model : List ℕ) (out sums : ℕ)
-      → Keeps share (resume share index vad noise denoise noted progress samples logs model out sums)
-  resume-kept index vad noise denoise noted progress samples logs model out sums =
-      resume-by share (Keeps share) (λ n. unmoved (Refused n)) index vad noise denoise noted progress samples logs model out sums (λ n l _. unmoved (Misread n l))
+  pub resume-kept : (hearing : Hearing) (noted progress : ℕ) (samples logs : List Float) (model : List ℕ) (out sums : ℕ)
+      → Keeps share (resume share hearing noted progress samples logs model out sums)
+  resume-kept hearing noted progress samples logs model out sums =
+      resume-by share (Keeps share) (λ n. unmoved (Refused n)) hearing noted progress samples logs model out sums (λ n l _. unmoved (Misread n l))
       (λ k.
-      let s = secondHalf (get framePart share) index vad noise denoise logs model 480 in
-      let p = second-passes (get framePart share) index vad noise denoise logs model (part-length share (k .size)) (k .taken) (k .inside) (k .right) in
+      let s = secondHalf (get framePart share) hearing logs model 480 in
+      let p = second-passes (get framePart share) hearing logs model (part-length share (k .size)) (k .taken) (k .inside) (k .right) in
       let mid = put framePart share (s .share) in
-      moved (ap passed (further-reply (s .reply) mid (drop progress samples) _) ∙ p .passes) (further-length (s .reply) mid (drop progress samples) _ (frame-length share (k .size) (s .share) (p .part))))
+      moved (ap passed (further-reply (s .reply) mid (hearing .way) (drop progress samples) _) ∙ p .passes) (further-length (s .reply) mid (hearing .way) (drop progress samples) _ (frame-length share (k .size) (s .share) (p .part))))

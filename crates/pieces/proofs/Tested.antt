@@ -9,22 +9,23 @@ use mathlib.Core.Path.{_≡_, refl}
 use Rattle.model.specs.Model.{readOf}
 use Rattle.model.specs.declared.Reading.{Reading}
 use Rattle.model.specs.declared.Reading.the-variants.{Good, Refused as Unread}
+use Rattle.frame.specs.declared.Hearing.{Hearing}
 use Rattle.frame.specs.declared.Reply.{Reply}
 use Rattle.frame.specs.declared.Reply.the-variants.{Done, Refused, Misread}
 use Rattle.frame.specs.Reply.{passed}
 use Rattle.frame.specs.Frame.{counted, checked}
 use Rattle.pieces.specs.Pieces.{lastTests}
 
-module _ (vad noise denoise : ℕ) (model : List ℕ) (fine : Bool) where
+module _ (hearing : Hearing) (model : List ℕ) (fine : Bool) where
   abbrev Right : Type 0
-  Right = passed (checked (counted vad noise denoise) (readOf model)) ≡ true
+  Right = passed (checked (counted hearing) (readOf model)) ≡ true
 
   abbrev given : Reply → Reply
   given reply = cond (passed reply) (cond fine Done (Refused 9)) reply
 
   -- a model that is refused comes with what the reader says of it
   pub last-tests-by : (P : Reply → Type 0) → ((n : ℕ) → P (Refused n)) → ((n l : ℕ) → Unread n l ≡ readOf model → P (Misread n l))
-      → (Right → fine ≡ true → P Done) → P (lastTests vad noise denoise model fine)
+      → (Right → fine ≡ true → P Done) → P (lastTests hearing model fine)
   unfolding checked
   last-tests-by P bad misread = by-reading (readOf model) refl
     where
@@ -37,10 +38,10 @@ module _ (vad noise denoise : ℕ) (model : List ℕ) (fine : Bool) where
       by-count false k = bad 8
 
       by-reading : (r : Reading) → r ≡ readOf model
-          → (passed (checked (counted vad noise denoise) r) ≡ true → fine ≡ true → P Done) → P (given (checked (counted vad noise denoise) r))
+          → (passed (checked (counted hearing) r) ≡ true → fine ≡ true → P Done) → P (given (checked (counted hearing) r))
       by-reading (Unread n l) e k = misread n l e
-      by-reading (Good m) e k = by-count (counted vad noise denoise m) k
+      by-reading (Good m) e k = by-count (counted hearing m) k
 
-  pub last-passed : passed (lastTests vad noise denoise model fine) ≡ true → Right × (fine ≡ true)
+  pub last-passed : passed (lastTests hearing model fine) ≡ true → Right × (fine ≡ true)
   last-passed =
       last-tests-by (λ r. passed r ≡ true → Right × (fine ≡ true)) (λ _ e. absurd (false≢true e)) (λ _ _ _ e. absurd (false≢true e)) (λ p f _. (p, f))

@@ -16,8 +16,10 @@ use Rattle.samples.specs.Samples.{good}
 use Rattle.model.specs.Model.{readOf}
 use Rattle.frame.specs.Share.{SHARE, PART}
 use Rattle.frame.specs.Reply.{passed}
+use Rattle.frame.specs.declared.Hearing.{Hearing}
 use Rattle.frame.specs.declared.Reply.{Reply}
 use Rattle.frame.specs.declared.Reply.the-variants.{Done, Refused}
+use Rattle.frame.specs.declared.Way.{Way}
 use Rattle.frame.specs.Frame.{Effect, counted, checked}
 use Rattle.halves.specs.Halves.{buffer, firstHalf, secondHalf}
 
@@ -69,13 +71,13 @@ abbrev pub atEnd : Reply → List Float → List Float → Written → Outcome
 atEnd reply share rest out = record { reply = reply; share = waits share rest; written = out ∷ nothing ∷ [] }
 
 -- 480 samples begin a frame, and the piece pauses for its logarithms
-abbrev pub paused : Reply → List Float → List Float → Written → Outcome
-paused reply share rest out =
-    let f = firstHalf (get framePart share) (take 480 rest) 22 in
+abbrev pub paused : Reply → List Float → Way → List Float → Written → Outcome
+paused reply share way rest out =
+    let f = firstHalf (get framePart share) way (take 480 rest) 22 in
     record { reply = reply; share = put framePart share (f .share); written = out ∷ all (buffer f) ∷ [] }
 
-unfoldable pub further : Reply → List Float → List Float → Written → Outcome
-further reply share rest out = cond (ltb (length rest) 480) (atEnd reply share rest out) (paused reply share rest out)
+unfoldable pub further : Reply → List Float → Way → List Float → Written → Outcome
+further reply share way rest out = cond (ltb (length rest) 480) (atEnd reply share rest out) (paused reply share way rest out)
 
 -- ---- a piece
 
@@ -96,12 +98,12 @@ pieceRows share waiting samples out sums =
     ∷ 9 when not (good samples)
     ∷ []
 
-abbrev pub begun : List Float → ℕ → List Float → Outcome
-begun share waiting samples = further Done (waits share []) (waitingIn waiting share ++ samples) nothing
+abbrev pub begun : List Float → Way → ℕ → List Float → Outcome
+begun share way waiting samples = further Done (waits share []) way (waitingIn waiting share ++ samples) nothing
 
-unfoldable pub piece : List Float → ℕ → List Float → ℕ → ℕ → Outcome
-piece share waiting samples out sums =
-    refusing (pieceRows share waiting samples out sums) (λ n. refused (Refused n) share) (begun share waiting samples)
+unfoldable pub piece : List Float → Way → ℕ → List Float → ℕ → ℕ → Outcome
+piece share way waiting samples out sums =
+    refusing (pieceRows share waiting samples out sums) (λ n. refused (Refused n) share) (begun share way waiting samples)
 
 -- ---- a resume, of the frame under way
 
@@ -123,22 +125,22 @@ resumeRows share index piece progress samples logs out sums =
     5 when not (eqb (length share) SHARE) ∷ 5 when not (resumeFits index piece progress (length samples) logs out sums) ∷ []
 
 -- behind the lengths the model is tested, by 7 and 8, and the samples last
-abbrev pub lastTests : ℕ → ℕ → ℕ → List ℕ → Bool → Reply
-lastTests vad noise denoise model fine =
-    let reply = checked (counted vad noise denoise) (readOf model) in cond (passed reply) (cond fine Done (Refused 9)) reply
+abbrev pub lastTests : Hearing → List ℕ → Bool → Reply
+lastTests hearing model fine =
+    let reply = checked (counted hearing) (readOf model) in cond (passed reply) (cond fine Done (Refused 9)) reply
 
 -- its refusal, or Done
-unfoldable pub resumeReply : List Float → ℕ → ℕ → ℕ → ℕ → ℕ → ℕ → List Float → List Float → List ℕ → ℕ → ℕ → Reply
-resumeReply share index vad noise denoise piece progress samples logs model out sums =
-    refusing (resumeRows share index piece progress samples (length logs) out sums) Refused
-    (lastTests vad noise denoise model (good samples))
+unfoldable pub resumeReply : List Float → Hearing → ℕ → ℕ → List Float → List Float → List ℕ → ℕ → ℕ → Reply
+resumeReply share hearing piece progress samples logs model out sums =
+    refusing (resumeRows share (hearing .index) piece progress samples (length logs) out sums) Refused
+    (lastTests hearing model (good samples))
 
-abbrev pub resumed : List Float → ℕ → ℕ → ℕ → ℕ → ℕ → List Float → List Float → List ℕ → Outcome
-resumed share index vad noise denoise progress samples logs model =
-    let s = secondHalf (get framePart share) index vad noise denoise logs model 480 in
-    further (s .reply) (put framePart share (s .share)) (drop progress samples) (from (480 * (frameAt progress - 1)) (buffer s))
+abbrev pub resumed : List Float → Hearing → ℕ → List Float → List Float → List ℕ → Outcome
+resumed share hearing progress samples logs model =
+    let s = secondHalf (get framePart share) hearing logs model 480 in
+    further (s .reply) (put framePart share (s .share)) (hearing .way) (drop progress samples) (from (480 * (frameAt progress - 1)) (buffer s))
 
-unfoldable pub resume : List Float → ℕ → ℕ → ℕ → ℕ → ℕ → ℕ → List Float → List Float → List ℕ → ℕ → ℕ → Outcome
-resume share index vad noise denoise piece progress samples logs model out sums =
-    let reply = resumeReply share index vad noise denoise piece progress samples logs model out sums in
-    cond (passed reply) (resumed share index vad noise denoise progress samples logs model) (refused reply share)
+unfoldable pub resume : List Float → Hearing → ℕ → ℕ → List Float → List Float → List ℕ → ℕ → ℕ → Outcome
+resume share hearing piece progress samples logs model out sums =
+    let reply = resumeReply share hearing piece progress samples logs model out sums in
+    cond (passed reply) (resumed share hearing progress samples logs model) (refused reply share)

@@ -5,6 +5,7 @@ ghost use lib.ListN.{length};
 ghost use Rattle.pieces.specs.Pieces.{pieceFits, piece, PieceWorked};
 ghost use Rattle.pieces.specs.Parts.{pieceReply};
 use frame::Reply;
+use frame::Way;
 
 // Whether a piece of this size, with so many waiting, fits its buffers.
 pub fn piece_fits(waiting: usize, size: usize, out: usize, sums: usize) -> bool
@@ -47,13 +48,14 @@ fn piece_reply(share: &[f32], waiting: usize, samples: &[f32], out: usize, sums:
 // Its samples and those waiting wait, or the first 480 of them begin a frame, and 22 sums are written. Nothing is written to `out`.
 pub fn piece(
     share: &mut [f32],
+    way: Way,
     waiting: usize,
     samples: &[f32],
     out: &mut [f32],
     sums: &mut [f32],
 ) -> Reply
     ensures { λ r. ⌜ PieceWorked
-        (piece (now (share .entry)) waiting (now (samples .entry)) (length (now (out .entry))) (length (now (sums .entry))))
+        (piece (now (share .entry)) way waiting (now (samples .entry)) (length (now (out .entry))) (length (now (sums .entry))))
         r (now (share .exit)) (now (out .entry) ∷ now (sums .entry) ∷ []) (now (out .exit) ∷ now (sums .exit) ∷ []) ⌝ }
 {
     let reply = piece_reply(share, waiting, samples, out.len(), sums.len());
@@ -67,6 +69,6 @@ pub fn piece(
         return Reply::Done;
     }
     crate::waiting::empty(share);
-    crate::frames::enter(share, &first, sums);
+    crate::frames::enter(share, way, &first, sums);
     Reply::Done
 }

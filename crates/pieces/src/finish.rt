@@ -8,7 +8,9 @@ ghost use Rattle.rules.specs.Written.{nothing};
 ghost use Rattle.samples.specs.Samples.{good};
 ghost use Rattle.frame.specs.declared.Reply.the-variants.{Done};
 ghost use Rattle.pieces.specs.Pieces.{further, resumeFits, lastTests, resumeReply, resume, PieceWorked};
+use frame::Hearing;
 use frame::Reply;
+use frame::Way;
 
 // Whether a resume of the piece noted fits its buffers.
 fn resume_fits(
@@ -48,10 +50,10 @@ fn resume_fits(
 }
 
 // Refusals 7 to 9, behind the lengths, or Done.
-pub fn last_tests(vad: usize, noise: usize, denoise: usize, model: &[u8], fine: bool) -> Reply
-    ensures { λ r. ⌜ r ≡ lastTests vad noise denoise (now (model .entry)) fine ⌝ }
+pub fn last_tests(hearing: Hearing, model: &[u8], fine: bool) -> Reply
+    ensures { λ r. ⌜ r ≡ lastTests hearing (now (model .entry)) fine ⌝ }
 {
-    let reply = frame::check(model, vad, noise, denoise);
+    let reply = frame::check(model, hearing);
     if !frame::passed(reply) {
         return reply;
     }
@@ -64,10 +66,7 @@ pub fn last_tests(vad: usize, noise: usize, denoise: usize, model: &[u8], fine: 
 // Refusals 5 and 7 to 9 of a resume, or Done.
 fn resume_reply(
     share: &[f32],
-    index: usize,
-    vad: usize,
-    noise: usize,
-    denoise: usize,
+    hearing: Hearing,
     piece: usize,
     progress: usize,
     samples: &[f32],
@@ -77,22 +76,30 @@ fn resume_reply(
     sums: usize,
 ) -> Reply
     ensures { λ r. ⌜ r
-        ≡ resumeReply (now (share .entry)) index vad noise denoise piece progress
+        ≡ resumeReply (now (share .entry)) hearing piece progress
         (now (samples .entry)) (now (logs .entry)) (now (model .entry)) out sums ⌝ }
 {
     if share.len() != frame::SHARE {
         return Reply::Refused(5);
     }
-    if !resume_fits(index, piece, progress, samples.len(), logs.len(), out, sums) {
+    if !resume_fits(
+        hearing.index,
+        piece,
+        progress,
+        samples.len(),
+        logs.len(),
+        out,
+        sums,
+    ) {
         return Reply::Refused(5);
     }
-    last_tests(vad, noise, denoise, model, samples::all_good(samples))
+    last_tests(hearing, model, samples::all_good(samples))
 }
 
 // The samples from `from` on wait, or the first 480 of them begin a frame, and 22 sums are written.
-fn go_on(share: &mut [f32], samples: &[f32], from: usize, sums: &mut [f32])
+fn go_on(share: &mut [f32], way: Way, samples: &[f32], from: usize, sums: &mut [f32])
     requires { ⌜ (length (now share) ≡ 6144) × (from ≤ length (now samples)) × (good (now samples) ≡ true) × (length (now sums) ≡ 22) ⌝ }
-    ensures { λ _. ⌜ PieceWorked (further Done (now (share .entry)) (drop from (now (samples .entry))) nothing)
+    ensures { λ _. ⌜ PieceWorked (further Done (now (share .entry)) way (drop from (now (samples .entry))) nothing)
         Done (now (share .exit)) ([] ∷ now (sums .entry) ∷ []) ([] ∷ now (sums .exit) ∷ []) ⌝ }
 {
     if samples.len() - from < 480 {
@@ -100,17 +107,14 @@ fn go_on(share: &mut [f32], samples: &[f32], from: usize, sums: &mut [f32])
         return;
     }
     let end = from + 480;
-    crate::frames::enter(share, &samples[from..end], sums);
+    crate::frames::enter(share, way, &samples[from..end], sums);
 }
 
 // The frame under way is finished with its logarithms and written to its place of the output. The rest of the samples waits, or 480 of
 // them begin the next frame, and 22 sums are written. Silent, or heard with voice and energy.
 pub fn resume(
     share: &mut [f32],
-    index: usize,
-    vad: usize,
-    noise: usize,
-    denoise: usize,
+    hearing: Hearing,
     piece: usize,
     progress: usize,
     samples: &[f32],
@@ -120,16 +124,13 @@ pub fn resume(
     sums: &mut [f32],
 ) -> Reply
     ensures { λ r. ⌜ PieceWorked
-        (resume (now (share .entry)) index vad noise denoise piece progress
+        (resume (now (share .entry)) hearing piece progress
         (now (samples .entry)) (now (logs .entry)) (now (model .entry)) (length (now (out .entry))) (length (now (sums .entry))))
         r (now (share .exit)) (now (out .entry) ∷ now (sums .entry) ∷ []) (now (out .exit) ∷ now (sums .exit) ∷ []) ⌝ }
 {
     let reply = resume_reply(
         share,
-        index,
-        vad,
-        noise,
-        denoise,
+        hearing,
         piece,
         progress,
         samples,
@@ -142,7 +143,8 @@ pub fn resume(
         return reply;
     }
     let start = 480 * ((progress + 479) / 480 - 1);
-    let told = crate::frames::leave(share, index, vad, noise, denoise, logs, model, out, start);
-    go_on(share, samples, progress, sums);
+    let told = crate::frames::leave(share, hearing, logs, model, out, start);
+    let way = hearing.way;
+    go_on(share, way, samples, progress, sums);
     told
 }

@@ -11,50 +11,46 @@ ghost use Rattle.frame.specs.Reply.{passed};
 ghost use Rattle.frame.specs.Frame.{counted, checked};
 ghost use Rattle.halves.specs.Halves.{buffer, firstHalf, secondHalf};
 ghost use Rattle.pieces.specs.Pieces.{framePart};
+use frame::Hearing;
 use frame::PART;
 use frame::Reply;
+use frame::Way;
 
 // 480 samples begin a frame, and its sums are written.
-pub(crate) fn enter(share: &mut [f32], samples: &[f32], sums: &mut [f32])
+pub(crate) fn enter(share: &mut [f32], way: Way, samples: &[f32], sums: &mut [f32])
     requires { ⌜ (length (now share) ≡ 6144) × (length (now samples) ≡ 480) × (good (now samples) ≡ true) × (length (now sums) ≡ 22) ⌝ }
     ensures { λ _. ⌜ now (share .exit)
-        ≡ put framePart (now (share .entry)) (firstHalf (get framePart (now (share .entry))) (now (samples .entry)) 22 .share) ⌝ }
-    ensures { λ _. ⌜ now (sums .exit) ≡ buffer (firstHalf (get framePart (now (share .entry))) (now (samples .entry)) 22) ⌝ }
+        ≡ put framePart (now (share .entry)) (firstHalf (get framePart (now (share .entry))) way (now (samples .entry)) 22 .share) ⌝ }
+    ensures { λ _. ⌜ now (sums .exit) ≡ buffer (firstHalf (get framePart (now (share .entry))) way (now (samples .entry)) 22) ⌝ }
 {
-    halves::first_half(&mut share[0..PART], samples, sums);
+    halves::first_half(&mut share[0..PART], way, samples, sums);
 }
 
 // The frame under way is finished, and written from `start` on.
 pub(crate) fn leave(
     share: &mut [f32],
-    index: usize,
-    vad: usize,
-    noise: usize,
-    denoise: usize,
+    hearing: Hearing,
     logs: &[f32],
     model: &[u8],
     out: &mut [f32],
     start: usize,
 ) -> Reply
-    requires { ⌜ (length (now share) ≡ 6144) × (index ≤ 7) × (length (now logs) ≡ 22) × (start + 480 ≤ length (now out)) ⌝ }
-    requires { ⌜ passed (checked (counted vad noise denoise) (readOf (now model))) ≡ true ⌝ }
+    requires { ⌜ (length (now share) ≡ 6144) × (hearing .index ≤ 7) × (length (now logs) ≡ 22) × (start + 480 ≤ length (now out)) ⌝ }
+    requires { ⌜ passed (checked (counted hearing) (readOf (now model))) ≡ true ⌝ }
     ensures { λ r. ⌜ r
-        ≡ secondHalf (get framePart (now (share .entry))) index vad noise denoise (now (logs .entry)) (now (model .entry)) 480 .reply ⌝ }
+        ≡ secondHalf (get framePart (now (share .entry))) hearing (now (logs .entry)) (now (model .entry)) 480 .reply ⌝ }
     ensures { λ _. ⌜ now (share .exit)
         ≡ put framePart (now (share .entry))
-        (secondHalf (get framePart (now (share .entry))) index vad noise denoise (now (logs .entry)) (now (model .entry)) 480 .share) ⌝ }
+        (secondHalf (get framePart (now (share .entry))) hearing (now (logs .entry)) (now (model .entry)) 480 .share) ⌝ }
     ensures { λ _. ⌜ now (out .exit)
         ≡ over (from start
-        (buffer (secondHalf (get framePart (now (share .entry))) index vad noise denoise (now (logs .entry)) (now (model .entry)) 480)))
+        (buffer (secondHalf (get framePart (now (share .entry))) hearing (now (logs .entry)) (now (model .entry)) 480)))
         (now (out .entry)) ⌝ }
 {
     let end = start + 480;
     halves::second_half(
         &mut share[0..PART],
-        index,
-        vad,
-        noise,
-        denoise,
+        hearing,
         logs,
         model,
         &mut out[start..end],

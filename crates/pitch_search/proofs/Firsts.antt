@@ -1,16 +1,19 @@
--- The first pitch of `find_best_pitch`: one of the lags tried, and 0 where no correlation is positive. Assumes nothing.
+-- The pitches of `find_best_pitch`: both are lags that were tried, and the first is 0 where no correlation is positive. Assumes nothing.
 use mathlib.Core.Path.{_≡_, refl, ap, _∙_}
 use mathlib.Core.Bool.{Bool, true, false}
+use mathlib.Core.List.{List}
 use Prim.Native.Nat.{ℕ, _<_}
+use native.Mathlib.Omega.{arith}
 use lib.Ieee.{Float, neg, lt}
 use lib.ListN.{length}
 use Rattle.rules.specs.F32.{_⊗_, at, f32, one}
 use Rattle.rules.proofs.Runs.{kept}
-use Rattle.pitch_search.specs.Best.{Search, searched, startNorm, considered, slid, pitchStep, best}
-use Rattle.pitch_search.specs.Laws.{FirstIsTried, FirstOfNone}
+use Rattle.pitch_search.specs.Best.{Search, searched, startNorm, considered, slid, pitchStep, best, bestOf, firstOf, secondOf}
+use Rattle.pitch_search.specs.Laws.{FirstIsTried, SecondIsTried, FirstOfNone}
 
+-- below n, and the second where there are two
 abbrev Below : ℕ → Search → Type 0
-Below n b = b .bestPitch < n
+Below n b = (b .bestPitch < n) × (1 < n → b .secondBestPitch < n)
 
 -- by the three tests of `considered`
 tested : (n : ℕ) (corr : Float) (i : ℕ) (b : Search) → i < n → Below n b → (x y z : Bool) → lt (f32 0) corr ≡ x → lt (b .secondBestNum ⊗ b .ySqNorm) (corr ⊗ corr ⊗ b .secondBestDen) ≡ y
@@ -18,18 +21,24 @@ tested : (n : ℕ) (corr : Float) (i : ℕ) (b : Search) → i < n → Below n b
 unfolding considered
 tested n corr i b h p false y z e f g = rw e p
 tested n corr i b h p true false z e f g = rw (e, f) p
-tested n corr i b h p true true true e f g = rw (e, f, g) h
-tested n corr i b h p true true false e f g = rw (e, f, g) p
+tested n corr i b h p true true true e f g = rw (e, f, g) (h, λ two. p .0)
+tested n corr i b h p true true false e f g = rw (e, f, g) (p .0, λ two. h)
 
 passed : (corr : Float) (i : ℕ) (b : Search) → lt (f32 0) corr ≡ false → considered corr i b ≡ b
 unfolding considered
 passed corr i b e = rw e
 
-pub first-below : FirstIsTried
+both-below : (xcorr ys : List Float) (len : ℕ) → 0 < length xcorr → let n = length xcorr in (firstOf (bestOf xcorr ys len) < n) × (1 < n → secondOf (bestOf xcorr ys len) < n)
 unfolding best slid
-first-below xcorr ys len h =
+both-below xcorr ys len h =
     kept (pitchStep xcorr ys len) (Below (length xcorr)) (length xcorr) (searched (neg one) (neg one) (f32 0) (f32 0) 0 1 (startNorm ys len))
-    (λ i b room p. tested (length xcorr) (at xcorr i) i b room p _ _ _ refl refl refl) h
+    (λ i b room p. tested (length xcorr) (at xcorr i) i b room p _ _ _ refl refl refl) (h, λ two. two)
+
+pub first-below : FirstIsTried
+first-below xcorr ys len h = both-below xcorr ys len h .0
+
+pub second-below : SecondIsTried
+second-below xcorr ys len h = both-below xcorr ys len (omega arith) .1 h
 
 pub first-none : FirstOfNone
 unfolding best slid

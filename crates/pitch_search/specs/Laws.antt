@@ -1,4 +1,4 @@
--- What is claimed of the first pitch of `find_best_pitch`. The proofs are in proofs/Firsts.
+-- What is claimed of the two pitches of `find_best_pitch`. The proofs are in proofs/Firsts.
 use mathlib.Core.Path.{_≡_}
 use mathlib.Core.Bool.{false}
 use mathlib.Core.List.{List}
@@ -6,13 +6,17 @@ use Prim.Native.Nat.{ℕ, _<_}
 use lib.Ieee.{Float, lt}
 use lib.ListN.{length}
 use Rattle.rules.specs.F32.{at, f32}
-use Rattle.pitch_search.specs.Best.{bestOf, firstOf}
+use Rattle.pitch_search.specs.Best.{bestOf, firstOf, secondOf}
 
--- it is one of the lags tried
+-- the first is one of the lags tried
 abbrev pub FirstIsTried : Type 0
 FirstIsTried = (xcorr ys : List Float) (len : ℕ) → 0 < length xcorr → firstOf (bestOf xcorr ys len) < length xcorr
 
--- and 0 where no correlation is positive
+-- so is the second, where there are two
+abbrev pub SecondIsTried : Type 0
+SecondIsTried = (xcorr ys : List Float) (len : ℕ) → 1 < length xcorr → secondOf (bestOf xcorr ys len) < length xcorr
+
+-- the first is 0 where no correlation is positive
 abbrev pub FirstOfNone : Type 0
 FirstOfNone =
     (xcorr ys : List Float) (len : ℕ)

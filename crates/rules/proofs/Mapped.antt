@@ -12,7 +12,7 @@ use Rattle.rules.proofs.Fused.{eachPlace, each-tab}
 use Rattle.rules.proofs.Loops.{turns}
 use Rattle.rules.proofs.Tabs.{tab-id}
 
-module _ {A : Type 0} (g : A → A) (z : A) where
+module _ {A B : Type 0} (g : A → B) (z : A) where
   map-tab : (n : ℕ) (f : ℕ → A) → map g (tab n f) ≡ tab n (λ i. g (f i))
   unfolding tab
   map-tab zero f = refl
@@ -21,8 +21,9 @@ module _ {A : Type 0} (g : A → A) (z : A) where
   pub tab-map : (d : List A) → tab (length d) (λ i. g (getD d i z)) ≡ map g d
   tab-map d = sym (map-tab (length d) (λ i. getD d i z)) ∙ ap (map g) (tab-id d z)
 
+module _ {A : Type 0} (g : A → A) (z : A) where
   pub each-map : (d : List A) → loop (length d) (eachPlace z (λ j a. g a)) d ≡ map g d
-  each-map d = each-tab z (λ j a. g a) d ∙ tab-map d
+  each-map d = each-tab z (λ j a. g a) d ∙ tab-map g z d
 
   module _ (d : List A) where
     abbrev pub Mapping : ℕ → List A → Type 0
@@ -35,6 +36,6 @@ module _ {A : Type 0} (g : A → A) (z : A) where
     mapping-more i h room e = filling-more (λ k. g (getD d k z)) d i h room (e ∙ ap g (filling-ahead (λ k. g (getD d k z)) d i i z h (omega arith)))
 
     pub mapping-ended : (i n : ℕ) {now : List A} → i ≤ n → n ≤ i → length d ≡ n → Mapping i now → now ≡ map g d
-    mapping-ended i n below above size h = filling-ended (λ k. g (getD d k z)) d i n below above size h ∙ rw (← size) (tab-map d)
+    mapping-ended i n below above size h = filling-ended (λ k. g (getD d k z)) d i n below above size h ∙ rw (← size) (tab-map g z d)
 
 pub ruleset maps = (mapping-begin, mapping-more, mapping-ended, turns)

@@ -9,14 +9,15 @@ use borrow.Author.Tests.{le-ltb, ltb-false, eqb-true, not-true, not-false}
 use lib.Dec.{eqb, ltb}
 use lib.ListN.{length, getD, take, drop, length-drop, take-append-drop}
 use lib.Seq.{take-all, getD-drop, drop-drop, take-add}
+use Rattle.rules.specs.Lists.{sum, Bytes}
 use Rattle.rules.specs.Tab.{tab}
 use Rattle.rules.proofs.Refused.{Clear, by-rows}
 use Rattle.rules.proofs.Tabs.{tab-getD}
 use Rattle.rules.proofs.Truth.{both, neither}
-use Rattle.sheet.specs.Sheet.{four, sum, kind, recordOf, recordsOf, trailerOf, bytesOf}
+use Rattle.sheet.specs.Sheet.{four, kind, recordOf, recordsOf, trailerOf, bytesOf}
 use Rattle.sheet.specs.End.{fromFour, zeros, good, run, entryOf, entriesOf, trailer, distance, number, sideByte, padded, sumNoted, start, records, faults, End, sheet, refused, endOf}
 use Rattle.sheet.specs.Written.{kinds}
-use Rattle.sheet.proofs.Digits.{Bytes, four-of, above, four-mod}
+use Rattle.sheet.proofs.Digits.{four-of, above, four-mod}
 use Rattle.sheet.proofs.Fields.{zeros-at}
 use Rattle.sheet.proofs.Halves.{ends-at, low-side, behind, length-entries}
 use Rattle.sheet.proofs.Inverse.{Fits}

@@ -4,7 +4,6 @@ use mathlib.Core.List.{List, [], _∷_, _++_}
 use Prim.Native.Nat.{ℕ, _+_, _*_, _/_, _%_, _<_}
 use native.Mathlib.Nat.{add-zero, div-div-eq-div-mul}
 use native.Mathlib.Omega.{arith}
-use lib.ListN.{getD}
 use Rattle.sheet.specs.Sheet.{four}
 use Rattle.sheet.specs.End.{fromFour}
 
@@ -28,10 +27,6 @@ small n = omega arith
 pub four-read : (n : ℕ) (rest : List ℕ) → fromFour (four n ++ rest) ≡ n % 4294967296
 unfolding fromFour four
 four-read n rest = low _ _ (digits n)
-
--- every element is a byte
-abbrev pub Bytes : List ℕ → Type 0
-Bytes s = (i : ℕ) → getD s i 0 < 256
 
 -- four bytes are those of their number, whatever is above it
 module _ (a b c d k : ℕ) (ha : a < 256) (hb : b < 256) (hc : c < 256) (hd : d < 256) where

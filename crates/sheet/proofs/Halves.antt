@@ -8,11 +8,11 @@ use borrow.Author.Tests.{lt-ltb, le-ltb, eq-eqb, ne-eqb, le-leb, lt-leb, ltb-fal
 use lib.ListN.{length, getD, take, drop, length-take, length-drop}
 use lib.Seq.{take-all, getD-drop, drop-drop}
 use Rattle.rules.specs.Leaf.{_leaving_}
+use Rattle.rules.specs.Lists.{sum}
 use Rattle.rules.specs.Refusals.{Row, _when_, refusing}
 use Rattle.rules.proofs.Refused.{Clear, by-rows}
 use Rattle.rules.proofs.Rows.{along}
 use Rattle.rules.proofs.Truth.{neither}
-use Rattle.sheet.specs.Sheet.{sum}
 use Rattle.sheet.specs.End.{fromFour, run, entryOf, entriesOf, distance, number, sideByte, padded, zeros, sumNoted, start, records, faults, End, sheet, refused, endOf, readingOf, readOf}
 use Rattle.sheet.specs.Asked.{entryIn}
 use Rattle.sheet.specs.Parts.{pointed, Pointed, checked}

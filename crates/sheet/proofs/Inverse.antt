@@ -7,10 +7,11 @@ use native.Mathlib.Omega.{arith}
 use borrow.Author.Tests.{le-ltb, eq-eqb, ltb-false, not-false}
 use lib.ListN.{length, getD, take, drop, length-append}
 use lib.Seq.{take-at, drop-at, take-append-seam, drop-append-seam}
+use Rattle.rules.specs.Lists.{sum}
 use Rattle.rules.proofs.Refused.{Clear, clear}
-use Rattle.sheet.specs.Sheet.{four, sum, Sheet, kind, recordOf, recordsOf, trailerOf, bytesOf}
+use Rattle.sheet.specs.Sheet.{four, Sheet, kind, recordOf, recordsOf, trailerOf, bytesOf}
 use Rattle.sheet.specs.End.{fromFour, zeros, good, run, entryOf, entriesOf, trailer, distance, number, sideByte, padded, sumNoted, start, records, faults, sheet, refused, endOf, readingOf, readOf}
-use Rattle.sheet.specs.Written.{kinds, obstacles}
+use Rattle.sheet.specs.Written.{kinds, writtenFaults}
 use Rattle.sheet.specs.declared.Reading.the-variants.{Good}
 use Rattle.sheet.proofs.Digits.{digits, four-read}
 use Rattle.sheet.proofs.Runs.{first-heard}
@@ -23,7 +24,7 @@ pub record Fits (sh : Sheet) : Type 0 where
   pub heard : kinds (sh .entries) ≡ true
 
 -- what the writer does not refuse fits
-pub unhindered : (sh : Sheet) (room : ℕ) → Clear (obstacles sh room) → Fits sh
+pub unhindered : (sh : Sheet) (room : ℕ) → Clear (writtenFaults sh room) → Fits sh
 unhindered sh room h = record { few = ltb-false _ _ (h .0); known = ltb-false _ _ (h .1 .0); heard = not-false _ (h .1 .1 .0) }
 
 -- ---- what is written reads

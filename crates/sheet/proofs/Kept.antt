@@ -1,6 +1,4 @@
--- The run of good records that mending keeps. Assumes nothing.
---     no-longer     no longer run of good records of one side stands in front
---     ends-there    what stands behind it is no good record of its side
+-- The run of good records that mending keeps: no longer one of one side stands in front (`no-longer`). Assumes nothing.
 use mathlib.Core.Path.{_≡_, refl, ap}
 use mathlib.Core.Bool.{Bool, true, false, cond}
 use mathlib.Core.List.{List}
@@ -9,11 +7,10 @@ use native.Mathlib.Omega.{arith}
 use borrow.Author.Tests.{lt-ltb, le-ltb, ltb-false}
 use lib.Dec.{ltb}
 use lib.ListN.{length, getD, take, drop}
-use lib.Seq.{drop-drop}
+use Rattle.rules.specs.Lists.{Bytes}
 use Rattle.sheet.specs.Sheet.{recordsOf}
 use Rattle.sheet.specs.End.{good, run, entriesOf}
 use Rattle.sheet.specs.Mended.{kept, torn}
-use Rattle.sheet.proofs.Digits.{Bytes}
 use Rattle.sheet.proofs.Halves.{length-entries}
 use Rattle.sheet.proofs.Inverse.{Fits}
 use Rattle.sheet.proofs.Back.{side-good, run-good, records-back}
@@ -48,20 +45,6 @@ longest side (suc k) zero s e h = absurd (omega arith)
 longest side (suc k) (suc m) s e h =
     let g = run-good side k s e in
     rw (g .0) (omega (arith, longest side k m (drop 8 s) (g .1) (omega arith)))
-
-stops : (side m : ℕ) (s : List ℕ) → run side m s < m → good side (drop (8 * run side m s) s) ≡ false
-unfolding run
-stops side zero s h = absurd (omega arith)
-stops side (suc m) s h = of (good side s) refl h (stops side m (drop 8 s))
-  where
-    of : (t : Bool) → good side s ≡ t → cond t (suc (run side m (drop 8 s))) 0 < suc m
-        → (run side m (drop 8 s) < m → good side (drop (8 * run side m (drop 8 s)) (drop 8 s)) ≡ false)
-        → good side (drop (8 * cond t (suc (run side m (drop 8 s))) 0) s) ≡ false
-    of true g h ih =
-        let n = run side m (drop 8 s) in
-        let next : 8 * suc n ≡ 8 + 8 * n = omega arith in
-        rw (next, ← drop-drop (8 * n) 8 s) (ih (omega arith))
-    of false g h ih = g
 
 -- ---- what is kept
 
@@ -123,6 +106,3 @@ module _ (s : List ℕ) where
   no-longer side (suc m) h room e =
       let same : getD s 5 0 ≡ side = side-good side s (run-good side m s e .0) in
       rw (kept-run (omega arith), same) (longest side (suc m) (length s / 8) s e (omega arith))
-
-  pub ends-there : getD s 5 0 ≤ 1 → kept s < length s / 8 → good (getD s 5 0) (drop (8 * kept s) s) ≡ false
-  ends-there h more = rw (kept-run h) (stops (getD s 5 0) (length s / 8) s (rw (kept-run h) at more))

@@ -6,7 +6,8 @@ use native.Mathlib.Numerals.{add-one}
 use native.Mathlib.Omega.{arith}
 use lib.ListN.{length, getD, take, drop, length-append, length-take, length-drop, drop-of-length-le}
 use lib.Seq.{take-at, drop-at, drop-drop, take-suc, take-all, take-take}
-use Rattle.sheet.specs.Sheet.{four, sum, recordOf, recordsOf, trailerOf, Sheet, bytesOf, sizeOf}
+use Rattle.rules.specs.Lists.{sum}
+use Rattle.sheet.specs.Sheet.{four, recordOf, recordsOf, trailerOf, Sheet, bytesOf, sizeOf}
 use Rattle.sheet.specs.Parts.{closed}
 
 pub length-record : (side e : ℕ) → length (recordOf side e) ≡ 8

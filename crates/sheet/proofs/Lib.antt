@@ -6,6 +6,7 @@ pub mod Laying
 pub mod InRow
 pub mod Inverse
 pub mod Back
+pub mod Written
 pub mod Kept
 pub mod Mending
 pub mod Examples

@@ -1,74 +1,113 @@
--- Mending. Assumes nothing.
---     copied-as-it-is     a file that reads with its records starting at the place is written byte for byte
---     mended-reads        what is written reads, with its records starting at the place and as many as are told
+-- Mending: what is claimed of it (`mends`), and how its code comes to the answer. Assumes nothing.
 use mathlib.Core.Path.{_≡_, refl, sym, ap, _∙_}
-use mathlib.Core.Bool.{Bool, true, false, not, cond, _&&_}
-use mathlib.Core.List.{List, _++_, append-assoc}
+use mathlib.Core.Bool.{Bool, true, false, not, cond, _&&_, true≢false}
+use mathlib.Core.List.{List, [], _∷_, _++_, append-assoc}
 use Prim.Native.Nat.{ℕ, _+_, _*_, _-_, _≤_}
 use native.Mathlib.Omega.{arith}
 use borrow.Author.Tests.{le-ltb, eq-eqb, ne-eqb, ltb-false, eqb-false}
 use lib.Dec.{eqb, ltb}
 use lib.ListN.{length, getD, take, drop, length-append, length-take, length-drop}
-use lib.Seq.{take-all, take-at, drop-at, drop-drop, take-take, take-add}
-use Rattle.rules.proofs.Refused.{Clear}
-use Rattle.sheet.specs.Sheet.{sum, trailerOf, bytesOf}
+use lib.Seq.{take-all, take-at, drop-at, take-append-seam, drop-append-seam, drop-drop, take-take, take-add}
+use Rattle.rules.specs.Leaf.{_leaving_}
+use Rattle.rules.specs.Lists.{sum, Bytes}
+use Rattle.rules.specs.Refusals.{_when_, refusing}
+use Rattle.rules.proofs.Refused.{Clear, clear}
+use Rattle.rules.proofs.Cleared.{none-held}
+use Rattle.sheet.specs.Sheet.{trailerOf, bytesOf}
 use Rattle.sheet.specs.End.{readOf}
-use Rattle.sheet.specs.Mended.{kept, torn, readsAt, recordsIn, Mended, mended, hindrances, mendOf}
-use Rattle.sheet.specs.Parts.{closed, copied, anew}
+use Rattle.sheet.specs.Mended.{kept, torn, readsAt, recordsIn, Mended, mended, mendFaults, mendOf}
+use Rattle.sheet.specs.Laws.{MendedTo, Mends}
+use Rattle.sheet.specs.Parts.{closed, copied}
 use Rattle.sheet.specs.declared.Reading.the-variants.{Good, Refused}
-use Rattle.sheet.proofs.Digits.{Bytes}
 use Rattle.sheet.proofs.Halves.{length-entries}
 use Rattle.sheet.proofs.Laying.{length-records, length-trailer}
 use Rattle.sheet.proofs.Inverse.{Fits, read-back}
 use Rattle.sheet.proofs.Back.{drop-bytes}
-use Rattle.sheet.proofs.Kept.{kept-room, torn-back, torn-fits}
+use Rattle.sheet.proofs.Kept.{kept-room, torn-back, torn-fits, no-longer}
 
--- ---- laws
+-- ---- what is written
 
-pub copied-as-it-is : (s : List ℕ) (place : ℕ) → readsAt place (readOf s) ≡ true → mended s place .bytes ≡ s
-unfolding mended
-copied-as-it-is s place e = rw e
+-- bytes that read are copied
+copied-to : (s : List ℕ) (place : ℕ) → readsAt place (readOf s) ≡ true → MendedTo s place (recordsIn (readOf s)) s
+copied-to s place e = record { reads = e; counts = refl; keeps = refl; copies = λ _. refl; longest = λ torn. absurd (true≢false (sym e ∙ torn)) }
 
--- bytes that read with so many records from a place on
-pub record Stands (place : ℕ) (m : Mended) : Type 0 where
-  pub reads : readsAt place (readOf (m .bytes)) ≡ true
-  pub counts : recordsIn (readOf (m .bytes)) ≡ m .records
-
-anew-stands : (s : List ℕ) (place : ℕ) → place ≤ length s → Fits (torn (drop place s))
-    → Stands place (record { bytes = take place s ++ bytesOf (torn (drop place s)); records = kept (drop place s) })
-anew-stands s place h fits =
+-- and else the run behind the audio is kept
+run-to : (s : List ℕ) (place : ℕ) → Bytes s → place ≤ length s → readsAt place (readOf s) ≡ false → Fits (torn (drop place s))
+    → MendedTo s place (kept (drop place s)) (take place s ++ bytesOf (torn (drop place s)))
+run-to s place b h torn-so fits =
     let front : length (take place s) ≡ place = simp length-take (omega arith) in
     let back = read-back (take place s) (torn (drop place s)) fits in
-    record { reads = rw back (eq-eqb (length (take place s)) place front); counts = rw back (length-entries (kept (drop place s)) (drop place s)) }
+    record {
+      reads = rw back (eq-eqb (length (take place s)) place front);
+      counts = rw back (length-entries (kept (drop place s)) (drop place s));
+      keeps = keeps;
+      copies = λ e. absurd (true≢false (sym e ∙ torn-so));
+      longest = λ _. no-longer (drop place s);
+    }
+  where
+    keeps : take (place + 8 * kept (drop place s)) (take place s ++ bytesOf (torn (drop place s))) ≡ take (place + 8 * kept (drop place s)) s
+    keeps =
+        let n = kept (drop place s) in
+        let a = take place s in
+        let r = take (8 * n) (drop place s) in
+        let t = trailerOf (length (torn (drop place s) .entries)) (torn (drop place s) .side) (sum r) in
+        let long : length (a ++ r) ≡ place + 8 * n = simp (length-append, length-take, length-drop) (omega (arith, kept-room (drop place s), length-drop place s)) in
+        rw (torn-back (drop place s) (drop-bytes place s b), ← append-assoc a r t, take-at (a ++ r) t (place + 8 * n) long) (sym (take-add place (8 * n) s))
 
-pub mended-reads : (s : List ℕ) (place : ℕ) (numbers out : List ℕ) → Bytes s → Clear (hindrances s place numbers out) → Stands place (mended s place)
+mended-to : (s : List ℕ) (place : ℕ) (numbers out : List ℕ) → Bytes s → Clear (mendFaults s place numbers out)
+    → MendedTo s place (mended s place .records) (mended s place .bytes)
 unfolding mended
-mended-reads s place numbers out b h = of (readsAt place (readOf s)) refl (h .1 .1 .0) (h .1 .1 .1 .0)
+mended-to s place numbers out b h = of (readsAt place (readOf s)) refl (h .1 .1 .0) (h .1 .1 .1 .0)
   where
     of : (t : Bool) → readsAt place (readOf s) ≡ t → not t && eqb (kept (drop place s)) 0 ≡ false → not t && ltb 536870911 (kept (drop place s)) ≡ false
-        → Stands place (cond t (record { bytes = s; records = recordsIn (readOf s) })
-        (record { bytes = take place s ++ bytesOf (torn (drop place s)); records = kept (drop place s) }))
-    of true e none many = record { reads = e; counts = refl }
+        → let m : Mended = cond t (record { bytes = s; records = recordsIn (readOf s) }) (record { bytes = take place s ++ bytesOf (torn (drop place s)); records = kept (drop place s) }) in
+        MendedTo s place (m .records) (m .bytes)
+    of true e none many = copied-to s place e
     of false e none many =
-        anew-stands s place (ltb-false (length s) place (h .1 .0))
+        run-to s place b (ltb-false (length s) place (h .1 .0)) e
         (torn-fits (drop place s) (drop-bytes place s b) (eqb-false _ _ none) (ltb-false _ _ many))
 
+pub mends : Mends
+unfolding mendOf
+mends s place numbers out told after b e =
+    let m = mended s place in
+    let rows = mendFaults s place numbers out in
+    let right : ℕ × (List ℕ × List ℕ) = (0 leaving length (m .bytes) ∷ m .records ∷ [] leaving m .bytes ++ drop (length (m .bytes)) out) in
+    let c = none-held (λ (p : ℕ × (List ℕ × List ℕ)). p .0) (λ r. r leaving numbers leaving out) right (λ n. refl) rows tt (ap (λ (p : ℕ × (List ℕ × List ℕ)). p .0) (sym e)) in
+    let done : (0 leaving told leaving after) ≡ right = e ∙ clear (λ r. r leaving numbers leaving out) right rows c in
+    rw (
+      ap (λ (p : ℕ × (List ℕ × List ℕ)). p .1 .0) done,
+      ap (λ (p : ℕ × (List ℕ × List ℕ)). p .1 .1) done,
+      take-append-seam (m .bytes) (drop (length (m .bytes)) out),
+      drop-append-seam (m .bytes) (drop (length (m .bytes)) out),
+    )
+    (mended-to s place numbers out b c, refl)
+
 -- ---- the two ways to the answer
+
+-- a run of records mended, by the last three refusals
+abbrev pub anew : List ℕ → ℕ → List ℕ → List ℕ → ℕ × (List ℕ × List ℕ)
+anew s place numbers out =
+    let n = kept (drop place s) in
+    let bytes = take place s ++ bytesOf (torn (drop place s)) in
+    refusing (38 when eqb n 0 ∷ 32 when ltb 536870911 n ∷ 36 when ltb (length out) (length bytes) ∷ []) (λ r. r leaving numbers leaving out)
+    (0 leaving length bytes ∷ n ∷ [] leaving bytes ++ drop (length bytes) out)
+
+module _ (s : List ℕ) (place : ℕ) where
+  pub read-elsewhere : {start n side : ℕ} → Good start n side ≡ readOf s → (start ≡ place → ⊥) → readsAt place (readOf s) ≡ false
+  read-elsewhere {start} e h = rw (← e) (ne-eqb start place h)
+
+  pub not-read : {n : ℕ} → Refused n ≡ readOf s → readsAt place (readOf s) ≡ false
+  not-read e = rw (← e)
 
 module _ (s : List ℕ) (place : ℕ) (numbers out : List ℕ) (two : length numbers ≡ 2) (within : place ≤ length s) where
   pub by-copy : {n side : ℕ} → Good place n side ≡ readOf s → copied s n numbers out ≡ mendOf s place numbers out
   unfolding mendOf mended
   by-copy e = rw (eq-eqb (length numbers) 2 two, le-ltb (length s) place within, ← e, eq-eqb place place refl)
 
-  by-run : readsAt place (readOf s) ≡ false → anew s place numbers out ≡ mendOf s place numbers out
+  pub by-run : readsAt place (readOf s) ≡ false → anew s place numbers out ≡ mendOf s place numbers out
   unfolding mendOf mended
   by-run e = rw (eq-eqb (length numbers) 2 two, le-ltb (length s) place within, e)
-
-  pub by-run-elsewhere : {start n side : ℕ} → Good start n side ≡ readOf s → (start ≡ place → ⊥) → anew s place numbers out ≡ mendOf s place numbers out
-  by-run-elsewhere {start} e h = by-run (rw (← e) (ne-eqb start place h))
-
-  pub by-run-refused : {n : ℕ} → Refused n ≡ readOf s → anew s place numbers out ≡ mendOf s place numbers out
-  by-run-refused e = by-run (rw (← e))
 
 -- ---- a run laid into a buffer
 

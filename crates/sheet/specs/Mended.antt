@@ -38,8 +38,8 @@ mended s place =
     cond (readsAt place (readOf s)) (record { bytes = s; records = recordsIn (readOf s) }) (record { bytes = take place s ++ bytesOf (torn rest); records = kept rest })
 
 -- the refusals, in order
-abbrev pub hindrances : List ℕ → ℕ → List ℕ → List ℕ → List Row
-hindrances s place numbers out =
+abbrev pub mendFaults : List ℕ → ℕ → List ℕ → List ℕ → List Row
+mendFaults s place numbers out =
     let anew = not (readsAt place (readOf s)) in
     let n = kept (drop place s) in
     5 when not (eqb (length numbers) 2)
@@ -53,5 +53,5 @@ hindrances s place numbers out =
 unfoldable pub mendOf : List ℕ → ℕ → List ℕ → List ℕ → ℕ × (List ℕ × List ℕ)
 mendOf s place numbers out =
     let m = mended s place in
-    refusing (hindrances s place numbers out) (λ r. r leaving numbers leaving out)
+    refusing (mendFaults s place numbers out) (λ r. r leaving numbers leaving out)
     (0 leaving length (m .bytes) ∷ m .records ∷ [] leaving m .bytes ++ drop (length (m .bytes)) out)

@@ -2,13 +2,13 @@
 use mathlib.Core.Path.{_≡_}
 use mathlib.Core.List.{List, [], _∷_, _++_}
 use Prim.Native.Nat.{ℕ, _+_, _*_, _≤_, _<_, _^_}
-use lib.Dec.{eqb, ltb}
+use lib.Dec.{ltb}
 use lib.ListN.{length, take, drop, getD}
 use Rattle.rules.specs.Leaf.{_leaving_}
+use Rattle.rules.specs.Lists.{sum}
 use Rattle.rules.specs.Refusals.{_when_, refusing}
-use Rattle.sheet.specs.Sheet.{kind, sum, trailerOf, bytesOf}
+use Rattle.sheet.specs.Sheet.{kind, trailerOf}
 use Rattle.sheet.specs.End.{number, sideByte, start, faults}
-use Rattle.sheet.specs.Mended.{kept, torn}
 use Rattle.sheet.specs.declared.Reading.{Reading}
 use Rattle.sheet.specs.declared.Reading.the-variants.{Good, Refused}
 
@@ -41,15 +41,8 @@ Kinds es = (i : ℕ) → kind (getD es i 0) ≤ 1
 abbrev pub closed : ℕ → ℕ → List ℕ → List ℕ
 closed n side out = let rs = take (8 * n) out in rs ++ trailerOf n side (sum rs)
 
--- a file copied, and a run of records mended, into a buffer
+-- a file copied into a buffer
 abbrev pub copied : List ℕ → ℕ → List ℕ → List ℕ → ℕ × (List ℕ × List ℕ)
 copied s n numbers out =
     refusing (36 when ltb (length out) (length s) ∷ []) (λ r. r leaving numbers leaving out)
     (0 leaving length s ∷ n ∷ [] leaving s ++ drop (length s) out)
-
-abbrev pub anew : List ℕ → ℕ → List ℕ → List ℕ → ℕ × (List ℕ × List ℕ)
-anew s place numbers out =
-    let n = kept (drop place s) in
-    let bytes = take place s ++ bytesOf (torn (drop place s)) in
-    refusing (38 when eqb n 0 ∷ 32 when ltb 536870911 n ∷ 36 when ltb (length out) (length bytes) ∷ []) (λ r. r leaving numbers leaving out)
-    (0 leaving length bytes ∷ n ∷ [] leaving bytes ++ drop (length bytes) out)

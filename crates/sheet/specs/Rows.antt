@@ -5,8 +5,9 @@ use mathlib.Core.List.{List, [], _∷_, _++_}
 use lib.Dec.{eqb, ltb}
 use lib.ListN.{length, getD, drop}
 use Rattle.rules.specs.Leaf.{_leaving_}
+use Rattle.rules.specs.Lists.{sum}
 use Rattle.rules.specs.Refusals.{Row, _when_, refusing}
-use Rattle.sheet.specs.Sheet.{sum, recordsOf, trailerOf}
+use Rattle.sheet.specs.Sheet.{recordsOf, trailerOf}
 use Rattle.sheet.specs.Written.{kinds}
 
 -- how many records there are so far, and the sum of their bytes, of 32 bits

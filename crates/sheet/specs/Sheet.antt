@@ -2,14 +2,11 @@
 use Prim.Native.Nat.{ℕ, _+_, _*_, _/_, _%_}
 use mathlib.Core.List.{List, [], _∷_, _++_}
 use lib.ListN.{length}
+use Rattle.rules.specs.Lists.{sum}
 
 -- a number as four bytes, little end first: modulo 2^32
 unfoldable pub four : ℕ → List ℕ
 four n = n % 256 ∷ n / 256 % 256 ∷ n / 65536 % 256 ∷ n / 16777216 % 256 ∷ []
-
-abbrev pub sum : List ℕ → ℕ
-sum [] = 0
-sum (b ∷ bs) = b + sum bs
 
 -- a sheet as data. An entry is a frame's number, and 2^32 times its kind: 0 silent, 1 heard
 pub record Sheet : Type 0 where

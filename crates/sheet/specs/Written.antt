@@ -14,8 +14,8 @@ kinds [] = true
 kinds (e ∷ es) = not (ltb 1 (kind e)) && kinds es
 
 -- the refusals of a sheet, and last of a buffer of so many bytes
-abbrev pub obstacles : Sheet → ℕ → List Row
-obstacles sh room =
+abbrev pub writtenFaults : Sheet → ℕ → List Row
+writtenFaults sh room =
     32 when ltb 536870911 (length (sh .entries))
     ∷ 33 when ltb 1 (sh .side)
     ∷ 34 when not (kinds (sh .entries))
@@ -24,4 +24,4 @@ obstacles sh room =
 
 unfoldable pub writtenOf : Sheet → List ℕ → ℕ × List ℕ
 writtenOf sh out =
-    refusing (obstacles sh (length out)) (λ n. n leaving out) (0 leaving bytesOf sh ++ drop (sizeOf (length (sh .entries))) out)
+    refusing (writtenFaults sh (length out)) (λ n. n leaving out) (0 leaving bytesOf sh ++ drop (sizeOf (length (sh .entries))) out)

@@ -2,16 +2,18 @@
 // precedes the records is not read.
 pub mod parts;
 
+ghost use mathlib.Core.Bool.{false};
 ghost use mathlib.Core.Path.{_≡_};
 ghost use Prim.Native.Nat.{_+_, _*_, _/_, _%_, _≤_, _<_, _^_};
 ghost use lib.ListN.{length, drop};
 ghost use Rattle.rules.specs.Leaf.{_leaving_};
-ghost use Rattle.sheet.specs.Sheet.{kind, sum, recordOf, recordsOf, trailerOf, sizeOf};
+ghost use Rattle.rules.specs.Lists.{sum};
+ghost use Rattle.sheet.specs.Sheet.{kind, recordOf, recordsOf, trailerOf, sizeOf};
 ghost use Rattle.sheet.specs.End.{fromFour, zeros, good, run, entryOf, readOf};
 ghost use Rattle.sheet.specs.Asked.{summaryOf, entryAt};
 ghost use Rattle.sheet.specs.Written.{kinds, writtenOf};
-ghost use Rattle.sheet.specs.Mended.{kept, mendOf};
-ghost use Rattle.sheet.specs.Parts.{pointed, Few, Pointed, checked, Kinds, closed, copied, anew};
+ghost use Rattle.sheet.specs.Mended.{kept, readsAt, mendOf};
+ghost use Rattle.sheet.specs.Parts.{pointed, Few, Pointed, checked, Kinds, closed, copied};
 
 // A good sheet: where its records start, how many there are, and the side. Or the number of a refusal.
 pub enum Reading {
@@ -355,11 +357,11 @@ fn copy_whole(numbers: &mut [u64], out: &mut [u8], file: &[u8], records: usize) 
     0
 }
 
-// A file's front up to a place, the good records behind it, and a trailer.
+// A file that does not so read: its front up to a place, the good records behind it, and a trailer.
 fn mend_run(numbers: &mut [u64], out: &mut [u8], file: &[u8], at: usize) -> u32
-    requires { ⌜ (length (now numbers) ≡ 2) × (at ≤ length (now file)) ⌝ }
+    requires { ⌜ (length (now numbers) ≡ 2) × (at ≤ length (now file)) × (readsAt at (readOf (now file)) ≡ false) ⌝ }
     ensures { λ r. ⌜ (r leaving now (numbers .exit) leaving now (out .exit))
-        ≡ anew (now (file .entry)) at (now (numbers .entry)) (now (out .entry)) ⌝ }
+        ≡ mendOf (now (file .entry)) at (now (numbers .entry)) (now (out .entry)) ⌝ }
 {
     let records = kept_of(&file[at..]);
     if records == 0 {

@@ -3,7 +3,8 @@ ghost use mathlib.Core.Path.{_≡_};
 ghost use Prim.Native.Nat.{_*_, _≤_, _<_, _^_};
 ghost use lib.ListN.{length};
 ghost use Rattle.rules.specs.Leaf.{_leaving_};
-ghost use Rattle.sheet.specs.Sheet.{sum, recordsOf};
+ghost use Rattle.rules.specs.Lists.{sum};
+ghost use Rattle.sheet.specs.Sheet.{recordsOf};
 ghost use Rattle.sheet.specs.Rows.{recordsLaid, trailerLaid};
 ghost use Rattle.sheet.specs.Parts.{Kinds};
 

@@ -31,7 +31,7 @@ use Rattle.whole.proofs.Dictations.{take-done}
 use Rattle.whole.proofs.Halves.{two-halves, refused-is}
 use Rattle.isolation.specs.Run.{On, on, State, recordAt, after, ended, desks, Expands}
 use Rattle.isolation.proofs.Memories.{counts}
-use Rattle.isolation.proofs.Runs.{joined, expanding}
+use Rattle.isolation.proofs.Runs.{reads, joined, expanding}
 use Rattle.surface.specs.Surface.{Request, ask, frame, take, surface, madeOf, OurCalls}
 
 -- ---- the records and the store
@@ -80,6 +80,7 @@ module _ (n side : ℕ) (st : State) where
       let o = desk n side rec store a in
       let first = leaving st side (numbersOf rec) store in
       ap (λ (ns : List ℕ). let g = desk n side (recordIn ns) store a in leaving first side (handedBack (g .answer) ns) (g .store)) mine
+      ∙ ap (λ (r : Record). let g = desk n side r store a in leaving first side (handedBack (g .answer) (numbersOf rec)) (g .store)) (reads rec)
       ∙ ap (λ (ns : List ℕ). leaving first side ns (o .store)) (handed n side rec store a)
       ∙ ap (λ (f : ℕ → List ℕ). record { numbers = f; store = o .store }) (fun-ext (λ s. over side s (numbersOf (o .answer .rec)) (numbersOf rec) (st .numbers s)))
 

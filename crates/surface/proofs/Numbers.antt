@@ -20,18 +20,20 @@ use Rattle.model.specs.declared.Model.{Model}
 use Rattle.model.specs.declared.Reading.{Reading}
 use Rattle.model.specs.declared.Reading.the-variants.{Good, Refused as Unread}
 use Rattle.model.proofs.Bounds.{refused-in}
-use Rattle.transforms.specs.Transform.{forwardOf}
 use Rattle.lag.specs.Lag.{ownLag}
 use Rattle.features.specs.Silence.{energy, soundOf}
 use Rattle.features.specs.declared.Sound.{Sound}
 use Rattle.frame.specs.declared.Reply.{Reply}
 use Rattle.frame.specs.declared.Reply.the-variants.{Done, Silent, Heard, Numbered, Refused, Misread}
+use Rattle.frame.specs.declared.Way.{Way}
+use Rattle.frame.specs.declared.Hearing.{Hearing}
 use Rattle.frame.specs.Reply.{passed}
 use Rattle.frame.specs.Share.{PART, inputMem, keptEx}
 use Rattle.frame.specs.Heard.{Spoken, spoken}
 use Rattle.frame.specs.Frame.{Effect, refusal, unless, sounded, done3, counted, checked, modelled}
 use Rattle.frame.specs.Frame as frames
 use Rattle.halves.specs.Own as own
+use Rattle.halves.specs.Ways.{lagBy, remembered, forwardBy}
 use Rattle.halves.specs.Halves as halves
 use Rattle.pieces.specs.Pieces.{framePart, waitingIn, waits, frameAt, refused, lastTests, resumeReply, resumed}
 use Rattle.pieces.specs.Pieces as pieces
@@ -96,10 +98,10 @@ checks same s = go (readOf s) refl
     go (Unread n l) e = misread s n l e
     go (Good m) e = pick (same m) Done (Refused 8) tt eight
 
-tests : (vad noise denoise : ℕ) (s : List ℕ) (fine : Bool) → Known (lastTests vad noise denoise s fine)
-tests vad noise denoise s fine =
-    let reply = checked (counted vad noise denoise) (readOf s) in
-    pick (passed reply) (cond fine Done (Refused 9)) reply (pick fine Done (Refused 9) tt nine) (checks (counted vad noise denoise) s)
+tests : (hearing : Hearing) (s : List ℕ) (fine : Bool) → Known (lastTests hearing s fine)
+tests hearing s fine =
+    let reply = checked (counted hearing) (readOf s) in
+    pick (passed reply) (cond fine Done (Refused 9)) reply (pick fine Done (Refused 9) tt nine) (checks (counted hearing) s)
 
 -- ---- the calls of a frame
 
@@ -141,15 +143,15 @@ module _ (share : List Float) where
   unfolding own.call2Own
   of-sister x w s = of-2 x (ownLag (get inputMem share)) w s
 
-  of-3 : (index vad noise denoise : ℕ) (x logs : List Float) (model : List ℕ) (out : ℕ) → KnownOf (frames.call3 share index vad noise denoise x logs model out)
+  of-3 : (hearing : Hearing) (x logs : List Float) (model : List ℕ) (out : ℕ) → KnownOf (frames.call3 share hearing x logs model out)
   unfolding frames.call3 done3
-  of-3 index vad noise denoise x logs model out =
-      by-two 5 5 (wrong ((length share, PART) ∷ (length x, 961) ∷ (length logs, 22) ∷ (out, 961) ∷ [])) (ltb 7 index)
-      (modelled (counted vad noise denoise) (readOf model) share (done3 share index x logs model)) five five (go (readOf model) refl)
+  of-3 hearing x logs model out =
+      by-two 5 5 (wrong ((length share, PART) ∷ (length x, 961) ∷ (length logs, 22) ∷ (out, 961) ∷ [])) (ltb 7 (hearing .index))
+      (modelled (counted hearing) (readOf model) share (done3 share (hearing .index) x logs model)) five five (go (readOf model) refl)
     where
-      go : (r : Reading) → readOf model ≡ r → KnownOf (modelled (counted vad noise denoise) r share (done3 share index x logs model))
+      go : (r : Reading) → readOf model ≡ r → KnownOf (modelled (counted hearing) r share (done3 share (hearing .index) x logs model))
       go (Unread n l) e = misread model n l e
-      go (Good m) e = either (counted vad noise denoise m) (done3 share index x logs model m) (refusal (Refused 8) share) (sounds (energy (get keptEx share)) share (spoken share index x logs model m)) eight
+      go (Good m) e = either (counted hearing m) (done3 share (hearing .index) x logs model m) (refusal (Refused 8) share) (sounds (energy (get keptEx share)) share (spoken share (hearing .index) x logs model m)) eight
 
   of-4 : (so-far heard : ℕ) (x : List Float) (out : ℕ) → KnownOf (frames.call4 share so-far heard x out)
   unfolding frames.call4
@@ -157,50 +159,50 @@ module _ (share : List Float) where
       by-one 5 (wrong ((length share, PART) ∷ (length x, 960) ∷ (out, 480) ∷ [])) (frames.done4 share so-far heard x) five tt
 
 module _ (share : List Float) where
-  of-first : (x : List Float) (s : ℕ) → Known (halves.firstHalf share x s .reply)
+  of-first : (way : Way) (x : List Float) (s : ℕ) → Known (halves.firstHalf share way x s .reply)
   unfolding halves.firstHalf
-  of-first x s =
+  of-first way x s =
       let a = frames.call1 share x 960 in
-      let b = halves.analysed (a .share) (halves.buffer a) s in
+      let b = halves.analysed (a .share) way (halves.buffer a) s in
       by-one share 5 (wrong ((length share, PART) ∷ (length x, 480) ∷ (s, 22) ∷ [])) (cond (passed (a .reply)) b a) five
-      (either share (passed (a .reply)) b a (of-sister (a .share) (forwardOf (halves.buffer a)) 960 s) (of-1 share x 960))
+      (either share (passed (a .reply)) b a (of-2 (remembered way (a .share)) (forwardBy way (halves.buffer a)) (lagBy way (a .share)) 960 s) (of-1 share x 960))
 
-  of-second : (index vad noise denoise : ℕ) (logs : List Float) (model : List ℕ) (out : ℕ)
-      → Known (halves.secondHalf share index vad noise denoise logs model out .reply)
+  of-second : (hearing : Hearing) (logs : List Float) (model : List ℕ) (out : ℕ)
+      → Known (halves.secondHalf share hearing logs model out .reply)
   unfolding halves.secondHalf
-  of-second index vad noise denoise logs model out =
-      let a = frames.call3 share index vad noise denoise (forwardOf (halves.lookedBack share)) logs model 961 in
-      let k = of-3 share index vad noise denoise (forwardOf (halves.lookedBack share)) logs model 961 in
-      let b = halves.synthesised (a .reply) (a .share) (halves.buffer a) out in
-      by-two share 5 5 (wrong ((length share, PART) ∷ (length logs, 22) ∷ (out, 480) ∷ [])) (ltb 7 index) (cond (passed (a .reply)) b a) five five
+  of-second hearing logs model out =
+      let a = frames.call3 share hearing (forwardBy (hearing .way) (halves.lookedBack share)) logs model 961 in
+      let k = of-3 share hearing (forwardBy (hearing .way) (halves.lookedBack share)) logs model 961 in
+      let b = halves.synthesised (a .reply) (a .share) (hearing .way) (halves.buffer a) out in
+      by-two share 5 5 (wrong ((length share, PART) ∷ (length logs, 22) ∷ (out, 480) ∷ [])) (ltb 7 (hearing .index)) (cond (passed (a .reply)) b a) five five
       (either share (passed (a .reply)) b a k k)
 
 -- ---- pieces
 
-of-piece : (share : List Float) (waiting : ℕ) (x : List Float) (out sums : ℕ) → Known (pieces.piece share waiting x out sums .reply)
+of-piece : (share : List Float) (way : Way) (waiting : ℕ) (x : List Float) (out sums : ℕ) → Known (pieces.piece share way waiting x out sums .reply)
 unfolding pieces.piece
-of-piece share waiting x out sums =
-    by-each (λ n. refused (Refused n) share) (pieces.begun share waiting x) (λ o. Known (o .reply)) (pieces.pieceRows share waiting x out sums)
-    (five, (five, (nine, (nine, tt)))) (rw (further-reply Done (waits share []) (waitingIn waiting share ++ x) nothing) tt)
+of-piece share way waiting x out sums =
+    by-each (λ n. refused (Refused n) share) (pieces.begun share way waiting x) (λ o. Known (o .reply)) (pieces.pieceRows share waiting x out sums)
+    (five, (five, (nine, (nine, tt)))) (rw (further-reply Done (waits share []) way (waitingIn waiting share ++ x) nothing) tt)
 
-of-resume : (share : List Float) (index vad noise denoise size progress : ℕ) (x logs : List Float) (model : List ℕ) (out sums : ℕ)
-    → Known (pieces.resume share index vad noise denoise size progress x logs model out sums .reply)
+of-resume : (share : List Float) (hearing : Hearing) (size progress : ℕ) (x logs : List Float) (model : List ℕ) (out sums : ℕ)
+    → Known (pieces.resume share hearing size progress x logs model out sums .reply)
 unfolding pieces.resume resumeReply
-of-resume share index vad noise denoise size progress x logs model out sums = go (passed reply)
+of-resume share hearing size progress x logs model out sums = go (passed reply)
   where
     reply : Reply
-    reply = resumeReply share index vad noise denoise size progress x logs model out sums
+    reply = resumeReply share hearing size progress x logs model out sums
 
     half : Effect
-    half = halves.secondHalf (get framePart share) index vad noise denoise logs model 480
+    half = halves.secondHalf (get framePart share) hearing logs model 480
 
-    go : (t : Bool) → Known (cond t (resumed share index vad noise denoise progress x logs model) (refused reply share) .reply)
+    go : (t : Bool) → Known (cond t (resumed share hearing progress x logs model) (refused reply share) .reply)
     go true =
-        rw (further-reply (half .reply) (put framePart share (half .share)) (drop progress x) (from (480 * (frameAt progress - 1)) (halves.buffer half)))
-        (of-second (get framePart share) index vad noise denoise logs model 480)
+        rw (further-reply (half .reply) (put framePart share (half .share)) (hearing .way) (drop progress x) (from (480 * (frameAt progress - 1)) (halves.buffer half)))
+        (of-second (get framePart share) hearing logs model 480)
     go false =
-        by-each Refused (lastTests vad noise denoise model (good x)) Known (pieces.resumeRows share index size progress x (length logs) out sums)
-        (five, (five, tt)) (tests vad noise denoise model (good x))
+        by-each Refused (lastTests hearing model (good x)) Known (pieces.resumeRows share (hearing .index) size progress x (length logs) out sums)
+        (five, (five, tt)) (tests hearing model (good x))
 
 -- ---- the desk
 
@@ -212,16 +214,16 @@ of-opening share s = go (readOf s) refl
     go (Unread n l) e = misread s n l e
 
 of-share : (b : Record) (share : List Float) (a : Ask) → Known (onShare b share a .reply)
-of-share b share (opening m) = of-opening share m
+of-share b share (opening w m) = of-opening share m
 of-share b share (call1 x w) = of-1 (get framePart share) x w
 of-share b share (call2 x l w s) = of-2 (get framePart share) x l w s
 of-share b share (call2Own x w s) = of-sister (get framePart share) x w s
-of-share b share (call3 x l m o) = of-3 (get framePart share) (b .index) (b .vad) (b .noise) (b .denoise) x l m o
+of-share b share (call3 x l m o) = of-3 (get framePart share) (b .hearing) x l m o
 of-share b share (call4 x o) = of-4 (get framePart share) (b .frame) (b .heard) x o
-of-share b share (firstHalf x s) = of-first (get framePart share) x s
-of-share b share (secondHalf l m o) = of-second (get framePart share) (b .index) (b .vad) (b .noise) (b .denoise) l m o
-of-share b share (piece x o s) = of-piece share (b .waiting) x o s
-of-share b share (resume x l m o s) = of-resume share (b .index) (b .vad) (b .noise) (b .denoise) (b .piece) (b .progress) x l m o s
+of-share b share (firstHalf x s) = of-first (get framePart share) (b .hearing .way) x s
+of-share b share (secondHalf l m o) = of-second (get framePart share) (b .hearing) l m o
+of-share b share (piece x o s) = of-piece share (b .hearing .way) (b .waiting) x o s
+of-share b share (resume x l m o s) = of-resume share (b .hearing) (b .piece) (b .progress) x l m o s
 
 of-gate : (n side : ℕ) (b : Record) (len call : ℕ) → eqb (gate n side b len call) 0 ≡ false → Known (Refused (gate n side b len call))
 unfolding gate
@@ -248,10 +250,10 @@ of-tested : (n side : ℕ) (b : Record) (len call : ℕ) (rows : List Row) (mode
 of-tested n side b len call rows model x numbers = go (eqb (gate n side b len call) 0) refl
   where
     last : Reply
-    last = lastTests (b .vad) (b .noise) (b .denoise) model (good x)
+    last = lastTests (b .hearing) model (good x)
 
     go : (t : Bool) → eqb (gate n side b len call) 0 ≡ t → Known (cond t (refusing rows Refused last) (Refused (gate n side b len call)))
-    go true e = by-each Refused last Known rows numbers (tests (b .vad) (b .noise) (b .denoise) model (good x))
+    go true e = by-each Refused last Known rows numbers (tests (b .hearing) model (good x))
     go false e = of-gate n side b len call e
 
 of-frame : (n side : ℕ) (b : Record) (store x : List Float) (model : List ℕ) (out : ℕ) → Known (whole.frame n side b store x model out .answer .reply)

@@ -37,6 +37,7 @@ use Rattle.whole.proofs.Dictations.{take-done}
 use Rattle.whole.proofs.Halves.{two-halves, refused-is}
 use Rattle.isolation.specs.Isolation.{own}
 use Rattle.isolation.specs.Run.{On, on, State, recordAt, given, after, ended, done, desks, expand}
+use Rattle.isolation.proofs.Runs.{reads}
 use Rattle.surface.specs.Surface.{Request, ask, frame, take, called, surface, madeOf}
 use Rattle.surface.specs.Between.{resumes, InARow, lastPiece, morePieces, inBuffer, answersAt}
 use Rattle.surface.proofs.Expanded.{leaving, map-more, stands, resumed, steps, one-call}
@@ -51,7 +52,7 @@ wrote k a o = numbersIn (getD (o .written ++ besides a (o .answer .reply)) k not
 -- ---- pieces and resumes
 
 abbrev Hands : Ask → Type 0
-Hands (opening m) = ⊥
+Hands (opening w m) = ⊥
 Hands (call1 x w) = ⊥
 Hands (call2 x l w s) = ⊥
 Hands (call2Own x w s) = ⊥
@@ -129,7 +130,7 @@ pub first-written : (side : ℕ) (store : List Float) (rec : Record) (reply : Re
 unfolding further
 first-written side store rec reply share rest size progress k ys us = go (ltb (length rest) 480)
   where
-    go : (t : Bool) → firstIn (cond t (pieces.atEnd reply share rest (from k ys)) (pieces.paused reply share rest (from k ys)) .written ++ us) ≡ ys
+    go : (t : Bool) → firstIn (cond t (pieces.atEnd reply share rest (from k ys)) (pieces.paused reply share (rec .hearing .way) rest (from k ys)) .written ++ us) ≡ ys
     go true = refl
     go false = refl
 
@@ -194,13 +195,13 @@ module _ (n s side : ℕ) (mine : eqb side s ≡ true) (st : State) (x : List Fl
 
   -- the resume of frame j
   one-more : (k j : ℕ) → column k n s (ended desks n st (so-far j)) (on side (next j) ∷ []) ≡ wrote k (next j) (desk n side (at j .rec) (at j .store) (next j))
-  unfolding recordIn
   one-more k j =
       let there = leaving st side (numbersOf (at j .rec)) (at j .store) in
       let own : there .numbers side ≡ numbersOf (at j .rec) = rw (eq-eqb side side refl) in
       ap (λ (t : State). column k n s t (on side (next j) ∷ [])) (sym (steps n side st x m o began j))
       ∙ one-out n s side k mine (next j) there
       ∙ ap (λ (ns : List ℕ). wrote k (next j) (desk n side (recordIn ns) (at j .store) (next j))) own
+      ∙ ap (λ (r : Record). wrote k (next j) (desk n side r (at j .store) (next j))) (reads (at j .rec))
 
   -- what is handed out frame by frame
   along : (k : ℕ) (f : Taking → List Float) → f (at 0) ≡ wrote k (piece x o 22) (desk n side (recordAt side st) (st .store) (piece x o 22))

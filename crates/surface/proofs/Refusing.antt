@@ -26,7 +26,7 @@ untold : (r : Reply) → passed r ≡ false → toldBesides r ≡ []
 untold r e = rw e
 
 nor-besides : (a : Ask) (r : Reply) → passed r ≡ false → besides a r ≡ []
-nor-besides (opening m) r e = refl
+nor-besides (opening w m) r e = refl
 nor-besides (call1 x w) r e = refl
 nor-besides (call2 x l w s) r e = refl
 nor-besides (call2Own x w s) r e = refl

@@ -22,6 +22,7 @@ use Rattle.logs.specs.Log10.{logsOf}
 use Rattle.frame.specs.declared.Reply.{Reply}
 use Rattle.frame.specs.declared.Reply.the-variants.{Refused}
 use Rattle.frame.specs.Reply.{passed}
+use Rattle.frame.specs.declared.Way.{Way}
 use Rattle.frame.specs.Share.{SHARE}
 use Rattle.pieces.specs.Pieces.{waitingIn, completes, lastTests}
 use Rattle.desk.specs.declared.Answer.{Answer}
@@ -44,7 +45,7 @@ cameOf o = came (o .answer .reply) (o .written) (o .answer .rec) (o .store)
 
 -- behind the gate: 5 by these rows, then 7 to 9
 abbrev behind : Record → List Row → List ℕ → List Float → Reply
-behind b rows model samples = refusing rows Refused (lastTests (b .vad) (b .noise) (b .denoise) model (good samples))
+behind b rows model samples = refusing rows Refused (lastTests (b .hearing) model (good samples))
 
 -- ---- a frame
 
@@ -172,21 +173,21 @@ pub our-surface : OurSurface
 our-surface = (isolated surface planned BENCHES, undisturbed surface planned BENCHES)
 
 -- what an opening gives that is done hangs neither on the record nor on the store
-opens-alike : (ns : List ℕ) (xs : List Float) (model : List ℕ) → length xs ≡ SHARE
-    → passed (desk 1 0 (recordIn ns) xs (opening model) .answer .reply) ≡ true
-    → surface 1 0 ns xs (ask (opening model)) ≡ surface 1 0 (numbersOf closed) (zeros SHARE) (ask (opening model))
+opens-alike : (ns : List ℕ) (xs : List Float) (way : Way) (model : List ℕ) → length xs ≡ SHARE
+    → passed (desk 1 0 (recordIn ns) xs (opening way model) .answer .reply) ≡ true
+    → surface 1 0 ns xs (ask (opening way model)) ≡ surface 1 0 (numbersOf closed) (zeros SHARE) (ask (opening way model))
 unfolding hosted recordIn
-opens-alike ns xs model l p =
-    let same = anew (recordIn ns) xs (zeros SHARE) l refl model p in
+opens-alike ns xs way model l p =
+    let same = anew (recordIn ns) xs (zeros SHARE) l refl way model p in
     rw (same, ← same, p)
 
 pub starts-anew : (n : ℕ) → Anew n
 unfolding own lone hosted
-starts-anew n s h st l model p calls =
+starts-anew n s h st l way model p calls =
     let xs = get (shareOf s) (st .store) in
     let all = length-get (shareOf s) (st .store) (omega arith) in
-    let done : passed (desk 1 0 (recordIn (st .numbers s)) xs (opening model) .answer .reply) ≡ true =
-    rw (its-own n s (recordIn (st .numbers s)) (st .store) (opening model) l h) at p in
-    in-any-run surface planned n s h (on s (ask (opening model)) ∷ calls) st l
-    ∙ rw (eq-eqb s s refl) (ap (next surface planned (own s calls)) (opens-alike (st .numbers s) xs model all done))
-    ∙ sym (alone-lone surface planned (ask (opening model) ∷ own s calls))
+    let done : passed (desk 1 0 (recordIn (st .numbers s)) xs (opening way model) .answer .reply) ≡ true =
+    rw (its-own n s (recordIn (st .numbers s)) (st .store) (opening way model) l h) at p in
+    in-any-run surface planned n s h (on s (ask (opening way model)) ∷ calls) st l
+    ∙ rw (eq-eqb s s refl) (ap (next surface planned (own s calls)) (opens-alike (st .numbers s) xs way model all done))
+    ∙ sym (alone-lone surface planned (ask (opening way model) ∷ own s calls))

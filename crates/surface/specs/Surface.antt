@@ -10,6 +10,7 @@ use Rattle.rules.specs.Tab.{tab}
 use Rattle.rules.specs.Written.{Written, firstIn}
 use Rattle.logs.specs.Log10.{logsOf}
 use Rattle.frame.specs.declared.Reply.the-variants.{Refused, Misread}
+use Rattle.frame.specs.declared.Way.{Way}
 use Rattle.frame.specs.Reply.{passed}
 use Rattle.frame.specs.Share.{SHARE}
 use Rattle.pieces.specs.Pieces.{completes}
@@ -45,9 +46,9 @@ OurSurface = Isolated surface BENCHES × Undisturbed surface BENCHES
 abbrev pub Anew : ℕ → Type 0
 Anew n =
     (s : ℕ) → s < n → (st : State) → length (st .store) ≡ n * SHARE
-    → (model : List ℕ) → passed (hosted n s (st .numbers s) (st .store) (opening model) .answer .reply) ≡ true
+    → (way : Way) (model : List ℕ) → passed (hosted n s (st .numbers s) (st .store) (opening way model) .answer .reply) ≡ true
     → (calls : List (On Request))
-    → received surface n s st (on s (ask (opening model)) ∷ calls) ≡ alone surface (ask (opening model) ∷ own s calls)
+    → received surface n s st (on s (ask (opening way model)) ∷ calls) ≡ alone surface (ask (opening way model) ∷ own s calls)
 
 -- ---- mixed sequences: a frame is its two halves, and a take its piece and a resume for each frame that it completes; refused, neither is any
 

@@ -13,7 +13,7 @@ use Rattle.transforms.specs.Transform.{turned, forwardStep, re, im, two,
 use Rattle.transforms.specs.Parts.{four, timesFour, index, aheadOne, backOne, aheadFour, backFour, sumsOf, binLane, binPart, binSums, binTurn, sampleLane, samplePart, sampleSums, halfPart, halfSums, wholePart, wholeSums, sampleTurn}
 use Rattle.transforms.specs.declared.lanes.Four.{Four}
 use Rattle.transforms.specs.declared.lanes.Sums.{Sums}
-use Rattle.transforms.proofs.Plain.{plain}
+use Rattle.transforms.specs.Laws.{plain}
 use Rattle.transforms.proofs.Quarters.{same, mirror, across, half}
 use Rattle.transforms.proofs.Sound.{sound-add, sound-forward, sound-inverse}
 

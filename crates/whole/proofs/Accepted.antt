@@ -63,12 +63,12 @@ logs-length sums = length-tab 22 _
 pub record Past (number : ℕ) (rec : Record) (rows : List Row) (model : List ℕ) (samples : List Float) : Type 0 where
   pub gated : number ≡ 0
   pub clear : Clear rows
-  pub right : passed (checked (counted (rec .vad) (rec .noise) (rec .denoise)) (readOf model)) ≡ true
+  pub right : passed (checked (counted (rec .hearing)) (readOf model)) ≡ true
   pub fine : good samples ≡ true
 
 module _ (number : ℕ) (rec : Record) (rows : List Row) (model : List ℕ) (samples : List Float) where
   abbrev behind : Reply
-  behind = lastTests (rec .vad) (rec .noise) (rec .denoise) model (good samples)
+  behind = lastTests (rec .hearing) model (good samples)
 
   abbrev past : Type 0
   past = Past number rec rows model samples
@@ -80,7 +80,7 @@ module _ (number : ℕ) (rec : Record) (rows : List Row) (model : List ℕ) (sam
       go true e =
           by-rows Refused behind (λ r. passed r ≡ true → past) rows (λ n q. absurd (false≢true q))
           (λ c q.
-          let l = last-passed (rec .vad) (rec .noise) (rec .denoise) model (good samples) q in
+          let l = last-passed (rec .hearing) model (good samples) q in
           record { gated = eqb-true number 0 e; clear = c; right = l .0; fine = l .1 })
       go false e = λ p. absurd (false≢true p)
 
@@ -90,7 +90,7 @@ pub record Frame (n side : ℕ) (rec : Record) (store samples : List Float) (mod
   pub gated : gate n side rec (length store) 1 ≡ 0
   pub size : length samples ≡ 480
   pub room : out ≡ 480
-  pub right : passed (checked (counted (rec .vad) (rec .noise) (rec .denoise)) (readOf model)) ≡ true
+  pub right : passed (checked (counted (rec .hearing)) (readOf model)) ≡ true
   pub fine : good samples ≡ true
 
 module _ (n side : ℕ) (rec : Record) (store samples : List Float) (model : List ℕ) (out : ℕ) where
@@ -108,7 +108,7 @@ pub record Take (n side : ℕ) (rec : Record) (store samples : List Float) (mode
   pub gated : gate n side rec (length store) PIECE ≡ 0
   pub fits : pieceFits (rec .waiting) (length samples) out 22 ≡ true
   pub told : 3 * completes (rec .waiting) (length samples) ≤ answers
-  pub right : passed (checked (counted (rec .vad) (rec .noise) (rec .denoise)) (readOf model)) ≡ true
+  pub right : passed (checked (counted (rec .hearing)) (readOf model)) ≡ true
   pub fine : good (waitingIn (rec .waiting) (get (shareOf side) store) ++ samples) ≡ true
 
 module _ (n side : ℕ) (rec : Record) (store samples : List Float) (model : List ℕ) (out answers : ℕ) where

@@ -65,7 +65,7 @@ writes-onward side store rec reply share rest size progress w = go (ltb (length 
   where
     given : Bool → Given
     given t =
-        let f = cond t (pieces.atEnd reply share rest w) (pieces.paused reply share rest w) in
+        let f = cond t (pieces.atEnd reply share rest w) (pieces.paused reply share (rec .hearing .way) rest w) in
         record {
           answer = record { reply = reply; rec = cond t (holding 1 rec (length rest) 0 0) (holding 3 rec 0 size progress) };
           store = put (shareOf side) store (f .share);
@@ -74,7 +74,7 @@ writes-onward side store rec reply share rest size progress w = go (ltb (length 
 
     go : (t : Bool) → Onward w progress (given t)
     go true = record { sums = nothing; writes = refl; pauses = λ h. absurd (h refl) }
-    go false = record { sums = all (buffer (firstHalf (get framePart share) (take 480 rest) 22)); writes = refl; pauses = λ h. (refl, refl) }
+    go false = record { sums = all (buffer (firstHalf (get framePart share) (rec .hearing .way) (take 480 rest) 22)); writes = refl; pauses = λ h. (refl, refl) }
 
 module _ {w : Written} {progress : ℕ} {o : Given} (k : Onward w progress o) where
   first-is : (held kept : List Float) → getD (onto (o .written) (held ∷ kept ∷ [])) 0 [] ≡ over w held
@@ -167,7 +167,7 @@ module _ (n side : ℕ) (rec : Record) (store samples : List Float) (model : Lis
       let logs = logsOf (at j .sums) in
       let resumed = resume-passed n side b (o .store) samples logs model (length held) 22 (ap (λ (g : Given). passed (g .answer .reply)) (sym q) ∙ p) in
       let begun = unfinished n side b (length (o .store)) (resumed .0) in
-      let ys = buffer (secondHalf (get framePart (get (shareOf side) (o .store))) (b .index) (b .vad) (b .noise) (b .denoise) logs model 480) in
+      let ys = buffer (secondHalf (get framePart (get (shareOf side) (o .store))) (b .hearing) logs model 480) in
       let long : length ys ≡ 480 = half-passes n side b (o .store) samples logs model (length held) 22 (resumed .1) .fills in
       let place : 480 * (frameAt (b .progress) - 1) ≡ 480 * j = omega (arith, a .progress begun) in
       let k : Onward (from (480 * j) ys) (b .progress + 480) next = rw (q ∙ resumed .2, ← place) (writes-onward side (o .store) _ _ _ _ _ _ _) in
@@ -295,7 +295,7 @@ module _ (n side : ℕ) (rec : Record) (store samples : List Float) (model : Lis
   lends zero j = tt
   lends (suc m) j = (refl, lends m (suc j))
 
-  fitting : checked (counted (rec .vad) (rec .noise) (rec .denoise)) (readOf model) ≡ Done → (m j : ℕ) → Fitting rec (lents j m)
+  fitting : checked (counted (rec .hearing)) (readOf model) ≡ Done → (m j : ℕ) → Fitting rec (lents j m)
   fitting e zero j = tt
   fitting e (suc m) j = (logs-length (at j .sums), e, fitting e m (suc j))
 
@@ -348,7 +348,7 @@ module _ (n side : ℕ) (rec : Record) (store samples : List Float) (model : Lis
   pub piece-done : passed (handedIn n side rec store samples held .answer .reply) ≡ true
   piece-done =
       ap (λ (o : Given). passed (o .answer .reply)) (let-through n side rec store (piece samples (length held) 22) (k .gated))
-      ∙ rw (piece-taken mine (rec .waiting) samples (length held) 22 fitted, further-reply Done (waits mine []) (waitingIn (rec .waiting) mine ++ samples) nothing)
+      ∙ rw (piece-taken mine (rec .hearing .way) (rec .waiting) samples (length held) 22 fitted, further-reply Done (waits mine []) (rec .hearing .way) (waitingIn (rec .waiting) mine ++ samples) nothing)
 
   pub ends : let m = completes (rec .waiting) (length samples) in
       Ends n side rec store samples model held answers (at n side rec store samples model held answers m) (mid n side rec store samples model held answers m)
@@ -357,7 +357,7 @@ module _ (n side : ℕ) (rec : Record) (store samples : List Float) (model : Lis
       let m = completes (rec .waiting) (length samples) in
       let ls = lents n side rec store samples model held answers 0 m in
       let long = lents-length n side rec store samples model held answers m 0 in
-      let right = is-done (counted (rec .vad) (rec .noise) (rec .denoise)) (readOf model) (k .right) in
+      let right = is-done (counted (rec .hearing)) (readOf model) (k .right) in
       let c = completed n side rec store samples held ls piece-done long (fitting n side rec store samples model held answers right m 0) in
       let f =
       follow n side rec store samples model held answers (c .1) 0 m

@@ -46,14 +46,14 @@ part-length n side store h l =
     length-get framePart (get (shareOf side) store) (omega arith)
 
 module _ (n side : ℕ) (rec : Record) (store samples : List Float) (model : List ℕ) (out : ℕ) (k : Frame n side rec store samples model out) where
-  pub first-halved : Halved 22 (halves.firstHalf (partOf side store) samples 22)
+  pub first-halved : Halved 22 (halves.firstHalf (partOf side store) (rec .hearing .way) samples 22)
   first-halved =
       let t = through n side rec (length store) 1 (k .gated) in
-      first-passes (partOf side store) samples (part-length n side store (t .0) (t .1)) (k .size) (k .fine)
+      first-passes (partOf side store) (rec .hearing .way) samples (part-length n side store (t .0) (t .1)) (k .size) (k .fine)
 
   pub first-wrote : let one = desk n side rec store (firstHalf samples 22) in one .written ≡ all (firstIn (one .written)) ∷ []
   first-wrote =
-      let f = halves.firstHalf (partOf side store) samples 22 in
+      let f = halves.firstHalf (partOf side store) (rec .hearing .way) samples 22 in
       let e = ap (λ (o : Given). o .written) (let-in n side rec store (firstHalf samples 22) (k .gated)) ∙ ap (map all) (first-halved .writes) in
       rw e
 

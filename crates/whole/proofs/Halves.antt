@@ -38,7 +38,7 @@ third-due n side rec reply len h l d range = rw (lt-ltb side n h, eq-eqb len (n 
 
 module _ (n side : ℕ) (rec : Record) (store samples : List Float) (model : List ℕ) (out : ℕ) (k : Frame n side rec store samples model out) where
   abbrev half : Effect
-  half = halves.firstHalf (partOf side store) samples 22
+  half = halves.firstHalf (partOf side store) (rec .hearing .way) samples 22
 
   abbrev left : List Float
   left = put framePart (get (shareOf side) store) (half .share)
@@ -72,10 +72,10 @@ module _ (n side : ℕ) (rec : Record) (store samples : List Float) (model : Lis
   due = let c = none n side rec (length store) 1 (k .gated) in eqb-true (rec .due) 1 (both (eqb (rec .due) 1) (idle rec) (not-false _ (c .1 .1 .1 .1 .0)) .0)
 
   second-halved : (sums : List Float)
-      → Halved 480 (halves.secondHalf (partOf side between) (next .index) (next .vad) (next .noise) (next .denoise) (logsOf sums) model 480)
+      → Halved 480 (halves.secondHalf (partOf side between) (next .hearing) (logsOf sums) model 480)
   second-halved sums =
       let t = through n side rec (length store) 1 (k .gated) in
-      second-passes (partOf side between) (next .index) (next .vad) (next .noise) (next .denoise) (logsOf sums) model
+      second-passes (partOf side between) (next .hearing) (logsOf sums) model
       (part-length n side between (t .0) sized) (logs-length sums) (bounded next in-range .index) (k .right)
 
   second-on : (sums : List Float) → passed (desk n side next between (secondHalf (logsOf sums) model out) .answer .reply) ≡ true

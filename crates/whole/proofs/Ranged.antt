@@ -32,7 +32,7 @@ use Rattle.desk.specs.Gate.{PIECE, inRange, gate, shareOf}
 use Rattle.desk.specs.Desk.{Ask, secondHalf, piece, resume, Given, desk}
 use Rattle.desk.proofs.Buffers.{buffers}
 use Rattle.desk.proofs.Ranged.{range-kept}
-use Rattle.desk.proofs.Replies.{Small, small}
+use Rattle.desk.proofs.Replies.{SmallSeven, small}
 use Rattle.desk.proofs.Settled.{refused-keeps}
 use Rattle.desk.proofs.Turned.{none}
 use Rattle.whole.specs.Whole.{unchanged, tested, frameReply, frameBegins, frameEnds, frame, takeRows, takeReply, Taking, takeStep, takeFrames, takeBegins, takeEnds, takenAs, take}
@@ -41,19 +41,19 @@ use Rattle.whole.proofs.Accepted.{frame-accepted, take-accepted}
 -- ---- the tests before a call
 
 module _ (number : ℕ) (rec : Record) (rows : List Row) (model : List ℕ) (samples : List Float) where
-  tested-small : Small (tested number rec rows model samples)
+  tested-small : SmallSeven (tested number rec rows model samples)
   tested-small = go (eqb number 0)
     where
       behind : Reply
-      behind = lastTests (rec .vad) (rec .noise) (rec .denoise) model (good samples)
+      behind = lastTests (rec .hearing) model (good samples)
 
-      behind-small : Small behind
+      behind-small : SmallSeven behind
       behind-small =
-          last-tests-by (rec .vad) (rec .noise) (rec .denoise) model (good samples) Small (λ _. tt)
+          last-tests-by (rec .hearing) model (good samples) SmallSeven (λ _. tt)
           (λ n l e. let r = refused-in model e in (r .1, r .2)) (λ _ _. tt)
 
-      go : (t : Bool) → Small (cond t (refusing rows Refused behind) (Refused number))
-      go true = by-rows Refused behind Small rows (λ _. tt) (λ _. behind-small)
+      go : (t : Bool) → SmallSeven (cond t (refusing rows Refused behind) (Refused number))
+      go true = by-rows Refused behind SmallSeven rows (λ _. tt) (λ _. behind-small)
       go false = tt
 
 -- the gate lets no other record through
@@ -86,12 +86,12 @@ module _ (n side : ℕ) (rec : Record) (store samples : List Float) (model : Lis
         go true e = two-halves e
         go false e = refused e
 
-    reply-small : Small reply
+    reply-small : SmallSeven reply
     unfolding frameReply
     reply-small = tested-small (gate n side rec (length store) 1) rec (5 when wrong ((length samples, 480) ∷ (out, 480) ∷ []) ∷ []) model samples
 
-    pub frame-small : Small (frame n side rec store samples model out .answer .reply)
-    frame-small = frame-by (λ o. Small (o .answer .reply)) (λ _. small n side (one .answer .rec) (one .store) asked) (λ _. reply-small)
+    pub frame-small : SmallSeven (frame n side rec store samples model out .answer .reply)
+    frame-small = frame-by (λ o. SmallSeven (o .answer .reply)) (λ _. small n side (one .answer .rec) (one .store) asked) (λ _. reply-small)
 
     pub frame-range : passed (frame n side rec store samples model out .answer .reply) ≡ true
         → (inRange rec ≡ true) × (inRange (frame n side rec store samples model out .answer .rec) ≡ true)
@@ -148,14 +148,14 @@ module _ (n side : ℕ) where
           go true e = ends e
           go false e = refused e
 
-      taken-small : Small taken
+      taken-small : SmallSeven taken
       unfolding takeReply
       taken-small =
           tested-small (gate n side rec (length store) PIECE) rec (takeRows rec (length samples) out answers) model
           (waitingIn (rec .waiting) (get (shareOf side) store) ++ samples)
 
-      pub take-small : Small (take n side rec store samples model out answers .answer .reply)
-      take-small = take-by (λ o. Small (o .answer .reply)) (λ _. taken-small) (λ _. taken-small)
+      pub take-small : SmallSeven (take n side rec store samples model out answers .answer .reply)
+      take-small = take-by (λ o. SmallSeven (o .answer .reply)) (λ _. taken-small) (λ _. taken-small)
 
       pub take-range : passed (take n side rec store samples model out answers .answer .reply) ≡ true
           → (inRange rec ≡ true) × (inRange (take n side rec store samples model out answers .answer .rec) ≡ true)

@@ -27,7 +27,7 @@ unchanged rec store reply = record { answer = record { reply = reply; rec = rec 
 -- the gate's number, 1 to 4; where it is 0, 5 by these rows, and behind them 7 to 9
 abbrev pub tested : ℕ → Record → List Row → List ℕ → List Float → Reply
 tested number rec rows model samples =
-    cond (eqb number 0) (refusing rows Refused (lastTests (rec .vad) (rec .noise) (rec .denoise) model (good samples))) (Refused number)
+    cond (eqb number 0) (refusing rows Refused (lastTests (rec .hearing) model (good samples))) (Refused number)
 
 -- ---- a frame is its two halves
 

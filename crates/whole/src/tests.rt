@@ -34,13 +34,7 @@ pub(crate) fn frame_reply(
     if out != 480 {
         return Reply::Refused(5);
     }
-    pieces::last_tests(
-        rec.vad,
-        rec.noise,
-        rec.denoise,
-        model,
-        samples::all_good(samples),
-    )
+    pieces::last_tests(rec.hearing, model, samples::all_good(samples))
 }
 
 // Whether the samples that wait on a side and those of a piece are good.
@@ -80,5 +74,5 @@ pub(crate) fn take_reply(
         return Reply::Refused(5);
     }
     let fine = both_good(side.0, rec.waiting, store, piece);
-    pieces::last_tests(rec.vad, rec.noise, rec.denoise, model, fine)
+    pieces::last_tests(rec.hearing, model, fine)
 }

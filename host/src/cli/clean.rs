@@ -14,8 +14,8 @@ use std::path::{Path, PathBuf};
 
 fn way(given: &Given) -> Way {
     match given.word("--lag").as_deref() {
-        Some("crate") => Way::Text,
-        _ => Way::Own,
+        Some("own") => Way::Asked,
+        _ => Way::Crate,
     }
 }
 

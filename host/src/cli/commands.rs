@@ -7,9 +7,9 @@ const FORCE: Opt = Opt::flag("--force", "Write over what stands there.");
 const JSON: Opt = Opt::flag("--json", "The answer as JSON: an object on a line for each file.");
 const LAG: Opt = Opt::of(
     "--lag",
-    Takes::OneOf(&["own", "crate"]),
-    "Whose pitch finder: the library's own, or the Rust crate's, with this program's transforms and logarithms, which \
-     gives nnnoiseless's very numbers.",
+    Takes::OneOf(&["crate", "own"]),
+    "Whose pitch finder: the Rust crate's, as where none is named, which gives what nnnoiseless gives but for the last \
+     bits; or our own, with transforms as plain sums, which takes several times as long.",
 );
 
 pub const COMMANDS: &[Command] = &[
@@ -168,8 +168,8 @@ pub const DEV: &[Command] = &[
         files: Files::NONE,
         options: &[JSON],
         about: "\
-Frames a second in pieces, as clean runs them, and in four calls each, as with --lag crate; these beside the Rust text;
-and where a frame's time goes.",
+Frames a second in pieces, as clean runs them, with either --lag; how much of a core sixteen benches leave idle; frames
+in four calls each, with this program's transforms, beside the Rust text; and where a frame's time goes.",
         examples: &[],
         run: dev::bench,
     },
@@ -192,6 +192,16 @@ and where a frame's time goes.",
         about: "Against those of this machine: on the demo and on ten minutes of noise and speech.",
         examples: &[],
         run: dev::logs,
+    },
+    Command {
+        name: "dev text",
+        what: "How far a recording is from what the Rust text gives.",
+        usage: &[""],
+        files: Files::NONE,
+        options: &[],
+        about: "Sample by sample beside its process_frame: on the demo and on ten minutes of noise and speech.",
+        examples: &[],
+        run: dev::text,
     },
     Command {
         name: "dev man",

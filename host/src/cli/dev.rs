@@ -1,23 +1,26 @@
 //! `box dev`, from the words.
 
-use crate::bench::{self, Speed};
 use crate::cli::words::Given;
 use crate::cli::{completion, man};
+use crate::dev;
+use crate::dev::bench::Speed;
 use crate::json::{rounded, Json};
 use crate::status::Failure;
 
 fn json(speed: &Speed) -> Json {
     let numbers = [
         ("pieces", speed.pieces),
+        ("own", speed.own),
         ("calls", speed.calls),
         ("rust", speed.rust),
         ("calls_to_rust", speed.rust / speed.calls),
+        ("idle", speed.idle),
     ];
     Json::Object(numbers.map(|(name, number)| (name, rounded(number, 3).into())).into())
 }
 
 pub fn bench(given: &Given) -> Result<(), Failure> {
-    let speed = bench::measure();
+    let speed = dev::bench::measure();
     match given.has("--json") {
         true => crate::say!("{}", json(&speed)),
         false => speed.tell(),
@@ -26,11 +29,16 @@ pub fn bench(given: &Given) -> Result<(), Failure> {
 }
 
 pub fn lags(_: &Given) -> Result<(), Failure> {
-    Ok(crate::lags::lags()?)
+    Ok(dev::lags::lags()?)
 }
 
 pub fn logs(_: &Given) -> Result<(), Failure> {
-    crate::logs::logs();
+    dev::logs::logs();
+    Ok(())
+}
+
+pub fn text(_: &Given) -> Result<(), Failure> {
+    dev::text::text();
     Ok(())
 }
 

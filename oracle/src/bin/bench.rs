@@ -8,8 +8,12 @@
 
 use nnnoiseless_text::probe::{bands, pitch, rnn, util};
 use nnnoiseless_text::{DenoiseState, RnnModel};
+#[cfg(feature = "frame")]
+use oracle::desk::{Way, BENCHES, FRAMES, RECORD, STORE};
 use oracle::plain_pcm::{self, Layout};
 use oracle::rng::{Mood, Rng};
+#[cfg(feature = "frame")]
+use oracle::surface::OURS;
 use oracle::{bins, models};
 use std::hint::black_box;
 use std::time::{Duration, Instant};
@@ -247,51 +251,36 @@ fn of_finder(rng: &mut Rng) -> Vec<Row> {
     )]
 }
 
+/// A transform and its inverse, beside the same in Rust over a table of cosines.
+#[cfg(feature = "transforms")]
+fn of_pair(
+    rng: &mut Rng,
+    names: [&'static str; 2],
+    ours: [fn(&mut [f32], &[f32]) -> u32; 2],
+    rusts: [fn(&[f32; 960], &mut [f32], &[f32]); 2],
+) -> Vec<Row> {
+    let one = |i: usize| {
+        let (lengths, c) = ([[960, 961], [961, 960]][i], oracle::transforms::cosines());
+        let x = rng.list_of(lengths[0], Mood::Audio);
+        let (y, [mut a, mut b]) = (x.clone(), [(); 2].map(|_| vec![0.0; lengths[1]]));
+        let (ours, rusts) = (ours[i], rusts[i]);
+        row(names[i], move || ours(black_box(&mut a), &x), move || rusts(black_box(&c), black_box(&mut b), &y))
+    };
+    (0..2).map(one).collect()
+}
+
 #[cfg(feature = "transforms")]
 fn of_transforms(rng: &mut Rng) -> Vec<Row> {
-    use oracle::transforms::{cosines, plain_forward, plain_inverse};
-    let (x, spectrum) = (rng.list_of(960, Mood::Audio), rng.list_of(961, Mood::Audio));
-    let [x1, x2] = std::array::from_fn(|_| x.clone());
-    let [s1, s2] = std::array::from_fn(|_| spectrum.clone());
-    let (c, d) = (cosines(), cosines());
-    let [mut a961, mut b961] = [[0.0; 961]; 2];
-    let [mut a960, mut b960] = [[0.0; 960]; 2];
-    vec![
-        row(
-            "forward, beside the plain sums",
-            move || tuppence::forward(black_box(&mut a961), &x1),
-            move || plain_forward(black_box(&c), black_box(&mut b961), &x2),
-        ),
-        row(
-            "inverse, beside the plain sums",
-            move || tuppence::inverse(black_box(&mut a960), &s1),
-            move || plain_inverse(black_box(&d), black_box(&mut b960), &s2),
-        ),
-    ]
+    use oracle::transforms::{plain_forward, plain_inverse};
+    let names = ["forward, beside the plain sums", "inverse, beside the plain sums"];
+    of_pair(rng, names, [tuppence::forward, tuppence::inverse], [plain_forward, plain_inverse])
 }
 
 #[cfg(feature = "fft")]
 fn of_fft(rng: &mut Rng) -> Vec<Row> {
     use oracle::fft::{fast_forward, fast_inverse};
-    use oracle::transforms::cosines;
-    let (x, spectrum) = (rng.list_of(960, Mood::Audio), rng.list_of(961, Mood::Audio));
-    let [x1, x2] = std::array::from_fn(|_| x.clone());
-    let [s1, s2] = std::array::from_fn(|_| spectrum.clone());
-    let (c, d) = (cosines(), cosines());
-    let [mut a961, mut b961] = [[0.0; 961]; 2];
-    let [mut a960, mut b960] = [[0.0; 960]; 2];
-    vec![
-        row(
-            "fft forward, beside the same in Rust",
-            move || tuppence::fft_forward(black_box(&mut a961), &x1),
-            move || fast_forward(black_box(&c), black_box(&mut b961), &x2),
-        ),
-        row(
-            "fft inverse, beside the same in Rust",
-            move || tuppence::fft_inverse(black_box(&mut a960), &s1),
-            move || fast_inverse(black_box(&d), black_box(&mut b960), &s2),
-        ),
-    ]
+    let names = ["fft forward, beside the same in Rust", "fft inverse, beside the same in Rust"];
+    of_pair(rng, names, [tuppence::fft_forward, tuppence::fft_inverse], [fast_forward, fast_inverse])
 }
 
 #[cfg(feature = "logs")]
@@ -421,7 +410,7 @@ fn of_frame(rng: &mut Rng) -> Vec<Row> {
     let frames: &'static [Frame] = Box::leak(frames.into_boxed_slice());
     let model = models::of_shape(rng, models::USUAL);
     let rusts = fed_text(frames, &model);
-    let (mut record, mut store) = ([0; 10], vec![0.0; 98_304]);
+    let (mut record, mut store) = ([0; RECORD], vec![0.0; STORE]);
     assert_eq!(tuppence::open(&mut record, &mut store, 1, &model), 0);
     let mut window = [0.0; 960];
     let (mut sums, mut spectrum, mut answer, mut out) = ([0.0; 22], [0.0; 961], [0.0; 3], [0.0; 480]);
@@ -443,7 +432,7 @@ fn of_frame(rng: &mut Rng) -> Vec<Row> {
 /// An opened bench, whose frames are all heard.
 #[cfg(feature = "frame")]
 struct Bench {
-    record: [u32; 10],
+    record: [u32; RECORD],
     store: Vec<f32>,
     model: Vec<u8>,
     out: [f32; 9 * 480],
@@ -452,9 +441,9 @@ struct Bench {
 
 #[cfg(feature = "frame")]
 impl Bench {
-    fn opened(model: &[u8]) -> Bench {
-        let (mut record, mut store) = ([0; 10], vec![0.0; 98_304]);
-        assert_eq!(tuppence::open(&mut record, &mut store, 1, model), 0);
+    fn opened(way: Way, model: &[u8]) -> Bench {
+        let (mut record, mut store) = ([0; RECORD], vec![0.0; STORE]);
+        assert_eq!(OURS.opening(way)(&mut record, &mut store, 1, model), 0);
         Bench { record, store, model: model.to_vec(), out: [0.0; 9 * 480], answers: [0.0; 9 * 3] }
     }
 
@@ -467,22 +456,26 @@ impl Bench {
     /// How many frames the piece completes.
     fn take(&mut self, piece: &[f32]) -> u32 {
         let Bench { record, store, model, out, answers } = self;
-        let done = record[5];
+        let done = record[FRAMES];
         let refused = tuppence::take(record, store, 1, piece, model, out, answers);
         assert!(refused == 0 && answers[0] == 1.0, "the frames are heard");
-        record[5] - done
+        record[FRAMES] - done
     }
 }
 
-/// The text's `process_frame` with its own lag and the machine's logarithms; its transforms are ours, of which it has none here.
+/// The text's `process_frame` with its own lag and the machine's logarithms; its transforms are ours of a way, of which it has none here.
 #[cfg(feature = "frame")]
-fn text_with_our_transforms(samples: &'static [f32], model: &[u8]) -> Side {
+fn text_with_our_transforms(way: Way, samples: &'static [f32], model: &[u8]) -> Side {
     let mut text = DenoiseState::from_model(RnnModel::from_bytes(model).unwrap());
     let mut frames = samples.chunks_exact(480).cycle();
+    let [forward, inverse]: [fn(&mut [f32], &[f32]) -> u32; 2] = match way {
+        Way::Asked => [tuppence::forward, tuppence::inverse],
+        Way::Crate => [tuppence::fft_forward, tuppence::fft_inverse],
+    };
     Box::new(move |times| {
         feed::install(feed::Functions {
-            forward: Box::new(|window, spectrum| _ = tuppence::forward(spectrum, window)),
-            inverse: Box::new(|spectrum, window| _ = tuppence::inverse(window, spectrum)),
+            forward: Box::new(move |window, spectrum| _ = forward(spectrum, window)),
+            inverse: Box::new(move |spectrum, window| _ = inverse(window, spectrum)),
             log10: f32::log10,
         });
         let mut output = [0.0; 480];
@@ -494,41 +487,71 @@ fn text_with_our_transforms(samples: &'static [f32], model: &[u8]) -> Side {
     })
 }
 
-/// Frames in one call.
+/// A second of sound.
+#[cfg(feature = "frame")]
+fn second(rng: &mut Rng) -> &'static [f32] {
+    let samples: Vec<f32> = rng.list_of(100 * 480, Mood::Audio).iter().map(|x| x.min(32_767.0)).collect();
+    samples.leak()
+}
+
+/// Frames in one call, in either way.
 #[cfg(feature = "frame")]
 fn of_whole(rng: &mut Rng) -> Vec<Row> {
-    let samples: Vec<f32> = rng.list_of(100 * 480, Mood::Audio).iter().map(|x| x.min(32_767.0)).collect();
-    let samples: &'static [f32] = Box::leak(samples.into_boxed_slice());
-    let model = models::of_shape(rng, models::USUAL);
-    let [mut one, mut other] = [(); 2].map(|_| Bench::opened(&model));
-    let (mut frames, mut pieces) = (samples.chunks_exact(480).cycle(), samples.chunks_exact(4_096).cycle());
-    let takes: Side = Box::new(move |times| {
-        let each = |_| {
+    let (samples, model) = (second(rng), models::of_shape(rng, models::USUAL));
+    let names = [
+        ["a frame in one call", "4,096 samples in one call, a frame"],
+        ["a frame in one call, the crate's way", "the same of 4,096 samples"],
+    ];
+    let of_way = |(way, [frame, piece]): (Way, [&'static str; 2])| {
+        let [mut one, mut other] = [(); 2].map(|_| Bench::opened(way, &model));
+        let (mut frames, mut pieces) = (samples.chunks_exact(480).cycle(), samples.chunks_exact(4_096).cycle());
+        let takes: Side = Box::new(move |times| {
+            let each = |_| {
+                let start = Instant::now();
+                let frames = other.take(pieces.next().unwrap());
+                start.elapsed() / frames
+            };
+            (0..times).map(each).sum()
+        });
+        let [rusts, again] = [(); 2].map(|_| text_with_our_transforms(way, samples, &model));
+        [
+            Row { name: frame, ours: timed(move || one.frame(frames.next().unwrap())), rusts },
+            Row { name: piece, ours: takes, rusts: again },
+        ]
+    };
+    Way::BOTH.into_iter().zip(names).flat_map(of_way).collect()
+}
+
+/// Of each way, the share of a second for which one core has nothing to do while it serves sixteen benches in real time: each has a second of
+/// sound, a frame at a time in turn.
+#[cfg(feature = "frame")]
+fn idle(rng: &mut Rng) -> [f64; 2] {
+    let (samples, model) = (second(rng), models::of_shape(rng, models::USUAL));
+    Way::BOTH.map(|way| {
+        let (mut store, mut records) = (vec![0.0; STORE], [[0; RECORD]; BENCHES]);
+        let (mut out, mut answer) = ([0.0; 480], [0.0; 3]);
+        for (side, record) in (0..).zip(&mut records) {
+            assert_eq!(OURS.opening(way)(record, &mut store, side, &model), 0);
+        }
+        let mut shares = [(); ROUNDS].map(|_| {
             let start = Instant::now();
-            let frames = other.take(pieces.next().unwrap());
-            start.elapsed() / frames
-        };
-        (0..times).map(each).sum()
-    });
-    vec![
-        Row {
-            name: "a frame in one call",
-            ours: timed(move || one.frame(frames.next().unwrap())),
-            rusts: text_with_our_transforms(samples, &model),
-        },
-        Row {
-            name: "4,096 samples in one call, a frame",
-            ours: takes,
-            rusts: text_with_our_transforms(samples, &model),
-        },
-    ]
+            for frame in samples.chunks_exact(480) {
+                for (side, record) in (0..).zip(&mut records) {
+                    assert_eq!(tuppence::frame(record, &mut store, side, frame, &model, &mut out, &mut answer), 0);
+                }
+            }
+            1.0 - start.elapsed().as_secs_f64()
+        });
+        shares.sort_by(f64::total_cmp);
+        shares[ROUNDS / 2]
+    })
 }
 
 /// A block of a stereo recording in one call; in the Rust's column stands a take of the same samples.
 #[cfg(feature = "blocks")]
 fn of_blocks(rng: &mut Rng) -> Vec<Row> {
     let model = models::of_shape(rng, models::USUAL);
-    let [mut one, mut other] = [(); 2].map(|_| Bench::opened(&model));
+    let [mut one, mut other] = [(); 2].map(|_| Bench::opened(Way::Asked, &model));
     let blocks: Vec<Vec<u8>> = (0..10).map(|_| rng.bytes(4 * 4_096)).collect();
     let layout = Layout { format: 16, channels: 2, channel: 1 };
     let pieces: Vec<Vec<f32>> = blocks.iter().map(|block| plain_pcm::unpack(block, layout).unwrap()).collect();
@@ -587,5 +610,9 @@ fn main() {
     for row in &mut rows {
         let [ours, rusts] = row.measure();
         println!("{:36} {ours:7.0} ns {rusts:7.0} ns {:6.2}", row.name, ours / rusts);
+    }
+    #[cfg(feature = "frame")]
+    for (benches, idle) in ["sixteen benches in real time", "the same in the crate's way"].into_iter().zip(idle(rng)) {
+        println!("{benches:36} {:7.0} % of one core idle", 100.0 * idle);
     }
 }

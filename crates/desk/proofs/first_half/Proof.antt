@@ -9,7 +9,7 @@ returns-2 : tie.Need-returns-2
 unfolding get put
 returns-2 c =
     let k = c .before .before .before .before .before in
-    let o = k .before .before .before in
+    let o = k .before .before .before .before in
     first-half-served _ _ _ _ _ _ _ _ _ _ _ _ _ _ (o .before .admit .ensures .number) (o .if1 .left) (o .before .admit .ensures .share) (k .first-half .ensures) (c .told-first .ensures)
 
 pub first-half-spec : {M : Type 1} → statement M

@@ -13,5 +13,5 @@ opened-spec =
     (λ c. search needs)  -- enum-known-read
     (λ c. search needs)  -- enum-known-read-2
     (λ c κs. search needs)  -- record-of-requires
-    (λ c. sym (ap (λ (x : Reading). openedOf (c .before .before .before .args .rec) x) (c .before .read .given .1)))  -- returns
-    (λ c. rw (c .record-of .ensures) (sym (ap (λ (x : Reading). openedOf (c .before .before .before .before .args .rec) x) (c .before .before .read2 .given .1)))))  -- returns-2
+    (λ c. sym (ap (λ (x : Reading). openedOf (c .before .before .before .args .rec) (c .before .before .before .args .way) x) (c .before .read .given .1)))  -- returns
+    (λ c. rw (c .record-of .ensures) (sym (ap (λ (x : Reading). openedOf (c .before .before .before .before .args .rec) (c .before .before .before .before .args .way) x) (c .before .before .read2 .given .1)))))  -- returns-2

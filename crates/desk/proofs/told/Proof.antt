@@ -6,14 +6,14 @@ use Rattle.desk.proofs.told.Tie as tie
 
 returns-2 : tie.Need-returns-2
 returns-2 c =
-    let index = c .before .before .before in
-    let due = index .before in
+    let hearing = c .before .before .before in
+    let due = hearing .before in
     let done = answered-yes (due .before .before .passed .ensures) (due .before .if1 .left) in
     search (
       tests,
       done,
       due .next-due .ensures,
-      index .next-index .ensures,
+      hearing .next-hearing .ensures,
       c .before .before .next-frame .ensures,
       c .before .next-heard .ensures,
       c .record-of .ensures,
@@ -26,7 +26,7 @@ told-spec =
     (λ c κs. search needs)  -- passed-requires
     (λ c. search (tests, answered-no (c .before .passed .ensures) (c .if1 .taken)))  -- returns
     (λ c κs. search needs)  -- next-due-requires
-    (λ c κs. search needs)  -- next-index-requires
+    (λ c κs. search needs)  -- next-hearing-requires
     (λ c κs. search needs)  -- next-frame-requires
     (λ c κs. search needs)  -- next-heard-requires
     (λ c κs. search needs)  -- record-of-requires

@@ -1,7 +1,8 @@
--- `feed::feed` meets its contract: the tests, and then its parts over two arrays. Assumes nothing.
+-- `feed::feed` meets its contract: the tests, and then its parts over an array. Assumes nothing.
 use Prim.Native.Nat.{_≤_}
 use mathlib.Core.Path.{refl, sym, _∙_}
 use borrow.Author.Needs.{needs}
+use Rattle.rules.proofs.Called.{left}
 use Rattle.rules.proofs.Tests.{answered-yes}
 use Rattle.desk.specs.Gate.{gate}
 use Rattle.feed.proofs.Handed.{turned, shut, fed, sized, part-length, ready}
@@ -23,20 +24,22 @@ feed-spec =
     (λ c.
     let o = c .before .before .before in
     shut _ _ _ _ _ _ _ _ _ (sym (o .before .gate .ensures) ∙ o .if1 .left) (c .before .before .samples-in .ensures) (c .before .fits2 .ensures) (c .if2 .taken))  -- returns-2
-    (λ c. search needs)  -- sub-clean
-    (λ c. search needs)  -- part-samples-start
-    (λ c. many (c .before .before .before .before))  -- part-samples-end
-    (λ c. search needs)  -- slice-aggregate-clean
+    (λ c. search needs)  -- sub-samples
+    (λ c. search needs)  -- part-places-start
+    (λ c. many c)  -- part-places-end
+    (λ c κs. search needs)  -- unpack-requires
     (λ c κs.
-    let e = c .before .before .before .before .before .before in
-    ready _ _ _ _ _ _ _ _ (e .before .before .samples-in .ensures) (e .before .fits2 .ensures) (e .if2 .left) (part-length _ _ refl (many e)) refl)  -- clean-requires
+    let u = c .before .before .before .before .before .before .before in
+    let e = u .before .before .before in
+    ready _ _ _ _ (e .before .fits2 .ensures) (e .if2 .left) (u .unpack .kept .0 ∙ part-length _ _ refl (many e)))  -- clean-requires
     (λ c. search needs)  -- same-length
     (λ c. search needs)  -- same-length-2
     (λ c. search needs)  -- same-length-3
     (λ c. search needs)  -- same-length-4
     (λ c.
-    let k = c .before .before .before .before .before .before .before .before .before .before in
-    let e = k .before .before .before .before .before .before .before in
+    let k = c .before .before .before .before .before .before .before .before .before in
+    let u = k .before .before .before .before .before .before .before .before in
+    let e = u .before .before .before in
     let o = e .before .before .before in
     fed _ _ _ _ _ _ _ _ _ (sym (o .before .gate .ensures) ∙ o .if1 .left) (e .before .before .samples-in .ensures) (e .before .fits2 .ensures) (e .if2 .left)
-    (part-length _ _ refl (many e)) (k .clean .ensures)))  -- returns-3
+    (part-length _ _ refl (many e)) (left (u .unpack .ensures)) (k .clean .ensures)))  -- returns-3

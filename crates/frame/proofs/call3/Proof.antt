@@ -34,11 +34,11 @@ returns-5 c = search tests
 returns-6 : tie.Need-returns-6
 returns-6 c =
     let k = c .before .before in
-    let a = k .before .before .before .before .before .before .before .before .before .before .before .args in
+    let a = k .before .before .before .before .before .before .before .before .before .before .before .before .args in
     rw
-    (call3-done (now (a .share)) (omega arith) (a .index) (a .vad) (a .noise) (a .denoise) (now (a .spectrum)) (now (a .logs)) (now (a .model))
+    (call3-done (now (a .share)) (omega arith) (a .hearing) (now (a .spectrum)) (now (a .logs)) (now (a .model))
     (length (now (a .out))) (omega arith) (omega arith) (omega arith) (omega arith))
-    (modelled-no (counted (a .vad) (a .noise) (a .denoise)) (now (a .share)) (now (a .out) ∷ []) (done3 (now (a .share)) (a .index) (now (a .spectrum)) (now (a .logs)) (now (a .model)))
+    (modelled-no (counted (a .hearing)) (now (a .share)) (now (a .out) ∷ []) (done3 (now (a .share)) (a .hearing .index) (now (a .spectrum)) (now (a .logs)) (now (a .model)))
     (readOf (now (a .model))) (k .check .ensures) (answered-no (c .before .passed .ensures) (c .if6 .taken)))
 
 returns-7 : tie.Need-returns-7
@@ -46,11 +46,11 @@ returns-7 c =
     let l = c .before .before .before .before in
     let i = l .before .before .before in
     let k = i .before .before in
-    let a = k .before .before .before .before .before .before .before .before .before .before .before .args in
+    let a = k .before .before .before .before .before .before .before .before .before .before .before .before .args in
     rw
-    (call3-done (now (a .share)) (omega arith) (a .index) (a .vad) (a .noise) (a .denoise) (now (a .spectrum)) (now (a .logs)) (now (a .model))
+    (call3-done (now (a .share)) (omega arith) (a .hearing) (now (a .spectrum)) (now (a .logs)) (now (a .model))
     (length (now (a .out))) (omega arith) (omega arith) (omega arith) (omega arith))
-    (modelled-yes (counted (a .vad) (a .noise) (a .denoise)) (now (a .share)) (now (a .out) ∷ []) (done3 (now (a .share)) (a .index) (now (a .spectrum)) (now (a .logs)) (now (a .model)))
+    (modelled-yes (counted (a .hearing)) (now (a .share)) (now (a .out) ∷ []) (done3 (now (a .share)) (a .hearing .index) (now (a .spectrum)) (now (a .logs)) (now (a .model)))
     (readOf (now (a .model))) (k .check .ensures) (answered-yes (i .before .passed .ensures) (i .if6 .left)) (l .listen .ensures))
 
 pub call3-spec : {M : Type 1} → statement M

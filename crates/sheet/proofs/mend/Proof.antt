@@ -2,7 +2,7 @@ use mathlib.Core.Path.{sym, _∙_}
 use borrow.Author.Needs.{needs}
 use Rattle.rules.proofs.Tests.{tests}
 use Rattle.sheet.specs.Mended.{mendOf}
-use Rattle.sheet.proofs.Mending.{by-copy, by-run-elsewhere, by-run-refused}
+use Rattle.sheet.proofs.Mending.{by-copy, read-elsewhere, not-read}
 use Rattle.sheet.proofs.mend.Statement.{statement}
 use Rattle.sheet.proofs.mend.Tie as tie
 
@@ -19,15 +19,15 @@ returns-3 c =
     let told = sym (c .before .before .before .before .before .before .before .before .before .start .given .1) ∙ c .before .before .before .before .before .before .before .before .before .before .before .read .ensures in
     c .before .before .before .before .copy-whole .ensures ∙ by-copy _ _ _ _ (c .before .before .before .before .before .before .before .before .before .before .before .before .before .if1 .left) (c .before .before .before .before .before .before .before .before .before .before .before .before .if2 .left) (rw (c .before .before .before .before .before .before .before .if3 .taken) at told)
 
-returns-4 : tie.Need-returns-4
-returns-4 c =
-    let told = sym (c .before .before .before .before .before .before .before .before .before .start .given .1) ∙ c .before .before .before .before .before .before .before .before .before .before .before .read .ensures in
-    c .before .before .before .before .mend-run .ensures ∙ by-run-elsewhere _ _ _ _ (c .before .before .before .before .before .before .before .before .before .before .before .before .before .if1 .left) (c .before .before .before .before .before .before .before .before .before .before .before .before .if2 .left) told (c .before .before .before .before .before .before .before .if3 .left)
+mend-run-requires : tie.Need-mend-run-requires
+mend-run-requires c κs =
+    let told = sym (c .before .before .before .before .start .given .1) ∙ c .before .before .before .before .before .before .read .ensures in
+    (c .before .before .before .before .before .before .before .before .if1 .left, c .before .before .before .before .before .before .before .if2 .left, read-elsewhere _ _ told (c .before .before .if3 .left))
 
-returns-5 : tie.Need-returns-5
-returns-5 c =
-    c .before .before .before .before .mend-run2 .ensures
-    ∙ by-run-refused _ _ _ _ (c .before .before .before .before .before .before .before .before .before .before .before .if1 .left) (c .before .before .before .before .before .before .before .before .before .before .if2 .left) (sym (c .before .before .before .before .before .before .before .enum-told .given .1) ∙ c .before .before .before .before .before .before .before .before .before .read .ensures)
+mend-run-requires-2 : tie.Need-mend-run-requires-2
+mend-run-requires-2 c κs =
+    let told = sym (c .before .before .enum-told .given .1) ∙ c .before .before .before .before .read .ensures in
+    (c .before .before .before .before .before .before .if1 .left, c .before .before .before .before .before .if2 .left, not-read _ _ told)
 
 pub mend-spec : {M : Type 1} → statement M
 mend-spec =
@@ -41,12 +41,12 @@ mend-spec =
     (λ c. search needs)  -- same-length
     (λ c. search needs)  -- same-length-2
     returns-3
-    (λ c κs. search needs)  -- mend-run-requires
+    mend-run-requires
     (λ c. search needs)  -- enum-told
-    (λ c κs. search needs)  -- mend-run-requires-2
+    mend-run-requires-2
     (λ c. search needs)  -- same-length-3
     (λ c. search needs)  -- same-length-4
-    returns-4
+    (λ c. c .before .before .before .before .mend-run .ensures)  -- returns-4
     (λ c. search needs)  -- same-length-5
     (λ c. search needs)  -- same-length-6
-    returns-5)
+    (λ c. c .before .before .before .before .mend-run2 .ensures))  -- returns-5

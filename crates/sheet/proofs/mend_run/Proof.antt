@@ -7,13 +7,13 @@ use borrow.Author.Tests.{lt-ltb, le-ltb, eq-eqb, ne-eqb}
 use denote.Ref.{now}
 use lib.ListN.{length, take, drop, length-take, length-set}
 use lib.Seq.{getD-drop}
+use Rattle.rules.specs.Lists.{Bytes}
 use Rattle.rules.proofs.Leaves.{leave-both}
 use Rattle.rules.proofs.Stores.{all-stored}
 use Rattle.sheet.specs.Sheet.{bytesOf}
-use Rattle.sheet.specs.Mended.{kept, torn}
-use Rattle.sheet.proofs.Digits.{Bytes}
+use Rattle.sheet.specs.Mended.{kept, torn, mendOf}
 use Rattle.sheet.proofs.Kept.{kept-known}
-use Rattle.sheet.proofs.Mending.{part-kept, size-anew, run-within, part-size, lay-anew}
+use Rattle.sheet.proofs.Mending.{anew, by-run, part-kept, size-anew, run-within, part-size, lay-anew}
 use Rattle.sheet.proofs.mend_run.Statement.{statement}
 use Rattle.sheet.proofs.mend_run.Tie as tie
 
@@ -35,18 +35,23 @@ size : (k : tie.After-kept-of)
     ≡ k .before .before .before .before .before .args .at + 8 * k .kept-of .result + 16
 size k = let a = k .before .before .before .before .before in size-anew (now (a .args .file)) (a .args .at) (a .pre .1) (kept-there k)
 
+-- the answer by the refusals that are left
+by-the-run : (k : tie.After-kept-of) → let a = k .before .before .before .before .before in
+    anew (now (a .args .file)) (a .args .at) (now (a .args .numbers)) (now (a .args .out)) ≡ mendOf (now (a .args .file)) (a .args .at) (now (a .args .numbers)) (now (a .args .out))
+by-the-run k = let a = k .before .before .before .before .before in by-run (now (a .args .file)) (a .args .at) (now (a .args .numbers)) (now (a .args .out)) (a .pre .0) (a .pre .1) (a .pre .2)
+
 returns : tie.Need-returns
-returns c = rw (eq-eqb _ 0 (sym (kept-there (c .before)) ∙ c .if1 .taken))
+returns c = rw (← by-the-run (c .before), eq-eqb _ 0 (sym (kept-there (c .before)) ∙ c .if1 .taken))
 
 returns-2 : tie.Need-returns-2
 returns-2 c =
     let k = c .before .before in
-    rw (← kept-there k, ne-eqb _ 0 (c .before .if1 .left), lt-ltb _ _ (c .if2 .taken))
+    rw (← by-the-run k, ← kept-there k, ne-eqb _ 0 (c .before .if1 .left), lt-ltb _ _ (c .if2 .taken))
 
 returns-3 : tie.Need-returns-3
 returns-3 c =
     let k = c .before .before .before in
-    rw (size k, ← kept-there k, ne-eqb _ 0 (c .before .before .if1 .left), le-ltb _ _ (c .before .if2 .left), lt-ltb _ _ (c .if3 .taken))
+    rw (← by-the-run k, size k, ← kept-there k, ne-eqb _ 0 (c .before .before .if1 .left), le-ltb _ _ (c .before .if2 .left), lt-ltb _ _ (c .if3 .taken))
 
 shared-slice-read-side : tie.Need-shared-slice-read-side
 shared-slice-read-side c = omega (arith, within (c .before .before .before .before), c .before .before .before .if1 .left)
@@ -78,7 +83,7 @@ returns-4 c =
     let room : length bytes ≤ length out = rw (size k) (c .before .before .before .before .before .before .before .before .before .before .if3 .left) in
     let told = all-stored (now (a .args .numbers)) ((at + 8 * k .kept-of .result + 16) ∷ k .kept-of .result ∷ []) (a .pre .0) in
     let laid = lay-anew s at (a .pre .1) (kept-there k) out (bytes-there k) (sym (getD-drop at s 5 0)) (c .before .before .before .before .before .before .copy .ensures) (c .before .before .close .ensures) in
-    rw (ne-eqb (kept (drop at s)) 0 some, le-ltb 536870911 (kept (drop at s)) few, le-ltb (length out) (length bytes) room, size k)
+    rw (← by-the-run k, ne-eqb (kept (drop at s)) 0 some, le-ltb 536870911 (kept (drop at s)) few, le-ltb (length out) (length bytes) room, size k)
     (leave-both (told ∙ rw (← kept-there k)) laid)
 
 pub mend-run-spec : {M : Type 1} → statement M

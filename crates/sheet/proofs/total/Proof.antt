@@ -4,7 +4,7 @@ use native.Mathlib.Omega.{arith}
 use borrow.Author.Needs.{needs}
 use lib.ListN.{length, take}
 use lib.Seq.{take-all}
-use Rattle.sheet.specs.Sheet.{sum}
+use Rattle.rules.specs.Lists.{sum}
 use Rattle.sheet.proofs.Runs.{sum-more}
 use Rattle.sheet.proofs.total.Statement.{statement}
 use Rattle.sheet.proofs.total.Tie as tie

@@ -11,8 +11,8 @@ use Rattle.export.proofs.of_desk.put_record.Tie as tie
 
 returns : tie.Need-returns
 returns c =
-    let start = c .before .before .before .before .before .before .before .before in
-    sets-whole (now (start .args .«record»)) RECORD (start .pre .0) (numbersOf (start .args .rec)) refl
+    let start = c .before .before .before .before .before .before .before .before .before .before .before in
+    rw (c .way-number .ensures) (sets-whole (now (start .args .«record»)) RECORD (start .pre .0) (numbersOf (start .args .rec)) refl)
 
 pub put-record-spec : {M : Type 1} → statement M
 put-record-spec =
@@ -34,7 +34,9 @@ put-record-spec =
     (λ c. simp length-set (omega arith))  -- slice-write-record-8
     (λ c. search needs)  -- cast-record-7
     (λ c. simp length-set (omega arith))  -- slice-write-record-9
-    (λ c. search needs)  -- cast-record-8
+    (λ c. omega (arith, c .before .before .before .before .before .before .before .before .before .pre .1 .progress))  -- cast-record-8
     (λ c. simp length-set (omega arith))  -- slice-write-record-10
-    (λ c. search needs)  -- same-length
+    (λ c κs. search needs)  -- way-number-requires
+    (λ c. simp length-set (omega arith))  -- slice-write-record-11
+    (λ c. simp length-set (omega arith))  -- same-length
     returns)

@@ -6,8 +6,8 @@ use borrow.Author.Needs.{needs}
 use denote.Ref.{now}
 use lib.ListN.{length-take, length-drop}
 use Rattle.rules.proofs.Called.{left as fitted}
-use Rattle.transforms.specs.Transform.{forwardOf}
 use Rattle.finder.proofs.Lags.{lag-small}
+use Rattle.halves.specs.Ways.{forwardBy}
 use Rattle.halves.proofs.Lagged.{looked-back}
 use Rattle.halves.proofs.second.look_back.Statement.{statement}
 use Rattle.halves.proofs.second.look_back.Tie as tie
@@ -20,8 +20,8 @@ returns c =
     let share = now (l .before .before .before .before .args .share) in
     let small : l .whole-lag .result ≤ 768 = rw (l .whole-lag .ensures) (lag-small _) in
     let window = fitted (w .apply-window .ensures) (record { into = refl; from = simp (length-take, length-drop) (omega arith) }) in
-    fitted (f .forward .ensures) (record { into = omega arith; from = omega arith })
-    ∙ ap forwardOf (window ∙ looked-back share (omega arith) (l .whole-lag .ensures))
+    f .forward .ensures
+    ∙ ap (forwardBy _) (window ∙ looked-back share (omega arith) (l .whole-lag .ensures))
 
 pub look-back-spec : {M : Type 1} → statement M
 look-back-spec =

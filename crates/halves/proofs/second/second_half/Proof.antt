@@ -31,11 +31,11 @@ returns-5 : tie.Need-returns-5
 returns-5 c =
     let w = c .before .before .before .before .before in
     let l = w .before .before .before .before .before in
-    let a = l .before .before .before .before .before .before .before .before .before .before .before .args in
+    let a = l .before .before .before .before .before .before .before .before .before .before .before .before .args in
     as-is
-    (second-half-done (now (a .share)) (omega arith) (a .index) (a .vad) (a .noise) (a .denoise) (now (a .logs)) (now (a .model)) (length (now (a .out)))
+    (second-half-done (now (a .share)) (omega arith) (a .hearing) (now (a .logs)) (now (a .model)) (length (now (a .out)))
     (omega arith) (omega arith) (omega arith) (l .look-back .ensures))
-    (refused-first (w .call3 .ensures) (λ f. synthesised (f .reply) (f .share) (buffer f) (length (now (a .out)))) (now (a .out) ∷ [])
+    (refused-first (w .call3 .ensures) (λ f. synthesised (f .reply) (f .share) (a .hearing .way) (buffer f) (length (now (a .out)))) (now (a .out) ∷ [])
     (answered-no (c .before .passed .ensures) (c .if5 .taken)))
 
 returns-6 : tie.Need-returns-6
@@ -44,13 +44,17 @@ returns-6 c =
     let e = n .before .before .before .before in
     let w = e .before .before .before .before .before in
     let l = w .before .before .before .before .before in
-    let a = l .before .before .before .before .before .before .before .before .before .before .before .args in
+    let a = l .before .before .before .before .before .before .before .before .before .before .before .before .args in
+    let whole = l .before .before .before .before .before .before .before .if1 .left in
+    let few = l .before .before .before .before .before .before .if2 .left in
+    let room = l .before .before .before .before .before .if3 .left in
+    let inside = l .before .before .before .if4 .left in
     let yes = answered-yes (e .before .passed .ensures) (e .if5 .left) in
     as-is
-    (second-half-done (now (a .share)) (omega arith) (a .index) (a .vad) (a .noise) (a .denoise) (now (a .logs)) (now (a .model)) (length (now (a .out)))
-    (omega arith) (omega arith) (omega arith) (l .look-back .ensures)
-    ∙ handed-on (w .call3 .ensures) yes (λ reply share spectrum. synthesised reply share spectrum (length (now (a .out)))))
-    (synthesised-by _ _ _ yes (omega arith) (omega arith) (n .synthesise .ensures))
+    (second-half-done (now (a .share)) (omega (arith, whole)) (a .hearing) (now (a .logs)) (now (a .model)) (length (now (a .out)))
+    (omega (arith, few)) (omega (arith, room)) (omega (arith, inside)) (l .look-back .ensures)
+    ∙ handed-on (w .call3 .ensures) yes (λ reply share spectrum. synthesised reply share (a .hearing .way) spectrum (length (now (a .out)))))
+    (synthesised-by _ _ _ _ yes (omega (arith, w .call3 .kept .0, whole)) (omega (arith, room)) (n .synthesise .ensures))
 
 pub second-half-spec : {M : Type 1} → statement M
 second-half-spec =

@@ -1,12 +1,10 @@
 -- `halves::second::synthesise` meets its contract. Assumes nothing.
 use mathlib.Core.List.{List}
-use mathlib.Core.Path.{refl, sym, ap}
-use native.Mathlib.Omega.{arith}
+use mathlib.Core.Path.{sym, ap}
 use borrow.Author.Needs.{needs}
 use denote.Ref.{now}
 use lib.ListN.{length}
 use lib.Ieee.{Float}
-use Rattle.rules.proofs.Called.{left as fitted}
 use Rattle.frame.specs.Frame.{call4}
 use Rattle.halves.proofs.Onward.{as-is}
 use Rattle.halves.proofs.second.synthesise.Statement.{statement}
@@ -17,8 +15,7 @@ returns c =
     let o = c .before .before .before .before in
     let f = o .before .before .before .before .before in
     let a = f .before .before .before .before .before .args in
-    let made = fitted (f .inverse .ensures) (record { into = refl; from = omega arith }) in
-    as-is (ap (λ (x : List Float). call4 (now (a .share)) 0 0 x (length (now (a .out)))) (sym made)) (o .call4 .ensures)
+    as-is (ap (λ (x : List Float). call4 (now (a .share)) 0 0 x (length (now (a .out)))) (sym (f .inverse .ensures))) (o .call4 .ensures)
 
 pub synthesise-spec : {M : Type 1} → statement M
 synthesise-spec =

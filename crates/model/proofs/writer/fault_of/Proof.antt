@@ -3,7 +3,7 @@ use mathlib.Core.Path.{sym, _∙_}
 use Prim.Native.Nat.{_+_}
 use borrow.Author.Needs.{needs}
 use denote.Ref.{now}
-use Rattle.model.specs.Layer.{sum}
+use Rattle.rules.specs.Lists.{sum}
 use Rattle.model.proofs.Accepted.{bad-rows, clear-rows, bad-model, good-model, few-given}
 use Rattle.model.proofs.writer.fault_of.Statement.{statement}
 use Rattle.model.proofs.writer.fault_of.Tie as tie
@@ -19,7 +19,7 @@ model-fault-requires c κs =
     let lf = c .before .before in
     let start = lf .before .before in
     let clear = clear-rows (now (start .args .shapes)) (start .args .lengths) (18 + sum (start .args .lengths)) (start .args .buffer) (lf .layers-fault .ensures) (c .before .if1 .left) in
-    rw (c .model-given .ensures) (few-given (now (start .args .shapes)) (start .args .lengths) (18 + sum (start .args .lengths)) (start .args .buffer) clear)
+    rw (c .counts-given .ensures) (few-given (now (start .args .shapes)) (start .args .lengths) (18 + sum (start .args .lengths)) (start .args .buffer) clear)
 
 returns-2 : tie.Need-returns-2
 returns-2 c =
@@ -28,7 +28,7 @@ returns-2 c =
     let lf = mg .before .before in
     let start = lf .before .before in
     let clear = clear-rows (now (start .args .shapes)) (start .args .lengths) (18 + sum (start .args .lengths)) (start .args .buffer) (lf .layers-fault .ensures) (mg .before .if1 .left) in
-    bad-model (now (start .args .shapes)) (start .args .lengths) (18 + sum (start .args .lengths)) (start .args .buffer) clear (rw (mg .model-given .ensures) at (mf .model-fault .ensures)) (c .if2 .taken)
+    bad-model (now (start .args .shapes)) (start .args .lengths) (18 + sum (start .args .lengths)) (start .args .buffer) clear (rw (mg .counts-given .ensures) at (mf .model-fault .ensures)) (c .if2 .taken)
 
 returns-3 : tie.Need-returns-3
 returns-3 c =
@@ -38,7 +38,7 @@ returns-3 c =
     let lf = mg .before .before in
     let start = lf .before .before in
     let clear = clear-rows (now (start .args .shapes)) (start .args .lengths) (18 + sum (start .args .lengths)) (start .args .buffer) (lf .layers-fault .ensures) (mg .before .if1 .left) in
-    sym (good-model (now (start .args .shapes)) (start .args .lengths) (18 + sum (start .args .lengths)) (start .args .buffer) clear (rw (mg .model-given .ensures) at (mf .model-fault .ensures)) (ts .before .if2 .left)
+    sym (good-model (now (start .args .shapes)) (start .args .lengths) (18 + sum (start .args .lengths)) (start .args .buffer) clear (rw (mg .counts-given .ensures) at (mf .model-fault .ensures)) (ts .before .if2 .left)
     ∙ rw (sym (ts .too-short .ensures) ∙ c .if3 .taken))
 
 returns-4 : tie.Need-returns-4
@@ -49,7 +49,7 @@ returns-4 c =
     let lf = mg .before .before in
     let start = lf .before .before in
     let clear = clear-rows (now (start .args .shapes)) (start .args .lengths) (18 + sum (start .args .lengths)) (start .args .buffer) (lf .layers-fault .ensures) (mg .before .if1 .left) in
-    sym (good-model (now (start .args .shapes)) (start .args .lengths) (18 + sum (start .args .lengths)) (start .args .buffer) clear (rw (mg .model-given .ensures) at (mf .model-fault .ensures)) (ts .before .if2 .left)
+    sym (good-model (now (start .args .shapes)) (start .args .lengths) (18 + sum (start .args .lengths)) (start .args .buffer) clear (rw (mg .counts-given .ensures) at (mf .model-fault .ensures)) (ts .before .if2 .left)
     ∙ rw (sym (ts .too-short .ensures) ∙ c .if3 .left))
 
 pub fault-of-spec : {M : Type 1} → statement M
@@ -58,7 +58,7 @@ fault-of-spec =
     (tie.spec
     (λ c κs. search needs)  -- layers-fault-requires
     returns
-    (λ c κs. search needs)  -- model-given-requires
+    (λ c κs. search needs)  -- counts-given-requires
     model-fault-requires
     returns-2
     (λ c κs. search needs)  -- too-short-requires

@@ -5,7 +5,7 @@ use native.Mathlib.Omega.{arith}
 use lib.ListN.{take}
 use borrow.Author.Needs.{needs}
 use borrow.Author.Tests.{lt-ltb, le-ltb}
-use Rattle.model.specs.Layer.{sum}
+use Rattle.rules.specs.Lists.{sum}
 use Rattle.model.proofs.Places.{part-sum}
 use Rattle.model.proofs.Given.{sum-take, all-passed}
 use Rattle.model.proofs.writer.too_short.Statement.{statement}

@@ -40,7 +40,7 @@ first-good c = let k = took (c .before .before .before) in ap good (filled c) âˆ
 -- ---- the three ways to end
 
 returns : tie.Need-returns
-returns c = piece-refused _ _ _ _ _ _ (c .before .before .piece-reply .ensures) (answered-no (c .before .passed .ensures) (c .if1 .taken))
+returns c = piece-refused _ _ _ _ _ _ _ (c .before .before .piece-reply .ensures) (answered-no (c .before .passed .ensures) (c .if1 .taken))
 
 returns-2 : tie.Need-returns-2
 returns-2 c =
@@ -48,7 +48,7 @@ returns-2 c =
     let t = s .before .before .before in
     let g = t .before .before in
     let e = g .before .before .before in
-    piece-ends _ _ _ _ _ _ (e .before .before .piece-reply .ensures) (through e) _ (filled g) (t .if2 .taken) (s .settle .ensures)
+    piece-ends _ _ _ _ _ _ _ (e .before .before .piece-reply .ensures) (through e) _ (filled g) (t .if2 .taken) (s .settle .ensures)
 
 returns-3 : tie.Need-returns-3
 returns-3 c =
@@ -57,7 +57,7 @@ returns-3 c =
     let t = m .before .before in
     let g = t .before .before in
     let e = g .before .before .before in
-    piece-pauses _ _ _ _ _ _ (e .before .before .piece-reply .ensures) (through e) _ (filled g) (t .if2 .left) (m .empty .ensures) (n .enter .ensures .0) (n .enter .ensures .1)
+    piece-pauses _ _ _ _ _ _ _ (e .before .before .piece-reply .ensures) (through e) _ (filled g) (t .if2 .left) (m .empty .ensures) (n .enter .ensures .0) (n .enter .ensures .1)
 
 -- ---- what the parts ask for
 

@@ -13,7 +13,7 @@ returns : tie.Need-returns
 returns c =
     let t = c .before .before .before .before in
     let a = t .before .before .before .before .args in
-    rest-waits (now (a .share)) (now (a .samples)) (a .from) (now (a .sums)) (t .if1 .taken) (c .before .before .keep .ensures)
+    rest-waits (now (a .share)) (a .way) (now (a .samples)) (a .from) (now (a .sums)) (t .if1 .taken) (c .before .before .keep .ensures)
 
 enter-requires : tie.Need-enter-requires
 enter-requires c κs =
@@ -26,7 +26,7 @@ returns-2 c =
     let n = c .before .before .before .before .enter .ensures in
     let t = c .before .before .before .before .before .before .before .before in
     let a = t .before .before .before .before .args in
-    rest-begins (now (a .share)) (now (a .samples)) (a .from) (now (a .sums)) (t .if1 .left) (n .0) (n .1)
+    rest-begins (now (a .share)) (a .way) (now (a .samples)) (a .from) (now (a .sums)) (t .if1 .left) (n .0) (n .1)
 
 pub go-on-spec : {M : Type 1} → statement M
 go-on-spec =

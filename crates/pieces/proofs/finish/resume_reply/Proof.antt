@@ -9,7 +9,7 @@ use Rattle.pieces.specs.Pieces.{resumeFits, resumeReply}
 use Rattle.pieces.proofs.finish.resume_reply.Statement.{statement}
 use Rattle.pieces.proofs.finish.resume_reply.Tie as tie
 
-fits : (c : tie.Else2) → let a = c .before .before .before .before .before .before .before .args in resumeFits (a .index) (a .piece) (a .progress) (length (now (a .samples))) (length (now (a .logs))) (a .out) (a .sums) ≡ true
+fits : (c : tie.Else2) → let a = c .before .before .before .before .before .before .before .args in resumeFits (a .hearing .index) (a .piece) (a .progress) (length (now (a .samples))) (length (now (a .logs))) (a .out) (a .sums) ≡ true
 fits c = answered-yes (c .before .resume-fits .ensures) (c .if2 .left)
 
 returns-3 : tie.Need-returns-3

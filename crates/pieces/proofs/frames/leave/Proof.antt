@@ -12,7 +12,7 @@ returns c =
     let h = c .before .before .before .before .second-half in
     let e = c .before .before .before .before .before .before .before .before .before .before .before in
     let a = e .args in
-    finished (now (a .share)) (e .pre .0 .0) (a .index) (a .vad) (a .noise) (a .denoise) (now (a .logs)) (now (a .model)) (now (a .out)) (a .start)
+    finished (now (a .share)) (e .pre .0 .0) (a .hearing) (now (a .logs)) (now (a .model)) (now (a .out)) (a .start)
     (e .pre .0 .1) (e .pre .0 .2) (e .pre .0 .3) (e .pre .1) (h .ensures)
 
 pub leave-spec : {M : Type 1} → statement M

@@ -3,7 +3,7 @@ use native.Mathlib.Omega.{arith}
 use denote.Ref.{now}
 use lib.ListN.{length, length-take}
 use lib.Seq.{take-all}
-use Rattle.sheet.specs.Sheet.{sum}
+use Rattle.rules.specs.Lists.{sum}
 use Rattle.sheet.proofs.Laying.{length-records}
 use borrow.Author.Needs.{needs}
 use Rattle.sheet.proofs.parts.lay.Statement.{statement}

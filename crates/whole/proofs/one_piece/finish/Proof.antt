@@ -24,6 +24,13 @@ Inv-loop side store₀ piece model out₀ sums₀ answers₀ frames last₀ j₀
 abbrev μ-loop : tie.MeasureT-loop
 μ-loop side store₀ piece model out₀ sums₀ answers₀ frames last₀ j₀ store out sums answers last j = frames - j
 
+-- the number of frames is a usize
+add-j : tie.Need-add-j Inv-loop μ-loop
+add-j c =
+    let l = c .before .before .before .before .before .before .before .before .before .before .before .before .before .before in
+    let s = l .before .before .before .before .before .before .before in
+    omega (arith, s .good)
+
 loop-again : tie.Need-loop-again Inv-loop μ-loop
 loop-again c =
     let s = c .before .before .before .before .before .before .before .before in
@@ -44,7 +51,7 @@ finish-spec =
     μ-loop
     (λ c. search turns)  -- loop-holds
     (λ c κs. search turns)  -- step-requires
-    (λ c. search turns)  -- add-j
+    add-j
     (λ c. search turns)  -- loop-less
     loop-again
     (λ c. search turns)  -- same-length

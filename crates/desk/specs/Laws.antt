@@ -1,0 +1,197 @@
+-- What is claimed of the desk's calls, for any number of benches. The proofs are in proofs/Settled, Ranged, Replies, Buffers, Halved, Apart and Zeros.
+use Prim.Native.Nat.{ℕ, _+_, _*_, _≤_, _<_}
+use mathlib.Core.Bool.{true, false, cond}
+use mathlib.Core.List.{List}
+use mathlib.Core.Logic.{_⊎_}
+use mathlib.Core.Path.{_≡_}
+use lib.ListN.{length, drop}
+use lib.Ieee.{Float}
+use Rattle.rules.specs.Place.{get, put}
+use Rattle.rules.specs.Written.{Written, firstIn}
+use Rattle.transforms.specs.Transform.{forwardOf}
+use Rattle.model.specs.Model.{readOf}
+use Rattle.model.specs.declared.Model.{Model}
+use Rattle.model.specs.declared.Reading.the-variants.{Good}
+use Rattle.frame.specs.Share.{SHARE}
+use Rattle.frame.specs.Reply.{passed}
+use Rattle.frame.specs.declared.Reply.{Reply}
+use Rattle.frame.specs.declared.Reply.the-variants.{Done, Silent, Heard, Numbered, Refused, Misread}
+use Rattle.frame.specs.declared.Way.{Way}
+use Rattle.frame.specs.declared.Way.the-variants.{Asked}
+use Rattle.halves.specs.Halves.{lookedBack}
+use Rattle.halves.specs.Ways.{forwardBy, inverseBy}
+use Rattle.pieces.specs.Pieces.{framePart, waitingIn, paddedTo}
+use Rattle.desk.specs.Gate.{shareOf, inRange}
+use Rattle.desk.specs.Desk.{Ask, opening, call1, call2, call2Own, call3, call4, firstHalf, secondHalf, piece, resume, closed, Given, desk, Served}
+use Rattle.desk.specs.Surface.{Hosted}
+use Rattle.desk.specs.declared.Answer.{Answer}
+use Rattle.desk.specs.declared.Record.{Record}
+
+-- ---- no second outcome meets a contract
+
+abbrev pub Settled : Type 0
+Settled =
+    (o : Given) (answer answer′ : Answer) (store store′ : List Float) (held out out′ : List (List Float))
+    → Served o answer store held out → Served o answer′ store′ held out′
+    → (answer ≡ answer′) × (store ≡ store′) × (out ≡ out′)
+
+abbrev pub HostSettled : Type 0
+HostSettled =
+    (o : Given) (number number′ : ℕ) (ns ms ms′ : List ℕ) (store store′ : List Float) (held out out′ : List (List Float))
+    → Hosted o number ns ms store held out → Hosted o number′ ns ms′ store′ held out′
+    → (number ≡ number′) × (ms ≡ ms′) × (store ≡ store′) × (out ≡ out′)
+
+-- ---- one call
+
+-- a refusal changes neither the record nor the store
+abbrev pub RefusedKeeps : Type 0
+RefusedKeeps =
+    (n side : ℕ) (rec : Record) (store : List Float) (ask : Ask)
+    → let o = desk n side rec store ask in
+    passed (o .answer .reply) ≡ false → (o .answer .rec ≡ rec) × (o .store ≡ store)
+
+-- where a call is done, the record given and the record handed back are in range: a host that hands back what it received is not turned away for it
+abbrev pub RangeKept : Type 0
+RangeKept =
+    (n side : ℕ) (rec : Record) (store : List Float) (ask : Ask)
+    → let o = desk n side rec store ask in
+    passed (o .answer .reply) ≡ true → (inRange rec ≡ true) × (inRange (o .answer .rec) ≡ true)
+
+-- a 7 comes with a number of at most 22 and a layer of at most 6
+abbrev pub SmallSeven : Reply → Type 0
+SmallSeven (Misread n l) = (n ≤ 22) × (l ≤ 6)
+SmallSeven Done = Unit
+SmallSeven Silent = Unit
+SmallSeven (Heard v e) = Unit
+SmallSeven (Numbered f h) = Unit
+SmallSeven (Refused n) = Unit
+
+abbrev pub SmallReplies : Type 0
+SmallReplies = (n side : ℕ) (rec : Record) (store : List Float) (ask : Ask) → SmallSeven (desk n side rec store ask .answer .reply)
+
+-- so many answer buffers are lent to a call; done, it writes to each, and refused, to none
+abbrev pub buffersOf : Ask → ℕ
+buffersOf (opening w m) = 0
+buffersOf (call1 x w) = 1
+buffersOf (call2 x l w s) = 2
+buffersOf (call2Own x w s) = 2
+buffersOf (call3 x l m o) = 1
+buffersOf (call4 x o) = 1
+buffersOf (firstHalf x s) = 1
+buffersOf (secondHalf l m o) = 1
+buffersOf (piece x o s) = 2
+buffersOf (resume x l m o s) = 2
+
+abbrev pub Buffers : Type 0
+Buffers =
+    (n side : ℕ) (rec : Record) (store : List Float) (ask : Ask)
+    → let o = desk n side rec store ask in
+    length (o .written) ≡ cond (passed (o .answer .reply)) (buffersOf ask) 0
+
+-- a closed record is in range; and with any that is, a right side and store, and a model that reads, an opening is done
+abbrev pub Opens : Type 0
+Opens =
+    (inRange closed ≡ true)
+    × ((n side : ℕ) (rec : Record) (store : List Float) (way : Way) (model : List ℕ) (m : Model)
+    → side < n → length store ≡ n * SHARE → inRange rec ≡ true → readOf model ≡ Good m
+    → desk n side rec store (opening way model) .answer .reply ≡ Done)
+
+-- ---- request 08: accepted, a half is its two calls in turn, the second handed the record and the store as the first left them
+
+-- a half that is two calls of the desk: both are done, it leaves the second's record and store, and this is its reply and what it writes
+pub record InTurn (one two half : Given) (reply : Reply) (written : List Written) : Type 0 where
+  pub first : passed (one .answer .reply) ≡ true
+  pub last : passed (two .answer .reply) ≡ true
+  pub replies : half .answer .reply ≡ reply
+  pub records : half .answer .rec ≡ two .answer .rec
+  pub stores : half .store ≡ two .store
+  pub writes : half .written ≡ written
+
+-- by the way that is asked: call 1, and call 2's sister with the plain sums of its window
+abbrev pub FirstInTurn : Type 0
+FirstInTurn =
+    (n side : ℕ) (rec : Record) (store samples : List Float) (sums : ℕ)
+    → let one = desk n side rec store (call1 samples 960) in
+    let two = desk n side (one .answer .rec) (one .store) (call2Own (forwardOf (firstIn (one .written))) 960 sums) in
+    let half = desk n side rec store (firstHalf samples sums) in
+    rec .hearing .way ≡ Asked → passed (half .answer .reply) ≡ true → InTurn one two half (two .answer .reply) (drop 1 (two .written))
+
+-- by either way; and call 4's numbers stand in the record
+abbrev pub SecondInTurn : Type 0
+SecondInTurn =
+    (n side : ℕ) (rec : Record) (store logs : List Float) (model : List ℕ) (out : ℕ)
+    → let way = rec .hearing .way in
+    let spectrum = forwardBy way (lookedBack (get framePart (get (shareOf side) store))) in
+    let three = desk n side rec store (call3 spectrum logs model 961) in
+    let four = desk n side (three .answer .rec) (three .store) (call4 (inverseBy way (firstIn (three .written))) out) in
+    let half = desk n side rec store (secondHalf logs model out) in
+    passed (half .answer .reply) ≡ true
+    → InTurn three four half (three .answer .reply) (four .written)
+    × (four .answer .reply ≡ Numbered (half .answer .rec .frame) (half .answer .rec .heard))
+
+-- ---- what the law of isolation rests on
+
+-- no two sides' shares have a place in common
+abbrev pub SharesApart : Type 0
+SharesApart =
+    (a b : ℕ) → (a ≡ b → ⊥) → let p = shareOf a in let q = shareOf b in (p .at + p .size ≤ q .at) ⊎ (q .at + q .size ≤ p .at)
+
+-- an outcome on a store that is the share of a side, in the store that the share is a part of
+abbrev pub placed : ℕ → List Float → Given → Given
+placed side store o = record { answer = o .answer; store = put (shareOf side) store (o .store); written = o .written }
+
+-- a call on a side is what a desk of one bench makes of it, with the side's share for its store
+abbrev pub ItsOwn : Type 0
+ItsOwn =
+    (n side : ℕ) (rec : Record) (store : List Float) (ask : Ask) → length store ≡ n * SHARE → side < n
+    → desk n side rec store ask ≡ placed side store (desk 1 0 rec (get (shareOf side) store) ask)
+
+-- the store keeps its length, and no other side's share changes
+abbrev pub SameLength : Type 0
+SameLength =
+    (n side : ℕ) (rec : Record) (store : List Float) (ask : Ask) → length store ≡ n * SHARE
+    → length (desk n side rec store ask .store) ≡ length store
+
+abbrev pub OtherShare : Type 0
+OtherShare =
+    (n side : ℕ) (rec : Record) (store : List Float) (ask : Ask) → length store ≡ n * SHARE → (s : ℕ) → (side ≡ s → ⊥)
+    → get (shareOf s) (desk n side rec store ask .store) ≡ get (shareOf s) store
+
+-- two outcomes that answer alike, and leave the same store or a closed record
+pub record AnsweredAlike (o u : Given) : Type 0 where
+  pub answer : o .answer ≡ u .answer
+  pub written : o .written ≡ u .written
+  pub store : (o .store ≡ u .store) ⊎ (o .answer .rec .due ≡ 0)
+
+-- what the share of a closed side held is never told
+abbrev pub ClosedAlike : Type 0
+ClosedAlike =
+    (rec : Record) (xs ys : List Float) → length xs ≡ SHARE → length ys ≡ SHARE → (ask : Ask) → rec .due ≡ 0
+    → AnsweredAlike (desk 1 0 rec xs ask) (desk 1 0 rec ys ask)
+
+-- an opening that is done forgets the record and the share that it found
+abbrev pub OpensAnew : Type 0
+OpensAnew =
+    (rec : Record) (xs ys : List Float) → length xs ≡ SHARE → length ys ≡ SHARE → (way : Way) (model : List ℕ)
+    → let o = desk 1 0 rec xs (opening way model) in
+    passed (o .answer .reply) ≡ true → o ≡ desk 1 0 closed ys (opening way model)
+
+-- ---- request 12: the unused places are zero
+
+-- the places for samples that wait hold those that the record counts, and zeros behind them
+abbrev pub ZerosBehind : ℕ → Record → List Float → Type 0
+ZerosBehind side rec store =
+    let share = get (shareOf side) store in waitingIn 479 share ≡ paddedTo 479 (waitingIn (rec .waiting) share)
+
+-- a side's record, and a store, that an opening of the side and any calls behind it led to, its own and other sides'
+pub data Reached (n side : ℕ) : Record → List Float → Type 0 where
+  opened : (rec : Record) (store : List Float) (way : Way) (model : List ℕ)
+      → passed (desk n side rec store (opening way model) .answer .reply) ≡ true
+      → Reached n side (desk n side rec store (opening way model) .answer .rec) (desk n side rec store (opening way model) .store)
+  asked : {rec : Record} {store : List Float} → Reached n side rec store
+      → (ask : Ask) → Reached n side (desk n side rec store ask .answer .rec) (desk n side rec store ask .store)
+  beside : {rec : Record} {store : List Float} → Reached n side rec store
+      → (other : ℕ) → (other ≡ side → ⊥) → (its : Record) (ask : Ask) → Reached n side rec (desk n other its store ask .store)
+
+abbrev pub UnusedZero : Type 0
+UnusedZero = (n side : ℕ) (rec : Record) (store : List Float) → Reached n side rec store → ZerosBehind side rec store

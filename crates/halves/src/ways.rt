@@ -1,0 +1,62 @@
+// What a bench's way decides: whose lag, and which transforms.
+ghost use mathlib.Core.Path.{_≡_};
+ghost use lib.ListN.{length};
+ghost use Rattle.frame.specs.declared.Way.the-variants.{Crate};
+ghost use Rattle.transforms.specs.Transform.{ForwardFits, InverseFits};
+ghost use Rattle.halves.specs.Ways.{lagBy, remembered, forwardBy, inverseBy};
+use frame::Way;
+
+// The finder's period, which it remembers with its gain.
+fn find(share: &mut [f32]) -> usize
+    requires { ⌜ length (now share) ≡ 3778 ⌝ }
+    ensures { λ r. ⌜ r ≡ lagBy Crate (now (share .entry)) ⌝ }
+    ensures { λ _. ⌜ now (share .exit) ≡ remembered Crate (now (share .entry)) ⌝ }
+{
+    let found = finder::find(share[3776], share[3777], &share[0..1728]);
+    let period = found.period();
+    share[3776] = period as f32;
+    share[3777] = found.gain();
+    period
+}
+
+// The lag, and what is remembered of it.
+pub(crate) fn lag(share: &mut [f32], way: Way) -> usize
+    requires { ⌜ length (now share) ≡ 3778 ⌝ }
+    ensures { λ r. ⌜ r ≡ lagBy way (now (share .entry)) ⌝ }
+    ensures { λ _. ⌜ now (share .exit) ≡ remembered way (now (share .entry)) ⌝ }
+{
+    match way {
+        Way::Asked => lag::lag_of(&share[0..1728]).lag(),
+        Way::Crate => find(share),
+    }
+}
+
+// The spectrum of 960 samples.
+pub(crate) fn forward(out: &mut [f32], samples: &[f32], way: Way)
+    requires { ⌜ ForwardFits (length (now out)) (length (now samples)) ⌝ }
+    ensures { λ _. ⌜ now (out .exit) ≡ forwardBy way (now (samples .entry)) ⌝ }
+{
+    match way {
+        Way::Asked => {
+            transforms::forward(out, samples);
+        }
+        Way::Crate => {
+            fft::forward(out, samples);
+        }
+    }
+}
+
+// The samples of a spectrum.
+pub(crate) fn inverse(out: &mut [f32], spectrum: &[f32], way: Way)
+    requires { ⌜ InverseFits (length (now out)) (length (now spectrum)) ⌝ }
+    ensures { λ _. ⌜ now (out .exit) ≡ inverseBy way (now (spectrum .entry)) ⌝ }
+{
+    match way {
+        Way::Asked => {
+            transforms::inverse(out, spectrum);
+        }
+        Way::Crate => {
+            fft::inverse(out, spectrum);
+        }
+    }
+}

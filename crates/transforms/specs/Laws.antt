@@ -1,0 +1,26 @@
+-- What is claimed of the transforms' sums, which start from +0: none of them is ever -0. So a product of a zero may be added with either sign. The proofs are in
+-- proofs/Sound.antt.
+use mathlib.Core.Bool.{Bool, true, false}
+use mathlib.Core.List.{List}
+use Prim.Native.Nat.{ℕ, zero, suc}
+use lib.Dec.{T}
+use lib.Ieee.{Float, nan, inf, fin, binary32, fits}
+use Rattle.rules.specs.F32.{_⊕_, at, f32}
+use Rattle.rules.specs.Loop.{loop, range}
+use Rattle.transforms.specs.Transform.{forwardStep, inverseStep}
+
+-- anything but -0
+abbrev pub plain : Float → Bool
+plain nan = true
+plain (inf s) = true
+plain (fin false m e) = true
+plain (fin true zero e) = false
+plain (fin true (suc m) e) = true
+
+-- after n terms of a bin's part
+abbrev pub ForwardPlain : Type 0
+ForwardPlain = (x : List Float) (bin part n : ℕ) → T (plain (loop n (forwardStep x bin part) (f32 0)))
+
+-- after the terms of bins 1 to k - 1 of a sample, where bin 0 is a number of this format
+abbrev pub InversePlain : Type 0
+InversePlain = (x : List Float) (sample k : ℕ) → T (fits binary32 (at x 0)) → T (plain (range 1 k (inverseStep x sample) (f32 0 ⊕ at x 0)))
