@@ -2,7 +2,7 @@
 
 use crate::about::About;
 use crate::cleaned::Summary;
-use crate::demo::HOUSE;
+use crate::demo::{HOUSE, HOUSE_NAME};
 use crate::files::{recording, Files};
 use crate::folder::told;
 use crate::found::Found;
@@ -33,9 +33,6 @@ pub struct Job {
     /// What stands in front of the name of each file that is written.
     pub prefix: String,
 }
-
-/// What the house model is called.
-pub const HOUSE_NAME: &str = "house.rnn";
 
 impl Job {
     fn model_name(&self) -> &Path {

@@ -2,7 +2,6 @@
 
 use crate::about::About;
 use crate::block::packed;
-use crate::clean::HOUSE_NAME;
 use crate::cleaned::Cleaned;
 use crate::files::{before, Files};
 use crate::pauses::HIGH_PASS;
@@ -14,6 +13,8 @@ use std::path::Path;
 
 /// The house model (model/train/README.md).
 pub const HOUSE: &[u8] = include_bytes!("../model/house.rnn");
+/// What the house model is called.
+pub const HOUSE_NAME: &str = "house.rnn";
 /// The voices (demo/README.md).
 const VOICES: [&[u8]; 2] = [include_bytes!("../demo/left.wav"), include_bytes!("../demo/right.wav")];
 /// Seconds of grinder before the voice and behind it.

@@ -1,8 +1,9 @@
 //! `box clean` and `box demo`, from the words, told in words or as JSON.
 
-use crate::clean::{self, Inputs, Job, Report, HOUSE_NAME};
+use crate::clean::{self, Inputs, Job, Report};
 use crate::cleaned::Summary;
 use crate::cli::words::Given;
+use crate::demo::HOUSE_NAME;
 use crate::folder::told;
 use crate::json::{rounded, Json};
 use crate::recorder::{Side, Way};
