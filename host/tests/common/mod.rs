@@ -3,6 +3,7 @@
 
 use std::fs;
 use std::io::{Cursor, Write};
+use std::os::unix::process::CommandExt;
 use std::path::{Path, PathBuf};
 use std::process::{Child, Command, Output, Stdio};
 use std::sync::OnceLock;
@@ -25,10 +26,20 @@ pub fn folder(name: &str) -> PathBuf {
     path
 }
 
-/// The program, to be run in the folder.
+/// The program, to be run in the folder. A lost line ends it, though the tests themselves may run behind `nohup`.
 pub fn host(path: &Path, words: &[&str]) -> Command {
+    extern "C" {
+        fn signal(number: i32, handler: usize) -> usize;
+    }
     let mut command = Command::new(env!("CARGO_BIN_EXE_tuppencehop"));
     command.args(words).current_dir(path).stdin(Stdio::null()).stdout(Stdio::piped()).stderr(Stdio::piped());
+    // SAFETY: `signal` may be called between fork and exec, and the default, 0, needs no handler
+    unsafe {
+        command.pre_exec(|| {
+            signal(HUP, 0);
+            Ok(())
+        })
+    };
     command
 }
 
