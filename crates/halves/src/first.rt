@@ -2,7 +2,7 @@
 ghost use mathlib.Core.List.{[], _∷_};
 ghost use mathlib.Core.Path.{_≡_};
 ghost use lib.ListN.{length};
-ghost use Rattle.frame.specs.Frame.{Worked};
+ghost use Rattle.frame.specs.Effect.{Worked};
 ghost use Rattle.halves.specs.Halves.{analysed, firstHalf};
 use frame::Lag;
 use frame::PART;
