@@ -43,7 +43,7 @@ module _ (q : Place) where
   then h k = record { size = k .size; same = k .same ∙ h .same }
 
   pub done1-beside : (share samples : List Float) → AllApart (inputMem ∷ memHpX ∷ []) q → length share ≡ PART → length samples ≡ 480
-      → Beside q share (done1 share samples .share)
+      → Beside q share (done1 share samples .kept)
   unfolding shifted
   done1-beside share samples apart whole l =
       let out = outputs highPass (memoryOf (get memHpX share)) samples in
@@ -60,10 +60,10 @@ module _ (q : Place) where
       let two = then one (put-beside keptEx (put keptX share x) (energies spectrum) (omega arith) (apart .1 .0) (one .size) (length-corr x x)) in
       then two (put-beside keptLag (put keptEx (put keptX share x) (energies spectrum)) _ (omega arith) (apart .1 .1 .0) (two .size) refl)
 
-  pub done4-beside : (share : List Float) (frame heard : ℕ) (inverse : List Float) → AllApart (synthesisMem ∷ []) q → length share ≡ PART
-      → Beside q share (done4 share frame heard inverse .share)
+  pub done4-beside : (share inverse : List Float) → AllApart (synthesisMem ∷ []) q → length share ≡ PART
+      → Beside q share (done4 share inverse .kept)
   unfolding laterHalf
-  done4-beside share frame heard inverse apart whole = put-beside synthesisMem share (laterHalf (windowBuf inverse)) (omega arith) (apart .0) whole (length-tab 480 _)
+  done4-beside share inverse apart whole = put-beside synthesisMem share (laterHalf (windowBuf inverse)) (omega arith) (apart .0) whole (length-tab 480 _)
 
   -- ---- a heard frame
 

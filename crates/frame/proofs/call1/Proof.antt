@@ -48,8 +48,8 @@ returns-5 c =
       at-get memHpX share 1 (omega arith),
     )
     (record {
-      replies = refl;
-      shares =
+      answers = refl;
+      keeps =
           put-sets (put inputMem share (w .last .0)) (memoryList (w .result)) 3192 (simp (length-append, length-drop) (omega arith))
           ∙ ap₂ (λ (mem : List Float) (m : Memory). put memHpX (put inputMem share mem) (memoryList m)) (w .ensures .1 .0) (w .ensures .0);
       writes = ap (λ (l : List Float). l ∷ []) (w .ensures .1 .1);

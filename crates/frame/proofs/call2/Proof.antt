@@ -45,8 +45,8 @@ returns-6 c =
     let window = fitted (w .apply-window .ensures) (record { into = omega arith; from = simp (length-take, length-drop) (omega arith) }) in
     rw (call2-done share (omega arith) (now (a .spectrum)) lag (length (now (a .window))) (length (now (a .sums))) (omega arith) (omega arith) (omega arith) (omega arith))
     (record {
-      replies = refl;
-      shares = n .note .ensures .0;
+      answers = refl;
+      keeps = n .note .ensures .0;
       writes = ap₂ (λ (x y : List Float). x ∷ y ∷ []) (window ∙ ap windowed (looked-at share lag (omega arith) (omega arith))) (n .note .ensures .1);
     })
 
