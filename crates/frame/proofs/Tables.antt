@@ -75,3 +75,12 @@ module _ (share : List Float) (f : Effect Reply) where
       go : (t : Bool) → passed (firstOf rows) ≡ t → P (cond t f (refusal (firstOf rows) share))
       go true e = good (cleared rows e)
       go false e = first-refusal (λ reply. P (refusal reply share)) rows bad e
+
+  -- of a call that is accepted
+  pub by-accepted : (Q : Effect Reply → Type 0) (rows : List Reply) → (Clear rows → passed (f .answer) ≡ true → Q f)
+      → passed (unless rows share f .answer) ≡ true → Q (unless rows share f)
+  by-accepted Q rows h = go (passed (firstOf rows)) refl
+    where
+      go : (t : Bool) → passed (firstOf rows) ≡ t → passed (cond t f (refusal (firstOf rows) share) .answer) ≡ true → Q (cond t f (refusal (firstOf rows) share))
+      go true e p = h (cleared rows e) p
+      go false e p = absurd (false≢true (sym e ∙ p))
