@@ -5,7 +5,8 @@ use borrow.Author.Needs.{needs}
 use denote.Ref.{now}
 use lib.ListN.{length}
 use Rattle.rules.proofs.Tests.{tests, answered-no, answered-yes}
-use Rattle.pieces.specs.Pieces.{resumeFits, resumeReply}
+use Rattle.pieces.specs.Pieces.{resumeFits}
+use Rattle.pieces.specs.Parts.{resumeReply}
 use Rattle.pieces.proofs.finish.resume_reply.Statement.{statement}
 use Rattle.pieces.proofs.finish.resume_reply.Tie as tie
 
