@@ -66,7 +66,7 @@ module _ (share : List Float) (P : Effect Reply → Type 0) (bad : (n : ℕ) →
       by-table share P bad ((length share, PART) ∷ (length samples, 480) ∷ (sums, 22) ∷ []) [] (onward (call1 share samples 960) second) tt
       (λ r _. call1-by share (λ f. P (onward f second)) bad samples 960 (λ whole l. subst P (sym (analysed-done share samples whole l way sums (r .1 .1 .0))) (h whole l)))
     where
-      second : Effect → Effect Reply
+      second : Effect Reply → Effect Reply
       second a = analysed (a .kept) way (firstIn (a .written)) sums
 
   -- a model that is refused comes with what the reader says of it
@@ -90,7 +90,7 @@ module _ (share : List Float) (P : Effect Reply → Type 0) (bad : (n : ℕ) →
       spectrum : List Float
       spectrum = forwardBy (hearing .way) (lookedBack share)
 
-      second : Effect → Effect Reply
+      second : Effect Reply → Effect Reply
       second a = synthesised (a .answer) (a .kept) (hearing .way) (firstIn (a .written)) out
 
       whole-after-3 : (m : Model) → readOf model ≡ Good m → length share ≡ PART → hearing .index ≤ 7 → length (spoken share (hearing .index) spectrum logs model m .share) ≡ PART
