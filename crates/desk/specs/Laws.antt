@@ -1,4 +1,4 @@
--- What is claimed of the desk's calls, for any number of benches. The proofs are in proofs/Ranged, Noted, Replies, Buffers, Halved, Apart and Zeros.
+-- What is claimed of the desk's calls, for any number of benches. The proofs are in proofs/Kept, Ranged, Noted, Replies, Buffers, Halved, Apart and Zeros.
 use Prim.Native.Nat.{ℕ, _+_, _*_, _≤_, _<_}
 use mathlib.Core.Bool.{true, false, cond}
 use mathlib.Core.List.{List}

@@ -26,7 +26,7 @@ piece-spec =
     (λ c. search needs)  -- part-piece-start
     (λ c. search needs)  -- part-piece-end
     (λ c κs. search needs)  -- piece-requires
-    (λ c κs. piece-told _ _ _ _ _ _ (c .before .before .before .before .before .before .piece .ensures .replies))  -- told-piece-requires
+    (λ c κs. piece-told _ _ _ _ _ _ (c .before .before .before .before .before .before .piece .ensures .answers))  -- told-piece-requires
     (λ c. search needs)  -- same-length
     (λ c. search needs)  -- same-length-2
     (λ c. search needs)  -- same-length-3

@@ -26,7 +26,7 @@ resume-spec =
     (λ c. search needs)  -- part-resume-start
     (λ c. search needs)  -- part-resume-end
     (λ c κs. search needs)  -- resume-requires
-    (λ c κs. resume-told _ _ _ _ _ _ _ _ _ (c .before .before .before .before .before .before .resume .ensures .replies))  -- told-resume-requires
+    (λ c κs. resume-told _ _ _ _ _ _ _ _ _ (c .before .before .before .before .before .before .resume .ensures .answers))  -- told-resume-requires
     (λ c. search needs)  -- same-length
     (λ c. search needs)  -- same-length-2
     (λ c. search needs)  -- same-length-3
