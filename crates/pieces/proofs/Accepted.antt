@@ -89,9 +89,6 @@ pub record Resume (share : List Float) (hearing : Hearing) (noted progress : ℕ
   pub fine : good samples ≡ true
 
 module _ (share : List Float) (hearing : Hearing) (noted progress : ℕ) (samples logs : List Float) (model : List ℕ) (out sums : ℕ) where
-  abbrev Taken : Type 0
-  Taken = Resume share hearing noted progress samples logs model out sums
-
   pub resume-cleared : Clear (resumeRows share hearing noted progress samples logs model out sums)
       → Resume share hearing noted progress samples logs model out sums
   unfolding resumeFits
@@ -129,7 +126,8 @@ module _ (share : List Float) (hearing : Hearing) (noted progress : ℕ) (sample
   pub frame-fits : Resume share hearing noted progress samples logs model out sums → 480 * (frameAt progress - 1) + 480 ≤ out
   frame-fits k = omega (arith, k .room, k .same, k .begun, k .within)
 
-  suits : Taken → resumeFits (hearing .index) noted progress (length samples) (length logs) out sums ≡ true
+  suits : Resume share hearing noted progress samples logs model out sums
+      → resumeFits (hearing .index) noted progress (length samples) (length logs) out sums ≡ true
   unfolding resumeFits
   suits k =
       rw (

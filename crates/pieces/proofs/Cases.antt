@@ -44,7 +44,7 @@ module _ (share : List Float) (P : Effect Reply → Type 0) (bad : (n : ℕ) →
       → P (resume share hearing noted progress samples logs model out sums)
   unfolding resume
   resume-by hearing noted progress samples logs model out sums misread h =
+      let fits = resumeFits (hearing .index) noted progress (length samples) (length logs) out sums in
       by-rows share (resumed share hearing progress samples logs model) P (resumeRows share hearing noted progress samples logs model out sums)
-      (row 5 (eqb (length share) SHARE),
-      (row 5 (resumeFits (hearing .index) noted progress (length samples) (length logs) out sums), (by-model hearing model Of bad misread, (row 9 (good samples), tt))))
+      (row 5 (eqb (length share) SHARE), (row 5 fits, (by-model hearing model Of bad misread, (row 9 (good samples), tt))))
       (λ c. h (resume-cleared share hearing noted progress samples logs model out sums c))
