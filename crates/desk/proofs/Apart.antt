@@ -7,7 +7,7 @@
 -- Assumes nothing.
 use Prim.Native.Nat.{ℕ, _*_, _<_, _≤_}
 use native.Mathlib.Omega.{arith}
-use mathlib.Core.Bool.{Bool, true, false, cond}
+use mathlib.Core.Bool.{Bool, true, false, cond, false≢true}
 use mathlib.Core.List.{List}
 use mathlib.Core.Logic.{_⊎_, inl, inr, ⊎-elim}
 use mathlib.Core.Path.{_≡_, refl, sym, ap, _∙_}
@@ -158,9 +158,9 @@ anew b xs ys l k w m = rw (one-bench b xs (opening w m) l, one-bench closed ys (
     opens : (read : Reading) → readOf m ≡ read → passed (opened xs read .answer) ≡ true
         → givenOf b (opening w m) (opened xs read) ≡ givenOf closed (opening w m) (opened ys read)
     opens (Good m) e h = rw e
-    opens (Unread n l) e h = let one : _≡_ {A = ℕ} 0 1 = cc in absurd (omega arith)
+    opens (Unread n l) e h = absurd (false≢true h)
 
     go : (t : Bool) → passed (cond t (opened xs (readOf m)) (refusal (Refused number) xs) .answer) ≡ true
         → givenOf b (opening w m) (cond t (opened xs (readOf m)) (refusal (Refused number) xs)) ≡ givenOf closed (opening w m) (admitted closed ys (opening w m) (gate 1 0 closed SHARE 0))
     go true h = opens (readOf m) refl h
-    go false h = let one : _≡_ {A = ℕ} 0 1 = cc in absurd (omega arith)
+    go false h = absurd (false≢true h)

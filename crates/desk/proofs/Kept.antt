@@ -3,7 +3,7 @@
 --     refused-keeps    refused, the record and the store
 -- Assumes nothing.
 use Prim.Native.Nat.{ℕ}
-use mathlib.Core.Bool.{false}
+use mathlib.Core.Bool.{false, true≢false}
 use mathlib.Core.List.{List}
 use mathlib.Core.Path.{_≡_, refl, sym, ap, _∙_}
 use native.Mathlib.Omega.{arith}
@@ -36,7 +36,7 @@ pub record Kept (share : List Float) (f : Effect Reply) : Type 0 where
 
 module _ (b : Record) (share : List Float) where
   opened-kept : (m : Reading) → Kept share (opened share m)
-  opened-kept (Good m) = record { size = λ _. refl; still = λ e. let one : _≡_ {A = ℕ} 0 1 = cc in absurd (omega arith) }
+  opened-kept (Good m) = record { size = λ _. refl; still = λ e. absurd (true≢false e) }
   opened-kept (Unread n l) = record { size = λ h. h; still = λ _. refl }
 
   abbrev part : List Float

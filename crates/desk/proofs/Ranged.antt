@@ -5,7 +5,7 @@
 -- Assumes nothing.
 use Prim.Native.Nat.{ℕ, _+_, _-_, _*_, _≤_, _<_}
 use native.Mathlib.Omega.{arith}
-use mathlib.Core.Bool.{Bool, true, false, cond, _&&_}
+use mathlib.Core.Bool.{Bool, true, false, cond, _&&_, false≢true}
 use mathlib.Core.List.{List}
 use mathlib.Core.Path.{_≡_, refl, sym}
 use borrow.Author.Tests.{lt-ltb, eq-eqb, ne-eqb, eqb-true, eqb-false, le-leb, leb-true, ltb-true, ltb-false, not-false}
@@ -188,7 +188,7 @@ carried-range b rest size progress i c few some within = go (ltb rest 480) refl
 started-range : (w : Way) (s : List ℕ) (read : Reading) (b : Record) (share : List Float) → readOf s ≡ read → passed (opened share read .answer) ≡ true
     → inRange (started b w read) ≡ true
 unfolding inRange inCounts inPieces resting
-started-range w s (Unread n l) b share e p = absurd (let z : _≡_ {A = ℕ} 0 1 = cc in omega arith)
+started-range w s (Unread n l) b share e p = absurd (false≢true p)
 started-range w s (Good m) b share e p =
     let l = shaped s (sym e) in
     rw (

@@ -6,7 +6,7 @@
 -- Assumes nothing.
 use Prim.Native.Nat.{ℕ, _+_, _-_}
 use native.Mathlib.Nat.{add-sub-cancel-left, add-zero}
-use mathlib.Core.Bool.{Bool, true, false, cond, not}
+use mathlib.Core.Bool.{Bool, true, false, cond, not, true≢false, false≢true}
 use mathlib.Core.List.{List, []}
 use mathlib.Core.Path.{_≡_, refl, sym, ap, _∙_}
 use native.Mathlib.Omega.{arith}
@@ -52,33 +52,36 @@ partOf side = record { at = shareOf side .at; size = PART }
 lent-part : (side start part end : ℕ) → Lies side start part end → lent start part ≡ partOf side
 lent-part side start part end e = rw (e .0, e .1, add-sub-cancel-left)
 
-module _ (benches side : ℕ) (b : Record) (store : List Float) (held : List (List Float)) (ask : Ask) where
-  pub turned-away : (n : ℕ) (r : Answer) → n ≡ gate benches side b (length store) (callOf ask) → (n ≡ 0 → ⊥) → r ≡ turnedAway b n
-      → Worked (desk benches side b store ask) r store held held
+module _ (benches side : ℕ) (b : Record) (store : List Float) (held : List (List Float)) (ask : Ask) (n : ℕ) (r : Answer)
+    (e : n ≡ gate benches side b (length store) (callOf ask)) where
+  pub turned-away : (n ≡ 0 → ⊥) → r ≡ turnedAway b n → Worked (desk benches side b store ask) r store held held
   unfolding desk
-  turned-away n r e h a =
-      rw (← e, ne-eqb n 0 h) (record { answers = a ∙ ap (λ (x : Reply). record { reply = x; rec = b }) (sym (refused b ask n)); keeps = sym (put-get (shareOf side) store); writes = refl })
+  turned-away h a =
+      rw (← e, ne-eqb n 0 h)
+      (record {
+        answers = a ∙ ap (λ (x : Reply). record { reply = x; rec = b }) (sym (refused b ask n));
+        keeps = sym (put-get (shareOf side) store);
+        writes = refl;
+      })
 
-  module _ (n start part end : ℕ) (reply : Reply) (r : Answer) (new : List Float) (out : List (List Float))
-      (e : n ≡ gate benches side b (length store) (callOf ask)) (z : n ≡ 0) (lies : n ≡ 0 → Lies side start part end) where
-    abbrev share : List Float
-    share = get (shareOf side) store
+  abbrev share : List Float
+  share = get (shareOf side) store
 
-    -- past the gate
-    past : (kept : List Float) → Worked (onShare b share ask) reply kept held out → r ≡ answered b ask reply
-        → Worked (desk benches side b store ask) r (put (shareOf side) store kept) held out
-    unfolding desk
-    past kept w a =
-        rw (← e, eq-eqb n 0 z)
-        (record {
-          answers = a ∙ ap (λ (x : Reply). answered b ask x) (w .answers);
-          keeps = ap (put (shareOf side) store) (w .keeps);
-          writes = w .writes;
-        })
+  past : {reply : Reply} {new : List Float} {out : List (List Float)} → n ≡ 0 → Worked (onShare b share ask) reply new held out → r ≡ answered b ask reply
+      → Worked (desk benches side b store ask) r (put (shareOf side) store new) held out
+  unfolding desk
+  past z w a =
+      rw (← e, eq-eqb n 0 z)
+      (record {
+        answers = a ∙ ap (λ (x : Reply). answered b ask x) (w .answers);
+        keeps = ap (put (shareOf side) store) (w .keeps);
+        writes = w .writes;
+      })
 
+  module _ {start part end : ℕ} {reply : Reply} {new : List Float} {out : List (List Float)} (z : n ≡ 0) (lies : n ≡ 0 → Lies side start part end) where
     pub served : Worked (onShare b (get (lent start end) store) ask) reply new held out → r ≡ answered b ask reply
         → Worked (desk benches side b store ask) r (put (lent start end) store new) held out
-    served w a = let same = lent-share side start part end (lies z) in rw same (past new (rw same at w) a)
+    served w a = let same = lent-share side start part end (lies z) in rw same (past z (rw same at w) a)
 
     -- f is what the call makes of the part that it is lent
     pub framed : {f : Effect Reply} → Worked f reply new held out → (get framePart share ≡ get (lent start part) store → onShare b share ask ≡ inPart share f)
@@ -88,18 +91,16 @@ module _ (benches side : ℕ) (b : Record) (store : List Float) (held : List (Li
         let inside : get framePart share ≡ get (partOf side) store = rw add-zero at (get-get (shareOf side) framePart store (omega arith) (omega arith)) in
         let same = lent-part side start part end (lies z) in
         rw (same, ← put-in (shareOf side) PART store new (omega arith) (omega arith))
-        (past (put framePart share new)
-        (rw (is (inside ∙ ap (λ (p : Place). get p store) (sym same))) (record { answers = w .answers; keeps = ap (put framePart share) (w .keeps); writes = w .writes }))
-        a)
+        (past {reply = reply} z (rw (is (inside ∙ ap (λ (p : Place). get p store) (sym same))) (record { answers = w .answers; keeps = ap (put framePart share) (w .keeps); writes = w .writes })) a)
 
 -- what an opening makes of a model that is refused, and of one that reads
 kept : (read : Reading) (b : Record) (w : Way) (share : List Float) → passed (openedOf b w read .reply) ≡ false → opened share read .kept ≡ share
 kept (Unread n l) b w share e = refl
-kept (Good m) b w share e = let one : _≡_ {A = ℕ} 0 1 = cc in absurd (omega arith)
+kept (Good m) b w share e = absurd (true≢false e)
 
 cleared : (read : Reading) (b : Record) (w : Way) (share : List Float) → passed (openedOf b w read .reply) ≡ true → opened share read .kept ≡ replicate SHARE (f32 0)
 cleared (Good m) b w share e = refl
-cleared (Unread n l) b w share e = let one : _≡_ {A = ℕ} 0 1 = cc in absurd (omega arith)
+cleared (Unread n l) b w share e = absurd (false≢true e)
 
 -- the answer of an opening, as the desk has it
 answers : (w : Way) (m : List ℕ) (b : Record) (share : List Float) → openedOf b w (readOf m) ≡ answered b (opening w m) (opened share (readOf m) .answer)
@@ -116,17 +117,13 @@ silent (Unread n l) share = refl
 
 module _ (benches side : ℕ) (b : Record) (store : List Float) (w : Way) (m : List ℕ) (n : ℕ) (read : Reading) (r : Answer) (p : Bool)
     (e : n ≡ gate benches side b (length store) 0) (z : n ≡ 0) (d : read ≡ readOf m) (a : r ≡ openedOf b w read) (q : p ≡ passed (r .reply)) where
-  -- past the gate, with the share as it was left
+  -- with the share as it was left
   left-with : (new : List Float) → new ≡ opened (get (shareOf side) store) (readOf m) .kept
       → Worked (desk benches side b store (opening w m)) r (put (shareOf side) store new) [] []
-  unfolding desk
   left-with new f =
-      rw (← e, eq-eqb n 0 z)
-      (record {
-        answers = a ∙ ap (λ (x : Reading). openedOf b w x) d ∙ answers w m b (get (shareOf side) store);
-        keeps = ap (put (shareOf side) store) f;
-        writes = silent (readOf m) (get (shareOf side) store);
-      })
+      let share = get (shareOf side) store in
+      past benches side b store [] (opening w m) n r e z (record { answers = refl; keeps = f; writes = silent (readOf m) share })
+      (a ∙ ap (λ (x : Reading). openedOf b w x) d ∙ answers w m b share)
 
   pub misread : not p ≡ true → Worked (desk benches side b store (opening w m)) r store [] []
   misread h =
