@@ -77,24 +77,24 @@ get-put-front p n xs ys w few l =
     let held = length-get p xs w in
     ap (get p) (sym (put-in p n xs ys w few)) ∙ get-put p xs (ys ++ drop n (get p xs)) w (simp (length-append, length-drop) (omega arith))
 
-abbrev vadPlace : Place
+abbrev pub vadPlace : Place
 vadPlace = record { at = 0; size = 128 }
 
-abbrev noisePlace : Place
+abbrev pub noisePlace : Place
 noisePlace = record { at = 128; size = 128 }
 
-abbrev denoisePlace : Place
+abbrev pub denoisePlace : Place
 denoisePlace = record { at = 256; size = 128 }
 
-vad-in : (s : List Float) → vadIn s ≡ get vadPlace s
+pub vad-in : (s : List Float) → vadIn s ≡ get vadPlace s
 unfolding vadIn get
 vad-in s = refl
 
-noise-in : (s : List Float) → noiseIn s ≡ get noisePlace s
+pub noise-in : (s : List Float) → noiseIn s ≡ get noisePlace s
 unfolding noiseIn get
 noise-in s = refl
 
-denoise-in : (s : List Float) → length s ≡ 384 → denoiseIn s ≡ get denoisePlace s
+pub denoise-in : (s : List Float) → length s ≡ 384 → denoiseIn s ≡ get denoisePlace s
 unfolding denoiseIn get
 denoise-in s whole = sym (take-all 128 (drop 256 s) (simp length-drop (omega arith)))
 
