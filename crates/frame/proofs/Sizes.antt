@@ -10,7 +10,7 @@ use lib.Ieee.{Float}
 use Rattle.rules.specs.F32.{at}
 use Rattle.rules.specs.Place.{Place, get}
 use Rattle.rules.proofs.Places.{length-get, get-get}
-use Rattle.frame.specs.Share.{PART, inputMem, keptX, keptEx, keptLag, cepstralMem, vadState, noiseState, denoiseState}
+use Rattle.frame.specs.Share.{PART, inputMem, keptX, keptEx, keptLag, cepstralMem}
 use Rattle.frame.specs.Frame.{recent}
 
 -- a place, number by number
@@ -30,15 +30,6 @@ module _ (share : List Float) (whole : length share ≡ PART) where
 
   pub cepstra-size : length (get cepstralMem share) ≡ 176
   cepstra-size = sized cepstralMem (omega arith)
-
-  pub vad-size : length (get vadState share) ≡ 128
-  vad-size = sized vadState (omega arith)
-
-  pub noise-size : length (get noiseState share) ≡ 128
-  noise-size = sized noiseState (omega arith)
-
-  pub denoise-size : length (get denoiseState share) ≡ 128
-  denoise-size = sized denoiseState (omega arith)
 
 pub lag-at : (share : List Float) → at (get keptLag share) 0 ≡ at share 3191
 lag-at share = at-get keptLag share 0 (omega arith)

@@ -108,8 +108,8 @@ module _ (gains voice vad noise denoise : List Float) (model : List ℕ) (featur
   unfolding layersInPlace sixLayers
   done-kept fit m good =
       let few = few model m good in
-      let voiced = voice-fits model m good refl refl refl refl .answer in
-      let gained = gains-fit model m good refl refl refl refl refl refl .answer in
+      let voiced = voice-fits model m good refl refl refl .answer in
+      let gained = gains-fit model m good refl refl .answer in
       let f = sixLayers model m (take (m .«vad_gru» .neurons) vad) (take (m .«noise_gru» .neurons) noise) (take (m .«denoise_gru» .neurons) denoise) features in
       record {
         gained = length-denseAt model (m .«denoise_output») _ (gained .within) ∙ sym (gained .neurons) ∙ sym (fit .gained);

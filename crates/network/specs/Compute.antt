@@ -57,6 +57,19 @@ layersInPlace bytes m vad noise denoise features =
     let f = sixLayers bytes m (take a vad) (take b noise) (take c denoise) features in
     frameOf (f .gains) (f .voice) (f .vad ++ drop a vad) (f .noise ++ drop b noise) (f .denoise ++ drop c denoise)
 
+-- the three states, side by side in one slice of 384 numbers
+unfoldable pub vadIn : List Float → List Float
+vadIn states = take 128 states
+
+unfoldable pub noiseIn : List Float → List Float
+noiseIn states = take 128 (drop 128 states)
+
+unfoldable pub denoiseIn : List Float → List Float
+denoiseIn states = drop 256 states
+
+abbrev pub leftOn : List Float → List Float → List Float → Frame
+leftOn gains voice states = frameOf gains voice (vadIn states) (noiseIn states) (denoiseIn states)
+
 -- ---- the call
 
 -- what it returns, and what it leaves in the buffers that it was lent
@@ -67,6 +80,9 @@ pub record Computing : Type 0 where
 abbrev pub computing : Computed → List Float → List Float → List Float → List Float → List Float → Computing
 computing answer gains voice vad noise denoise =
     record { answer = answer; left = frameOf gains voice vad noise denoise }
+
+abbrev pub computingOn : Computed → List Float → List Float → List Float → Computing
+computingOn answer gains voice states = record { answer = answer; left = leftOn gains voice states }
 
 abbrev pub byReading : Reading → (Model → Computing) → (ℕ → ℕ → Computing) → Computing
 byReading (read.Good m) good bad = good m
