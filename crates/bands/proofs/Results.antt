@@ -9,7 +9,7 @@ use lib.Ieee.{Float, nan}
 use Rattle.rules.specs.F32.{at, f32, zeros}
 use Rattle.rules.proofs.Runs.{kept}
 use Rattle.rules.proofs.Tabs.{length-tab}
-use Rattle.bands.specs.Bands.{edge, corrStep, corrBand, bandCorr, gainStep, gainBand, bandGain}
+use Rattle.bands.specs.Bands.{edge, inBand, corrStep, bandCorr, gainStep, bandGain}
 use Rattle.bands.specs.Dct.{dctIn, dctOf}
 use Rattle.bands.specs.Laws.{Lengths, GainEnds}
 use Rattle.bands.specs.Windowed.{windowedBy, windowed}
@@ -25,7 +25,7 @@ pub length-corr : (x p : List Float) → length (bandCorr x p) ≡ 22
 unfolding bandCorr corrStep
 length-corr x p =
     simp length-set
-    (kept (corrBand x p) (Long 22) 21 (zeros 22)
+    (kept (inBand (corrStep x p)) (Long 22) 21 (zeros 22)
     (λ i out h. kept (corrStep x p i) (Long 22) (edge (i + 1) - edge i) out (λ j t b e. simp length-set e))
     (zeros-long 22))
 
@@ -39,7 +39,7 @@ zeros-end = (zeros-long 481, λ k low high. getD-replicate 481 k (f32 0) nan hig
 gain-ends : (bands : List Float) → Ends (bandGain bands)
 unfolding bandGain gainStep
 gain-ends bands =
-    kept (gainBand bands) Ends 21 (zeros 481)
+    kept (inBand (gainStep bands)) Ends 21 (zeros 481)
     (λ i out h.
     kept (gainStep bands i) Ends (edge (i + 1) - edge i) out
     (λ j t b e.

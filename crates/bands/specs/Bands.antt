@@ -19,6 +19,10 @@ edges = map (λ (e : ℕ). e * 4) eband5ms
 unfoldable pub edge : ℕ → ℕ
 edge i = natAt edges i
 
+-- for j in 0..band_size, of band i
+abbrev pub inBand : (ℕ → ℕ → List Float → List Float) → ℕ → List Float → List Float
+inBand step i out = loop (edge (i + 1) - edge i) (step i) out
+
 -- out[i] += a
 abbrev pub added : List Float → ℕ → Float → List Float
 added out i a = set out i (at out i ⊕ a)
@@ -44,22 +48,16 @@ corrStep x p i j out =
     let corr = binCorr x p (edge i + j) in
     added (added out i (rest i j ⊗ corr)) (i + 1) (frac i j ⊗ corr)
 
-abbrev pub corrBand : List Float → List Float → ℕ → List Float → List Float
-corrBand x p i out = loop (edge (i + 1) - edge i) (corrStep x p i) out
-
 unfoldable pub bandCorr : List Float → List Float → List Float
-bandCorr x p = doubled 21 (doubled 0 (loop 21 (corrBand x p) (zeros 22)))
+bandCorr x p = doubled 21 (doubled 0 (loop 21 (inBand (corrStep x p)) (zeros 22)))
 
 -- ---- interp_band_gain
 
 unfoldable pub gainStep : List Float → ℕ → ℕ → List Float → List Float
 gainStep bands i j out = set out (edge i + j) (rest i j ⊗ at bands i ⊕ frac i j ⊗ at bands (i + 1))
 
-abbrev pub gainBand : List Float → ℕ → List Float → List Float
-gainBand bands i out = loop (edge (i + 1) - edge i) (gainStep bands i) out
-
 unfoldable pub bandGain : List Float → List Float
-bandGain bands = loop 21 (gainBand bands) (zeros 481)
+bandGain bands = loop 21 (inBand (gainStep bands)) (zeros 481)
 
 -- the lengths
 pub record BandFits (out x p : ℕ) : Type 0 where

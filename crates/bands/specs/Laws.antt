@@ -6,9 +6,8 @@ use lib.ListN.{length}
 use lib.Ieee.{Float, binary64, ofBits}
 use Rattle.rules.specs.F32.{at, f32}
 use Rattle.bands.specs.Bands.{bandCorr, bandGain}
-use Rattle.bands.specs.Dct.{dctOf}
+use Rattle.bands.specs.Dct.{dctScale, dctOf}
 use Rattle.bands.specs.Norm.{wnorm}
-use Rattle.bands.specs.Scale.{dctScale}
 use Rattle.bands.specs.Windowed.{windowed}
 
 pub record Lengths : Type 0 where

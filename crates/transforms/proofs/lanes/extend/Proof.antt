@@ -1,13 +1,13 @@
--- `transforms::lanes::turn_on` meets its contract. Assumes nothing.
+-- `transforms::lanes::extend` meets its contract. Assumes nothing.
 use mathlib.Core.Path.{_≡_, refl}
 use Prim.Native.Nat.{_≤_, _-_, _%_}
 use native.Mathlib.Omega.{arith}
 use lib.Ieee.{nan}
 use lib.ListN.{length, getD}
 use Rattle.rules.proofs.Filling.{Filling, fills, filling-begin, filling-more, filling-ended}
-use Rattle.transforms.specs.Parts.{turnOn}
-use Rattle.transforms.proofs.lanes.turn_on.Statement.{statement}
-use Rattle.transforms.proofs.lanes.turn_on.Tie as tie
+use Rattle.transforms.specs.Parts.{extended}
+use Rattle.transforms.proofs.lanes.extend.Statement.{statement}
+use Rattle.transforms.proofs.lanes.extend.Tie as tie
 
 abbrev Inv-loop : tie.InvT-loop
 Inv-loop table₀ cosine i₀ table i = (i ≤ 1200) × (length table₀ ≡ 1200) × Filling (λ j. getD cosine (j % 960) nan) table₀ i table
@@ -16,11 +16,11 @@ abbrev μ-loop : tie.MeasureT-loop
 μ-loop table₀ cosine i₀ table i = 1200 - i
 
 returns : tie.Need-returns Inv-loop μ-loop
-unfolding turnOn
+unfolding extended
 returns c = filling-ended _ _ _ 1200 (omega arith) (omega arith) (c .before .loop .inv .1) (c .before .loop .inv .2)
 
-pub turn-on-spec : {M : Type 1} → statement M
-turn-on-spec =
+pub extend-spec : {M : Type 1} → statement M
+extend-spec =
     tie.close
     (tie.spec
     Inv-loop
