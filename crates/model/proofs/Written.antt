@@ -24,8 +24,8 @@ use Rattle.model.specs.Writer.{layersGiven, fileOf, differ, inLayer, row
 use Rattle.model.specs.Laws.{layersRead, shapesOf, arraysIn, layerIn, ReadsBack, WritesBack, NoneShared, ArraysAreRead}
 use Rattle.model.proofs.Rows.{clear-shifted, clear-joined, answered}
 use Rattle.model.proofs.Layer.{three}
-use Rattle.model.proofs.Inverse.{Sized, number-of, activation-of, number-small, FitAll, row-reads}
-use Rattle.model.proofs.File.{Holds, reads-back, same-layers, Written, writes-back}
+use Rattle.model.proofs.Inverse.{Sized, number-of, activation-of, number-small, FitAll}
+use Rattle.model.proofs.File.{Holds, reads-back, layers-read, same-layers, Written, writes-back}
 use Rattle.model.proofs.Shapes.{same}
 use Rattle.model.proofs.Arrays.{array-is}
 use Rattle.model.proofs.Accepted.{EachClear, accepted, some-faults}
@@ -131,9 +131,6 @@ is-done s xs out after e =
       holds = record { fit = given-fit kinds s xs (a .layers); match = a .together; file = refl };
       left = ap (λ (p : ℕ × List ℕ). p .1) done;
     }
-
-layers-read : (ls : List Layer) → FitAll kinds ls → layersRead (fileOf ls) ≡ ls
-layers-read ls f = rw (append-nil (fileOf ls)) at (row-reads 0 kinds ls [] f (λ n j. []) (λ ls rest. ls))
 
 pub written-reads : ReadsBack
 written-reads s xs out after e =
