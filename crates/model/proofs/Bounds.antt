@@ -15,8 +15,8 @@ use Rattle.model.specs.declared.Found.{Found}
 use Rattle.model.specs.declared.Found.the-variants.{At, Nothing}
 use Rattle.model.specs.declared.Reading.{Reading}
 use Rattle.model.specs.declared.Reading.the-variants.{Good, Refused}
-use Rattle.model.specs.Layer.{lengths, sizeOf, Layer, faultsOf, behind}
-use Rattle.model.specs.Model.{kinds, headersAt, modelOf, countsIn, matchFaults, matchedWith, readLayers, unrefused, readOf}
+use Rattle.model.specs.Layer.{lengths, sizeOf, Layer, faultsOf, restOf}
+use Rattle.model.specs.Model.{kinds, headersAt, modelOf, countsIn, matchFaults, matchedWith, readLayers, refusingLayers, readOf}
 use Rattle.model.specs.Array.{foundIn, lineIn}
 use Rattle.model.specs.Laws.{LiesIn, Shaped, Largest, RefusedIn}
 use Rattle.model.proofs.Layer.{product}
@@ -118,8 +118,8 @@ matched-in m left =
       ),
     ) tt
 
-layers-in : (right : Reading) → InTable right → (j : ℕ) (ks : List Kind) (s : List ℕ) → j + length ks ≤ 6 → InTable (unrefused j ks s right)
-unfolding unrefused
+layers-in : (right : Reading) → InTable right → (j : ℕ) (ks : List Kind) (s : List ℕ) → j + length ks ≤ 6 → InTable (refusingLayers j ks s right)
+unfolding refusingLayers
 layers-in right h j [] s b = h
 layers-in right h j (k ∷ ks) s b =
     let at : (n : ℕ) → 11 ≤ n → n ≤ 22 → InTable (Refused n j) = λ n l m. (l, m, omega arith) in
@@ -129,7 +129,7 @@ layers-in right h j (k ∷ ks) s b =
         at 12 (omega arith) (omega arith),
         (at 13 (omega arith) (omega arith), (at 14 (omega arith) (omega arith), (at 15 (omega arith) (omega arith), (at 16 (omega arith) (omega arith), tt)))),
       ),
-    ) (layers-in right h (suc j) ks (behind k s) (omega arith))
+    ) (layers-in right h (suc j) ks (restOf k s) (omega arith))
 
 reading-in : (s : List ℕ) → InTable (readOf s)
 unfolding readOf

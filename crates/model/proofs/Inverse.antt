@@ -16,8 +16,8 @@ use Rattle.model.specs.declared.Kind.{Kind}
 use Rattle.model.specs.declared.Reading.{Reading}
 use Rattle.model.specs.declared.Reading.the-variants.{Refused}
 use Rattle.rules.proofs.Refused.{Clear, clear, by-rows}
-use Rattle.model.specs.Layer.{lengths, sizeOf, activationOf, activationNumber, joined, cut, bytesOf, Layer, layerOf, faultsOf, behind}
-use Rattle.model.specs.Model.{readLayers, unrefused}
+use Rattle.model.specs.Layer.{lengths, sizeOf, activationOf, activationNumber, joined, cut, bytesOf, Layer, layerOf, faultsOf, restOf}
+use Rattle.model.specs.Model.{readLayers, refusingLayers}
 use Rattle.model.specs.Writer.{fileOf}
 use Rattle.model.proofs.Layer.{joined-cut}
 
@@ -71,7 +71,7 @@ module _ (k : Kind) (l : Layer) (rest : List ℕ) (h : Fits k l) where
   pub layer-reads : layerOf k (bytesOf l ++ rest) ≡ l
   layer-reads = rw (activation-of (l .activation), cut-joined ns (l .arrays) rest (h .arrays))
 
-  rest-reads : behind k (bytesOf l ++ rest) ≡ rest
+  rest-reads : restOf k (bytesOf l ++ rest) ≡ rest
   rest-reads = ap (λ (l′ : Layer). drop (length (bytesOf l′)) (bytesOf l ++ rest)) layer-reads ∙ drop-append-seam (bytesOf l) rest
 
   layer-clear : Clear (faultsOf k (bytesOf l ++ rest))
@@ -80,7 +80,7 @@ module _ (k : Kind) (l : Layer) (rest : List ℕ) (h : Fits k l) where
       (le-ltb (length (bytesOf l ++ rest)) 3 (omega arith), (le-ltb _ _ (h .inputs), (le-ltb _ _ (h .neurons), (le-ltb _ _ (number-small (l .activation)), (ne-eqb _ _ (h .some), (le-ltb _ _ enough, tt))))))
 
 -- a layer that nothing refuses
-pub layer-fits : (k : Kind) (s : List ℕ) → Clear (faultsOf k s) → Fits k (layerOf k s) × (s ≡ bytesOf (layerOf k s) ++ behind k s)
+pub layer-fits : (k : Kind) (s : List ℕ) → Clear (faultsOf k s) → Fits k (layerOf k s) × (s ≡ bytesOf (layerOf k s) ++ restOf k s)
 layer-fits k [] c = absurd (true≢false (c .0))
 layer-fits k (i ∷ []) c = absurd (true≢false (c .0))
 layer-fits k (i ∷ n ∷ []) c = absurd (true≢false (c .0))
@@ -104,7 +104,7 @@ FitAll (k ∷ ks) (l ∷ ls) = Fits k l × FitAll ks ls
 -- nothing refuses the layers in front of some bytes
 abbrev pub AllClear : List Kind → List ℕ → Type 0
 AllClear [] s = Unit
-AllClear (k ∷ ks) s = Clear (faultsOf k s) × AllClear ks (behind k s)
+AllClear (k ∷ ks) s = Clear (faultsOf k s) × AllClear ks (restOf k s)
 
 -- they read as these layers, and nothing refuses them
 abbrev Reads : List Kind → List Layer → List ℕ → List ℕ → Type 0
@@ -124,18 +124,18 @@ unfolding readLayers
 row-fits [] s c = (tt, refl)
 row-fits (k ∷ ks) s c =
     let one = layer-fits k s (c .0) in
-    let more = row-fits ks (behind k s) (c .1) in
+    let more = row-fits ks (restOf k s) (c .1) in
     ((one .0, more .0), one .1 ∙ ap (_++_ (bytesOf (layerOf k s))) (more .1) ∙ sym (append-assoc (bytesOf (layerOf k s)) _ _))
 
 -- what nothing refuses is right, and what holds of each refusal, and of what is right where nothing refuses, holds of the answer
 module _ (right : Reading) where
-  pub row-clear : (j : ℕ) (ks : List Kind) (s : List ℕ) → AllClear ks s → unrefused j ks s right ≡ right
-  unfolding unrefused
+  pub row-clear : (j : ℕ) (ks : List Kind) (s : List ℕ) → AllClear ks s → refusingLayers j ks s right ≡ right
+  unfolding refusingLayers
   row-clear j [] s c = refl
-  row-clear j (k ∷ ks) s c = clear (λ n. Refused n j) _ (faultsOf k s) (c .0) ∙ row-clear (suc j) ks (behind k s) (c .1)
+  row-clear j (k ∷ ks) s c = clear (λ n. Refused n j) _ (faultsOf k s) (c .0) ∙ row-clear (suc j) ks (restOf k s) (c .1)
 
-  pub by-layers : (P : Reading → Type 0) (j : ℕ) (ks : List Kind) (s : List ℕ) → ((n i : ℕ) → P (Refused n i)) → (AllClear ks s → P right) → P (unrefused j ks s right)
-  unfolding unrefused
+  pub by-layers : (P : Reading → Type 0) (j : ℕ) (ks : List Kind) (s : List ℕ) → ((n i : ℕ) → P (Refused n i)) → (AllClear ks s → P right) → P (refusingLayers j ks s right)
+  unfolding refusingLayers
   by-layers P j [] s bad good = good tt
   by-layers P j (k ∷ ks) s bad good =
-      by-rows (λ n. Refused n j) _ P (faultsOf k s) (λ n. bad n j) (λ c. by-layers P (suc j) ks (behind k s) bad (λ cs. good (c, cs)))
+      by-rows (λ n. Refused n j) _ P (faultsOf k s) (λ n. bad n j) (λ c. by-layers P (suc j) ks (restOf k s) bad (λ cs. good (c, cs)))

@@ -10,7 +10,6 @@ use Rattle.model.specs.declared.Activation.the-variants.{Tanh, Sigmoid, 
 use Rattle.model.specs.declared.Kind.{Kind}
 use Rattle.model.specs.declared.Kind.the-variants.{Dense, Gru}
 use Rattle.model.specs.declared.Header.{Header}
-use Rattle.model.specs.declared.Cursor.{Cursor}
 use Rattle.model.specs.declared.Step.{Step}
 use Rattle.model.specs.declared.Step.the-variants as step
 
@@ -76,16 +75,12 @@ layerOf k s =
 abbrev pub faultsOf : Kind → List ℕ → List Row
 faultsOf k s = 11 when ltb (length s) 3 ∷ faults k (getD s 0 0) (getD s 1 0) (getD s 2 0) (length (drop 3 s))
 
-abbrev pub behind : Kind → List ℕ → List ℕ
-behind k s = drop (length (bytesOf (layerOf k s))) s
+abbrev pub restOf : Kind → List ℕ → List ℕ
+restOf k s = drop (length (bytesOf (layerOf k s))) s
 
 -- a layer's header, where it stands at a place of the file
 abbrev pub headerAt : ℕ → Layer → Header
 headerAt at l = record { inputs = l .inputs; neurons = l .neurons; activation = l .activation; start = at + 3 }
-
--- where reading starts
-abbrev pub origin : Cursor
-origin = record { at = 0 }
 
 -- what reading a layer at a place gives
 unfoldable pub stepAt : Kind → List ℕ → ℕ → Step
