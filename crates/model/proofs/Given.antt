@@ -13,7 +13,7 @@ use lib.Seq.{drop-cons, take-all, getD-drop}
 use Rattle.rules.specs.Lists.{sum}
 use Rattle.rules.specs.Refusals.{Row, _when_, refusing}
 use Rattle.rules.proofs.Refused.{Clear}
-use Rattle.rules.proofs.Rows.{Each}
+use Rattle.rules.proofs.Cleared.{cleared}
 use Rattle.model.specs.declared.Kind.{Kind}
 use Rattle.model.specs.declared.Kind.the-variants.{Dense}
 use Rattle.model.specs.declared.Counts.{Counts}
@@ -21,7 +21,7 @@ use Rattle.model.specs.Layer.{lengths, headerFaults}
 use Rattle.model.specs.Model.{kinds, matchFaults}
 use Rattle.model.specs.Writer.{differ, layerFaults, inLayer, rowFaults, countsGiven}
 use Rattle.model.specs.Parts.{faultIn, countsThere}
-use Rattle.model.proofs.Rows.{Some, by-fault, past, no-fault, fault-most, shifted, clear-shifted}
+use Rattle.model.proofs.Rows.{Some, by-fault, past, fault-most, shifted, clear-shifted}
 use Rattle.model.proofs.Layer.{three}
 use Rattle.model.proofs.Places.{three-lengths}
 
@@ -76,9 +76,8 @@ module _ (shapes given : List ℕ) (eighteen : length shapes ≡ 18) (eighteen�
 
   pub on : {r : ℕ} → r ≡ faultIn (rowsAt shapes given j) → r ≡ 0 → faultIn (rowsFrom shapes given j) ≡ faultIn (rowsFrom shapes given (j + 1))
   on e none =
-      let all : Each Some (rowsAt shapes given j) = ((λ e. omega arith), ((λ e. omega arith), ((λ e. omega arith), ((λ e. omega arith), ((λ e. omega arith), tt))))) in
       rw next
-      (past (λ r. r) 0 (inLayer j (rowsAt shapes given j)) (rowsFrom shapes given (j + 1)) (clear-shifted j (rowsAt shapes given j) (no-fault (rowsAt shapes given j) all e none)))
+      (past (λ r. r) 0 (inLayer j (rowsAt shapes given j)) (rowsFrom shapes given (j + 1)) (clear-shifted j (rowsAt shapes given j) (cleared (rowsAt shapes given j) tt (sym e ∙ none))))
 
   pub fault-small : {r : ℕ} → r ≡ faultIn (rowsAt shapes given j) → r ≤ 16
   fault-small e =
@@ -100,9 +99,7 @@ module _ (cs : List Counts) (left : ℕ) {r : ℕ} (e : r ≡ faultIn (matchFaul
   match-small = rw e (fault-most 22 (matchFaults cs left) (omega arith, (omega arith, (omega arith, (omega arith, (omega arith, (omega arith, tt)))))))
 
   pub match-clear : r ≡ 0 → Clear (matchFaults cs left)
-  match-clear none =
-      let some : Each Some (matchFaults cs left) = ((λ e. omega arith), ((λ e. omega arith), ((λ e. omega arith), ((λ e. omega arith), ((λ e. omega arith), ((λ e. omega arith), tt)))))) in
-      no-fault (matchFaults cs left) some e none
+  match-clear none = cleared (matchFaults cs left) tt (sym e ∙ none)
 
 -- ---- the buffer
 
