@@ -108,28 +108,13 @@ InTable (Good m) = Unit
 InTable (Refused n j) = (11 ≤ n) × (n ≤ 22) × (j ≤ 6)
 
 matched-in : (m : Model) (left : ℕ) → InTable (matchedWith m left)
-matched-in m left =
-    let at : (n : ℕ) → 11 ≤ n → n ≤ 22 → InTable (Refused n 6) = λ n a b. (a, b, omega arith) in
-    by-each (λ n. Refused n 6) (Good m) InTable (matchFaults (countsIn m) left) (
-      at 17 (omega arith) (omega arith),
-      (
-        at 18 (omega arith) (omega arith),
-        (at 19 (omega arith) (omega arith), (at 20 (omega arith) (omega arith), (at 21 (omega arith) (omega arith), (at 22 (omega arith) (omega arith), tt)))),
-      ),
-    ) tt
+matched-in m left = by-each (λ n. Refused n 6) (Good m) InTable (matchFaults (countsIn m) left) (omega arith) tt
 
 layers-in : (right : Reading) → InTable right → (j : ℕ) (ks : List Kind) (s : List ℕ) → j + length ks ≤ 6 → InTable (refusingLayers j ks s right)
 unfolding refusingLayers
 layers-in right h j [] s b = h
 layers-in right h j (k ∷ ks) s b =
-    let at : (n : ℕ) → 11 ≤ n → n ≤ 22 → InTable (Refused n j) = λ n l m. (l, m, omega arith) in
-    by-each (λ n. Refused n j) _ InTable (faultsOf k s) (
-      at 11 (omega arith) (omega arith),
-      (
-        at 12 (omega arith) (omega arith),
-        (at 13 (omega arith) (omega arith), (at 14 (omega arith) (omega arith), (at 15 (omega arith) (omega arith), (at 16 (omega arith) (omega arith), tt)))),
-      ),
-    ) (layers-in right h (suc j) ks (restOf k s) (omega arith))
+    by-each (λ n. Refused n j) _ InTable (faultsOf k s) (omega arith) (layers-in right h (suc j) ks (restOf k s) (omega arith))
 
 reading-in : (s : List ℕ) → InTable (readOf s)
 unfolding readOf

@@ -14,6 +14,7 @@ use Rattle.rules.specs.Lists.{sum}
 use Rattle.rules.specs.Refusals.{Row, _when_, refusing}
 use Rattle.rules.proofs.Refused.{Clear}
 use Rattle.rules.proofs.Cleared.{cleared}
+use Rattle.rules.proofs.Rows.{by-each}
 use Rattle.model.specs.declared.Kind.{Kind}
 use Rattle.model.specs.declared.Kind.the-variants.{Dense}
 use Rattle.model.specs.declared.Counts.{Counts}
@@ -21,7 +22,7 @@ use Rattle.model.specs.Layer.{lengths, headerFaults}
 use Rattle.model.specs.Model.{kinds, matchFaults}
 use Rattle.model.specs.Writer.{differ, layerFaults, inLayer, rowFaults, countsGiven}
 use Rattle.model.specs.Parts.{faultIn, countsThere}
-use Rattle.model.proofs.Rows.{Some, by-fault, past, fault-most, shifted, clear-shifted}
+use Rattle.model.proofs.Rows.{Some, by-fault, past, shifted, clear-shifted}
 use Rattle.model.proofs.Layer.{three}
 use Rattle.model.proofs.Places.{three-lengths}
 
@@ -80,8 +81,7 @@ module _ (shapes given : List ℕ) (eighteen : length shapes ≡ 18) (eighteen�
       (past (λ r. r) 0 (inLayer j (rowsAt shapes given j)) (rowsFrom shapes given (j + 1)) (clear-shifted j (rowsAt shapes given j) (cleared (rowsAt shapes given j) tt (sym e ∙ none))))
 
   pub fault-small : {r : ℕ} → r ≡ faultIn (rowsAt shapes given j) → r ≤ 16
-  fault-small e =
-      rw e (fault-most 16 (rowsAt shapes given j) (omega arith, (omega arith, (omega arith, (omega arith, (omega arith, tt))))))
+  fault-small e = rw e (by-each (λ n. n) 0 (λ n. n ≤ 16) (rowsAt shapes given j) (omega arith) (omega arith))
 
 pub none-behind : (shapes given : List ℕ) → faultIn (rowsFrom shapes given 6) ≡ 0
 unfolding rowFaults
@@ -96,7 +96,7 @@ six-counts s = simp getD-drop
 
 module _ (cs : List Counts) (left : ℕ) {r : ℕ} (e : r ≡ faultIn (matchFaults cs left)) where
   pub match-small : r ≤ 22
-  match-small = rw e (fault-most 22 (matchFaults cs left) (omega arith, (omega arith, (omega arith, (omega arith, (omega arith, (omega arith, tt)))))))
+  match-small = rw e (by-each (λ n. n) 0 (λ n. n ≤ 22) (matchFaults cs left) (omega arith) (omega arith))
 
   pub match-clear : r ≡ 0 → Clear (matchFaults cs left)
   match-clear none = cleared (matchFaults cs left) tt (sym e ∙ none)

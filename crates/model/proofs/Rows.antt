@@ -2,11 +2,9 @@
 use mathlib.Core.Path.{_≡_, refl, sym, ap, _∙_}
 use mathlib.Core.Bool.{true, false}
 use mathlib.Core.List.{List, [], _∷_, _++_, append-nil}
-use Prim.Native.Nat.{ℕ, _+_, _*_, _≤_}
-use native.Mathlib.Omega.{arith}
+use Prim.Native.Nat.{ℕ, _+_, _*_}
 use Rattle.rules.specs.Refusals.{Row, _when_, refusing}
 use Rattle.rules.proofs.Refused.{Clear}
-use Rattle.rules.proofs.Rows.{Each}
 use Rattle.model.specs.Writer.{inLayer}
 use Rattle.model.specs.Parts.{faultIn}
 
@@ -28,11 +26,6 @@ module _ {A : Type 0} (refuse : ℕ → A) (right : A) where
 -- a number that is not 0
 abbrev pub Some : ℕ → Type 0
 Some n = n ≡ 0 → ⊥
-
-pub fault-most : (most : ℕ) (rows : List Row) → Each (λ n. n ≤ most) rows → faultIn rows ≤ most
-fault-most most [] all = omega arith
-fault-most most (n when true ∷ rows) all = all .0
-fault-most most (n when false ∷ rows) all = fault-most most rows (all .1)
 
 -- a table with its layer
 module _ (l : ℕ) where
