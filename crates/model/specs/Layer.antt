@@ -65,7 +65,7 @@ headerFaults i n a =
 abbrev pub faults : Kind → ℕ → ℕ → ℕ → ℕ → List Row
 faults k i n a left = headerFaults i n a ++ 16 when ltb left (sizeOf k i n) ∷ []
 
--- read_dense and read_gru: the layer in front of some bytes, its refusals, and the bytes behind it
+-- read_dense and read_gru: the layer in front of some bytes, its refusals, and the bytes behind it. A byte past the end counts as 0, and 11 refuses it
 abbrev pub layerOf : Kind → List ℕ → Layer
 layerOf k s =
     let i = getD s 0 0 in
