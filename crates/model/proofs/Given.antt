@@ -11,7 +11,7 @@ use borrow.Author.Tests.{eq-eqb, ne-eqb}
 use lib.ListN.{length, getD, take, drop}
 use lib.Seq.{drop-cons, take-all, getD-drop}
 use Rattle.rules.specs.Lists.{sum}
-use Rattle.rules.specs.Refusals.{Row, _when_, refusing}
+use Rattle.rules.specs.Refusals.{Row, _when_}
 use Rattle.rules.proofs.Refused.{Clear}
 use Rattle.rules.proofs.Cleared.{cleared}
 use Rattle.rules.proofs.Rows.{by-each}

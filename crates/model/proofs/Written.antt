@@ -4,7 +4,7 @@
 --     none-shared       two models that differ never share a file
 use mathlib.Core.Path.{_≡_, refl, sym, ap, subst, _∙_}
 use mathlib.Core.Bool.{false, not, true≢false}
-use mathlib.Core.List.{List, [], _∷_, _++_, map, map-append, append-nil}
+use mathlib.Core.List.{List, [], _∷_, _++_, map, map-append}
 use Prim.Native.Nat.{ℕ, zero, suc, _+_, _*_, _≤_}
 use native.Mathlib.Omega.{arith}
 use borrow.Author.Tests.{ltb-false, eqb-false, le-ltb, ne-eqb, eq-eqb}
@@ -22,7 +22,7 @@ use Rattle.model.specs.declared.Model.{Model}
 use Rattle.model.specs.Layer.{lengths, Layer}
 use Rattle.model.specs.Model.{_≠_, kinds, headersAt, modelOf, countsIn, matchFaults, readOf}
 use Rattle.model.specs.Writer.{layersGiven, fileOf, differ, inLayer, rowFaults, countsGiven, writerFaults, writeModel}
-use Rattle.model.specs.Laws.{layersRead, shapesOf, arraysIn, layerIn, ReadsBack, WritesBack, NoneShared, ArraysAreRead}
+use Rattle.model.specs.Laws.{layersRead, shapesOf, arraysIn, ReadsBack, WritesBack, NoneShared, ArraysAreRead}
 use Rattle.model.proofs.Rows.{clear-shifted, clear-joined}
 use Rattle.model.proofs.Layer.{three}
 use Rattle.model.proofs.Inverse.{Sized, number-of, activation-of, number-small, FitAll}
