@@ -15,13 +15,13 @@ use Rattle.rules.specs.Lists.{Bytes, sum}
 use Rattle.rules.specs.Refusals.{Row, _when_}
 use Rattle.rules.specs.Leaf.{_leaving_}
 use Rattle.rules.proofs.Refused.{Clear, clear}
-use Rattle.rules.proofs.Cleared.{cleared}
+use Rattle.rules.proofs.Cleared.{cleared, due}
 use Rattle.model.specs.declared.Kind.{Kind}
 use Rattle.model.specs.Layer.{activationOf, activationNumber}
 use Rattle.model.specs.Model.{kinds, matchFaults}
 use Rattle.model.specs.Writer.{arraysOf, layersGiven, fileOf, layerFaults, inLayer, rowFaults, countsGiven, writerFaults, writeModel}
 use Rattle.model.specs.Parts.{faultIn, Few, headerBytes, layerBytes, threeBytes, overwritten, Put}
-use Rattle.model.proofs.Rows.{Some, by-fault, by-its-fault, past, shifted-clear, clear-both}
+use Rattle.model.proofs.Rows.{Some, shifted-clear, clear-both}
 use Rattle.model.proofs.Inverse.{number-of}
 
 -- ---- from the tables
@@ -47,24 +47,22 @@ module _ (s ns : List ℕ) (file buffer : ℕ) where
   together = matchFaults (countsGiven kinds s) 0
 
   pub bad-rows : {r : ℕ} → r ≡ faultIn (rowFaults 0 kinds s ns) → Some r → r ≡ faultIn (writerFaults s ns file buffer)
-  unfolding writerFaults
-  bad-rows e some = sym (by-fault (λ r. r) 0 (rowFaults 0 kinds s ns) (inLayer 6 (together ++ last)) e some)
+  unfolding writerFaults rowFaults
+  bad-rows e some = sym (due (λ r. r) _ (rowFaults 0 kinds s ns) e some)
 
   pub clear-rows : {r : ℕ} → r ≡ faultIn (rowFaults 0 kinds s ns) → r ≡ 0 → Clear (rowFaults 0 kinds s ns)
   unfolding rowFaults
   clear-rows e none = cleared (rowFaults 0 kinds s ns) tt (sym e ∙ none)
 
   pub bad-model : Clear (rowFaults 0 kinds s ns) → {r : ℕ} → r ≡ faultIn (inLayer 6 together) → Some r → r ≡ faultIn (writerFaults s ns file buffer)
-  unfolding writerFaults
-  bad-model c e some =
-      sym (past (λ r. r) 0 (rowFaults 0 kinds s ns) (inLayer 6 (together ++ last)) c ∙ by-fault (λ r. r) 0 (inLayer 6 together) (inLayer 6 last) e some)
+  unfolding writerFaults rowFaults
+  bad-model c e some = sym (clear (λ r. r) _ (rowFaults 0 kinds s ns) c ∙ due (λ r. r) _ (inLayer 6 together) e some)
 
   pub good-model : Clear (rowFaults 0 kinds s ns) → {r : ℕ} → r ≡ faultIn (inLayer 6 together) → r ≡ 0
       → faultIn (writerFaults s ns file buffer) ≡ faultIn (inLayer 6 last)
-  unfolding writerFaults
+  unfolding writerFaults rowFaults
   good-model c e none =
-      past (λ r. r) 0 (rowFaults 0 kinds s ns) (inLayer 6 (together ++ last)) c
-      ∙ past (λ r. r) 0 (inLayer 6 together) (inLayer 6 last) (cleared (inLayer 6 together) tt (sym e ∙ none))
+      clear (λ r. r) _ (rowFaults 0 kinds s ns) c ∙ clear (λ r. r) _ (inLayer 6 together) (cleared (inLayer 6 together) tt (sym e ∙ none))
 
   pub few-given : Clear (rowFaults 0 kinds s ns) → Few (countsGiven kinds s)
   unfolding countsGiven
@@ -176,7 +174,7 @@ module _ (s : List ℕ) (x : Arrays) where
 
     pub refused-so : Some r → (r leaving out) ≡ writeModel s arrays out
     unfolding writeModel
-    refused-so some = rw (eq-eqb (length s) 18 eighteen, length-file) (sym (by-its-fault (λ n. n leaving out) _ (rows (length out)) e some))
+    refused-so some = rw (eq-eqb (length s) 18 eighteen, length-file) (sym (due (λ n. n leaving out) _ (rows (length out)) e some))
 
     pub written-so : r ≡ 0 → {next : ℕ} {after : List ℕ} → Put 0 (head ++ tail) out next after → (0 leaving after) ≡ writeModel s arrays out
     unfolding writeModel overwritten

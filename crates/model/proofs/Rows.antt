@@ -1,27 +1,12 @@
 -- The number that a table of refusals gives, and tables one behind the other. Assumes nothing.
-use mathlib.Core.Path.{_≡_, refl, sym, ap}
+use mathlib.Core.Path.{_≡_, ap}
 use mathlib.Core.Bool.{true, false}
-use mathlib.Core.List.{List, [], _∷_, _++_, append-nil}
+use mathlib.Core.List.{List, [], _∷_, _++_}
 use Prim.Native.Nat.{ℕ, _+_, _*_}
-use Rattle.rules.specs.Refusals.{Row, _when_, refusing}
+use Rattle.rules.specs.Refusals.{Row, _when_}
 use Rattle.rules.proofs.Refused.{Clear}
 use Rattle.model.specs.Writer.{inLayer}
 use Rattle.model.specs.Parts.{faultIn}
-
-module _ {A : Type 0} (refuse : ℕ → A) (right : A) where
-  -- a table's refusal is that of each longer one
-  pub by-fault : (rows more : List Row) {r : ℕ} → r ≡ faultIn rows → (r ≡ 0 → ⊥) → refusing (rows ++ more) refuse right ≡ refuse r
-  by-fault [] more e some = absurd (some e)
-  by-fault (n when true ∷ rows) more e some = ap refuse (sym e)
-  by-fault (n when false ∷ rows) more e some = by-fault rows more e some
-
-  pub by-its-fault : (rows : List Row) {r : ℕ} → r ≡ faultIn rows → (r ≡ 0 → ⊥) → refusing rows refuse right ≡ refuse r
-  by-its-fault rows e some = rw (append-nil rows) at (by-fault rows [] e some)
-
-  -- where no test of the first table holds, the second decides
-  pub past : (rows more : List Row) → Clear rows → refusing (rows ++ more) refuse right ≡ refusing more refuse right
-  past [] more c = refl
-  past (n when t ∷ rows) more c = rw (c .0) (past rows more (c .1))
 
 -- a number that is not 0
 abbrev pub Some : ℕ → Type 0
