@@ -11,9 +11,10 @@ use borrow.Author.Tests.{eq-eqb, ne-eqb}
 use lib.ListN.{length, getD, take, drop}
 use lib.Seq.{drop-cons, take-all, getD-drop}
 use Rattle.rules.specs.Lists.{sum}
-use Rattle.rules.specs.Refusals.{Row, _when_, refusing}
-use Rattle.rules.proofs.Refused.{Clear}
-use Rattle.rules.proofs.Rows.{Each}
+use Rattle.rules.specs.Refusals.{Row}
+use Rattle.rules.proofs.Refused.{Clear, clear}
+use Rattle.rules.proofs.Cleared.{cleared, due}
+use Rattle.rules.proofs.Rows.{by-each}
 use Rattle.model.specs.declared.Kind.{Kind}
 use Rattle.model.specs.declared.Kind.the-variants.{Dense}
 use Rattle.model.specs.declared.Counts.{Counts}
@@ -21,12 +22,12 @@ use Rattle.model.specs.Layer.{lengths, headerFaults}
 use Rattle.model.specs.Model.{kinds, matchFaults}
 use Rattle.model.specs.Writer.{differ, layerFaults, inLayer, rowFaults, countsGiven}
 use Rattle.model.specs.Parts.{faultIn, countsThere}
-use Rattle.model.proofs.Rows.{Some, by-fault, past, no-fault, fault-most, shifted, clear-shifted}
+use Rattle.model.proofs.Rows.{Some, shifted, clear-shifted}
 use Rattle.model.proofs.Layer.{three}
 use Rattle.model.proofs.Places.{three-lengths}
 
 pub bad-layer : (k : Kind) (i n a : ℕ) (given : List ℕ) {r : ℕ} → r ≡ faultIn (headerFaults i n a) → Some r → r ≡ faultIn (layerFaults k i n a given)
-bad-layer k i n a given e some = sym (by-fault (λ r. r) 0 (headerFaults i n a) (16 when differ given (lengths k i n) ∷ []) e some)
+bad-layer k i n a given e some = sym (due (λ r. r) _ (headerFaults i n a) e some)
 
 -- three lengths beside those that the counts give, where the header is good
 module _ (k : Kind) (i n a w r b : ℕ) (good : Clear (headerFaults i n a)) {x : List ℕ} (e : x ≡ lengths k i n) where
@@ -72,17 +73,15 @@ module _ (shapes given : List ℕ) (eighteen : length shapes ≡ 18) (eighteen�
   pub stopped : {r : ℕ} → r ≡ faultIn (rowsAt shapes given j) → Some r → r + 65536 * j ≡ faultIn (rowsFrom shapes given j)
   stopped {r} e some =
       rw next
-      (sym (by-fault (λ r. r) 0 (inLayer j (rowsAt shapes given j)) (rowsFrom shapes given (j + 1)) (shifted j (rowsAt shapes given j) e some) (λ z. some (omega arith))))
+      (sym (due (λ r. r) _ (inLayer j (rowsAt shapes given j)) (shifted j (rowsAt shapes given j) e some) (λ z. some (omega arith))))
 
   pub on : {r : ℕ} → r ≡ faultIn (rowsAt shapes given j) → r ≡ 0 → faultIn (rowsFrom shapes given j) ≡ faultIn (rowsFrom shapes given (j + 1))
   on e none =
-      let all : Each Some (rowsAt shapes given j) = ((λ e. omega arith), ((λ e. omega arith), ((λ e. omega arith), ((λ e. omega arith), ((λ e. omega arith), tt))))) in
       rw next
-      (past (λ r. r) 0 (inLayer j (rowsAt shapes given j)) (rowsFrom shapes given (j + 1)) (clear-shifted j (rowsAt shapes given j) (no-fault (rowsAt shapes given j) all e none)))
+      (clear (λ r. r) _ (inLayer j (rowsAt shapes given j)) (clear-shifted j (rowsAt shapes given j) (cleared (rowsAt shapes given j) tt (sym e ∙ none))))
 
   pub fault-small : {r : ℕ} → r ≡ faultIn (rowsAt shapes given j) → r ≤ 16
-  fault-small e =
-      rw e (fault-most 16 (rowsAt shapes given j) (omega arith, (omega arith, (omega arith, (omega arith, (omega arith, tt))))))
+  fault-small e = rw e (by-each (λ n. n) 0 (λ n. n ≤ 16) (rowsAt shapes given j) (omega arith) (omega arith))
 
 pub none-behind : (shapes given : List ℕ) → faultIn (rowsFrom shapes given 6) ≡ 0
 unfolding rowFaults
@@ -97,12 +96,10 @@ six-counts s = simp getD-drop
 
 module _ (cs : List Counts) (left : ℕ) {r : ℕ} (e : r ≡ faultIn (matchFaults cs left)) where
   pub match-small : r ≤ 22
-  match-small = rw e (fault-most 22 (matchFaults cs left) (omega arith, (omega arith, (omega arith, (omega arith, (omega arith, (omega arith, tt)))))))
+  match-small = rw e (by-each (λ n. n) 0 (λ n. n ≤ 22) (matchFaults cs left) (omega arith) (omega arith))
 
   pub match-clear : r ≡ 0 → Clear (matchFaults cs left)
-  match-clear none =
-      let some : Each Some (matchFaults cs left) = ((λ e. omega arith), ((λ e. omega arith), ((λ e. omega arith), ((λ e. omega arith), ((λ e. omega arith), ((λ e. omega arith), tt)))))) in
-      no-fault (matchFaults cs left) some e none
+  match-clear none = cleared (matchFaults cs left) tt (sym e ∙ none)
 
 -- ---- the buffer
 

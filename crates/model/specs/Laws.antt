@@ -18,7 +18,7 @@ use Rattle.model.specs.Writer.{layersGiven, fileOf, writeModel}
 
 -- the layers that a file reads as; and the numbers and the arrays of layers, as they are given
 abbrev pub layersRead : List ℕ → List Layer
-layersRead s = readLayers 0 kinds s (λ n j. []) (λ ls rest. ls)
+layersRead s = readLayers kinds s .0
 
 abbrev pub shapesOf : List Layer → List ℕ
 shapesOf [] = []
