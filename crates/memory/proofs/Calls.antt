@@ -5,7 +5,7 @@
 --     opens        an opening that is done leaves nothing remembered
 --     either       every call does one or the other
 -- Assumes nothing.
-use Prim.Native.Nat.{ℕ, _+_, _-_, _*_, _≤_}
+use Prim.Native.Nat.{ℕ, zero, suc, _+_, _-_, _*_, _≤_}
 use native.Mathlib.Nat.{zero-add}
 use native.Mathlib.Omega.{arith}
 use mathlib.Core.Bool.{Bool, true, false, cond, false≢true}
@@ -27,7 +27,7 @@ use Rattle.model.specs.Model.{readOf}
 use Rattle.model.specs.declared.Reading.{Reading}
 use Rattle.model.specs.declared.Reading.the-variants.{Good, Refused as Unread}
 use Rattle.samples.specs.Samples.{good}
-use Rattle.frame.specs.Reply.{passed, isHeard}
+use Rattle.frame.specs.Reply.{passed, isHeard, oneMore}
 use Rattle.lag.specs.Lag.{ownLag}
 use Rattle.frame.specs.Share.{SHARE, PART, inputMem, keptX, keptEx, keptLag, lastg, cepstralMem, vadState, noiseState, denoiseState}
 use Rattle.frame.specs.Heard.{scaled, energies, spoken}
@@ -53,15 +53,17 @@ use Rattle.pieces.proofs.Goods.{good-append, good-take, good-drop}
 use Rattle.pieces.proofs.Halved.{first-passes, second-passes}
 use Rattle.pieces.proofs.Kept.{further-reply, piece-kept, resume-kept}
 use Rattle.pieces.proofs.Shares.{part-length, waits-length, frame-waits, frame-length, frame-back}
+use Rattle.desk.specs.declared.Answer.{Answer}
 use Rattle.desk.specs.declared.Record.{Record}
 use Rattle.desk.specs.Gate.{gate}
 use Rattle.desk.specs.Desk.{Ask, opening, call1, call2, call2Own, call3, call4, firstHalf, secondHalf, piece, resume, callOf, advanced, numbered, carried, answered, opened, onShare, Given, desk}
 use Rattle.desk.proofs.Apart.{givenOf, one-bench}
 use Rattle.desk.proofs.Zeros.{get-replicate}
 use Rattle.desk.proofs.Leaves.{carried-leaves}
-use Rattle.memory.specs.Hear.{blank, HeardFrame, heardAll}
-use Rattle.memory.specs.Brought.{recalledIn, Noted, unnoted, noting, firstNotes, restNotes, brought}
-use Rattle.memory.proofs.Heard.{notedIn, heard-frame}
+use Rattle.memory.specs.Hear.{blank, heardAll}
+use Rattle.memory.specs.Calls.{FrameCall, firstCalls, restCalls, callsOf, endsFrame, hears, howMany}
+use Rattle.memory.specs.Brought.{recalledIn, Noted, unnoted, noting, brought}
+use Rattle.memory.proofs.Heard.{notedIn, notedBy, heard-frame}
 
 -- ---- what is left alone
 
@@ -80,7 +82,7 @@ same-noted xs ys same = cc (same keptX (omega arith) (omega arith), same keptEx 
 
 -- call 2 notes what it brought
 kept-noted : (share spectrum : List Float) (lag : ℕ) → length share ≡ PART
-    → notedIn (putKept share spectrum lag) ≡ noting spectrum (ofInt binary32 (pos lag))
+    → notedIn (putKept share spectrum lag) ≡ noting spectrum lag
 unfolding putKept energies scaled
 kept-noted share spectrum lag whole =
     let x = scaled spectrum in
@@ -105,8 +107,9 @@ module _ (part : List Float) (way : Way) (x : List Float) (whole : length part �
       same-recalled index part (doneFirst part way x .share)
       (λ q h k. done-first-beside q part way x (inl (omega arith), (inl (omega arith), (inl (omega arith), (inl (omega arith), (inl (omega arith), (inr (omega arith), tt)))))) whole l .same)
 
-  first-noted : notedIn (doneFirst part way x .share) ≡ firstNotes way part x
-  first-noted =
+  first-noted : (k : Noted) → notedIn (doneFirst part way x .share) ≡ notedBy k (firstCalls way part x)
+  unfolding notedBy
+  first-noted k =
       let a = done1 part x in
       kept-noted (remembered way (a .share)) (forwardBy way (buffer a)) (lagBy way (a .share)) (whole-remembered (a .share) way (whole-after-1 part x whole l))
 
@@ -123,31 +126,46 @@ module _ (share : List Float) (whole : length share ≡ SHARE) where
   pub part-noted : notedIn (get framePart share) ≡ notedIn share
   part-noted = cc (read keptX (omega arith), read keptEx (omega arith), read keptLag (omega arith))
 
+-- ---- what a call counts for
+
+-- one more, so many times
+unfoldable pub more : ℕ → ℕ → ℕ
+more zero n = n
+more (suc k) n = more k (oneMore n)
+
+-- both numbers of the record are moved on by what the calls count for; and a heard reply is one heard call 3
+abbrev pub Counted : Record → Answer → List FrameCall → Type 0
+Counted b a calls =
+    (a .rec .frame ≡ more (howMany endsFrame calls) (b .frame))
+    × (a .rec .heard ≡ more (howMany hears calls) (b .heard))
+    × (howMany hears calls ≡ cond (isHeard (a .reply)) 1 0)
+
 -- ---- one call on a share
 
 pub record Remembers (b : Record) (share : List Float) (ask : Ask) (o : Given) : Type 0 where
-  pub recalls : recalledIn (o .answer .rec .hearing .index) (o .store) ≡ heardAll (recalledIn (b .hearing .index) share) (brought b share (notedIn share) ask (o .answer .reply) .1)
-  pub notes : notedIn (o .store) ≡ brought b share (notedIn share) ask (o .answer .reply) .0
-  pub counts : length (brought b share (notedIn share) ask (o .answer .reply) .1) ≡ cond (isHeard (o .answer .reply)) 1 0
+  pub recalls : recalledIn (o .answer .rec .hearing .index) (o .store) ≡ heardAll (recalledIn (b .hearing .index) share) (brought (notedIn share) (callsOf b share ask (o .answer .reply)))
+  pub notes : notedIn (o .store) ≡ notedBy (notedIn share) (callsOf b share ask (o .answer .reply))
+  pub counts : Counted b (o .answer) (callsOf b share ask (o .answer .reply))
 
 -- an opening that is done
 pub record Opens (o : Given) : Type 0 where
   pub forgets : recalledIn (o .answer .rec .hearing .index) (o .store) ≡ blank
   pub unnotes : notedIn (o .store) ≡ unnoted
   pub unheard : isHeard (o .answer .reply) ≡ false
+  pub unnumbered : (o .answer .rec .frame ≡ 0) × (o .answer .rec .heard ≡ 0)
 
 -- what holds of a whole share where it holds of the part that a call leaves
 module _ (b : Record) (share : List Float) (whole : length share ≡ SHARE) where
   abbrev part : List Float
   part = get framePart share
 
-  abbrev brings : Ask → Reply → Noted × List HeardFrame
-  brings ask reply = brought b share (notedIn part) ask reply
+  abbrev calls : Ask → Reply → List FrameCall
+  calls ask reply = callsOf b share ask reply
 
   record Leaves (ask : Ask) (reply : Reply) (after : List Float) : Type 0 where
-    recalls : recalledIn (answered b ask reply .rec .hearing .index) after ≡ heardAll (recalledIn (b .hearing .index) part) (brings ask reply .1)
-    notes : notedIn after ≡ brings ask reply .0
-    counts : length (brings ask reply .1) ≡ cond (isHeard reply) 1 0
+    recalls : recalledIn (answered b ask reply .rec .hearing .index) after ≡ heardAll (recalledIn (b .hearing .index) part) (brought (notedIn part) (calls ask reply))
+    notes : notedIn after ≡ notedBy (notedIn part) (calls ask reply)
+    counts : Counted b (answered b ask reply) (calls ask reply)
 
   lift : (ask : Ask) (o : Outcome) → length (o .share) ≡ SHARE → Leaves ask (o .reply) (get framePart (o .share)) → Remembers b share ask (givenOf b ask o)
   lift ask o left r =
@@ -156,9 +174,9 @@ module _ (b : Record) (share : List Float) (whole : length share ≡ SHARE) wher
         recalls =
             sym (part-recalled (o .share) left (answered b ask (o .reply) .rec .hearing .index))
             ∙ r .recalls
-            ∙ ap₂ (λ m k. heardAll m (brought b share k ask (o .reply) .1)) (part-recalled share whole (b .hearing .index)) noted;
-        notes = sym (part-noted (o .share) left) ∙ r .notes ∙ ap (λ k. brought b share k ask (o .reply) .0) noted;
-        counts = ap (λ k. length (brought b share k ask (o .reply) .1)) (sym noted) ∙ r .counts;
+            ∙ ap₂ (λ m k. heardAll m (brought k (calls ask (o .reply)))) (part-recalled share whole (b .hearing .index)) noted;
+        notes = sym (part-noted (o .share) left) ∙ r .notes ∙ ap (λ k. notedBy k (calls ask (o .reply))) noted;
+        counts = r .counts;
       }
 
   -- a call of a frame
@@ -172,92 +190,83 @@ module _ (b : Record) (share : List Float) (whole : length share ≡ SHARE) wher
 
   -- a refusal leaves all alone
   unmoved : (ask : Ask) (n : ℕ) → Leaves ask (Refused n) part
-  unfolding heardAll
-  unmoved (opening w m) n = record { recalls = refl; notes = refl; counts = refl }
-  unmoved (call1 x w) n = record { recalls = refl; notes = refl; counts = refl }
-  unmoved (call2 x l w s) n = record { recalls = refl; notes = refl; counts = refl }
-  unmoved (call2Own x w s) n = record { recalls = refl; notes = refl; counts = refl }
-  unmoved (call3 x l m o) n = record { recalls = refl; notes = refl; counts = refl }
-  unmoved (call4 x o) n = record { recalls = refl; notes = refl; counts = refl }
-  unmoved (firstHalf x s) n = record { recalls = refl; notes = refl; counts = refl }
-  unmoved (secondHalf l m o) n = record { recalls = refl; notes = refl; counts = refl }
-  unmoved (piece x o s) n = record { recalls = refl; notes = refl; counts = refl }
-  unmoved (resume x l m o s) n = record { recalls = refl; notes = refl; counts = refl }
+  unfolding heardAll brought notedBy howMany more
+  unmoved ask n = record { recalls = refl; notes = refl; counts = (refl, refl, refl) }
 
   call1-leaves : (x : List Float) (w : ℕ) → LeavesOf (call1 x w) (frame.call1 part x w)
-  unfolding heardAll
+  unfolding heardAll brought notedBy howMany more
   call1-leaves x w =
       call1-by part (LeavesOf (call1 x w)) (unmoved (call1 x w)) x w
       (λ whole l. record {
         recalls = same-recalled (b .hearing .index) part (done1 part x .share) (λ q h k. done1-beside q part x (inl (omega arith), (inl (omega arith), tt)) whole l .same);
         notes = same-noted part (done1 part x .share) (λ q h k. done1-beside q part x (inl (omega arith), (inr (omega arith), tt)) whole l .same);
-        counts = refl;
+        counts = (refl, refl, refl);
       })
 
   call2-leaves : (x : List Float) (l w s : ℕ) → LeavesOf (call2 x l w s) (frame.call2 part x l w s)
-  unfolding heardAll
+  unfolding heardAll brought notedBy howMany more
   call2-leaves x l w s =
       call2-by part (LeavesOf (call2 x l w s)) (unmoved (call2 x l w s)) x l w s
       (λ whole. record {
         recalls = same-recalled (b .hearing .index) part (putKept part x l) (λ q h k. done2-beside q part x l (inl (omega arith), (inl (omega arith), (inl (omega arith), tt))) whole .same);
         notes = kept-noted part x l whole;
-        counts = refl;
+        counts = (refl, refl, refl);
       })
 
   call2-own-leaves : (x : List Float) (w s : ℕ) → LeavesOf (call2Own x w s) (halves.call2Own part x w s)
-  unfolding heardAll
+  unfolding heardAll brought notedBy howMany more
   call2-own-leaves x w s =
       call2-own-by part (LeavesOf (call2Own x w s)) (unmoved (call2Own x w s)) x w s
       (λ whole. let l = ownLag (get inputMem part) in record {
         recalls = same-recalled (b .hearing .index) part (putKept part x l) (λ q h k. done2-beside q part x l (inl (omega arith), (inl (omega arith), (inl (omega arith), tt))) whole .same);
         notes = kept-noted part x l whole;
-        counts = refl;
+        counts = (refl, refl, refl);
       })
 
   call3-leaves : (x l : List Float) (m : List ℕ) (o : ℕ) → LeavesOf (call3 x l m o) (frame.call3 part (b .hearing) x l m o)
-  unfolding heardAll
+  unfolding heardAll brought notedBy howMany more
   call3-leaves x l m o =
       call3-by part (LeavesOf (call3 x l m o)) (unmoved (call3 x l m o)) (b .hearing) x l m o
-      (λ _ _ _. record { recalls = refl; notes = refl; counts = refl })
-      (record { recalls = refl; notes = refl; counts = refl })
+      (λ _ _ _. record { recalls = refl; notes = refl; counts = (refl, refl, refl) })
+      (record { recalls = refl; notes = refl; counts = (refl, refl, refl) })
       (λ e k good whole inside. record {
         recalls = heard-frame part (b .hearing .index) x l m k good whole inside;
         notes = same-noted part (spoken part (b .hearing .index) x l m k .share) (λ q h j. done3-beside q part (b .hearing .index) x l m k
             (inr (omega arith), (inr (omega arith), (inr (omega arith), (inr (omega arith), (inr (omega arith), tt))))) good whole inside .same);
-        counts = refl;
+        counts = (refl, refl, refl);
       })
 
   call4-leaves : (x : List Float) (o : ℕ) → LeavesOf (call4 x o) (frame.call4 part (b .frame) (b .heard) x o)
-  unfolding heardAll
+  unfolding heardAll brought notedBy howMany more
   call4-leaves x o =
       call4-by part (LeavesOf (call4 x o)) (unmoved (call4 x o)) (b .frame) (b .heard) x o
       (λ whole. record {
         recalls = same-recalled (b .hearing .index) part (done4 part (b .frame) (b .heard) x .share) (λ q h k. done4-beside q part (b .frame) (b .heard) x (inl (omega arith), tt) whole .same);
         notes = same-noted part (done4 part (b .frame) (b .heard) x .share) (λ q h k. done4-beside q part (b .frame) (b .heard) x (inl (omega arith), tt) whole .same);
-        counts = refl;
+        counts = (refl, refl, refl);
       })
 
   first-half-leaves : (x : List Float) (s : ℕ) → LeavesOf (firstHalf x s) (halves.firstHalf part (b .hearing .way) x s)
-  unfolding heardAll
+  unfolding heardAll brought notedBy howMany more
   first-half-leaves x s =
       let way = b .hearing .way in
       first-half-by part (LeavesOf (firstHalf x s)) (unmoved (firstHalf x s)) way x s
       (λ whole l. record {
         recalls = first-recalled part way x whole l (b .hearing .index);
-        notes = first-noted part way x whole l;
-        counts = refl;
+        notes = first-noted part way x whole l (notedIn part);
+        counts = (refl, refl, refl);
       })
 
   second-half-leaves : (l : List Float) (m : List ℕ) (o : ℕ) → LeavesOf (secondHalf l m o) (halves.secondHalf part (b .hearing) l m o)
-  unfolding heardAll
+  unfolding heardAll brought notedBy howMany more
   second-half-leaves l m o =
       let way = b .hearing .way in
       second-half-by part (LeavesOf (secondHalf l m o)) (unmoved (secondHalf l m o)) (b .hearing) l m o
-      (λ _ _ _. record { recalls = refl; notes = refl; counts = refl })
+      (λ _ _ _. record { recalls = refl; notes = refl; counts = (refl, refl, refl) })
       (λ whole. record {
         recalls = same-recalled (b .hearing .index) part (doneSecond Silent part way (get keptX part) .share) (λ q h k. done-second-beside q Silent part part way (get keptX part) (inl (omega arith), tt) (record { size = whole; same = refl }) .same);
         notes = same-noted part (doneSecond Silent part way (get keptX part) .share) (λ q h k. done-second-beside q Silent part part way (get keptX part) (inl (omega arith), tt) (record { size = whole; same = refl }) .same);
-        counts = refl;
+        counts = (refl, refl, refl);
       })
       (λ e k good whole inside.
       let p = forwardBy way (lookedBack part) in
@@ -270,42 +279,68 @@ module _ (b : Record) (share : List Float) (whole : length share ≡ SHARE) wher
             ∙ heard-frame part (b .hearing .index) p l m k good whole inside;
         notes = same-noted part (doneSecond (Heard (t .voice) e) (t .share) way (t .spectrum) .share) (λ q h j. done-second-beside q (Heard (t .voice) e) part (t .share) way (t .spectrum) (inl (omega arith), tt)
             (kept q (inr (omega arith), (inr (omega arith), (inr (omega arith), (inr (omega arith), (inr (omega arith), tt)))))) .same);
-        counts = refl;
+        counts = (refl, refl, refl);
       })
 
   -- ---- pieces: the rest of one waits, or begins a frame
 
-  first-notes : (index : ℕ) (q : List Float) (way : Way) (x : List Float) → passed (halves.firstHalf q way x 22 .reply) ≡ true
-      → let f = halves.firstHalf q way x 22 in (recalledIn index (f .share) ≡ recalledIn index q) × (notedIn (f .share) ≡ firstNotes way q x)
-  first-notes index q way x =
-      first-half-by q (λ f. passed (f .reply) ≡ true → (recalledIn index (f .share) ≡ recalledIn index q) × (notedIn (f .share) ≡ firstNotes way q x)) (λ n e. absurd (false≢true e)) way x 22
-      (λ sized l _. (first-recalled q way x sized l index, first-noted q way x sized l))
+  by-rest : (way : Way) (q rest : List Float) (P : List FrameCall → Type 0) → P [] → ((x : List Float) → P (firstCalls way q x)) → P (restCalls way q rest)
+  by-rest way q rest P none first = go (ltb (length rest) 480)
+    where
+      go : (t : Bool) → P (cond t [] (firstCalls way q (take 480 rest)))
+      go true = none
+      go false = first (take 480 rest)
+
+  -- it brings no frame, and counts for none
+  rest-brings : (k : Noted) (way : Way) (q rest : List Float) → brought k (restCalls way q rest) ≡ []
+  unfolding brought
+  rest-brings k way q rest = by-rest way q rest (λ cs. brought k cs ≡ []) refl (λ _. refl)
+
+  rest-ends : (way : Way) (q rest : List Float) → howMany endsFrame (restCalls way q rest) ≡ 0
+  unfolding howMany
+  rest-ends way q rest = by-rest way q rest (λ cs. howMany endsFrame cs ≡ 0) refl (λ _. refl)
+
+  rest-hears : (way : Way) (q rest : List Float) → howMany hears (restCalls way q rest) ≡ 0
+  unfolding howMany
+  rest-hears way q rest = by-rest way q rest (λ cs. howMany hears cs ≡ 0) refl (λ _. refl)
+
+  first-notes : (index : ℕ) (q : List Float) (way : Way) (x : List Float) (k : Noted) → passed (halves.firstHalf q way x 22 .reply) ≡ true
+      → let f = halves.firstHalf q way x 22 in (recalledIn index (f .share) ≡ recalledIn index q) × (notedIn (f .share) ≡ notedBy k (firstCalls way q x))
+  first-notes index q way x k =
+      first-half-by q (λ f. passed (f .reply) ≡ true → (recalledIn index (f .share) ≡ recalledIn index q) × (notedIn (f .share) ≡ notedBy k (firstCalls way q x))) (λ n e. absurd (false≢true e)) way x 22
+      (λ sized l _. (first-recalled q way x sized l index, first-noted q way x sized l k))
 
   rest-notes : (index : ℕ) (reply : Reply) (mid : List Float) (way : Way) (rest : List Float) (w : Written) → length mid ≡ SHARE → good rest ≡ true
       → let o = further reply mid way rest w in let q = get framePart mid in
-      (recalledIn index (get framePart (o .share)) ≡ recalledIn index q) × (notedIn (get framePart (o .share)) ≡ restNotes way (notedIn q) q rest)
-  unfolding further
+      (recalledIn index (get framePart (o .share)) ≡ recalledIn index q) × (notedIn (get framePart (o .share)) ≡ notedBy (notedIn q) (restCalls way q rest))
+  unfolding further notedBy
   rest-notes index reply mid way rest w l g = go (ltb (length rest) 480) refl
     where
       go : (t : Bool) → ltb (length rest) 480 ≡ t
           → let o = cond t (atEnd reply mid rest w) (paused reply mid way rest w) in
           (recalledIn index (get framePart (o .share)) ≡ recalledIn index (get framePart mid))
-          × (notedIn (get framePart (o .share)) ≡ cond t (notedIn (get framePart mid)) (firstNotes way (get framePart mid) (take 480 rest)))
+          × (notedIn (get framePart (o .share)) ≡ notedBy (notedIn (get framePart mid)) (cond t [] (firstCalls way (get framePart mid) (take 480 rest))))
       go true e = (ap (recalledIn index) (frame-waits mid l rest), ap notedIn (frame-waits mid l rest))
       go false e =
           let q = get framePart mid in
           let more = ltb-false (length rest) 480 e in
           let f = first-passes q way (take 480 rest) (part-length mid l) (simp length-take (omega arith)) (good-take 480 rest g) in
-          let n = first-notes index q way (take 480 rest) (f .passes) in
+          let n = first-notes index q way (take 480 rest) (notedIn q) (f .passes) in
           let back = frame-back mid l (halves.firstHalf q way (take 480 rest) 22 .share) (f .part) in
           (ap (recalledIn index) back ∙ n .0, ap notedIn back ∙ n .1)
 
-  -- a piece moves no index
+  -- a piece moves no index, nor a number
   carried-index : (r : Record) (rest size progress : ℕ) → carried r rest size progress .hearing .index ≡ r .hearing .index
   carried-index r = carried-leaves (λ (x : Record). x .hearing .index) r (λ _ _ _ _. refl)
 
+  carried-frame : (r : Record) (rest size progress : ℕ) → carried r rest size progress .frame ≡ r .frame
+  carried-frame r = carried-leaves (λ (x : Record). x .frame) r (λ _ _ _ _. refl)
+
+  carried-heard : (r : Record) (rest size progress : ℕ) → carried r rest size progress .heard ≡ r .heard
+  carried-heard r = carried-leaves (λ (x : Record). x .heard) r (λ _ _ _ _. refl)
+
   piece-leaves : (x : List Float) (o s : ℕ) → let f = pieces.piece share (b .hearing .way) (b .waiting) x o s in Leaves (piece x o s) (f .reply) (get framePart (f .share))
-  unfolding heardAll
+  unfolding heardAll brought notedBy howMany more
   piece-leaves x o s =
       piece-by share (λ f. Leaves (piece x o s) (f .reply) (get framePart (f .share))) (unmoved (piece x o s)) (b .hearing .way) (b .waiting) x o s
       (λ k.
@@ -314,20 +349,31 @@ module _ (b : Record) (share : List Float) (whole : length share ≡ SHARE) wher
       let rest = waitingIn (b .waiting) share ++ x in
       let n = rest-notes (b .hearing .index) Done mid way rest nothing (waits-length share whole []) (good-append _ x (k .waited) (k .fine)) in
       let same = frame-waits share whole [] in
+      let m = recalledIn (b .hearing .index) part in
+      let ends = rest-ends way part rest in
+      let hears = rest-hears way part rest in
       subst (λ r. Leaves (piece x o s) r (get framePart (further Done mid way rest nothing .share))) (sym (further-reply Done mid way rest nothing))
       (record {
-        recalls = ap (λ (i : ℕ). recalledIn i (get framePart (further Done mid way rest nothing .share))) (carried-index b _ _ _) ∙ n .0 ∙ ap (recalledIn (b .hearing .index)) same;
-        notes = n .1 ∙ ap (λ (q : List Float). restNotes way (notedIn q) q rest) same;
-        counts = refl;
+        recalls =
+            ap (λ (i : ℕ). recalledIn i (get framePart (further Done mid way rest nothing .share))) (carried-index b _ _ _)
+            ∙ n .0
+            ∙ ap (recalledIn (b .hearing .index)) same
+            ∙ ap (heardAll m) (sym (rest-brings (notedIn part) way part rest));
+        notes = n .1 ∙ ap (λ (q : List Float). notedBy (notedIn q) (restCalls way q rest)) same;
+        counts = (
+          carried-frame b _ _ _ ∙ ap (λ (t : ℕ). more t (b .frame)) (sym ends),
+          carried-heard b _ _ _ ∙ ap (λ (t : ℕ). more t (b .heard)) (sym hears),
+          hears,
+        );
       }))
 
   resume-leaves : (x l : List Float) (m : List ℕ) (o s : ℕ)
       → let f = pieces.resume share (b .hearing) (b .piece) (b .progress) x l m o s in Leaves (resume x l m o s) (f .reply) (get framePart (f .share))
-  unfolding heardAll
+  unfolding heardAll brought notedBy howMany more
   resume-leaves x l m o s =
       resume-by share (λ f. Leaves (resume x l m o s) (f .reply) (get framePart (f .share))) (unmoved (resume x l m o s))
       (b .hearing) (b .piece) (b .progress) x l m o s
-      (λ _ _ _. record { recalls = refl; notes = refl; counts = refl })
+      (λ _ _ _. record { recalls = refl; notes = refl; counts = (refl, refl, refl) })
       (λ k.
       let way = b .hearing .way in
       let h = halves.secondHalf part (b .hearing) l m 480 in
@@ -340,22 +386,34 @@ module _ (b : Record) (share : List Float) (whole : length share ≡ SHARE) wher
       let n = rest-notes (next .hearing .index) (h .reply) mid way rest w (frame-length share whole (h .share) (p .part)) (good-drop (b .progress) x (k .fine)) in
       let same = frame-back share whole (h .share) (p .part) in
       let half = rw (p .passes) at (c .recalls) in
+      let noted = rw (p .passes) at (c .notes) in
+      let counted = rw (p .passes) at (c .counts) in
+      let brings = rest-brings (notedIn part) way (h .share) rest in
+      let ends = rest-ends way (h .share) rest in
+      let hears = rest-hears way (h .share) rest in
       subst (λ r. Leaves (resume x l m o s) r (get framePart (further (h .reply) mid way rest w .share))) (sym (further-reply (h .reply) mid way rest w))
       (record {
         recalls =
-            rw (p .passes)
+            rw (p .passes, brings)
             (ap (λ (i : ℕ). recalledIn i (get framePart (further (h .reply) mid way rest w .share))) (carried-index next _ _ _) ∙ n .0 ∙ ap (recalledIn (next .hearing .index)) same ∙ half);
-        notes = rw (p .passes) (n .1 ∙ ap (λ (q : List Float). restNotes way (notedIn q) q rest) same ∙ ap (λ k. restNotes way k (h .share) rest) (c .notes));
-        counts = c .counts;
+        notes =
+            rw (p .passes)
+            (n .1 ∙ ap (λ (q : List Float). notedBy (notedIn q) (restCalls way q rest)) same ∙ ap (λ k. notedBy k (restCalls way (h .share) rest)) noted);
+        counts =
+            rw (p .passes, ends, hears) (
+              carried-frame next _ _ _ ∙ counted .0,
+              carried-heard next _ _ _ ∙ counted .1,
+              counted .2,
+            );
       }))
 
   on-share : (ask : Ask) → (callOf ask ≡ 0 → passed (onShare b share ask .reply) ≡ false) → Remembers b share ask (givenOf b ask (onShare b share ask))
-  unfolding heardAll
+  unfolding heardAll brought notedBy howMany more
   on-share (opening w m) shut = go (readOf m) (shut refl)
     where
       go : (r : Reading) → passed (opened share r .reply) ≡ false → Remembers b share (opening w m) (givenOf b (opening w m) (opened share r))
       go (Good k) e = absurd (false≢true (sym e))
-      go (Unread n l) e = record { recalls = refl; notes = refl; counts = refl }
+      go (Unread n l) e = record { recalls = refl; notes = refl; counts = (refl, refl, refl) }
   on-share (call1 x w) shut = in-part (call1 x w) _ (call1-keeps part x w) (call1-leaves x w)
   on-share (call2 x l w s) shut = in-part (call2 x l w s) _ (call2-keeps part x l w s) (call2-leaves x l w s)
   on-share (call2Own x w s) shut = in-part (call2Own x w s) _ (call2-own-keeps part x w s) (call2-own-leaves x w s)
@@ -402,7 +460,7 @@ opens b share whole w m =
     by-gate b share whole (opening w m) (λ o. passed (o .answer .reply) ≡ true → Opens o) (λ e. absurd (false≢true e)) (go (readOf m) refl)
   where
     go : (r : Reading) → readOf m ≡ r → passed (opened share r .reply) ≡ true → Opens (givenOf b (opening w m) (opened share r))
-    go (Good k) e p = let z = wiped SHARE (omega arith) in rw e (record { forgets = z .0; unnotes = z .1; unheard = refl })
+    go (Good k) e p = let z = wiped SHARE (omega arith) in rw e (record { forgets = z .0; unnotes = z .1; unheard = refl; unnumbered = (refl, refl) })
     go (Unread n l) e p = absurd (false≢true p)
 
 -- there is no third way

@@ -1,2 +1,3 @@
 pub mod Hear
+pub mod Calls
 pub mod Brought

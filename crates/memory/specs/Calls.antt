@@ -1,0 +1,77 @@
+-- The four calls of a frame, and which of them a call of the desk is made of: a half of two, a piece and a resume of halves.
+use Prim.Native.Nat.{ℕ, _+_}
+use mathlib.Core.Bool.{Bool, true, false, cond}
+use mathlib.Core.List.{List, [], _∷_, _++_}
+use lib.Dec.{ltb}
+use lib.ListN.{length, take, drop}
+use lib.Ieee.{Float}
+use Rattle.rules.specs.Place.{get}
+use Rattle.lag.specs.Lag.{ownLag}
+use Rattle.frame.specs.Share.{inputMem}
+use Rattle.frame.specs.Reply.{passed, isHeard}
+use Rattle.frame.specs.declared.Reply.{Reply}
+use Rattle.frame.specs.declared.Way.{Way}
+use Rattle.frame.specs.Frame.{done1}
+use Rattle.halves.specs.Ways.{lagBy, forwardBy}
+use Rattle.halves.specs.Halves.{buffer, lookedBack}
+use Rattle.halves.specs.Halves as halves
+use Rattle.pieces.specs.Pieces.{framePart, waitingIn}
+use Rattle.desk.specs.declared.Record.{Record}
+use Rattle.desk.specs.Desk.{Ask, opening, call1, call2, call2Own, call3, call4, firstHalf, secondHalf, piece, resume}
+
+-- with what call 2 and call 3 are lent; call 3 is heard or silent
+pub data FrameCall : Type 0 where
+  one : FrameCall
+  two : (spectrum : List Float) (lag : ℕ) → FrameCall
+  three : (heard : Bool) (spectrum logs : List Float) (model : List ℕ) → FrameCall
+  four : FrameCall
+
+-- the halves of a frame, by the bench's way and a frame's part of the share
+abbrev pub firstCalls : Way → List Float → List Float → List FrameCall
+firstCalls way part x = let a = done1 part x in one ∷ two (forwardBy way (buffer a)) (lagBy way (a .share)) ∷ []
+
+abbrev pub secondCalls : Way → List Float → Bool → List Float → List ℕ → List FrameCall
+secondCalls way part heard logs m = three heard (forwardBy way (lookedBack part)) logs m ∷ four ∷ []
+
+-- the rest of a piece waits, or 480 of its samples begin a frame
+abbrev pub restCalls : Way → List Float → List Float → List FrameCall
+restCalls way part rest = cond (ltb (length rest) 480) [] (firstCalls way part (take 480 rest))
+
+-- of a call of the desk that is done, heard or not, where it finds the record and the share so
+abbrev pub madeOfCalls : Record → List Float → Ask → Bool → List FrameCall
+madeOfCalls rec share (opening w m) heard = []
+madeOfCalls rec share (call1 x w) heard = one ∷ []
+madeOfCalls rec share (call2 x lag w s) heard = two x lag ∷ []
+madeOfCalls rec share (call2Own x w s) heard = two x (ownLag (get inputMem (get framePart share))) ∷ []
+madeOfCalls rec share (call3 x logs m o) heard = three heard x logs m ∷ []
+madeOfCalls rec share (call4 x o) heard = four ∷ []
+madeOfCalls rec share (firstHalf x s) heard = firstCalls (rec .hearing .way) (get framePart share) x
+madeOfCalls rec share (secondHalf logs m o) heard = secondCalls (rec .hearing .way) (get framePart share) heard logs m
+madeOfCalls rec share (piece x o s) heard = restCalls (rec .hearing .way) (get framePart share) (waitingIn (rec .waiting) share ++ x)
+madeOfCalls rec share (resume x logs m o s) heard =
+    let part = get framePart share in
+    let way = rec .hearing .way in
+    let done = halves.secondHalf part (rec .hearing) logs m 480 in
+    secondCalls way part heard logs m ++ restCalls way (done .share) (drop (rec .progress) x)
+
+-- by the reply; a refused call is made of none
+abbrev pub callsOf : Record → List Float → Ask → Reply → List FrameCall
+callsOf rec share ask reply = cond (passed reply) (madeOfCalls rec share ask (isHeard reply)) []
+
+-- ---- how many of them are a call 4, or a heard call 3
+
+abbrev pub endsFrame : FrameCall → Bool
+endsFrame one = false
+endsFrame (two x lag) = false
+endsFrame (three heard x logs m) = false
+endsFrame four = true
+
+abbrev pub hears : FrameCall → Bool
+hears one = false
+hears (two x lag) = false
+hears (three heard x logs m) = heard
+hears four = false
+
+unfoldable pub howMany : (FrameCall → Bool) → List FrameCall → ℕ
+howMany kind [] = 0
+howMany kind (c ∷ cs) = cond (kind c) 1 0 + howMany kind cs
