@@ -5,7 +5,7 @@
 --     opens        an opening that is done leaves nothing remembered
 --     either       every call does one or the other
 -- Assumes nothing.
-use Prim.Native.Nat.{ℕ, zero, suc, _+_, _-_, _*_, _≤_}
+use Prim.Native.Nat.{ℕ, _+_, _-_, _*_, _≤_}
 use native.Mathlib.Nat.{zero-add}
 use native.Mathlib.Omega.{arith}
 use mathlib.Core.Bool.{Bool, true, false, cond, false≢true}
@@ -27,7 +27,7 @@ use Rattle.model.specs.Model.{readOf}
 use Rattle.model.specs.declared.Reading.{Reading}
 use Rattle.model.specs.declared.Reading.the-variants.{Good, Refused as Unread}
 use Rattle.samples.specs.Samples.{good}
-use Rattle.frame.specs.Reply.{passed, isHeard, oneMore}
+use Rattle.frame.specs.Reply.{passed, isHeard}
 use Rattle.lag.specs.Lag.{ownLag}
 use Rattle.frame.specs.Share.{SHARE, PART, inputMem, keptX, keptEx, keptLag, lastg, cepstralMem, vadState, noiseState, denoiseState}
 use Rattle.frame.specs.Heard.{scaled, energies, spoken}
@@ -63,7 +63,8 @@ use Rattle.desk.proofs.Leaves.{carried-leaves}
 use Rattle.memory.specs.Hear.{blank, heardAll}
 use Rattle.memory.specs.Calls.{FrameCall, firstCalls, restCalls, callsOf, endsFrame, hears, howMany}
 use Rattle.memory.specs.Brought.{recalledIn, Noted, unnoted, noting, brought}
-use Rattle.memory.proofs.Heard.{notedIn, notedBy, heard-frame}
+use Rattle.memory.proofs.Heard.{notedIn, heard-frame}
+use Rattle.memory.proofs.Many.{notedBy, more}
 
 -- ---- what is left alone
 
@@ -127,11 +128,6 @@ module _ (share : List Float) (whole : length share ≡ SHARE) where
   part-noted = cc (read keptX (omega arith), read keptEx (omega arith), read keptLag (omega arith))
 
 -- ---- what a call counts for
-
--- one more, so many times
-unfoldable pub more : ℕ → ℕ → ℕ
-more zero n = n
-more (suc k) n = more k (oneMore n)
 
 -- both numbers of the record are moved on by what the calls count for; and a heard reply is one heard call 3
 abbrev pub Counted : Record → Answer → List FrameCall → Type 0

@@ -1,7 +1,7 @@
 -- A heard frame on a share: what is remembered then is what `hear` makes of what was remembered before. Assumes nothing.
 use Prim.Native.Nat.{ℕ, _+_, _≤_}
 use native.Mathlib.Omega.{arith}
-use mathlib.Core.List.{List, [], _∷_}
+use mathlib.Core.List.{List}
 use mathlib.Core.Logic.{inl, inr}
 use mathlib.Core.Path.{_≡_, refl, ap, _∙_}
 use lib.ListN.{length}
@@ -21,19 +21,11 @@ use Rattle.features.proofs.Lengths.{length-gained, length-with-cepstrum, length
 use Rattle.frame.specs.Share.{PART, keptX, keptEx, keptLag, lastg, cepstralMem, vadState, noiseState, denoiseState}
 use Rattle.frame.specs.Heard.{scaled, energies, featured, rnnOf, spokenFrom, spoken}
 use Rattle.memory.specs.Hear.{Recalled, nextPlace, hear}
-use Rattle.memory.specs.Calls.{FrameCall, one, two, three, four}
-use Rattle.memory.specs.Brought.{recalledIn, Noted, noting, heardFrame}
+use Rattle.memory.specs.Brought.{recalledIn, Noted, heardFrame}
 
--- what a share has noted, and what is noted behind calls
+-- what a share has noted
 abbrev pub notedIn : List Float → Noted
 notedIn share = record { x = get keptX share; ex = get keptEx share; lag = at (get keptLag share) 0 }
-
-unfoldable pub notedBy : Noted → List FrameCall → Noted
-notedBy k [] = k
-notedBy k (one ∷ cs) = notedBy k cs
-notedBy k (two x lag ∷ cs) = notedBy (noting x lag) cs
-notedBy k (three heard x logs m ∷ cs) = notedBy k cs
-notedBy k (four ∷ cs) = notedBy k cs
 
 -- ---- a field put into a whole share, and five one after another
 
