@@ -24,10 +24,11 @@ use Rattle.rules.proofs.Places.{length-put, get-get, get-put, get-put-apart}
 use Rattle.rules.proofs.Tabs.{length-tab}
 use Rattle.bands.proofs.Results.{length-corr}
 use Rattle.model.specs.Model.{readOf}
+use Rattle.model.specs.declared.Model.{Model}
 use Rattle.model.specs.declared.Reading.{Reading}
 use Rattle.model.specs.declared.Reading.the-variants.{Good, Refused as Unread}
 use Rattle.samples.specs.Samples.{good}
-use Rattle.frame.specs.Reply.{passed, isHeard}
+use Rattle.frame.specs.Reply.{passed, isHeard, oneMore}
 use Rattle.lag.specs.Lag.{ownLag}
 use Rattle.frame.specs.Share.{SHARE, PART, inputMem, keptX, keptEx, keptLag, lastg, cepstralMem, vadState, noiseState, denoiseState}
 use Rattle.frame.specs.Heard.{scaled, energies, spoken}
@@ -53,18 +54,17 @@ use Rattle.pieces.proofs.Goods.{good-append, good-take, good-drop}
 use Rattle.pieces.proofs.Halved.{first-passes, second-passes}
 use Rattle.pieces.proofs.Kept.{further-reply, piece-kept, resume-kept}
 use Rattle.pieces.proofs.Shares.{part-length, waits-length, frame-waits, frame-length, frame-back}
-use Rattle.desk.specs.declared.Answer.{Answer}
 use Rattle.desk.specs.declared.Record.{Record}
 use Rattle.desk.specs.Gate.{gate}
 use Rattle.desk.specs.Desk.{Ask, opening, call1, call2, call2Own, call3, call4, firstHalf, secondHalf, piece, resume, callOf, advanced, numbered, carried, answered, opened, onShare, Given, desk}
 use Rattle.desk.proofs.Apart.{givenOf, one-bench}
 use Rattle.desk.proofs.Zeros.{get-replicate}
 use Rattle.desk.proofs.Leaves.{carried-leaves}
-use Rattle.memory.specs.Hear.{blank, heardAll}
-use Rattle.memory.specs.Calls.{FrameCall, firstCalls, restCalls, callsOf, endsFrame, hears, howMany}
-use Rattle.memory.specs.Brought.{recalledIn, Noted, unnoted, noting, brought}
-use Rattle.memory.proofs.Heard.{notedIn, heard-frame}
-use Rattle.memory.proofs.Many.{notedBy, more}
+use Rattle.memory.specs.Hear.{Recalled, blank, nextPlace, hear}
+use Rattle.memory.specs.Calls.{FrameCall, two, firstCalls, restCalls, callsOf, hears, howMany}
+use Rattle.memory.specs.Brought.{recalledIn, Noted, unnoted, noting, heardFrame}
+use Rattle.memory.proofs.Kept.{Kept, keptOf, notedIn, keptIn, keeping, kept}
+use Rattle.memory.proofs.Heard.{heard-frame}
 
 -- ---- what is left alone
 
@@ -80,6 +80,9 @@ same-recalled index xs ys same =
 
 same-noted : (xs ys : List Float) → ((q : Place) → 2208 ≤ q .at → q .at + q .size ≤ 3192 → get q ys ≡ get q xs) → notedIn ys ≡ notedIn xs
 same-noted xs ys same = cc (same keptX (omega arith) (omega arith), same keptEx (omega arith) (omega arith), same keptLag (omega arith) (omega arith))
+
+alike : {r r′ : Recalled} {k k′ : Noted} {f h : ℕ} → r ≡ r′ → k ≡ k′ → keptOf r k f h ≡ keptOf r′ k′ f h
+alike {f = f} {h = h} p q = ap₂ (λ r k. keptOf r k f h) p q
 
 -- call 2 notes what it brought
 kept-noted : (share spectrum : List Float) (lag : ℕ) → length share ≡ PART
@@ -101,18 +104,52 @@ kept-noted share spectrum lag whole =
     let third = ap (λ (xs : List Float). at xs 0) (get-put keptLag with-ex (ofInt binary32 (pos lag) ∷ []) (omega arith) refl) in
     cc (first, second, third)
 
--- so does a first half; and it leaves what is remembered of the voice
-module _ (part : List Float) (way : Way) (x : List Float) (whole : length part ≡ PART) (l : length x ≡ 480) where
-  first-recalled : (index : ℕ) → recalledIn index (doneFirst part way x .share) ≡ recalledIn index part
-  first-recalled index =
-      same-recalled index part (doneFirst part way x .share)
-      (λ q h k. done-first-beside q part way x (inl (omega arith), (inl (omega arith), (inl (omega arith), (inl (omega arith), (inl (omega arith), (inr (omega arith), tt)))))) whole l .same)
+-- ---- the calls of a frame on its part of a share, whatever the record's numbers
 
-  first-noted : (k : Noted) → notedIn (doneFirst part way x .share) ≡ notedBy k (firstCalls way part x)
-  unfolding notedBy
-  first-noted k =
+module _ (b : Record) (part : List Float) (whole : length part ≡ PART) where
+  one-kept : (x : List Float) → length x ≡ 480 → keptIn b (done1 part x .share) ≡ keptIn b part
+  one-kept x l =
+      alike
+      (same-recalled (b .hearing .index) part _ (λ q h k. done1-beside q part x (inl (omega arith), (inl (omega arith), tt)) whole l .same))
+      (same-noted part _ (λ q h k. done1-beside q part x (inl (omega arith), (inr (omega arith), tt)) whole l .same))
+
+  two-kept : (x : List Float) (lag : ℕ) → keptIn b (putKept part x lag) ≡ keeping (keptIn b part) (two x lag)
+  two-kept x lag =
+      alike
+      (same-recalled (b .hearing .index) part _ (λ q h k. done2-beside q part x lag (inl (omega arith), (inl (omega arith), (inl (omega arith), tt))) whole .same))
+      (kept-noted part x lag whole)
+
+  four-kept : (frame heard : ℕ) (x : List Float) → keptIn b (done4 part frame heard x .share) ≡ keptIn b part
+  four-kept frame heard x =
+      alike
+      (same-recalled (b .hearing .index) part _ (λ q h k. done4-beside q part frame heard x (inl (omega arith), tt) whole .same))
+      (same-noted part _ (λ q h k. done4-beside q part frame heard x (inl (omega arith), tt) whole .same))
+
+  first-kept : (way : Way) (x : List Float) → length x ≡ 480 → keptIn b (doneFirst part way x .share) ≡ kept (keptIn b part) (firstCalls way part x)
+  unfolding kept
+  first-kept way x l =
       let a = done1 part x in
-      kept-noted (remembered way (a .share)) (forwardBy way (buffer a)) (lagBy way (a .share)) (whole-remembered (a .share) way (whole-after-1 part x whole l))
+      alike
+      (same-recalled (b .hearing .index) part _
+      (λ q h k. done-first-beside q part way x (inl (omega arith), (inl (omega arith), (inl (omega arith), (inl (omega arith), (inl (omega arith), (inr (omega arith), tt)))))) whole l .same))
+      (kept-noted (remembered way (a .share)) (forwardBy way (buffer a)) (lagBy way (a .share)) (whole-remembered (a .share) way (whole-after-1 part x whole l)))
+
+  module _ (p l : List Float) (m : List ℕ) (k : Model) (good : readOf m ≡ Good k) (inside : b .hearing .index ≤ 7) where
+    abbrev said : List Float
+    said = spoken part (b .hearing .index) p l m k .share
+
+    said-beside : (q : Place) → AllApart (lastg ∷ cepstralMem ∷ vadState ∷ noiseState ∷ denoiseState ∷ []) q → Beside q part said
+    said-beside q apart = done3-beside q part (b .hearing .index) p l m k apart good whole inside
+
+    said-whole : length said ≡ PART
+    said-whole = said-beside end (inl (omega arith), (inl (omega arith), (inl (omega arith), (inl (omega arith), (inl (omega arith), tt))))) .size
+
+    three-kept : (frame heard : ℕ)
+        → keptOf (recalledIn (nextPlace (b .hearing .index)) said) (notedIn said) frame heard
+        ≡ keptOf (hear (recalledIn (b .hearing .index) part) (heardFrame (notedIn part) p l m)) (notedIn part) frame heard
+    three-kept frame heard =
+        alike (heard-frame part (b .hearing .index) p l m k good whole inside)
+        (same-noted part said (λ q h j. said-beside q (inr (omega arith), (inr (omega arith), (inr (omega arith), (inr (omega arith), (inr (omega arith), tt))))) .same))
 
 -- ---- all of it stands in a frame's part of a share
 
@@ -120,35 +157,30 @@ module _ (share : List Float) (whole : length share ≡ SHARE) where
   read : (q : Place) → q .at + q .size ≤ PART → get q (get framePart share) ≡ get q share
   read q h = get-get framePart q share (omega arith) h ∙ ap (λ (n : ℕ). get (record { at = n; size = q .size }) share) (zero-add (q .at))
 
-  pub part-recalled : (index : ℕ) → recalledIn index (get framePart share) ≡ recalledIn index share
-  part-recalled index =
-      cc (read lastg (omega arith), read cepstralMem (omega arith), read vadState (omega arith), read noiseState (omega arith), read denoiseState (omega arith))
-
-  pub part-noted : notedIn (get framePart share) ≡ notedIn share
-  part-noted = cc (read keptX (omega arith), read keptEx (omega arith), read keptLag (omega arith))
-
--- ---- what a call counts for
-
--- both numbers of the record are moved on by what the calls count for; and a heard reply is one heard call 3
-abbrev pub Counted : Record → Answer → List FrameCall → Type 0
-Counted b a calls =
-    (a .rec .frame ≡ more (howMany endsFrame calls) (b .frame))
-    × (a .rec .heard ≡ more (howMany hears calls) (b .heard))
-    × (howMany hears calls ≡ cond (isHeard (a .reply)) 1 0)
+  part-kept : (b : Record) → keptIn b (get framePart share) ≡ keptIn b share
+  part-kept b =
+      cc (
+        read lastg (omega arith),
+        read cepstralMem (omega arith),
+        read vadState (omega arith),
+        read noiseState (omega arith),
+        read denoiseState (omega arith),
+        read keptX (omega arith),
+        read keptEx (omega arith),
+        read keptLag (omega arith),
+      )
 
 -- ---- one call on a share
 
+-- what is kept is what the calls of a frame make of it; and a heard reply is one heard call 3
 pub record Remembers (b : Record) (share : List Float) (ask : Ask) (o : Given) : Type 0 where
-  pub recalls : recalledIn (o .answer .rec .hearing .index) (o .store) ≡ heardAll (recalledIn (b .hearing .index) share) (brought (notedIn share) (callsOf b share ask (o .answer .reply)))
-  pub notes : notedIn (o .store) ≡ notedBy (notedIn share) (callsOf b share ask (o .answer .reply))
-  pub counts : Counted b (o .answer) (callsOf b share ask (o .answer .reply))
+  pub keeps : keptIn (o .answer .rec) (o .store) ≡ kept (keptIn b share) (callsOf b share ask (o .answer .reply))
+  pub counts : howMany hears (callsOf b share ask (o .answer .reply)) ≡ cond (isHeard (o .answer .reply)) 1 0
 
 -- an opening that is done
 pub record Opens (o : Given) : Type 0 where
-  pub forgets : recalledIn (o .answer .rec .hearing .index) (o .store) ≡ blank
-  pub unnotes : notedIn (o .store) ≡ unnoted
+  pub forgets : keptIn (o .answer .rec) (o .store) ≡ keptOf blank unnoted 0 0
   pub unheard : isHeard (o .answer .reply) ≡ false
-  pub unnumbered : (o .answer .rec .frame ≡ 0) × (o .answer .rec .heard ≡ 0)
 
 -- what holds of a whole share where it holds of the part that a call leaves
 module _ (b : Record) (share : List Float) (whole : length share ≡ SHARE) where
@@ -159,19 +191,16 @@ module _ (b : Record) (share : List Float) (whole : length share ≡ SHARE) wher
   calls ask reply = callsOf b share ask reply
 
   record Leaves (ask : Ask) (reply : Reply) (after : List Float) : Type 0 where
-    recalls : recalledIn (answered b ask reply .rec .hearing .index) after ≡ heardAll (recalledIn (b .hearing .index) part) (brought (notedIn part) (calls ask reply))
-    notes : notedIn after ≡ notedBy (notedIn part) (calls ask reply)
-    counts : Counted b (answered b ask reply) (calls ask reply)
+    keeps : keptIn (answered b ask reply .rec) after ≡ kept (keptIn b part) (calls ask reply)
+    counts : howMany hears (calls ask reply) ≡ cond (isHeard reply) 1 0
 
   lift : (ask : Ask) (o : Outcome) → length (o .share) ≡ SHARE → Leaves ask (o .reply) (get framePart (o .share)) → Remembers b share ask (givenOf b ask o)
   lift ask o left r =
-      let noted = part-noted share whole in
       record {
-        recalls =
-            sym (part-recalled (o .share) left (answered b ask (o .reply) .rec .hearing .index))
-            ∙ r .recalls
-            ∙ ap₂ (λ m k. heardAll m (brought k (calls ask (o .reply)))) (part-recalled share whole (b .hearing .index)) noted;
-        notes = sym (part-noted (o .share) left) ∙ r .notes ∙ ap (λ k. notedBy k (calls ask (o .reply))) noted;
+        keeps =
+            sym (part-kept (o .share) left (answered b ask (o .reply) .rec))
+            ∙ r .keeps
+            ∙ ap (λ (k : Kept). kept k (calls ask (o .reply))) (part-kept share whole b);
         counts = r .counts;
       }
 
@@ -186,190 +215,125 @@ module _ (b : Record) (share : List Float) (whole : length share ≡ SHARE) wher
 
   -- a refusal leaves all alone
   unmoved : (ask : Ask) (n : ℕ) → Leaves ask (Refused n) part
-  unfolding heardAll brought notedBy howMany more
-  unmoved ask n = record { recalls = refl; notes = refl; counts = (refl, refl, refl) }
+  unfolding kept howMany
+  unmoved ask n = record { keeps = refl; counts = refl }
 
   call1-leaves : (x : List Float) (w : ℕ) → LeavesOf (call1 x w) (frame.call1 part x w)
-  unfolding heardAll brought notedBy howMany more
+  unfolding kept howMany
   call1-leaves x w =
       call1-by part (LeavesOf (call1 x w)) (unmoved (call1 x w)) x w
-      (λ whole l. record {
-        recalls = same-recalled (b .hearing .index) part (done1 part x .share) (λ q h k. done1-beside q part x (inl (omega arith), (inl (omega arith), tt)) whole l .same);
-        notes = same-noted part (done1 part x .share) (λ q h k. done1-beside q part x (inl (omega arith), (inr (omega arith), tt)) whole l .same);
-        counts = (refl, refl, refl);
-      })
+      (λ whole l. record { keeps = one-kept b part whole x l; counts = refl })
 
   call2-leaves : (x : List Float) (l w s : ℕ) → LeavesOf (call2 x l w s) (frame.call2 part x l w s)
-  unfolding heardAll brought notedBy howMany more
+  unfolding kept howMany
   call2-leaves x l w s =
       call2-by part (LeavesOf (call2 x l w s)) (unmoved (call2 x l w s)) x l w s
-      (λ whole. record {
-        recalls = same-recalled (b .hearing .index) part (putKept part x l) (λ q h k. done2-beside q part x l (inl (omega arith), (inl (omega arith), (inl (omega arith), tt))) whole .same);
-        notes = kept-noted part x l whole;
-        counts = (refl, refl, refl);
-      })
+      (λ whole. record { keeps = two-kept b part whole x l; counts = refl })
 
   call2-own-leaves : (x : List Float) (w s : ℕ) → LeavesOf (call2Own x w s) (halves.call2Own part x w s)
-  unfolding heardAll brought notedBy howMany more
+  unfolding kept howMany
   call2-own-leaves x w s =
       call2-own-by part (LeavesOf (call2Own x w s)) (unmoved (call2Own x w s)) x w s
-      (λ whole. let l = ownLag (get inputMem part) in record {
-        recalls = same-recalled (b .hearing .index) part (putKept part x l) (λ q h k. done2-beside q part x l (inl (omega arith), (inl (omega arith), (inl (omega arith), tt))) whole .same);
-        notes = kept-noted part x l whole;
-        counts = (refl, refl, refl);
-      })
+      (λ whole. record { keeps = two-kept b part whole x (ownLag (get inputMem part)); counts = refl })
 
   call3-leaves : (x l : List Float) (m : List ℕ) (o : ℕ) → LeavesOf (call3 x l m o) (frame.call3 part (b .hearing) x l m o)
-  unfolding heardAll brought notedBy howMany more
+  unfolding kept howMany
   call3-leaves x l m o =
       call3-by part (LeavesOf (call3 x l m o)) (unmoved (call3 x l m o)) (b .hearing) x l m o
-      (λ _ _ _. record { recalls = refl; notes = refl; counts = (refl, refl, refl) })
-      (record { recalls = refl; notes = refl; counts = (refl, refl, refl) })
-      (λ e k good whole inside. record {
-        recalls = heard-frame part (b .hearing .index) x l m k good whole inside;
-        notes = same-noted part (spoken part (b .hearing .index) x l m k .share) (λ q h j. done3-beside q part (b .hearing .index) x l m k
-            (inr (omega arith), (inr (omega arith), (inr (omega arith), (inr (omega arith), (inr (omega arith), tt))))) good whole inside .same);
-        counts = (refl, refl, refl);
-      })
+      (λ _ _ _. record { keeps = refl; counts = refl })
+      (record { keeps = refl; counts = refl })
+      (λ e k good whole inside. record { keeps = three-kept b part whole x l m k good inside (b .frame) (oneMore (b .heard)); counts = refl })
 
   call4-leaves : (x : List Float) (o : ℕ) → LeavesOf (call4 x o) (frame.call4 part (b .frame) (b .heard) x o)
-  unfolding heardAll brought notedBy howMany more
+  unfolding kept howMany
   call4-leaves x o =
       call4-by part (LeavesOf (call4 x o)) (unmoved (call4 x o)) (b .frame) (b .heard) x o
-      (λ whole. record {
-        recalls = same-recalled (b .hearing .index) part (done4 part (b .frame) (b .heard) x .share) (λ q h k. done4-beside q part (b .frame) (b .heard) x (inl (omega arith), tt) whole .same);
-        notes = same-noted part (done4 part (b .frame) (b .heard) x .share) (λ q h k. done4-beside q part (b .frame) (b .heard) x (inl (omega arith), tt) whole .same);
-        counts = (refl, refl, refl);
-      })
+      (λ whole. record { keeps = four-kept (numbered b) part whole (b .frame) (b .heard) x; counts = refl })
 
   first-half-leaves : (x : List Float) (s : ℕ) → LeavesOf (firstHalf x s) (halves.firstHalf part (b .hearing .way) x s)
-  unfolding heardAll brought notedBy howMany more
+  unfolding kept howMany
   first-half-leaves x s =
-      let way = b .hearing .way in
-      first-half-by part (LeavesOf (firstHalf x s)) (unmoved (firstHalf x s)) way x s
-      (λ whole l. record {
-        recalls = first-recalled part way x whole l (b .hearing .index);
-        notes = first-noted part way x whole l (notedIn part);
-        counts = (refl, refl, refl);
-      })
+      first-half-by part (LeavesOf (firstHalf x s)) (unmoved (firstHalf x s)) (b .hearing .way) x s
+      (λ whole l. record { keeps = first-kept b part whole (b .hearing .way) x l; counts = refl })
 
   second-half-leaves : (l : List Float) (m : List ℕ) (o : ℕ) → LeavesOf (secondHalf l m o) (halves.secondHalf part (b .hearing) l m o)
-  unfolding heardAll brought notedBy howMany more
+  unfolding kept howMany
   second-half-leaves l m o =
       let way = b .hearing .way in
       second-half-by part (LeavesOf (secondHalf l m o)) (unmoved (secondHalf l m o)) (b .hearing) l m o
-      (λ _ _ _. record { recalls = refl; notes = refl; counts = (refl, refl, refl) })
-      (λ whole. record {
-        recalls = same-recalled (b .hearing .index) part (doneSecond Silent part way (get keptX part) .share) (λ q h k. done-second-beside q Silent part part way (get keptX part) (inl (omega arith), tt) (record { size = whole; same = refl }) .same);
-        notes = same-noted part (doneSecond Silent part way (get keptX part) .share) (λ q h k. done-second-beside q Silent part part way (get keptX part) (inl (omega arith), tt) (record { size = whole; same = refl }) .same);
-        counts = (refl, refl, refl);
-      })
+      (λ _ _ _. record { keeps = refl; counts = refl })
+      (λ whole. record { keeps = four-kept (numbered (advanced b Silent)) part whole 0 0 (inverseBy way (get keptX part)); counts = refl })
       (λ e k good whole inside.
       let p = forwardBy way (lookedBack part) in
       let t = spoken part (b .hearing .index) p l m k in
-      let kept : (q : Place) → AllApart (lastg ∷ cepstralMem ∷ vadState ∷ noiseState ∷ denoiseState ∷ []) q → Beside q part (t .share)
-      = λ q apart. done3-beside q part (b .hearing .index) p l m k apart good whole inside in
-      let size = kept end (inl (omega arith), (inl (omega arith), (inl (omega arith), (inl (omega arith), (inl (omega arith), tt))))) .size in
       record {
-        recalls = same-recalled _ (t .share) (doneSecond (Heard (t .voice) e) (t .share) way (t .spectrum) .share) (λ q h j. done4-beside q (t .share) 0 0 (inverseBy way (t .spectrum)) (inl (omega arith), tt) size .same)
-            ∙ heard-frame part (b .hearing .index) p l m k good whole inside;
-        notes = same-noted part (doneSecond (Heard (t .voice) e) (t .share) way (t .spectrum) .share) (λ q h j. done-second-beside q (Heard (t .voice) e) part (t .share) way (t .spectrum) (inl (omega arith), tt)
-            (kept q (inr (omega arith), (inr (omega arith), (inr (omega arith), (inr (omega arith), (inr (omega arith), tt)))))) .same);
-        counts = (refl, refl, refl);
+        keeps =
+            four-kept (numbered (advanced b (Heard (t .voice) e))) (t .share) (said-whole b part whole p l m k good inside) 0 0 (inverseBy way (t .spectrum))
+            ∙ three-kept b part whole p l m k good inside (oneMore (b .frame)) (oneMore (b .heard));
+        counts = refl;
       })
 
   -- ---- pieces: the rest of one waits, or begins a frame
 
-  by-rest : (way : Way) (q rest : List Float) (P : List FrameCall → Type 0) → P [] → ((x : List Float) → P (firstCalls way q x)) → P (restCalls way q rest)
-  by-rest way q rest P none first = go (ltb (length rest) 480)
+  -- it counts for no heard frame
+  rest-unheard : (way : Way) (q rest : List Float) → howMany hears (restCalls way q rest) ≡ 0
+  unfolding howMany
+  rest-unheard way q rest = go (ltb (length rest) 480)
     where
-      go : (t : Bool) → P (cond t [] (firstCalls way q (take 480 rest)))
-      go true = none
-      go false = first (take 480 rest)
+      go : (t : Bool) → howMany hears (cond t [] (firstCalls way q (take 480 rest))) ≡ 0
+      go true = refl
+      go false = refl
 
-  -- it brings no frame, and counts for none
-  rest-brings : (k : Noted) (way : Way) (q rest : List Float) → brought k (restCalls way q rest) ≡ []
-  unfolding brought
-  rest-brings k way q rest = by-rest way q rest (λ cs. brought k cs ≡ []) refl (λ _. refl)
+  first-keeps : (r : Record) (q : List Float) (way : Way) (x : List Float) → passed (halves.firstHalf q way x 22 .reply) ≡ true
+      → keptIn r (halves.firstHalf q way x 22 .share) ≡ kept (keptIn r q) (firstCalls way q x)
+  first-keeps r q way x =
+      first-half-by q (λ f. passed (f .reply) ≡ true → keptIn r (f .share) ≡ kept (keptIn r q) (firstCalls way q x)) (λ n e. absurd (false≢true e)) way x 22
+      (λ sized l _. first-kept r q sized way x l)
 
-  rest-ends : (way : Way) (q rest : List Float) → howMany endsFrame (restCalls way q rest) ≡ 0
-  unfolding howMany
-  rest-ends way q rest = by-rest way q rest (λ cs. howMany endsFrame cs ≡ 0) refl (λ _. refl)
-
-  rest-hears : (way : Way) (q rest : List Float) → howMany hears (restCalls way q rest) ≡ 0
-  unfolding howMany
-  rest-hears way q rest = by-rest way q rest (λ cs. howMany hears cs ≡ 0) refl (λ _. refl)
-
-  first-notes : (index : ℕ) (q : List Float) (way : Way) (x : List Float) (k : Noted) → passed (halves.firstHalf q way x 22 .reply) ≡ true
-      → let f = halves.firstHalf q way x 22 in (recalledIn index (f .share) ≡ recalledIn index q) × (notedIn (f .share) ≡ notedBy k (firstCalls way q x))
-  first-notes index q way x k =
-      first-half-by q (λ f. passed (f .reply) ≡ true → (recalledIn index (f .share) ≡ recalledIn index q) × (notedIn (f .share) ≡ notedBy k (firstCalls way q x))) (λ n e. absurd (false≢true e)) way x 22
-      (λ sized l _. (first-recalled q way x sized l index, first-noted q way x sized l k))
-
-  rest-notes : (index : ℕ) (reply : Reply) (mid : List Float) (way : Way) (rest : List Float) (w : Written) → length mid ≡ SHARE → good rest ≡ true
-      → let o = further reply mid way rest w in let q = get framePart mid in
-      (recalledIn index (get framePart (o .share)) ≡ recalledIn index q) × (notedIn (get framePart (o .share)) ≡ notedBy (notedIn q) (restCalls way q rest))
-  unfolding further notedBy
-  rest-notes index reply mid way rest w l g = go (ltb (length rest) 480) refl
+  rest-keeps : (r : Record) (reply : Reply) (mid : List Float) (way : Way) (rest : List Float) (w : Written) → length mid ≡ SHARE → good rest ≡ true
+      → let q = get framePart mid in
+      keptIn r (get framePart (further reply mid way rest w .share)) ≡ kept (keptIn r q) (restCalls way q rest)
+  unfolding further kept
+  rest-keeps r reply mid way rest w l g = go (ltb (length rest) 480) refl
     where
       go : (t : Bool) → ltb (length rest) 480 ≡ t
-          → let o = cond t (atEnd reply mid rest w) (paused reply mid way rest w) in
-          (recalledIn index (get framePart (o .share)) ≡ recalledIn index (get framePart mid))
-          × (notedIn (get framePart (o .share)) ≡ notedBy (notedIn (get framePart mid)) (cond t [] (firstCalls way (get framePart mid) (take 480 rest))))
-      go true e = (ap (recalledIn index) (frame-waits mid l rest), ap notedIn (frame-waits mid l rest))
+          → let q = get framePart mid in
+          keptIn r (get framePart (cond t (atEnd reply mid rest w) (paused reply mid way rest w) .share)) ≡ kept (keptIn r q) (cond t [] (firstCalls way q (take 480 rest)))
+      go true e = ap (keptIn r) (frame-waits mid l rest)
       go false e =
           let q = get framePart mid in
           let more = ltb-false (length rest) 480 e in
           let f = first-passes q way (take 480 rest) (part-length mid l) (simp length-take (omega arith)) (good-take 480 rest g) in
-          let n = first-notes index q way (take 480 rest) (notedIn q) (f .passes) in
-          let back = frame-back mid l (halves.firstHalf q way (take 480 rest) 22 .share) (f .part) in
-          (ap (recalledIn index) back ∙ n .0, ap notedIn back ∙ n .1)
+          ap (keptIn r) (frame-back mid l (halves.firstHalf q way (take 480 rest) 22 .share) (f .part)) ∙ first-keeps r q way (take 480 rest) (f .passes)
 
   -- a piece moves no index, nor a number
-  carried-index : (r : Record) (rest size progress : ℕ) → carried r rest size progress .hearing .index ≡ r .hearing .index
-  carried-index r = carried-leaves (λ (x : Record). x .hearing .index) r (λ _ _ _ _. refl)
-
-  carried-frame : (r : Record) (rest size progress : ℕ) → carried r rest size progress .frame ≡ r .frame
-  carried-frame r = carried-leaves (λ (x : Record). x .frame) r (λ _ _ _ _. refl)
-
-  carried-heard : (r : Record) (rest size progress : ℕ) → carried r rest size progress .heard ≡ r .heard
-  carried-heard r = carried-leaves (λ (x : Record). x .heard) r (λ _ _ _ _. refl)
+  carried-keeps : (r : Record) (rest size progress : ℕ) (q : List Float) → keptIn (carried r rest size progress) q ≡ keptIn r q
+  carried-keeps r rest size progress q = carried-leaves (λ (x : Record). keptIn x q) r (λ _ _ _ _. refl) rest size progress
 
   piece-leaves : (x : List Float) (o s : ℕ) → let f = pieces.piece share (b .hearing .way) (b .waiting) x o s in Leaves (piece x o s) (f .reply) (get framePart (f .share))
-  unfolding heardAll brought notedBy howMany more
+  unfolding kept howMany
   piece-leaves x o s =
       piece-by share (λ f. Leaves (piece x o s) (f .reply) (get framePart (f .share))) (unmoved (piece x o s)) (b .hearing .way) (b .waiting) x o s
       (λ k.
       let way = b .hearing .way in
       let mid = waits share [] in
       let rest = waitingIn (b .waiting) share ++ x in
-      let n = rest-notes (b .hearing .index) Done mid way rest nothing (waits-length share whole []) (good-append _ x (k .waited) (k .fine)) in
-      let same = frame-waits share whole [] in
-      let m = recalledIn (b .hearing .index) part in
-      let ends = rest-ends way part rest in
-      let hears = rest-hears way part rest in
       subst (λ r. Leaves (piece x o s) r (get framePart (further Done mid way rest nothing .share))) (sym (further-reply Done mid way rest nothing))
       (record {
-        recalls =
-            ap (λ (i : ℕ). recalledIn i (get framePart (further Done mid way rest nothing .share))) (carried-index b _ _ _)
-            ∙ n .0
-            ∙ ap (recalledIn (b .hearing .index)) same
-            ∙ ap (heardAll m) (sym (rest-brings (notedIn part) way part rest));
-        notes = n .1 ∙ ap (λ (q : List Float). notedBy (notedIn q) (restCalls way q rest)) same;
-        counts = (
-          carried-frame b _ _ _ ∙ ap (λ (t : ℕ). more t (b .frame)) (sym ends),
-          carried-heard b _ _ _ ∙ ap (λ (t : ℕ). more t (b .heard)) (sym hears),
-          hears,
-        );
+        keeps =
+            carried-keeps b _ _ _ _
+            ∙ rest-keeps b Done mid way rest nothing (waits-length share whole []) (good-append _ x (k .waited) (k .fine))
+            ∙ ap (λ (q : List Float). kept (keptIn b q) (restCalls way q rest)) (frame-waits share whole []);
+        counts = rest-unheard way part rest;
       }))
 
   resume-leaves : (x l : List Float) (m : List ℕ) (o s : ℕ)
       → let f = pieces.resume share (b .hearing) (b .piece) (b .progress) x l m o s in Leaves (resume x l m o s) (f .reply) (get framePart (f .share))
-  unfolding heardAll brought notedBy howMany more
+  unfolding kept howMany
   resume-leaves x l m o s =
       resume-by share (λ f. Leaves (resume x l m o s) (f .reply) (get framePart (f .share))) (unmoved (resume x l m o s))
       (b .hearing) (b .piece) (b .progress) x l m o s
-      (λ _ _ _. record { recalls = refl; notes = refl; counts = (refl, refl, refl) })
+      (λ _ _ _. record { keeps = refl; counts = refl })
       (λ k.
       let way = b .hearing .way in
       let h = halves.secondHalf part (b .hearing) l m 480 in
@@ -379,37 +343,24 @@ module _ (b : Record) (share : List Float) (whole : length share ≡ SHARE) wher
       let rest = drop (b .progress) x in
       let w = from (480 * (frameAt (b .progress) - 1)) (buffer h) in
       let next = numbered (advanced b (h .reply)) in
-      let n = rest-notes (next .hearing .index) (h .reply) mid way rest w (frame-length share whole (h .share) (p .part)) (good-drop (b .progress) x (k .fine)) in
-      let same = frame-back share whole (h .share) (p .part) in
-      let half = rw (p .passes) at (c .recalls) in
-      let noted = rw (p .passes) at (c .notes) in
-      let counted = rw (p .passes) at (c .counts) in
-      let brings = rest-brings (notedIn part) way (h .share) rest in
-      let ends = rest-ends way (h .share) rest in
-      let hears = rest-hears way (h .share) rest in
       subst (λ r. Leaves (resume x l m o s) r (get framePart (further (h .reply) mid way rest w .share))) (sym (further-reply (h .reply) mid way rest w))
       (record {
-        recalls =
-            rw (p .passes, brings)
-            (ap (λ (i : ℕ). recalledIn i (get framePart (further (h .reply) mid way rest w .share))) (carried-index next _ _ _) ∙ n .0 ∙ ap (recalledIn (next .hearing .index)) same ∙ half);
-        notes =
+        keeps =
             rw (p .passes)
-            (n .1 ∙ ap (λ (q : List Float). notedBy (notedIn q) (restCalls way q rest)) same ∙ ap (λ k. notedBy k (restCalls way (h .share) rest)) noted);
-        counts =
-            rw (p .passes, ends, hears) (
-              carried-frame next _ _ _ ∙ counted .0,
-              carried-heard next _ _ _ ∙ counted .1,
-              counted .2,
-            );
+            (carried-keeps next _ _ _ _
+            ∙ rest-keeps next (h .reply) mid way rest w (frame-length share whole (h .share) (p .part)) (good-drop (b .progress) x (k .fine))
+            ∙ ap (λ (q : List Float). kept (keptIn next q) (restCalls way q rest)) (frame-back share whole (h .share) (p .part))
+            ∙ ap (λ (t : Kept). kept t (restCalls way (h .share) rest)) (rw (p .passes) at (c .keeps)));
+        counts = rw (p .passes, rest-unheard way (h .share) rest) (rw (p .passes) at (c .counts));
       }))
 
   on-share : (ask : Ask) → (callOf ask ≡ 0 → passed (onShare b share ask .reply) ≡ false) → Remembers b share ask (givenOf b ask (onShare b share ask))
-  unfolding heardAll brought notedBy howMany more
+  unfolding kept howMany
   on-share (opening w m) shut = go (readOf m) (shut refl)
     where
       go : (r : Reading) → passed (opened share r .reply) ≡ false → Remembers b share (opening w m) (givenOf b (opening w m) (opened share r))
       go (Good k) e = absurd (false≢true (sym e))
-      go (Unread n l) e = record { recalls = refl; notes = refl; counts = (refl, refl, refl) }
+      go (Unread n l) e = record { keeps = refl; counts = refl }
   on-share (call1 x w) shut = in-part (call1 x w) _ (call1-keeps part x w) (call1-leaves x w)
   on-share (call2 x l w s) shut = in-part (call2 x l w s) _ (call2-keeps part x l w s) (call2-leaves x l w s)
   on-share (call2Own x w s) shut = in-part (call2Own x w s) _ (call2-own-keeps part x w s) (call2-own-leaves x w s)
@@ -423,11 +374,18 @@ module _ (b : Record) (share : List Float) (whole : length share ≡ SHARE) wher
 
 -- ---- an opening
 
-wiped : (n : ℕ) → SHARE ≤ n → (recalledIn 0 (replicate n (f32 0)) ≡ blank) × (notedIn (replicate n (f32 0)) ≡ unnoted)
+wiped : (n : ℕ) → SHARE ≤ n → keptOf (recalledIn 0 (replicate n (f32 0))) (notedIn (replicate n (f32 0))) 0 0 ≡ keptOf blank unnoted 0 0
 wiped n h =
-    let at : (p : Place) → p .at + p .size ≤ SHARE → get p (replicate n (f32 0)) ≡ replicate (p .size) (f32 0) = λ p k. get-replicate p n (f32 0) (omega arith) in (
-      cc (at lastg (omega arith), at cepstralMem (omega arith), at vadState (omega arith), at noiseState (omega arith), at denoiseState (omega arith)),
-      cc (at keptX (omega arith), at keptEx (omega arith), at keptLag (omega arith)),
+    let at : (p : Place) → p .at + p .size ≤ SHARE → get p (replicate n (f32 0)) ≡ replicate (p .size) (f32 0) = λ p k. get-replicate p n (f32 0) (omega arith) in
+    cc (
+      at lastg (omega arith),
+      at cepstralMem (omega arith),
+      at vadState (omega arith),
+      at noiseState (omega arith),
+      at denoiseState (omega arith),
+      at keptX (omega arith),
+      at keptEx (omega arith),
+      at keptLag (omega arith),
     )
 
 -- ---- one call on a desk of one bench
@@ -456,7 +414,7 @@ opens b share whole w m =
     by-gate b share whole (opening w m) (λ o. passed (o .answer .reply) ≡ true → Opens o) (λ e. absurd (false≢true e)) (go (readOf m) refl)
   where
     go : (r : Reading) → readOf m ≡ r → passed (opened share r .reply) ≡ true → Opens (givenOf b (opening w m) (opened share r))
-    go (Good k) e p = let z = wiped SHARE (omega arith) in rw e (record { forgets = z .0; unnotes = z .1; unheard = refl; unnumbered = (refl, refl) })
+    go (Good k) e p = rw e (record { forgets = wiped SHARE (omega arith); unheard = refl })
     go (Unread n l) e p = absurd (false≢true p)
 
 -- there is no third way

@@ -1,5 +1,5 @@
+pub mod Kept
 pub mod Calls
 pub mod Gains
 pub mod Heard
-pub mod Many
 pub mod Order
