@@ -1,12 +1,12 @@
--- What one call of the desk, and then any run of them, makes of a side: of what it remembers, of what it has noted, and of its numbers.
---     one             a call moves them on by the calls of a frame that it is made of
---     run             so does a run
---     fresh           an opening that is done leaves nothing of them
+-- What one call of the desk, and then any run of them, makes of what a side keeps.
+--     one      a call makes of it what the calls of a frame do that it is made of
+--     run      so does a run
+--     fresh    an opening that is done leaves nothing of it
 -- Assumes nothing.
-use Prim.Native.Nat.{ℕ, _+_, _*_, _<_}
+use Prim.Native.Nat.{ℕ, _*_, _<_}
 use native.Mathlib.Omega.{arith}
 use mathlib.Core.Bool.{Bool, true, false, cond}
-use mathlib.Core.List.{List, [], _∷_, _++_}
+use mathlib.Core.List.{List, [], _∷_}
 use mathlib.Core.Path.{_≡_, refl, sym, ap, ap₂, _∙_}
 use borrow.Author.Tests.{eq-eqb, eqb-true, eqb-false}
 use lib.Dec.{eqb}
@@ -16,21 +16,17 @@ use Rattle.rules.specs.Place.{get}
 use Rattle.rules.proofs.Places.{length-get}
 use Rattle.frame.specs.Reply.{passed}
 use Rattle.frame.specs.Share.{SHARE}
-use Rattle.frame.specs.declared.Reply.{Reply}
 use Rattle.desk.specs.declared.Answer.{Answer}
-use Rattle.desk.specs.declared.Record.{Record}
 use Rattle.desk.specs.Gate.{shareOf}
 use Rattle.desk.specs.Desk.{Ask, callOf, Given, desk}
 use Rattle.desk.proofs.Apart.{its-own, own-share, other-share, same-length}
-use Rattle.memory.specs.Hear.{Recalled, blank, heardAll}
-use Rattle.memory.specs.Calls.{FrameCall, callsOf, endsFrame, hears, howMany}
-use Rattle.memory.specs.Brought.{recalledIn, Noted, unnoted, brought}
-use Rattle.memory.proofs.Heard.{notedIn}
-use Rattle.memory.proofs.Many.{notedBy, more, brought-behind, heard-behind, many-behind, more-behind}
+use Rattle.memory.specs.Hear.{blank}
+use Rattle.memory.specs.Calls.{FrameCall, callsOf}
+use Rattle.memory.specs.Brought.{unnoted}
+use Rattle.memory.proofs.Kept.{Kept, keptOf, keptIn, kept, kept-behind}
 use Rattle.memory.proofs.Calls.{Remembers, remembers, opens}
 use Rattle.isolation.specs.Run.{On, State, recordAt, after, ended, desks}
 use Rattle.isolation.specs.Numbering.{replied, callsIn, Unopened, openingOf, Opened}
-use Rattle.isolation.specs.Memory.{recalled}
 use Rattle.isolation.proofs.Runs.{record-after, store-after}
 
 module _ (n s : ℕ) (inside : s < n) where
@@ -43,8 +39,8 @@ module _ (n s : ℕ) (inside : s < n) where
   pub fits : (st : State) → Whole st → length (share st) ≡ SHARE
   fits st l = length-get (shareOf s) (st .store) (omega arith)
 
-  pub kept : (st : State) → Whole st → (c : On Ask) → Whole (after desks n st c)
-  kept st l c = rw (store-after n st c) (same-length n (c .side) (recordAt (c .side) st) (st .store) (c .call) l ∙ l)
+  pub kept-whole : (st : State) → Whole st → (c : On Ask) → Whole (after desks n st c)
+  kept-whole st l c = rw (store-after n st c) (same-length n (c .side) (recordAt (c .side) st) (st .store) (c .call) l ∙ l)
 
   -- ---- one call
 
@@ -65,48 +61,36 @@ module _ (n s : ℕ) (inside : s < n) where
     recorded : recordAt s (after desks n st c) ≡ lone .answer .rec
     recorded = rw (record-after n s st c, eq-eqb (c .side) s e) (ap (λ (a : Answer). a .rec) answers)
 
-    pub recalled-then : recalled s (after desks n st c) ≡ recalledIn (lone .answer .rec .hearing .index) (lone .store)
-    recalled-then = ap₂ (λ (r : Record) (share : List Float). recalledIn (r .hearing .index) share) recorded own
+    pub kept-then : keptIn (recordAt s (after desks n st c)) (share (after desks n st c)) ≡ keptIn (lone .answer .rec) (lone .store)
+    kept-then = ap₂ keptIn recorded own
+
+  -- what side s keeps, and the calls that a call on any side is for it
+  abbrev pub keptAt : State → Kept
+  keptAt st = keptIn (recordAt s st) (share st)
 
   abbrev pub calls : State → On Ask → List FrameCall
   calls st c = cond (eqb (c .side) s) (callsOf (recordAt s st) (share st) (c .call) (replied n st c)) []
 
-  -- from one state to another by calls of a frame
-  pub record Moves (st : State) (cs : List FrameCall) (st′ : State) : Type 0 where
-    pub recalls : recalled s st′ ≡ heardAll (recalled s st) (brought (notedIn (share st)) cs)
-    pub notes : notedIn (share st′) ≡ notedBy (notedIn (share st)) cs
-    pub frame : recordAt s st′ .frame ≡ more (howMany endsFrame cs) (recordAt s st .frame)
-    pub heard : recordAt s st′ .heard ≡ more (howMany hears cs) (recordAt s st .heard)
-
   module _ (st : State) (l : Whole st) (c : On Ask) where
-    pub own-moves : (e : c .side ≡ s) → Remembers (recordAt s st) (share st) (c .call) (lone st l c e) → Moves st (calls st c) (after desks n st c)
-    own-moves e r =
-        rw (eq-eqb (c .side) s e, replies st l c e)
-        (record {
-          recalls = recalled-then st l c e ∙ r .recalls;
-          notes = ap notedIn (own st l c e) ∙ r .notes;
-          frame = ap (λ (b : Record). b .frame) (recorded st l c e) ∙ r .counts .0;
-          heard = ap (λ (b : Record). b .heard) (recorded st l c e) ∙ r .counts .1;
-        })
+    pub own-calls : (e : c .side ≡ s) → calls st c ≡ callsOf (recordAt s st) (share st) (c .call) (lone st l c e .answer .reply)
+    own-calls e = rw (eq-eqb (c .side) s e, replies st l c e)
 
-    pub other-moves : eqb (c .side) s ≡ false → Moves st (calls st c) (after desks n st c)
-    unfolding heardAll brought notedBy howMany more
+    pub own-moves : (e : c .side ≡ s) → Remembers (recordAt s st) (share st) (c .call) (lone st l c e) → keptAt (after desks n st c) ≡ kept (keptAt st) (calls st c)
+    own-moves e r = kept-then st l c e ∙ r .keeps ∙ ap (kept (keptAt st)) (sym (own-calls e))
+
+    pub other-moves : eqb (c .side) s ≡ false → keptAt (after desks n st c) ≡ kept (keptAt st) (calls st c)
+    unfolding kept
     other-moves f =
         let same : share (after desks n st c) ≡ share st =
         rw (store-after n st c) (other-share n (c .side) (recordAt (c .side) st) (st .store) (c .call) l s (eqb-false (c .side) s f)) in
         let rec : recordAt s (after desks n st c) ≡ recordAt s st = rw (record-after n s st c, f) in
-        rw f
-        (record {
-          recalls = ap₂ (λ (r : Record) (share : List Float). recalledIn (r .hearing .index) share) rec same;
-          notes = ap notedIn same;
-          frame = ap (λ (b : Record). b .frame) rec;
-          heard = ap (λ (b : Record). b .heard) rec;
-        })
+        let none : calls st c ≡ [] = rw f in
+        ap₂ keptIn rec same ∙ ap (kept (keptAt st)) (sym none)
 
-    pub one : (c .side ≡ s → callOf (c .call) ≡ 0 → passed (replied n st c) ≡ false) → Moves st (calls st c) (after desks n st c)
+    pub one : (c .side ≡ s → callOf (c .call) ≡ 0 → passed (replied n st c) ≡ false) → keptAt (after desks n st c) ≡ kept (keptAt st) (calls st c)
     one shut = go (eqb (c .side) s) refl
       where
-        go : (t : Bool) → eqb (c .side) s ≡ t → Moves st (calls st c) (after desks n st c)
+        go : (t : Bool) → eqb (c .side) s ≡ t → keptAt (after desks n st c) ≡ kept (keptAt st) (calls st c)
         go true f =
             let e = eqb-true (c .side) s f in
             own-moves e (remembers (recordAt s st) (share st) (fits st l) (c .call) (rw (replies st l c e) at (shut e)))
@@ -114,42 +98,18 @@ module _ (n s : ℕ) (inside : s < n) where
 
   -- ---- any run
 
-  behind : {st mid st′ : State} {xs ys : List FrameCall} → Moves st xs mid → Moves mid ys st′ → Moves st (xs ++ ys) st′
-  behind {st} {mid} {st′} {xs} {ys} a b =
-      let k = notedIn (share st) in
-      record {
-        recalls =
-            b .recalls
-            ∙ ap₂ (λ m k. heardAll m (brought k ys)) (a .recalls) (a .notes)
-            ∙ sym (ap (heardAll (recalled s st)) (brought-behind k xs ys) ∙ heard-behind (recalled s st) (brought k xs) (brought (notedBy k xs) ys));
-        notes = b .notes ∙ ap (λ k. notedBy k ys) (a .notes) ∙ sym (noted-behind k xs ys);
-        frame = b .frame ∙ ap (more (howMany endsFrame ys)) (a .frame) ∙ sym (moved-on endsFrame xs ys _);
-        heard = b .heard ∙ ap (more (howMany hears ys)) (a .heard) ∙ sym (moved-on hears xs ys _);
-      }
+  pub run : (cs : List (On Ask)) (st : State) → Whole st → Unopened n s st cs → keptAt (ended desks n st cs) ≡ kept (keptAt st) (callsIn n s st cs)
+  unfolding ended callsIn Unopened kept
+  run [] st l u = refl
+  run (c ∷ cs) st l u =
+      let next = after desks n st c in
+      run cs next (kept-whole st l c) (u .1)
+      ∙ ap (λ (k : Kept). kept k (callsIn n s next cs)) (one st l c (u .0))
+      ∙ sym (kept-behind (keptAt st) (calls st c) (callsIn n s next cs))
 
-  pub run : (cs : List (On Ask)) (st : State) → Whole st → Unopened n s st cs → Moves st (callsIn n s st cs) (ended desks n st cs)
-  unfolding ended callsIn Unopened heardAll brought notedBy howMany more
-  run [] st l u = record { recalls = refl; notes = refl; frame = refl; heard = refl }
-  run (c ∷ cs) st l u = behind (one st l c (u .0)) (run cs (after desks n st c) (kept st l c) (u .1))
-
-  -- an opening that is done leaves nothing remembered, nor noted
-  pub record Fresh (st : State) : Type 0 where
-    pub recalls : recalled s st ≡ blank
-    pub notes : notedIn (share st) ≡ unnoted
-    pub frame : recordAt s st .frame ≡ 0
-    pub heard : recordAt s st .heard ≡ 0
-    pub whole : Whole st
-
-  pub fresh : (st : State) → Opened n s st → Fresh st
+  pub fresh : (st : State) → Opened n s st → (keptAt st ≡ keptOf blank unnoted 0 0) × Whole st
   fresh st k =
       let was = k .before in
       let c = openingOf s (k .way) (k .model) in
       let o = opens (recordAt s was) (share was) (fits was (k .sized)) (k .way) (k .model) (ap passed (sym (replies was (k .sized) c refl)) ∙ k .opens) in
-      rw (← k .now)
-      (record {
-        recalls = recalled-then was (k .sized) c refl ∙ o .forgets;
-        notes = ap notedIn (own was (k .sized) c refl) ∙ o .unnotes;
-        frame = ap (λ (b : Record). b .frame) (recorded was (k .sized) c refl) ∙ o .unnumbered .0;
-        heard = ap (λ (b : Record). b .heard) (recorded was (k .sized) c refl) ∙ o .unnumbered .1;
-        whole = kept was (k .sized) c;
-      })
+      rw (← k .now) (kept-then was (k .sized) c refl ∙ o .forgets, kept-whole was (k .sized) c)
