@@ -21,7 +21,7 @@ use Rattle.desk.specs.Gate.{shareOf}
 use Rattle.desk.specs.Desk.{Ask, callOf, Given, desk}
 use Rattle.desk.proofs.Apart.{its-own, own-share, other-share, same-length}
 use Rattle.memory.specs.Hear.{blank}
-use Rattle.memory.specs.Calls.{FrameCall, callsOf}
+use Rattle.memory.specs.Calls.{FrameCall, callsDone}
 use Rattle.memory.specs.Brought.{unnoted}
 use Rattle.memory.proofs.Kept.{Kept, keptOf, keptIn, kept, kept-behind}
 use Rattle.memory.proofs.Calls.{Remembers, remembers, opens}
@@ -69,10 +69,10 @@ module _ (n s : ℕ) (inside : s < n) where
   keptAt st = keptIn (recordAt s st) (share st)
 
   abbrev pub calls : State → On Ask → List FrameCall
-  calls st c = cond (eqb (c .side) s) (callsOf (recordAt s st) (share st) (c .call) (replied n st c)) []
+  calls st c = cond (eqb (c .side) s) (callsDone (recordAt s st) (share st) (c .call) (replied n st c)) []
 
   module _ (st : State) (l : Whole st) (c : On Ask) where
-    pub own-calls : (e : c .side ≡ s) → calls st c ≡ callsOf (recordAt s st) (share st) (c .call) (lone st l c e .answer .reply)
+    pub own-calls : (e : c .side ≡ s) → calls st c ≡ callsDone (recordAt s st) (share st) (c .call) (lone st l c e .answer .reply)
     own-calls e = rw (eq-eqb (c .side) s e, replies st l c e)
 
     pub own-moves : (e : c .side ≡ s) → Remembers (recordAt s st) (share st) (c .call) (lone st l c e) → keptAt (after desks n st c) ≡ kept (keptAt st) (calls st c)

@@ -1,7 +1,7 @@
 -- Numbered frames: what specs/Numbering.antt claims. Assumes nothing.
 use Prim.Native.Nat.{ℕ}
 use native.Mathlib.Nat.{zero-add}
-use mathlib.Core.Path.{_≡_, ap, _∙_}
+use mathlib.Core.Path.{ap, _∙_}
 use Rattle.memory.proofs.Kept.{Kept, kept-frame, kept-heard}
 use Rattle.isolation.specs.Run.{Kind, Made, expand, Expands}
 use Rattle.isolation.specs.Numbering.{callsIn, Numbering}

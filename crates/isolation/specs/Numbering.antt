@@ -15,7 +15,7 @@ use Rattle.frame.specs.declared.Reply.{Reply}
 use Rattle.frame.specs.declared.Way.{Way}
 use Rattle.desk.specs.Gate.{shareOf}
 use Rattle.desk.specs.Desk.{Ask, opening, callOf, desk}
-use Rattle.memory.specs.Calls.{FrameCall, callsOf, endsFrame, hears, howMany}
+use Rattle.memory.specs.Calls.{FrameCall, callsDone, endsFrame, hears, howMany}
 use Rattle.isolation.specs.Run.{Kind, On, on, State, recordAt, after, ended, desks, Made, expand}
 
 -- what is replied to a call of the desk
@@ -26,7 +26,7 @@ replied n st c = desk n (c .side) (recordAt (c .side) st) (st .store) (c .call) 
 unfoldable pub callsIn : ℕ → ℕ → State → List (On Ask) → List FrameCall
 callsIn n s st [] = []
 callsIn n s st (c ∷ cs) =
-    cond (eqb (c .side) s) (callsOf (recordAt s st) (get (shareOf s) (st .store)) (c .call) (replied n st c)) []
+    cond (eqb (c .side) s) (callsDone (recordAt s st) (get (shareOf s) (st .store)) (c .call) (replied n st c)) []
     ++ callsIn n s (after desks n st c) cs
 
 -- in a run, side s is not opened anew: an opening of it is refused

@@ -1,16 +1,17 @@
--- What one call makes of a bench's memory, over a desk of one bench.
---     part-recalled, part-noted    all that is remembered and noted stands in a frame's part of a share
+-- What one call makes of what a bench keeps, over a desk of one bench.
+--     one-kept .. four-kept, first-kept    the calls of a frame and a first half, on a frame's part of a share
+--     part-kept    all that is kept stands in that part
 --     by-gate      a call is refused by the gate, or it is let through
---     remembers    a call that opens nothing: what is remembered then is what `hear` makes of what it brought, and what is noted follows
---     opens        an opening that is done leaves nothing remembered
---     either       every call does one or the other
+--     either       a call opens the bench, or it makes of what is kept what the calls of a frame do that it is made of
+--     opens        an opening that is done does the one
+--     remembers    every other call, and an opening that is refused, the other
 -- Assumes nothing.
 use Prim.Native.Nat.{ℕ, _+_, _-_, _*_, _≤_}
 use native.Mathlib.Nat.{zero-add}
 use native.Mathlib.Omega.{arith}
 use mathlib.Core.Bool.{Bool, true, false, cond, false≢true}
 use mathlib.Core.List.{List, [], _∷_, _++_}
-use mathlib.Core.Logic.{_⊎_, inl, inr}
+use mathlib.Core.Logic.{_⊎_, inl, inr, ⊎-elim}
 use mathlib.Core.Path.{_≡_, refl, sym, ap, ap₂, subst, _∙_}
 use borrow.Author.Tests.{ltb-false}
 use lib.Dec.{eqb, ltb}
@@ -33,7 +34,6 @@ use Rattle.lag.specs.Lag.{ownLag}
 use Rattle.frame.specs.Share.{SHARE, PART, inputMem, keptX, keptEx, keptLag, lastg, cepstralMem, vadState, noiseState, denoiseState}
 use Rattle.frame.specs.Heard.{scaled, energies, spoken}
 use Rattle.frame.specs.Frame.{Effect, done1, putKept, done4}
-use Rattle.frame.specs.Frame as frame
 use Rattle.frame.specs.declared.Reply.{Reply}
 use Rattle.frame.specs.declared.Reply.the-variants.{Done, Silent, Heard, Refused}
 use Rattle.frame.specs.declared.Way.{Way}
@@ -44,8 +44,8 @@ use Rattle.halves.specs.Ways.{lagBy, remembered, forwardBy, inverseBy}
 use Rattle.halves.specs.Halves.{buffer, lookedBack}
 use Rattle.halves.specs.Halves as halves
 use Rattle.halves.proofs.Sister.{call2-own-by, call2-own-keeps}
-use Rattle.halves.proofs.Cases.{doneFirst, doneSecond, whole-after-1, first-half-by, second-half-by}
-use Rattle.halves.proofs.Kept.{done-first-beside, done-second-beside, first-half-keeps, second-half-keeps}
+use Rattle.halves.proofs.Cases.{doneFirst, whole-after-1, first-half-by, second-half-by}
+use Rattle.halves.proofs.Kept.{done-first-beside, first-half-keeps, second-half-keeps}
 use Rattle.halves.proofs.EitherWay.{whole-remembered}
 use Rattle.pieces.specs.Pieces.{framePart, waitingIn, waits, frameAt, Outcome, refused, inPart, atEnd, paused, further}
 use Rattle.pieces.specs.Pieces as pieces
@@ -61,7 +61,7 @@ use Rattle.desk.proofs.Apart.{givenOf, one-bench}
 use Rattle.desk.proofs.Zeros.{get-replicate}
 use Rattle.desk.proofs.Leaves.{carried-leaves}
 use Rattle.memory.specs.Hear.{Recalled, blank, nextPlace, hear}
-use Rattle.memory.specs.Calls.{FrameCall, two, firstCalls, restCalls, callsOf, hears, howMany}
+use Rattle.memory.specs.Calls.{FrameCall, two, firstCalls, restCalls, callsDone, hears, howMany}
 use Rattle.memory.specs.Brought.{recalledIn, Noted, unnoted, noting, heardFrame}
 use Rattle.memory.proofs.Kept.{Kept, keptOf, notedIn, keptIn, keeping, kept}
 use Rattle.memory.proofs.Heard.{heard-frame}
@@ -159,28 +159,35 @@ module _ (share : List Float) (whole : length share ≡ SHARE) where
 
   part-kept : (b : Record) → keptIn b (get framePart share) ≡ keptIn b share
   part-kept b =
-      cc (
-        read lastg (omega arith),
-        read cepstralMem (omega arith),
-        read vadState (omega arith),
-        read noiseState (omega arith),
-        read denoiseState (omega arith),
-        read keptX (omega arith),
-        read keptEx (omega arith),
-        read keptLag (omega arith),
-      )
+      alike (same-recalled (b .hearing .index) share _ (λ q h k. read q (omega arith))) (same-noted share _ (λ q h k. read q (omega arith)))
 
 -- ---- one call on a share
 
 -- what is kept is what the calls of a frame make of it; and a heard reply is one heard call 3
 pub record Remembers (b : Record) (share : List Float) (ask : Ask) (o : Given) : Type 0 where
-  pub keeps : keptIn (o .answer .rec) (o .store) ≡ kept (keptIn b share) (callsOf b share ask (o .answer .reply))
-  pub counts : howMany hears (callsOf b share ask (o .answer .reply)) ≡ cond (isHeard (o .answer .reply)) 1 0
+  pub keeps : keptIn (o .answer .rec) (o .store) ≡ kept (keptIn b share) (callsDone b share ask (o .answer .reply))
+  pub counts : howMany hears (callsDone b share ask (o .answer .reply)) ≡ cond (isHeard (o .answer .reply)) 1 0
 
 -- an opening that is done
-pub record Opens (o : Given) : Type 0 where
+pub record Opens (ask : Ask) (o : Given) : Type 0 where
+  pub opens : callOf ask ≡ 0
+  pub passes : passed (o .answer .reply) ≡ true
   pub forgets : keptIn (o .answer .rec) (o .store) ≡ keptOf blank unnoted 0 0
   pub unheard : isHeard (o .answer .reply) ≡ false
+
+wiped : (n : ℕ) → SHARE ≤ n → keptOf (recalledIn 0 (replicate n (f32 0))) (notedIn (replicate n (f32 0))) 0 0 ≡ keptOf blank unnoted 0 0
+wiped n h =
+    let at : (p : Place) → p .at + p .size ≤ SHARE → get p (replicate n (f32 0)) ≡ replicate (p .size) (f32 0) = λ p k. get-replicate p n (f32 0) (omega arith) in
+    cc (
+      at lastg (omega arith),
+      at cepstralMem (omega arith),
+      at vadState (omega arith),
+      at noiseState (omega arith),
+      at denoiseState (omega arith),
+      at keptX (omega arith),
+      at keptEx (omega arith),
+      at keptLag (omega arith),
+    )
 
 -- what holds of a whole share where it holds of the part that a call leaves
 module _ (b : Record) (share : List Float) (whole : length share ≡ SHARE) where
@@ -188,7 +195,7 @@ module _ (b : Record) (share : List Float) (whole : length share ≡ SHARE) wher
   part = get framePart share
 
   abbrev calls : Ask → Reply → List FrameCall
-  calls ask reply = callsOf b share ask reply
+  calls ask reply = callsDone b share ask reply
 
   record Leaves (ask : Ask) (reply : Reply) (after : List Float) : Type 0 where
     keeps : keptIn (answered b ask reply .rec) after ≡ kept (keptIn b part) (calls ask reply)
@@ -218,44 +225,6 @@ module _ (b : Record) (share : List Float) (whole : length share ≡ SHARE) wher
   unfolding kept howMany
   unmoved ask n = record { keeps = refl; counts = refl }
 
-  call1-leaves : (x : List Float) (w : ℕ) → LeavesOf (call1 x w) (frame.call1 part x w)
-  unfolding kept howMany
-  call1-leaves x w =
-      call1-by part (LeavesOf (call1 x w)) (unmoved (call1 x w)) x w
-      (λ whole l. record { keeps = one-kept b part whole x l; counts = refl })
-
-  call2-leaves : (x : List Float) (l w s : ℕ) → LeavesOf (call2 x l w s) (frame.call2 part x l w s)
-  unfolding kept howMany
-  call2-leaves x l w s =
-      call2-by part (LeavesOf (call2 x l w s)) (unmoved (call2 x l w s)) x l w s
-      (λ whole. record { keeps = two-kept b part whole x l; counts = refl })
-
-  call2-own-leaves : (x : List Float) (w s : ℕ) → LeavesOf (call2Own x w s) (halves.call2Own part x w s)
-  unfolding kept howMany
-  call2-own-leaves x w s =
-      call2-own-by part (LeavesOf (call2Own x w s)) (unmoved (call2Own x w s)) x w s
-      (λ whole. record { keeps = two-kept b part whole x (ownLag (get inputMem part)); counts = refl })
-
-  call3-leaves : (x l : List Float) (m : List ℕ) (o : ℕ) → LeavesOf (call3 x l m o) (frame.call3 part (b .hearing) x l m o)
-  unfolding kept howMany
-  call3-leaves x l m o =
-      call3-by part (LeavesOf (call3 x l m o)) (unmoved (call3 x l m o)) (b .hearing) x l m o
-      (λ _ _ _. record { keeps = refl; counts = refl })
-      (record { keeps = refl; counts = refl })
-      (λ e k good whole inside. record { keeps = three-kept b part whole x l m k good inside (b .frame) (oneMore (b .heard)); counts = refl })
-
-  call4-leaves : (x : List Float) (o : ℕ) → LeavesOf (call4 x o) (frame.call4 part (b .frame) (b .heard) x o)
-  unfolding kept howMany
-  call4-leaves x o =
-      call4-by part (LeavesOf (call4 x o)) (unmoved (call4 x o)) (b .frame) (b .heard) x o
-      (λ whole. record { keeps = four-kept (numbered b) part whole (b .frame) (b .heard) x; counts = refl })
-
-  first-half-leaves : (x : List Float) (s : ℕ) → LeavesOf (firstHalf x s) (halves.firstHalf part (b .hearing .way) x s)
-  unfolding kept howMany
-  first-half-leaves x s =
-      first-half-by part (LeavesOf (firstHalf x s)) (unmoved (firstHalf x s)) (b .hearing .way) x s
-      (λ whole l. record { keeps = first-kept b part whole (b .hearing .way) x l; counts = refl })
-
   second-half-leaves : (l : List Float) (m : List ℕ) (o : ℕ) → LeavesOf (secondHalf l m o) (halves.secondHalf part (b .hearing) l m o)
   unfolding kept howMany
   second-half-leaves l m o =
@@ -284,12 +253,6 @@ module _ (b : Record) (share : List Float) (whole : length share ≡ SHARE) wher
       go true = refl
       go false = refl
 
-  first-keeps : (r : Record) (q : List Float) (way : Way) (x : List Float) → passed (halves.firstHalf q way x 22 .reply) ≡ true
-      → keptIn r (halves.firstHalf q way x 22 .share) ≡ kept (keptIn r q) (firstCalls way q x)
-  first-keeps r q way x =
-      first-half-by q (λ f. passed (f .reply) ≡ true → keptIn r (f .share) ≡ kept (keptIn r q) (firstCalls way q x)) (λ n e. absurd (false≢true e)) way x 22
-      (λ sized l _. first-kept r q sized way x l)
-
   rest-keeps : (r : Record) (reply : Reply) (mid : List Float) (way : Way) (rest : List Float) (w : Written) → length mid ≡ SHARE → good rest ≡ true
       → let q = get framePart mid in
       keptIn r (get framePart (further reply mid way rest w .share)) ≡ kept (keptIn r q) (restCalls way q rest)
@@ -302,9 +265,12 @@ module _ (b : Record) (share : List Float) (whole : length share ≡ SHARE) wher
       go true e = ap (keptIn r) (frame-waits mid l rest)
       go false e =
           let q = get framePart mid in
+          let x = take 480 rest in
           let more = ltb-false (length rest) 480 e in
-          let f = first-passes q way (take 480 rest) (part-length mid l) (simp length-take (omega arith)) (good-take 480 rest g) in
-          ap (keptIn r) (frame-back mid l (halves.firstHalf q way (take 480 rest) 22 .share) (f .part)) ∙ first-keeps r q way (take 480 rest) (f .passes)
+          let f = first-passes q way x (part-length mid l) (simp length-take (omega arith)) (good-take 480 rest g) in
+          ap (keptIn r) (frame-back mid l (halves.firstHalf q way x 22 .share) (f .part))
+          ∙ first-half-by q (λ f. passed (f .reply) ≡ true → keptIn r (f .share) ≡ kept (keptIn r q) (firstCalls way q x)) (λ n e. absurd (false≢true e)) way x 22
+          (λ sized l _. first-kept r q sized way x l) (f .passes)
 
   -- a piece moves no index, nor a number
   carried-keeps : (r : Record) (rest size progress : ℕ) (q : List Float) → keptIn (carried r rest size progress) q ≡ keptIn r q
@@ -354,39 +320,46 @@ module _ (b : Record) (share : List Float) (whole : length share ≡ SHARE) wher
         counts = rw (p .passes, rest-unheard way (h .share) rest) (rw (p .passes) at (c .counts));
       }))
 
-  on-share : (ask : Ask) → (callOf ask ≡ 0 → passed (onShare b share ask .reply) ≡ false) → Remembers b share ask (givenOf b ask (onShare b share ask))
+  -- ---- any call
+
+  on-share : (ask : Ask) → Opens ask (givenOf b ask (onShare b share ask)) ⊎ Remembers b share ask (givenOf b ask (onShare b share ask))
   unfolding kept howMany
-  on-share (opening w m) shut = go (readOf m) (shut refl)
+  on-share (opening w m) = go (readOf m) refl
     where
-      go : (r : Reading) → passed (opened share r .reply) ≡ false → Remembers b share (opening w m) (givenOf b (opening w m) (opened share r))
-      go (Good k) e = absurd (false≢true (sym e))
-      go (Unread n l) e = record { keeps = refl; counts = refl }
-  on-share (call1 x w) shut = in-part (call1 x w) _ (call1-keeps part x w) (call1-leaves x w)
-  on-share (call2 x l w s) shut = in-part (call2 x l w s) _ (call2-keeps part x l w s) (call2-leaves x l w s)
-  on-share (call2Own x w s) shut = in-part (call2Own x w s) _ (call2-own-keeps part x w s) (call2-own-leaves x w s)
-  on-share (call3 x l m o) shut = in-part (call3 x l m o) _ (call3-keeps part (b .hearing) x l m o) (call3-leaves x l m o)
-  on-share (call4 x o) shut = in-part (call4 x o) _ (call4-keeps part (b .frame) (b .heard) x o) (call4-leaves x o)
-  on-share (firstHalf x s) shut = in-part (firstHalf x s) _ (first-half-keeps part (b .hearing .way) x s) (first-half-leaves x s)
-  on-share (secondHalf l m o) shut = in-part (secondHalf l m o) _ (second-half-keeps part (b .hearing) l m o) (second-half-leaves l m o)
-  on-share (piece x o s) shut = lift (piece x o s) _ (piece-kept share (b .hearing .way) (b .waiting) x o s .size whole) (piece-leaves x o s)
-  on-share (resume x l m o s) shut =
-      lift (resume x l m o s) _ (resume-kept share (b .hearing) (b .piece) (b .progress) x l m o s .size whole) (resume-leaves x l m o s)
-
--- ---- an opening
-
-wiped : (n : ℕ) → SHARE ≤ n → keptOf (recalledIn 0 (replicate n (f32 0))) (notedIn (replicate n (f32 0))) 0 0 ≡ keptOf blank unnoted 0 0
-wiped n h =
-    let at : (p : Place) → p .at + p .size ≤ SHARE → get p (replicate n (f32 0)) ≡ replicate (p .size) (f32 0) = λ p k. get-replicate p n (f32 0) (omega arith) in
-    cc (
-      at lastg (omega arith),
-      at cepstralMem (omega arith),
-      at vadState (omega arith),
-      at noiseState (omega arith),
-      at denoiseState (omega arith),
-      at keptX (omega arith),
-      at keptEx (omega arith),
-      at keptLag (omega arith),
-    )
+      go : (r : Reading) → readOf m ≡ r
+          → let o = givenOf b (opening w m) (opened share r) in Opens (opening w m) o ⊎ Remembers b share (opening w m) o
+      go (Good k) e = inl (rw e (record { opens = refl; passes = refl; forgets = wiped SHARE (omega arith); unheard = refl }))
+      go (Unread n l) e = inr (record { keeps = refl; counts = refl })
+  on-share (call1 x w) =
+      inr (in-part (call1 x w) _ (call1-keeps part x w)
+      (call1-by part (LeavesOf (call1 x w)) (unmoved (call1 x w)) x w
+      (λ whole l. record { keeps = one-kept b part whole x l; counts = refl })))
+  on-share (call2 x l w s) =
+      inr (in-part (call2 x l w s) _ (call2-keeps part x l w s)
+      (call2-by part (LeavesOf (call2 x l w s)) (unmoved (call2 x l w s)) x l w s
+      (λ whole. record { keeps = two-kept b part whole x l; counts = refl })))
+  on-share (call2Own x w s) =
+      inr (in-part (call2Own x w s) _ (call2-own-keeps part x w s)
+      (call2-own-by part (LeavesOf (call2Own x w s)) (unmoved (call2Own x w s)) x w s
+      (λ whole. record { keeps = two-kept b part whole x (ownLag (get inputMem part)); counts = refl })))
+  on-share (call3 x l m o) =
+      inr (in-part (call3 x l m o) _ (call3-keeps part (b .hearing) x l m o)
+      (call3-by part (LeavesOf (call3 x l m o)) (unmoved (call3 x l m o)) (b .hearing) x l m o
+      (λ _ _ _. record { keeps = refl; counts = refl })
+      (record { keeps = refl; counts = refl })
+      (λ e k good whole inside. record { keeps = three-kept b part whole x l m k good inside (b .frame) (oneMore (b .heard)); counts = refl })))
+  on-share (call4 x o) =
+      inr (in-part (call4 x o) _ (call4-keeps part (b .frame) (b .heard) x o)
+      (call4-by part (LeavesOf (call4 x o)) (unmoved (call4 x o)) (b .frame) (b .heard) x o
+      (λ whole. record { keeps = four-kept (numbered b) part whole (b .frame) (b .heard) x; counts = refl })))
+  on-share (firstHalf x s) =
+      inr (in-part (firstHalf x s) _ (first-half-keeps part (b .hearing .way) x s)
+      (first-half-by part (LeavesOf (firstHalf x s)) (unmoved (firstHalf x s)) (b .hearing .way) x s
+      (λ whole l. record { keeps = first-kept b part whole (b .hearing .way) x l; counts = refl })))
+  on-share (secondHalf l m o) = inr (in-part (secondHalf l m o) _ (second-half-keeps part (b .hearing) l m o) (second-half-leaves l m o))
+  on-share (piece x o s) = inr (lift (piece x o s) _ (piece-kept share (b .hearing .way) (b .waiting) x o s .size whole) (piece-leaves x o s))
+  on-share (resume x l m o s) =
+      inr (lift (resume x l m o s) _ (resume-kept share (b .hearing) (b .piece) (b .progress) x l m o s .size whole) (resume-leaves x l m o s))
 
 -- ---- one call on a desk of one bench
 
@@ -403,34 +376,19 @@ module _ (b : Record) (share : List Float) (whole : length share ≡ SHARE) (ask
       go true = let-in
       go false = turned
 
+  pub either : Opens ask (desk 1 0 b share ask) ⊎ Remembers b share ask (desk 1 0 b share ask)
+  either =
+      by-gate (λ o. Opens ask o ⊎ Remembers b share ask o)
+      (inr (lift b share whole ask (refused (Refused number) share) whole (unmoved b share whole ask number))) (on-share b share whole ask)
+
   pub remembers : (callOf ask ≡ 0 → passed (desk 1 0 b share ask .answer .reply) ≡ false) → Remembers b share ask (desk 1 0 b share ask)
-  remembers =
-      by-gate (λ o. (callOf ask ≡ 0 → passed (o .answer .reply) ≡ false) → Remembers b share ask o)
-      (λ _. lift b share whole ask (refused (Refused number) share) whole (unmoved b share whole ask number)) (on-share b share whole ask)
+  remembers shut = ⊎-elim (λ o. absurd (false≢true (sym (shut (o .opens)) ∙ o .passes))) (λ r. r) either
 
 pub opens : (b : Record) (share : List Float) → length share ≡ SHARE → (w : Way) (m : List ℕ)
-    → passed (desk 1 0 b share (opening w m) .answer .reply) ≡ true → Opens (desk 1 0 b share (opening w m))
+    → let o = desk 1 0 b share (opening w m) in passed (o .answer .reply) ≡ true → Opens (opening w m) o
 opens b share whole w m =
-    by-gate b share whole (opening w m) (λ o. passed (o .answer .reply) ≡ true → Opens o) (λ e. absurd (false≢true e)) (go (readOf m) refl)
+    by-gate b share whole (opening w m) (λ o. passed (o .answer .reply) ≡ true → Opens (opening w m) o) (λ e. absurd (false≢true e)) (go (readOf m) refl)
   where
-    go : (r : Reading) → readOf m ≡ r → passed (opened share r .reply) ≡ true → Opens (givenOf b (opening w m) (opened share r))
-    go (Good k) e p = rw e (record { forgets = wiped SHARE (omega arith); unheard = refl })
+    go : (r : Reading) → readOf m ≡ r → passed (opened share r .reply) ≡ true → Opens (opening w m) (givenOf b (opening w m) (opened share r))
+    go (Good k) e p = rw e (record { opens = refl; passes = refl; forgets = wiped SHARE (omega arith); unheard = refl })
     go (Unread n l) e p = absurd (false≢true p)
-
--- there is no third way
-pub either : (b : Record) (share : List Float) → length share ≡ SHARE → (ask : Ask) → Opens (desk 1 0 b share ask) ⊎ Remembers b share ask (desk 1 0 b share ask)
-either b share whole (opening w m) = go (passed (desk 1 0 b share (opening w m) .answer .reply)) refl
-  where
-    go : (t : Bool) → passed (desk 1 0 b share (opening w m) .answer .reply) ≡ t
-        → Opens (desk 1 0 b share (opening w m)) ⊎ Remembers b share (opening w m) (desk 1 0 b share (opening w m))
-    go true e = inl (opens b share whole w m e)
-    go false e = inr (remembers b share whole (opening w m) (λ _. e))
-either b share whole (call1 x w) = inr (remembers b share whole (call1 x w) (λ z. absurd (omega arith)))
-either b share whole (call2 x l w s) = inr (remembers b share whole (call2 x l w s) (λ z. absurd (omega arith)))
-either b share whole (call2Own x w s) = inr (remembers b share whole (call2Own x w s) (λ z. absurd (omega arith)))
-either b share whole (call3 x l m o) = inr (remembers b share whole (call3 x l m o) (λ z. absurd (omega arith)))
-either b share whole (call4 x o) = inr (remembers b share whole (call4 x o) (λ z. absurd (omega arith)))
-either b share whole (firstHalf x s) = inr (remembers b share whole (firstHalf x s) (λ z. absurd (omega arith)))
-either b share whole (secondHalf l m o) = inr (remembers b share whole (secondHalf l m o) (λ z. absurd (omega arith)))
-either b share whole (piece x o s) = inr (remembers b share whole (piece x o s) (λ z. absurd (omega arith)))
-either b share whole (resume x l m o s) = inr (remembers b share whole (resume x l m o s) (λ z. absurd (omega arith)))

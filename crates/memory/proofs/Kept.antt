@@ -8,7 +8,7 @@ use Prim.Native.Nat.{ℕ, _+_, _%_}
 use native.Mathlib.Omega.{arith}
 use mathlib.Core.Bool.{Bool, true, false, cond}
 use mathlib.Core.List.{List, [], _∷_, _++_}
-use mathlib.Core.Path.{_≡_, refl, ap, _∙_}
+use mathlib.Core.Path.{_≡_, refl, _∙_}
 use borrow.Author.Tests.{ltb-true, ltb-false}
 use lib.Dec.{ltb}
 use lib.ListN.{length}
@@ -75,17 +75,12 @@ length-brought k (four ∷ cs) = length-brought k cs ∙ omega arith
 
 -- ---- modulo 2^32
 
-one-more-mod : (k : ℕ) → oneMore (k % 4294967296) ≡ (k + 1) % 4294967296
-one-more-mod k = go (ltb (k % 4294967296) 4294967295) refl
+next : (a n : ℕ) → n ≡ a % 4294967296 → oneMore n ≡ (a + 1) % 4294967296
+next a n e = go (ltb n 4294967295) refl
   where
-    go : (t : Bool) → ltb (k % 4294967296) 4294967295 ≡ t → cond t (k % 4294967296 + 1) 0 ≡ (k + 1) % 4294967296
-    go true h = let below = ltb-true (k % 4294967296) 4294967295 h in omega arith
-    go false h = let above = ltb-false (k % 4294967296) 4294967295 h in omega arith
-
--- a number, and what one more is
-module _ (a n : ℕ) (e : n ≡ a % 4294967296) where
-  next : oneMore n ≡ (a + 1) % 4294967296
-  next = rw e (one-more-mod a)
+    go : (t : Bool) → ltb n 4294967295 ≡ t → cond t (n + 1) 0 ≡ (a + 1) % 4294967296
+    go true h = let below = ltb-true n 4294967295 h in omega arith
+    go false h = let above = ltb-false n 4294967295 h in omega arith
 
 pub kept-frame : (k : Kept) (cs : List FrameCall) (a : ℕ) → k .frame ≡ a % 4294967296 → kept k cs .frame ≡ (a + howMany endsFrame cs) % 4294967296
 unfolding kept howMany

@@ -38,25 +38,25 @@ abbrev pub restCalls : Way → List Float → List Float → List FrameCall
 restCalls way part rest = cond (ltb (length rest) 480) [] (firstCalls way part (take 480 rest))
 
 -- of a call of the desk that is done, heard or not, where it finds the record and the share so
-abbrev pub madeOfCalls : Record → List Float → Ask → Bool → List FrameCall
-madeOfCalls rec share (opening w m) heard = []
-madeOfCalls rec share (call1 x w) heard = one ∷ []
-madeOfCalls rec share (call2 x lag w s) heard = two x lag ∷ []
-madeOfCalls rec share (call2Own x w s) heard = two x (ownLag (get inputMem (get framePart share))) ∷ []
-madeOfCalls rec share (call3 x logs m o) heard = three heard x logs m ∷ []
-madeOfCalls rec share (call4 x o) heard = four ∷ []
-madeOfCalls rec share (firstHalf x s) heard = firstCalls (rec .hearing .way) (get framePart share) x
-madeOfCalls rec share (secondHalf logs m o) heard = secondCalls (rec .hearing .way) (get framePart share) heard logs m
-madeOfCalls rec share (piece x o s) heard = restCalls (rec .hearing .way) (get framePart share) (waitingIn (rec .waiting) share ++ x)
-madeOfCalls rec share (resume x logs m o s) heard =
+abbrev pub callsOf : Record → List Float → Ask → Bool → List FrameCall
+callsOf rec share (opening w m) heard = []
+callsOf rec share (call1 x w) heard = one ∷ []
+callsOf rec share (call2 x lag w s) heard = two x lag ∷ []
+callsOf rec share (call2Own x w s) heard = two x (ownLag (get inputMem (get framePart share))) ∷ []
+callsOf rec share (call3 x logs m o) heard = three heard x logs m ∷ []
+callsOf rec share (call4 x o) heard = four ∷ []
+callsOf rec share (firstHalf x s) heard = firstCalls (rec .hearing .way) (get framePart share) x
+callsOf rec share (secondHalf logs m o) heard = secondCalls (rec .hearing .way) (get framePart share) heard logs m
+callsOf rec share (piece x o s) heard = restCalls (rec .hearing .way) (get framePart share) (waitingIn (rec .waiting) share ++ x)
+callsOf rec share (resume x logs m o s) heard =
     let part = get framePart share in
     let way = rec .hearing .way in
     let done = halves.secondHalf part (rec .hearing) logs m 480 in
     secondCalls way part heard logs m ++ restCalls way (done .share) (drop (rec .progress) x)
 
 -- by the reply; a refused call is made of none
-abbrev pub callsOf : Record → List Float → Ask → Reply → List FrameCall
-callsOf rec share ask reply = cond (passed reply) (madeOfCalls rec share ask (isHeard reply)) []
+abbrev pub callsDone : Record → List Float → Ask → Reply → List FrameCall
+callsDone rec share ask reply = cond (passed reply) (callsOf rec share ask (isHeard reply)) []
 
 -- ---- how many of them are a call 4, or a heard call 3
 
