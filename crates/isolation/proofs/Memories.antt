@@ -16,8 +16,8 @@ use Rattle.frame.specs.declared.Reply.the-variants.{Done, Silent, Heard, Number
 use Rattle.desk.specs.Desk.{Ask}
 use Rattle.memory.specs.Hear.{Recalled, blank, HeardFrame, heardAll, faded}
 use Rattle.memory.specs.Calls.{FrameCall}
-use Rattle.memory.specs.Brought.{brought}
-use Rattle.memory.proofs.Kept.{Kept, notedIn, kept, kept-recalled, length-brought}
+use Rattle.memory.specs.Brought.{unnoted, brought}
+use Rattle.memory.proofs.Kept.{Kept, notedIn, kept, kept-recalled, same-count}
 use Rattle.memory.proofs.Calls.{Remembers, remembers, either}
 use Rattle.memory.proofs.Gains.{held-gains}
 use Rattle.isolation.specs.Run.{Kind, On, State, recordAt, after, ended, desks, Made, expand, Expands}
@@ -93,7 +93,7 @@ module _ (n s : ℕ) (inside : s < n) (st : State) (l : Whole n s inside st) (c 
 
   count : Remembers (recordAt s st) (share n s inside st) (c .call) (lone n s inside st l c e) → length frames ≡ cond (isHeard (replied n st c)) 1 0
   unfolding frames
-  count r = length-brought _ (calls n s inside st c) ∙ rw (own-calls n s inside st l c e, replies n s inside st l c e) (r .counts)
+  count r = rw (own-calls n s inside st l c e, replies n s inside st l c e) (r .counts _)
 
 pub silent-leaves : (n : ℕ) → SilentLeaves n
 unfolding frames
@@ -117,7 +117,7 @@ module _ {C O : Type 0} (serve : Kind C O) (asksOf : Made C) (n : ℕ) (expanded
       let k = since n s inside serve asksOf expanded st h in
       let m = recalled-behind n s inside st (callsIn n s st asks) (run n s inside asks st (k .1) u) in
       let fs = brought (notedIn (share n s inside st)) (callsIn n s st asks) in
-      let many = length-brought (notedIn (share n s inside st)) (callsIn n s st asks) in
+      let many = same-count (notedIn (share n s inside st)) unnoted (callsIn n s st asks) in
       rw (expanded st calls) (
         λ i band. rw (← many, gains m) (held-gains i band fs (recalled s st) (k .0 i band) .1),
         λ z. m ∙ none-heard (recalled s st) fs (many ∙ z),

@@ -17,10 +17,9 @@ use Rattle.frame.specs.Share.{SHARE}
 use Rattle.desk.specs.Gate.{shareOf}
 use Rattle.desk.specs.Desk.{Ask, callOf}
 use Rattle.memory.specs.Hear.{Recalled, blank, heardAll, faded}
-use Rattle.memory.specs.Calls.{hears, howMany}
-use Rattle.memory.specs.Brought.{recalledIn, unnoted, brought}
+use Rattle.memory.specs.Brought.{recalledIn}
 use Rattle.isolation.specs.Run.{Kind, On, State, recordAt, after, ended, desks, Made, expand}
-use Rattle.isolation.specs.Numbering.{replied, callsIn, Unopened, Opened, Numbering}
+use Rattle.isolation.specs.Numbering.{replied, framesHeard, Unopened, Opened, Numbering}
 
 -- what side s remembers, in its share and in its record
 abbrev pub recalled : ℕ → State → Recalled
@@ -45,7 +44,7 @@ module _ {C O : Type 0} (serve : Kind C O) (asksOf : Made C) (n : ℕ) where
       → (calls : List (On C))
       → let asks = expand serve asksOf n st calls in
       Unopened n s st asks
-      → recalled s (ended serve n st calls) ≡ heardAll blank (brought unnoted (callsIn n s st asks))
+      → recalled s (ended serve n st calls) ≡ heardAll blank (framesHeard n s st asks)
 
   -- a state that an opening of side s and then any calls led to
   pub record Since (s : ℕ) (st : State) : Type 0 where
@@ -61,7 +60,7 @@ module _ {C O : Type 0} (serve : Kind C O) (asksOf : Made C) (n : ℕ) where
       → (calls : List (On C))
       → let asks = expand serve asksOf n st calls in
       Unopened n s st asks
-      → let k = howMany hears (callsIn n s st asks) in
+      → let k = length (framesHeard n s st asks) in
       let last = recalled s (ended serve n st calls) in
       ((i : ℕ) → i < 22 → le (faded k (at (recalled s st .gains) i)) (at (last .gains) i) ≡ true) × (k ≡ 0 → last ≡ recalled s st)
 

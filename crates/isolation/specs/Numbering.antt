@@ -2,7 +2,7 @@
 --
 -- From an opening on, whatever calls follow on whatever sides, a side's record has the number of its own call 4s done since, and that of
 -- its own heard call 3s, both modulo 2^32, until it is opened anew.
-use Prim.Native.Nat.{ℕ, _*_, _%_, _<_}
+use Prim.Native.Nat.{ℕ, _+_, _*_, _%_, _<_}
 use mathlib.Core.Bool.{true, false, cond}
 use mathlib.Core.List.{List, [], _∷_, _++_}
 use mathlib.Core.Path.{_≡_}
@@ -15,7 +15,9 @@ use Rattle.frame.specs.declared.Reply.{Reply}
 use Rattle.frame.specs.declared.Way.{Way}
 use Rattle.desk.specs.Gate.{shareOf}
 use Rattle.desk.specs.Desk.{Ask, opening, callOf, desk}
-use Rattle.memory.specs.Calls.{FrameCall, callsDone, endsFrame, hears, howMany}
+use Rattle.memory.specs.Hear.{HeardFrame}
+use Rattle.memory.specs.Calls.{FrameCall, one, two, three, four, callsDone}
+use Rattle.memory.specs.Brought.{unnoted, brought}
 use Rattle.isolation.specs.Run.{Kind, On, on, State, recordAt, after, ended, desks, Made, expand}
 
 -- what is replied to a call of the desk
@@ -28,6 +30,18 @@ callsIn n s st [] = []
 callsIn n s st (c ∷ cs) =
     cond (eqb (c .side) s) (callsDone (recordAt s st) (get (shareOf s) (st .store)) (c .call) (replied n st c)) []
     ++ callsIn n s (after desks n st c) cs
+
+-- how many of them end a frame
+unfoldable pub framesEnded : List FrameCall → ℕ
+framesEnded [] = 0
+framesEnded (one ∷ cs) = framesEnded cs
+framesEnded (two x lag ∷ cs) = framesEnded cs
+framesEnded (three heard x logs m ∷ cs) = framesEnded cs
+framesEnded (four ∷ cs) = framesEnded cs + 1
+
+-- the frames that side s hears in a run, in order, where nothing was noted before; how many they are does not depend on that
+abbrev pub framesHeard : ℕ → ℕ → State → List (On Ask) → List HeardFrame
+framesHeard n s st cs = brought unnoted (callsIn n s st cs)
 
 -- in a run, side s is not opened anew: an opening of it is refused
 unfoldable pub Unopened : ℕ → ℕ → State → List (On Ask) → Type 0
@@ -55,7 +69,6 @@ module _ {C O : Type 0} (serve : Kind C O) (asksOf : Made C) (n : ℕ) where
       → (st : State) → Opened n s st
       → (calls : List (On C))
       → let asks = expand serve asksOf n st calls in
-      let done = callsIn n s st asks in
       let last = recordAt s (ended serve n st calls) in
       Unopened n s st asks
-      → (last .frame ≡ howMany endsFrame done % 4294967296) × (last .heard ≡ howMany hears done % 4294967296)
+      → (last .frame ≡ framesEnded (callsIn n s st asks) % 4294967296) × (last .heard ≡ length (framesHeard n s st asks) % 4294967296)

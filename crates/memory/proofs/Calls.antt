@@ -61,8 +61,8 @@ use Rattle.desk.proofs.Apart.{givenOf, one-bench}
 use Rattle.desk.proofs.Zeros.{get-replicate}
 use Rattle.desk.proofs.Leaves.{carried-leaves}
 use Rattle.memory.specs.Hear.{Recalled, blank, nextPlace, hear}
-use Rattle.memory.specs.Calls.{FrameCall, two, firstCalls, restCalls, callsDone, hears, howMany}
-use Rattle.memory.specs.Brought.{recalledIn, Noted, unnoted, noting, heardFrame}
+use Rattle.memory.specs.Calls.{FrameCall, two, firstCalls, restCalls, callsDone}
+use Rattle.memory.specs.Brought.{recalledIn, Noted, unnoted, noting, heardFrame, brought}
 use Rattle.memory.proofs.Kept.{Kept, keptOf, notedIn, keptIn, keeping, kept}
 use Rattle.memory.proofs.Heard.{heard-frame}
 
@@ -163,10 +163,10 @@ module _ (share : List Float) (whole : length share ≡ SHARE) where
 
 -- ---- one call on a share
 
--- what is kept is what the calls of a frame make of it; and a heard reply is one heard call 3
+-- what is kept is what the calls of a frame make of it; and they bring a frame where the reply is heard
 pub record Remembers (b : Record) (share : List Float) (ask : Ask) (o : Given) : Type 0 where
   pub keeps : keptIn (o .answer .rec) (o .store) ≡ kept (keptIn b share) (callsDone b share ask (o .answer .reply))
-  pub counts : howMany hears (callsDone b share ask (o .answer .reply)) ≡ cond (isHeard (o .answer .reply)) 1 0
+  pub counts : (k : Noted) → length (brought k (callsDone b share ask (o .answer .reply))) ≡ cond (isHeard (o .answer .reply)) 1 0
 
 -- an opening that is done
 pub record Opens (ask : Ask) (o : Given) : Type 0 where
@@ -199,7 +199,7 @@ module _ (b : Record) (share : List Float) (whole : length share ≡ SHARE) wher
 
   record Leaves (ask : Ask) (reply : Reply) (after : List Float) : Type 0 where
     keeps : keptIn (answered b ask reply .rec) after ≡ kept (keptIn b part) (calls ask reply)
-    counts : howMany hears (calls ask reply) ≡ cond (isHeard reply) 1 0
+    counts : (k : Noted) → length (brought k (calls ask reply)) ≡ cond (isHeard reply) 1 0
 
   lift : (ask : Ask) (o : Outcome) → length (o .share) ≡ SHARE → Leaves ask (o .reply) (get framePart (o .share)) → Remembers b share ask (givenOf b ask o)
   lift ask o left r =
@@ -222,16 +222,16 @@ module _ (b : Record) (share : List Float) (whole : length share ≡ SHARE) wher
 
   -- a refusal leaves all alone
   unmoved : (ask : Ask) (n : ℕ) → Leaves ask (Refused n) part
-  unfolding kept howMany
-  unmoved ask n = record { keeps = refl; counts = refl }
+  unfolding kept brought
+  unmoved ask n = record { keeps = refl; counts = λ _. refl }
 
   second-half-leaves : (l : List Float) (m : List ℕ) (o : ℕ) → LeavesOf (secondHalf l m o) (halves.secondHalf part (b .hearing) l m o)
-  unfolding kept howMany
+  unfolding kept brought
   second-half-leaves l m o =
       let way = b .hearing .way in
       second-half-by part (LeavesOf (secondHalf l m o)) (unmoved (secondHalf l m o)) (b .hearing) l m o
-      (λ _ _ _. record { keeps = refl; counts = refl })
-      (λ whole. record { keeps = four-kept (numbered (advanced b Silent)) part whole 0 0 (inverseBy way (get keptX part)); counts = refl })
+      (λ _ _ _. record { keeps = refl; counts = λ _. refl })
+      (λ whole. record { keeps = four-kept (numbered (advanced b Silent)) part whole 0 0 (inverseBy way (get keptX part)); counts = λ _. refl })
       (λ e k good whole inside.
       let p = forwardBy way (lookedBack part) in
       let t = spoken part (b .hearing .index) p l m k in
@@ -239,17 +239,17 @@ module _ (b : Record) (share : List Float) (whole : length share ≡ SHARE) wher
         keeps =
             four-kept (numbered (advanced b (Heard (t .voice) e))) (t .share) (said-whole b part whole p l m k good inside) 0 0 (inverseBy way (t .spectrum))
             ∙ three-kept b part whole p l m k good inside (oneMore (b .frame)) (oneMore (b .heard));
-        counts = refl;
+        counts = λ _. refl;
       })
 
   -- ---- pieces: the rest of one waits, or begins a frame
 
-  -- it counts for no heard frame
-  rest-unheard : (way : Way) (q rest : List Float) → howMany hears (restCalls way q rest) ≡ 0
-  unfolding howMany
-  rest-unheard way q rest = go (ltb (length rest) 480)
+  -- it brings no frame
+  rest-brings : (way : Way) (q rest : List Float) (k : Noted) → brought k (restCalls way q rest) ≡ []
+  unfolding brought
+  rest-brings way q rest k = go (ltb (length rest) 480)
     where
-      go : (t : Bool) → howMany hears (cond t [] (firstCalls way q (take 480 rest))) ≡ 0
+      go : (t : Bool) → brought k (cond t [] (firstCalls way q (take 480 rest))) ≡ []
       go true = refl
       go false = refl
 
@@ -277,7 +277,7 @@ module _ (b : Record) (share : List Float) (whole : length share ≡ SHARE) wher
   carried-keeps r rest size progress q = carried-leaves (λ (x : Record). keptIn x q) r (λ _ _ _ _. refl) rest size progress
 
   piece-leaves : (x : List Float) (o s : ℕ) → let f = pieces.piece share (b .hearing .way) (b .waiting) x o s in Leaves (piece x o s) (f .reply) (get framePart (f .share))
-  unfolding kept howMany
+  unfolding kept brought
   piece-leaves x o s =
       piece-by share (λ f. Leaves (piece x o s) (f .reply) (get framePart (f .share))) (unmoved (piece x o s)) (b .hearing .way) (b .waiting) x o s
       (λ k.
@@ -290,16 +290,16 @@ module _ (b : Record) (share : List Float) (whole : length share ≡ SHARE) wher
             carried-keeps b _ _ _ _
             ∙ rest-keeps b Done mid way rest nothing (waits-length share whole []) (good-append _ x (k .waited) (k .fine))
             ∙ ap (λ (q : List Float). kept (keptIn b q) (restCalls way q rest)) (frame-waits share whole []);
-        counts = rest-unheard way part rest;
+        counts = λ n. ap length (rest-brings way part rest n);
       }))
 
   resume-leaves : (x l : List Float) (m : List ℕ) (o s : ℕ)
       → let f = pieces.resume share (b .hearing) (b .piece) (b .progress) x l m o s in Leaves (resume x l m o s) (f .reply) (get framePart (f .share))
-  unfolding kept howMany
+  unfolding kept brought
   resume-leaves x l m o s =
       resume-by share (λ f. Leaves (resume x l m o s) (f .reply) (get framePart (f .share))) (unmoved (resume x l m o s))
       (b .hearing) (b .piece) (b .progress) x l m o s
-      (λ _ _ _. record { keeps = refl; counts = refl })
+      (λ _ _ _. record { keeps = refl; counts = λ _. refl })
       (λ k.
       let way = b .hearing .way in
       let h = halves.secondHalf part (b .hearing) l m 480 in
@@ -317,45 +317,45 @@ module _ (b : Record) (share : List Float) (whole : length share ≡ SHARE) wher
             ∙ rest-keeps next (h .reply) mid way rest w (frame-length share whole (h .share) (p .part)) (good-drop (b .progress) x (k .fine))
             ∙ ap (λ (q : List Float). kept (keptIn next q) (restCalls way q rest)) (frame-back share whole (h .share) (p .part))
             ∙ ap (λ (t : Kept). kept t (restCalls way (h .share) rest)) (rw (p .passes) at (c .keeps)));
-        counts = rw (p .passes, rest-unheard way (h .share) rest) (rw (p .passes) at (c .counts));
+        counts = λ n. rw (p .passes, rest-brings way (h .share) rest n) (rw (p .passes) at (c .counts n));
       }))
 
   -- ---- any call
 
   on-share : (ask : Ask) → Opens ask (givenOf b ask (onShare b share ask)) ⊎ Remembers b share ask (givenOf b ask (onShare b share ask))
-  unfolding kept howMany
+  unfolding kept brought
   on-share (opening w m) = go (readOf m) refl
     where
       go : (r : Reading) → readOf m ≡ r
           → let o = givenOf b (opening w m) (opened share r) in Opens (opening w m) o ⊎ Remembers b share (opening w m) o
       go (Good k) e = inl (rw e (record { opens = refl; passes = refl; forgets = wiped SHARE (omega arith); unheard = refl }))
-      go (Unread n l) e = inr (record { keeps = refl; counts = refl })
+      go (Unread n l) e = inr (record { keeps = refl; counts = λ _. refl })
   on-share (call1 x w) =
       inr (in-part (call1 x w) _ (call1-keeps part x w)
       (call1-by part (LeavesOf (call1 x w)) (unmoved (call1 x w)) x w
-      (λ whole l. record { keeps = one-kept b part whole x l; counts = refl })))
+      (λ whole l. record { keeps = one-kept b part whole x l; counts = λ _. refl })))
   on-share (call2 x l w s) =
       inr (in-part (call2 x l w s) _ (call2-keeps part x l w s)
       (call2-by part (LeavesOf (call2 x l w s)) (unmoved (call2 x l w s)) x l w s
-      (λ whole. record { keeps = two-kept b part whole x l; counts = refl })))
+      (λ whole. record { keeps = two-kept b part whole x l; counts = λ _. refl })))
   on-share (call2Own x w s) =
       inr (in-part (call2Own x w s) _ (call2-own-keeps part x w s)
       (call2-own-by part (LeavesOf (call2Own x w s)) (unmoved (call2Own x w s)) x w s
-      (λ whole. record { keeps = two-kept b part whole x (ownLag (get inputMem part)); counts = refl })))
+      (λ whole. record { keeps = two-kept b part whole x (ownLag (get inputMem part)); counts = λ _. refl })))
   on-share (call3 x l m o) =
       inr (in-part (call3 x l m o) _ (call3-keeps part (b .hearing) x l m o)
       (call3-by part (LeavesOf (call3 x l m o)) (unmoved (call3 x l m o)) (b .hearing) x l m o
-      (λ _ _ _. record { keeps = refl; counts = refl })
-      (record { keeps = refl; counts = refl })
-      (λ e k good whole inside. record { keeps = three-kept b part whole x l m k good inside (b .frame) (oneMore (b .heard)); counts = refl })))
+      (λ _ _ _. record { keeps = refl; counts = λ _. refl })
+      (record { keeps = refl; counts = λ _. refl })
+      (λ e k good whole inside. record { keeps = three-kept b part whole x l m k good inside (b .frame) (oneMore (b .heard)); counts = λ _. refl })))
   on-share (call4 x o) =
       inr (in-part (call4 x o) _ (call4-keeps part (b .frame) (b .heard) x o)
       (call4-by part (LeavesOf (call4 x o)) (unmoved (call4 x o)) (b .frame) (b .heard) x o
-      (λ whole. record { keeps = four-kept (numbered b) part whole (b .frame) (b .heard) x; counts = refl })))
+      (λ whole. record { keeps = four-kept (numbered b) part whole (b .frame) (b .heard) x; counts = λ _. refl })))
   on-share (firstHalf x s) =
       inr (in-part (firstHalf x s) _ (first-half-keeps part (b .hearing .way) x s)
       (first-half-by part (LeavesOf (firstHalf x s)) (unmoved (firstHalf x s)) (b .hearing .way) x s
-      (λ whole l. record { keeps = first-kept b part whole (b .hearing .way) x l; counts = refl })))
+      (λ whole l. record { keeps = first-kept b part whole (b .hearing .way) x l; counts = λ _. refl })))
   on-share (secondHalf l m o) = inr (in-part (secondHalf l m o) _ (second-half-keeps part (b .hearing) l m o) (second-half-leaves l m o))
   on-share (piece x o s) = inr (lift (piece x o s) _ (piece-kept share (b .hearing .way) (b .waiting) x o s .size whole) (piece-leaves x o s))
   on-share (resume x l m o s) =

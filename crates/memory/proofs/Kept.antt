@@ -1,16 +1,12 @@
 -- What a bench keeps from call to call, and what the calls of a frame make of it.
 --     kept-behind     calls behind others
 --     kept-recalled   of what is remembered: what `hear` makes of the frames that they bring
---     kept-frame, kept-heard     of the numbers: one more for each call 4, and for each heard call 3, modulo 2^32
---     length-brought  as many frames are brought as call 3s are heard
+--     same-count      how many frames they bring does not depend on what was noted before
 -- Assumes nothing.
-use Prim.Native.Nat.{ℕ, _+_, _%_}
-use native.Mathlib.Omega.{arith}
-use mathlib.Core.Bool.{Bool, true, false, cond}
+use Prim.Native.Nat.{ℕ, suc}
+use mathlib.Core.Bool.{true, false, cond}
 use mathlib.Core.List.{List, [], _∷_, _++_}
-use mathlib.Core.Path.{_≡_, refl, _∙_}
-use borrow.Author.Tests.{ltb-true, ltb-false}
-use lib.Dec.{ltb}
+use mathlib.Core.Path.{_≡_, refl, ap}
 use lib.ListN.{length}
 use lib.Ieee.{Float}
 use Rattle.rules.specs.F32.{at}
@@ -19,7 +15,7 @@ use Rattle.frame.specs.Reply.{oneMore}
 use Rattle.frame.specs.Share.{keptX, keptEx, keptLag}
 use Rattle.desk.specs.declared.Record.{Record}
 use Rattle.memory.specs.Hear.{Recalled, hear, heardAll}
-use Rattle.memory.specs.Calls.{FrameCall, one, two, three, four, endsFrame, hears, howMany}
+use Rattle.memory.specs.Calls.{FrameCall, one, two, three, four}
 use Rattle.memory.specs.Brought.{recalledIn, Noted, noting, heardFrame, brought}
 
 -- what is remembered, what is noted, and the numbers of frames and of heard frames
@@ -64,38 +60,11 @@ kept-recalled k (three true x logs m ∷ cs) = kept-recalled _ cs
 kept-recalled k (three false x logs m ∷ cs) = kept-recalled k cs
 kept-recalled k (four ∷ cs) = kept-recalled _ cs
 
-pub length-brought : (k : Noted) (cs : List FrameCall) → length (brought k cs) ≡ howMany hears cs
-unfolding brought howMany
-length-brought k [] = refl
-length-brought k (one ∷ cs) = length-brought k cs ∙ omega arith
-length-brought k (two x lag ∷ cs) = length-brought (noting x lag) cs ∙ omega arith
-length-brought k (three true x logs m ∷ cs) = let rest = length-brought k cs in omega arith
-length-brought k (three false x logs m ∷ cs) = length-brought k cs ∙ omega arith
-length-brought k (four ∷ cs) = length-brought k cs ∙ omega arith
-
--- ---- modulo 2^32
-
-next : (a n : ℕ) → n ≡ a % 4294967296 → oneMore n ≡ (a + 1) % 4294967296
-next a n e = go (ltb n 4294967295) refl
-  where
-    go : (t : Bool) → ltb n 4294967295 ≡ t → cond t (n + 1) 0 ≡ (a + 1) % 4294967296
-    go true h = let below = ltb-true n 4294967295 h in omega arith
-    go false h = let above = ltb-false n 4294967295 h in omega arith
-
-pub kept-frame : (k : Kept) (cs : List FrameCall) (a : ℕ) → k .frame ≡ a % 4294967296 → kept k cs .frame ≡ (a + howMany endsFrame cs) % 4294967296
-unfolding kept howMany
-kept-frame k [] a e = e ∙ omega arith
-kept-frame k (one ∷ cs) a e = kept-frame k cs a e ∙ omega arith
-kept-frame k (two x lag ∷ cs) a e = kept-frame _ cs a e ∙ omega arith
-kept-frame k (three true x logs m ∷ cs) a e = kept-frame _ cs a e ∙ omega arith
-kept-frame k (three false x logs m ∷ cs) a e = kept-frame k cs a e ∙ omega arith
-kept-frame k (four ∷ cs) a e = kept-frame _ cs (a + 1) (next a (k .frame) e) ∙ omega arith
-
-pub kept-heard : (k : Kept) (cs : List FrameCall) (a : ℕ) → k .heard ≡ a % 4294967296 → kept k cs .heard ≡ (a + howMany hears cs) % 4294967296
-unfolding kept howMany
-kept-heard k [] a e = e ∙ omega arith
-kept-heard k (one ∷ cs) a e = kept-heard k cs a e ∙ omega arith
-kept-heard k (two x lag ∷ cs) a e = kept-heard _ cs a e ∙ omega arith
-kept-heard k (three true x logs m ∷ cs) a e = kept-heard _ cs (a + 1) (next a (k .heard) e) ∙ omega arith
-kept-heard k (three false x logs m ∷ cs) a e = kept-heard k cs a e ∙ omega arith
-kept-heard k (four ∷ cs) a e = kept-heard _ cs a e ∙ omega arith
+pub same-count : (k k′ : Noted) (cs : List FrameCall) → length (brought k cs) ≡ length (brought k′ cs)
+unfolding brought
+same-count k k′ [] = refl
+same-count k k′ (one ∷ cs) = same-count k k′ cs
+same-count k k′ (two x lag ∷ cs) = refl
+same-count k k′ (three true x logs m ∷ cs) = ap suc (same-count k k′ cs)
+same-count k k′ (three false x logs m ∷ cs) = same-count k k′ cs
+same-count k k′ (four ∷ cs) = same-count k k′ cs

@@ -1,6 +1,6 @@
 -- The four calls of a frame, and which of them a call of the desk is made of: a half of two, a piece and a resume of halves.
-use Prim.Native.Nat.{ℕ, _+_}
-use mathlib.Core.Bool.{Bool, true, false, cond}
+use Prim.Native.Nat.{ℕ}
+use mathlib.Core.Bool.{Bool, cond}
 use mathlib.Core.List.{List, [], _∷_, _++_}
 use lib.Dec.{ltb}
 use lib.ListN.{length, take, drop}
@@ -57,21 +57,3 @@ callsOf rec share (resume x logs m o s) heard =
 -- by the reply; a refused call is made of none
 abbrev pub callsDone : Record → List Float → Ask → Reply → List FrameCall
 callsDone rec share ask reply = cond (passed reply) (callsOf rec share ask (isHeard reply)) []
-
--- ---- how many of them are a call 4, or a heard call 3
-
-abbrev pub endsFrame : FrameCall → Bool
-endsFrame one = false
-endsFrame (two x lag) = false
-endsFrame (three heard x logs m) = false
-endsFrame four = true
-
-abbrev pub hears : FrameCall → Bool
-hears one = false
-hears (two x lag) = false
-hears (three heard x logs m) = heard
-hears four = false
-
-unfoldable pub howMany : (FrameCall → Bool) → List FrameCall → ℕ
-howMany kind [] = 0
-howMany kind (c ∷ cs) = cond (kind c) 1 0 + howMany kind cs
