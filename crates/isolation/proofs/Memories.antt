@@ -86,7 +86,7 @@ not-heard (Numbered f h) u = refl
 not-heard (Refused k) u = refl
 not-heard (Misread k l) u = refl
 
--- a call of the desk is heard by as many frames as it brings
+-- a call of the desk that is heard brings one frame, and any other none
 module _ (n s : ℕ) (inside : s < n) (st : State) (l : Whole n s inside st) (c : On Ask) (e : c .side ≡ s) where
   frames : List HeardFrame
   frames = brought (notedIn (share n s inside st)) (calls n s inside st c)

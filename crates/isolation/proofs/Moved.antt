@@ -64,7 +64,7 @@ module _ (n s : ℕ) (inside : s < n) where
     pub kept-then : keptIn (recordAt s (after desks n st c)) (share (after desks n st c)) ≡ keptIn (lone .answer .rec) (lone .store)
     kept-then = ap₂ keptIn recorded own
 
-  -- what side s keeps, and the calls that a call on any side is for it
+  -- what side s keeps, and the calls of its frame that a call on any side is made of
   abbrev pub keptAt : State → Kept
   keptAt st = keptIn (recordAt s st) (share st)
 

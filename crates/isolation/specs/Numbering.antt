@@ -39,7 +39,7 @@ framesEnded (two x lag ∷ cs) = framesEnded cs
 framesEnded (three heard x logs m ∷ cs) = framesEnded cs
 framesEnded (four ∷ cs) = framesEnded cs + 1
 
--- the frames that side s hears in a run, in order, where nothing was noted before; how many they are does not depend on that
+-- the frames that side s hears in a run, in order, where nothing is noted before it; how many they are does not depend on that
 abbrev pub framesHeard : ℕ → ℕ → State → List (On Ask) → List HeardFrame
 framesHeard n s st cs = brought unnoted (callsIn n s st cs)
 

@@ -19,14 +19,14 @@ use Rattle.pieces.specs.Pieces.{framePart, waitingIn}
 use Rattle.desk.specs.declared.Record.{Record}
 use Rattle.desk.specs.Desk.{Ask, opening, call1, call2, call2Own, call3, call4, firstHalf, secondHalf, piece, resume}
 
--- with what call 2 and call 3 are lent; call 3 is heard or silent
+-- calls 1 to 4, with what is remembered of what they are lent; call 3 is heard or silent
 pub data FrameCall : Type 0 where
   one : FrameCall
   two : (spectrum : List Float) (lag : ℕ) → FrameCall
   three : (heard : Bool) (spectrum logs : List Float) (model : List ℕ) → FrameCall
   four : FrameCall
 
--- the halves of a frame, by the bench's way and a frame's part of the share
+-- a first half and a second half, by the bench's way, where they find a frame's part of the share so
 abbrev pub firstCalls : Way → List Float → List Float → List FrameCall
 firstCalls way part x = let a = done1 part x in one ∷ two (forwardBy way (buffer a)) (lagBy way (a .share)) ∷ []
 
@@ -37,7 +37,7 @@ secondCalls way part heard logs m = three heard (forwardBy way (lookedBack part)
 abbrev pub restCalls : Way → List Float → List Float → List FrameCall
 restCalls way part rest = cond (ltb (length rest) 480) [] (firstCalls way part (take 480 rest))
 
--- of a call of the desk that is done, heard or not, where it finds the record and the share so
+-- a call of the desk that is done, heard or not, where it finds the record and the share so
 abbrev pub callsOf : Record → List Float → Ask → Bool → List FrameCall
 callsOf rec share (opening w m) heard = []
 callsOf rec share (call1 x w) heard = one ∷ []
@@ -54,6 +54,6 @@ callsOf rec share (resume x logs m o s) heard =
     let done = halves.secondHalf part (rec .hearing) logs m 480 in
     secondCalls way part heard logs m ++ restCalls way (done .share) (drop (rec .progress) x)
 
--- by the reply; a refused call is made of none
+-- by its reply; a refused call is made of none
 abbrev pub callsDone : Record → List Float → Ask → Reply → List FrameCall
 callsDone rec share ask reply = cond (passed reply) (callsOf rec share ask (isHeard reply)) []
