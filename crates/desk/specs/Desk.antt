@@ -52,19 +52,6 @@ callOf (secondHalf l m o) = 3
 callOf (piece x o s) = PIECE
 callOf (resume x l m o s) = RESUME
 
--- the number of the last call that is done; a piece may begin a frame, and a resume ends one
-abbrev pub lastOf : Ask → ℕ
-lastOf (opening w m) = 0
-lastOf (call1 x w) = 1
-lastOf (call2 x l w s) = 2
-lastOf (call2Own x w s) = 2
-lastOf (call3 x l m o) = 3
-lastOf (call4 x o) = 4
-lastOf (firstHalf x s) = 2
-lastOf (secondHalf l m o) = 4
-lastOf (piece x o s) = 2
-lastOf (resume x l m o s) = 4
-
 -- ---- one side's record
 
 -- every record is made here: one at which nothing waits and no piece is unfinished

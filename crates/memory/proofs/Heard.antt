@@ -21,11 +21,8 @@ use Rattle.features.proofs.Lengths.{length-gained, length-with-cepstrum, length
 use Rattle.frame.specs.Share.{PART, keptX, keptEx, keptLag, lastg, cepstralMem, vadState, noiseState, denoiseState}
 use Rattle.frame.specs.Heard.{scaled, energies, featured, rnnOf, spokenFrom, spoken}
 use Rattle.memory.specs.Hear.{Recalled, nextPlace, hear}
-use Rattle.memory.specs.Brought.{recalledIn, Noted, heardFrame}
-
--- what a share has noted
-abbrev pub notedIn : List Float → Noted
-notedIn share = record { x = get keptX share; ex = get keptEx share; lag = at (get keptLag share) 0 }
+use Rattle.memory.specs.Brought.{recalledIn, heardFrame}
+use Rattle.memory.proofs.Kept.{notedIn}
 
 -- ---- a field put into a whole share, and five one after another
 

@@ -18,6 +18,7 @@ use lib.Ieee.Fits.{and-l, and-r, down-pos}
 use lib.Ieee.Order.{round-mono}
 use lib.Ieee.Positive.{through}
 use Rattle.features.specs.Gains.{sixTenths}
+use Rattle.memory.specs.Laws.{SixTenthsMono}
 
 -- ---- the order as one of signed fractions
 
@@ -312,6 +313,6 @@ le-refl (fin false m e) h = of-T _ (is-le (fin false m e) (fin false m e) (le-of
 pub le-trans : (x y z : Float) → le x y ≡ true → le y z ≡ true → le x z ≡ true
 le-trans x y z h k = of-T _ (is-le x z (most-trans x y z (most x y (T-of _ h)) (most y z (T-of _ k))))
 
-pub six-tenths-mono : (x y : Float) → le x y ≡ true → le (sixTenths x) (sixTenths y) ≡ true
+pub six-tenths-mono : SixTenthsMono
 unfolding ofBits
 six-tenths-mono x y h = of-T _ (is-le (sixTenths x) (sixTenths y) (product binary32 5033164 (negsuc 22) x y (most x y (T-of _ h))))
