@@ -26,7 +26,7 @@ use Rattle.desk.specs.Gate.{shareOf, gate}
 use Rattle.desk.specs.Desk.{piece, resume, holding, carried, Given, desk}
 use Rattle.dictation.specs.Dictation.{Lent, Dictated, dictate, dictated}
 use Rattle.dictation.specs.Cutting.{Led, ended, paused, Cut, last, more, Cutting}
-use Rattle.dictation.specs.Resuming.{handedIn, Whole}
+use Rattle.dictation.specs.Resuming.{handedIn, FillsFront}
 use Rattle.desk.proofs.Turned.{through}
 use Rattle.dictation.proofs.Joins.{first, second, shareAfter, recAfter, toldThere, framed, dictate-more, dictate-none, after-length, share-size, washed, then, again, rejoin}
 use Rattle.dictation.proofs.Taken.{onward, ends, pauses, begins, piece-passed, resume-passed}
@@ -35,13 +35,13 @@ use Rattle.dictation.proofs.Follows.{place, own-back, own-own, followin
 -- what is resumed to its end was not refused
 passes : {n side : ℕ} {samples : List Float} {o : Given} {held : List Float} {lent : List Lent} {d : Dictated} → Led n side samples o held lent d
     → passed (o .answer .reply) ≡ true
-passes (ended kept p w z) = p
-passes (paused kept p w e led) = p
+passes (ended before p w z) = p
+passes (paused before p w e led) = p
 
 -- a dictation of a share, on a side of a store, its output written from place k on
 abbrev from-place : ℕ → ℕ → List Float → Dictated → List Float → Dictated
 from-place k side store d held =
-    record { rec = d .rec; store = put (shareOf side) store (d .store); told = d .told; out = over (from k (d .out)) held }
+    record { rec = d .rec; kept = put (shareOf side) store (d .kept); told = d .told; out = over (from k (d .out)) held }
 
 -- what is written behind a frame, and the frame
 in-front : (told : List Float × Reply × Record) (k side : ℕ) (store ys held held′ : List Float) (d : Dictated) → length ys ≡ 480 → k ≤ length held → held ≡ held′
@@ -83,16 +83,16 @@ module _ (n side : ℕ) (h : side < n) (store : List Float) (size : length store
             let z′ : length samples ≡ 0 = rw q at z in
             absurd (omega arith)
 
-    long : (l : Lent) (room : ℕ) → passed (desk n side (o .answer .rec) (o .store) (resume samples (l .logs) (l .model) room 22) .answer .reply) ≡ true
-        → 480 ≤ length rest
-    long l room p = go (ltb (length rest) 480) refl
+    long : (logs : List Float) (model : List ℕ) (room : ℕ)
+        → passed (desk n side (o .answer .rec) (o .store) (resume samples logs model room 22) .answer .reply) ≡ true → 480 ≤ length rest
+    long logs model room p = go (ltb (length rest) 480) refl
       where
         go : (t : Bool) → ltb (length rest) 480 ≡ t → 480 ≤ length rest
         go false f = ltb-false (length rest) 480 f
         go true f =
             let there = put (shareOf side) store (waits share rest) in
             let q = e ∙ ends side store rec reply share rest (length samples) progress w (ltb-true (length rest) 480 f) in
-            let t = resume-passed n side (holding 1 rec (length rest) 0 0) there samples (l .logs) (l .model) room 22 (rw q at p) in
+            let t = resume-passed n side (holding 1 rec (length rest) 0 0) there samples logs model room 22 (rw q at p) in
             absurd (omega (arith, t .1 .begun))
 
   whole : {o : Given} {held : List Float} {lent : List Lent} {d : Dictated} → Led n side samples o held lent d
@@ -101,18 +101,18 @@ module _ (n side : ℕ) (h : side < n) (store : List Float) (size : length store
       → length share ≡ SHARE → drop progress samples ≡ drop 480 rest → 1 ≤ progress
       → (length lent ≡ length rest / 480) × (length (dictate rec share rest lent .out) ≡ 480 * length lent)
       × (d ≡ from-place (place progress) side store (dictate rec share rest lent) (over w held))
-  whole (ended {o = o} {held = held} {out = out} kept p wr z) rec reply share rest progress w e k same begun =
+  whole (ended {o = o} {held = held} {out = out} before p wr z) rec reply share rest progress w e k same begun =
       let little = short o rec reply share rest progress w e z in
       let q = e ∙ ends side store rec reply share rest (length samples) progress w little in
       let filled : over w held ≡ out = first-of (rw q at wr) in
       let none = dictate-none rec share rest in
       (omega arith, ap (λ (x : Dictated). length (x .out)) none, rw (q, none, over-none (place progress) (over w held), filled))
-  whole (paused {o = o} {next = after} {held = held} {out = out} {sums = sums} {l = l} {more = ms} {d = d} kept p wr en led) rec reply share rest progress w e k same begun =
-      let enough = long o rec reply share rest progress w e l (length out) (rw en at (passes led)) in
+  whole (paused {o = o} {next = after} {held = held} {out = out} {sums = sums} {l = l} {more = ms} {d = d} before p wr en led) rec reply share rest progress w e k same begun =
+      let enough = long o rec reply share rest progress w e (l .logs sums) (l .model) (length out) (rw en at (passes led)) in
       let q = e ∙ pauses side store rec reply share rest (length samples) progress w enough in
       let lent : over w held ≡ out = first-of (rw q at wr) in
       let summed : buffer (first rec share rest l) ≡ sums = second-of (rw q at wr) in
-      let en′ : after ≡ following n side h store size samples rec share rest l progress (length out) k same = rw q at en in
+      let en′ : after ≡ following n side h store size samples rec share rest l progress (length out) k same = rw (q, ← summed) at en in
       let g = follows n side h store size samples rec share rest l progress (length out) k same (rw en′ at (passes led)) in
       let nx = en′ ∙ g .1 in
       let fit = fits-in n side h store size samples rec share rest l progress (length out) k same (g .0) in
@@ -142,7 +142,7 @@ module _ (n side : ℕ) (h : side < n) (store : List Float) (size : length store
 
 -- a dictation of a share, on a side of a store
 abbrev placed : ℕ → List Float → Dictated → Dictated
-placed side store d = record { rec = d .rec; store = put (shareOf side) store (d .store); told = d .told; out = d .out }
+placed side store d = record { rec = d .rec; kept = put (shareOf side) store (d .kept); told = d .told; out = d .out }
 
 module _ (n side : ℕ) (rec : Record) (store samples held : List Float) (lent : List Lent) (d : Dictated)
     (led : Led n side samples (handedIn n side rec store samples held) held lent d) where
@@ -169,7 +169,7 @@ module _ (n side : ℕ) (rec : Record) (store samples held : List Float) (lent :
 
   whole-piece : let e = dictated side rec store samples lent in
       (length lent ≡ completes (rec .waiting) (length samples)) × (length (e .out) ≡ 480 * length lent)
-      × (d ≡ record { rec = e .rec; store = e .store; told = e .told; out = over (from 0 (e .out)) held })
+      × (d ≡ record { rec = e .rec; kept = e .kept; told = e .told; out = over (from 0 (e .out)) held })
   whole-piece =
       let k = took .1 in
       let sum : rec .waiting + (480 - rec .waiting) ≡ 480 = omega (arith, k .waits) in
@@ -182,8 +182,8 @@ module _ (n side : ℕ) (rec : Record) (store samples held : List Float) (lent :
       let clean = washed rec share [] all lent (k .size) in
       (t .0 ∙ ap (λ (m : ℕ). m / 480) all-length, rw clean at (t .1), t .2 ∙ rw (front, clean, over-none 0 held))
 
-pub is-whole : Whole
-is-whole n side rec store samples held lent d led = whole-piece n side rec store samples held lent d led
+pub fills-front : FillsFront
+fills-front n side rec store samples held lent d led = whole-piece n side rec store samples held lent d led
 
 -- ---- a row of pieces
 
@@ -194,7 +194,7 @@ filled m ys held e = take-at ys (drop (length ys) held) m e
 
 -- and what comes of a piece, with that
 abbrev fillings : List Lent → Dictated → Dictated
-fillings ls d = record { rec = d .rec; store = d .store; told = d .told; out = take (480 * length ls) (d .out) }
+fillings ls d = record { rec = d .rec; kept = d .kept; told = d .told; out = take (480 * length ls) (d .out) }
 
 fillings-whole : (n side : ℕ) (rec : Record) (store xs held : List Float) (ls : List Lent) (d : Dictated)
     → Led n side xs (handedIn n side rec store xs held) held ls d → fillings ls d ≡ dictated side rec store xs ls
@@ -216,7 +216,7 @@ cut {n = n} {side = side} (more {rec = rec} {store = store} {xs = xs} {ys = ys} 
     let o = dictate rec its xs′ ls in
     let whole = share-size rec its xs′ ls (k .size) in
     let rest : e ≡ placed side store (again o ys ms) =
-    rw (t .2, own-back n side h store size (o .store) whole, own-own n side h store size (o .store) whole) at (cut r) in
+    rw (t .2, own-back n side h store size (o .kept) whole, own-own n side h store size (o .kept) whole) at (cut r) in
     let joined = rejoin rec its xs′ ys ls ms (k .size) (omega (arith, t .0)) (omega (arith, t .0)) in
     let all-of : placed side store (then o (again o ys ms)) ≡ dictated side rec store (xs ++ ys) (ls ++ ms) =
     rw (← append-assoc (waitingIn (rec .waiting) its) xs ys) (ap (placed side store) (sym joined)) in

@@ -21,8 +21,8 @@ use Rattle.dictation.specs.Dictation.{Lent, Dictated, dictated}
 use Rattle.dictation.specs.Cutting.{Led, Cut}
 
 -- any record that passes with a piece unfinished says which frame of it is under way and how many samples waited, and no other two numbers fit it
-abbrev pub Numbered : Type 0
-Numbered =
+abbrev pub FrameKnown : Type 0
+FrameKnown =
     (rec : Record) → inRange rec ≡ true → (rec .piece ≡ 0 → ⊥)
     → let j = frameAt (rec .progress) in let w = waitedOf (rec .progress) in
     (1 ≤ j) × (j ≤ completes w (rec .piece)) × (w ≤ 479) × (w + rec .progress ≡ 480 * j)
@@ -43,23 +43,23 @@ Accepts =
     → handedIn n side rec store samples held .answer .reply ≡ Done
 
 -- a piece that is resumed to its end has as many frames as it completes; they fill its output from the front, and the places behind them stay
-abbrev pub Whole : Type 0
-Whole =
+abbrev pub FillsFront : Type 0
+FillsFront =
     (n side : ℕ) (rec : Record) (store samples held : List Float) (lent : List Lent) (d : Dictated)
     → Led n side samples (handedIn n side rec store samples held) held lent d
     → let e = dictated side rec store samples lent in
     (length lent ≡ completes (rec .waiting) (length samples)) × (length (e .out) ≡ 480 * length lent)
-    × (d ≡ record { rec = e .rec; store = e .store; told = e .told; out = over (from 0 (e .out)) held })
+    × (d ≡ record { rec = e .rec; kept = e .kept; told = e .told; out = over (from 0 (e .out)) held })
 
 -- to each frame 22 logarithms are lent, and a model that reads with the opening's counts
 abbrev pub Fitting : Record → List Lent → Type 0
 Fitting rec [] = Unit
 Fitting rec (l ∷ more) =
-    (length (l .logs) ≡ 22) × (checked (counted (rec .hearing)) (readOf (l .model)) ≡ Done) × Fitting rec more
+    ((sums : List Float) → length (l .logs sums) ≡ 22) × (checked (counted (rec .hearing)) (readOf (l .model)) ≡ Done) × Fitting rec more
 
 -- a piece that is accepted comes to its end: with the same samples and output, and what fits each frame, no resume is refused
-abbrev pub Completes : Type 0
-Completes =
+abbrev pub ComesToItsEnd : Type 0
+ComesToItsEnd =
     (n side : ℕ) (rec : Record) (store samples held : List Float) (lent : List Lent)
     → passed (handedIn n side rec store samples held .answer .reply) ≡ true
     → length lent ≡ completes (rec .waiting) (length samples) → Fitting rec lent
