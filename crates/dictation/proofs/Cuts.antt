@@ -24,7 +24,7 @@ use Rattle.pieces.proofs.Shares.{waiting-length, waits-length}
 use Rattle.desk.specs.declared.Record.{Record}
 use Rattle.desk.specs.Gate.{shareOf, gate}
 use Rattle.desk.specs.Desk.{piece, resume, holding, carried, Given, desk}
-use Rattle.dictation.specs.Dictation.{Lent, Dictated, dictate, dictated}
+use Rattle.dictation.specs.Dictation.{Lent, Told, Dictated, dictate, dictated}
 use Rattle.dictation.specs.Cutting.{Led, ended, paused, Cut, last, more, Cutting}
 use Rattle.dictation.specs.Resuming.{handedIn, FillsFront}
 use Rattle.desk.proofs.Turned.{through}
@@ -44,11 +44,11 @@ from-place k side store d held =
     record { rec = d .rec; kept = put (shareOf side) store (d .kept); told = d .told; out = over (from k (d .out)) held }
 
 -- what is written behind a frame, and the frame
-in-front : (told : List Float × Reply × Record) (k side : ℕ) (store ys held held′ : List Float) (d : Dictated) → length ys ≡ 480 → k ≤ length held → held ≡ held′
+in-front : (told : Told) (k side : ℕ) (store ys held held′ : List Float) (d : Dictated) → length ys ≡ 480 → k ≤ length held → held ≡ held′
     → framed told [] (from-place (k + 480) side store d (over (from k ys) held)) ≡ from-place k side store (framed told ys d) held′
 in-front told k side store ys held held′ d full room e = rw (over-next k 480 ys (d .out) held full room, e)
 
-three : {a a′ : List Float} {b b′ : Reply} {c c′ : Record} → a ≡ a′ → b ≡ b′ → c ≡ c′ → _≡_ {A = List Float × Reply × Record} (a, b, c) (a′, b′, c′)
+three : {a a′ : List Float} {b b′ : Reply} {c c′ : Record} → a ≡ a′ → b ≡ b′ → c ≡ c′ → _≡_ {A = Told} (a, b, c) (a′, b′, c′)
 three p q r = rw (p, q, r)
 
 -- of the two buffers the first
@@ -133,7 +133,7 @@ module _ (n side : ℕ) (h : side < n) (store : List Float) (size : length store
       let behind = ih .2 ∙ ap (λ (j : ℕ). from-place j side store d′ (over (from (place progress) (buffer y)) out)) further in (
         omega (arith, ih .0, length-drop 480 rest, enough),
         ap (λ (x : Dictated). length (x .out)) more ∙ filled,
-        ap₂ (λ (t : List Float × Reply × Record) (x : Dictated). framed t [] x) (three (sym summed) said noted) behind
+        ap₂ (λ (t : Told) (x : Dictated). framed t [] x) (three (sym summed) said noted) behind
             ∙ in-front (toldThere rec share rest l) (place progress) side store (buffer y) out (over w held) d′ full (omega arith) (sym lent)
             ∙ ap (λ (x : Dictated). from-place (place progress) side store x (over w held)) (sym more),
       )

@@ -7,7 +7,6 @@ use lib.ListN.{length, take, drop, length-drop}
 use lib.Seq.{take-append-le, drop-append-le}
 use lib.Ieee.{Float}
 use Rattle.rules.specs.Place.{get, put}
-use Rattle.frame.specs.declared.Reply.{Reply}
 use Rattle.frame.specs.Frame.{Effect}
 use Rattle.frame.specs.Share.{SHARE, PART}
 use Rattle.halves.specs.Halves.{buffer, firstHalf, secondHalf}
@@ -16,7 +15,7 @@ use Rattle.pieces.proofs.Halved.{first-length, second-length}
 use Rattle.pieces.proofs.Shares.{part-length, waits-length, waits-waits, frame-waits, waiting-back, frame-length, waits-frame}
 use Rattle.desk.specs.declared.Record.{Record}
 use Rattle.desk.specs.Desk.{holding, advanced, numbered}
-use Rattle.dictation.specs.Dictation.{Lent, Dictated, dictate}
+use Rattle.dictation.specs.Dictation.{Lent, Told, Dictated, dictate}
 
 -- ---- one frame: its halves, and the share and the record behind it
 
@@ -48,11 +47,11 @@ module _ (rec : Record) (share xs : List Float) (l : Lent) where
     after-length = frame-length share k (second .share) second-part
 
   -- what it tells
-  abbrev pub toldThere : List Float × Reply × Record
+  abbrev pub toldThere : Told
   toldThere = (buffer first, second .reply, recAfter)
 
 -- d with one frame in front, which told this and filled these
-abbrev pub framed : List Float × Reply × Record → List Float → Dictated → Dictated
+abbrev pub framed : Told → List Float → Dictated → Dictated
 framed told ys d = record { rec = d .rec; kept = d .kept; told = told ∷ d .told; out = ys ++ d .out }
 
 pub dictate-more : (rec : Record) (share xs : List Float) (l : Lent) (more : List Lent)

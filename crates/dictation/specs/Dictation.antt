@@ -16,11 +16,15 @@ pub record Lent : Type 0 where
   pub logs : List Float → List Float
   pub model : List ℕ
 
--- the record at the end, and the share or the store that is kept; of each frame its sums, its reply and the record behind it; and the output
+-- what is told of a frame: its sums, its reply and the record behind it
+abbrev pub Told : Type 0
+Told = List Float × Reply × Record
+
+-- the record at the end, and the share or the store that is kept; what is told of each frame; and the output
 pub record Dictated : Type 0 where
   pub rec : Record
   pub kept : List Float
-  pub told : List (List Float × Reply × Record)
+  pub told : List Told
   pub out : List Float
 
 -- over one share, as many frames as are lent to: call 3 is due behind a first half, and a second half moves the record on
