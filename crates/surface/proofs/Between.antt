@@ -9,8 +9,8 @@ use native.Mathlib.Omega.{arith}
 use mathlib.Core.Bool.{Bool, true, false, cond, _&&_}
 use mathlib.Core.List.{List, [], _∷_, _++_, map, append-assoc}
 use mathlib.Core.Path.{_≡_, refl, sym, ap, ap₂, _∙_}
-use borrow.Author.Tests.{eqb-true, eqb-false, ltb-true, ltb-false, not-false}
-use lib.Dec.{eqb, ltb, leb}
+use borrow.Author.Tests.{eqb-true, eqb-false, not-false}
+use lib.Dec.{eqb, leb}
 use lib.ListN.{length, getD, drop, length-drop, length-map}
 use lib.Seq.{drop-drop, drop-append-add}
 use lib.Ieee.{Float}
@@ -28,7 +28,7 @@ use Rattle.pieces.specs.Pieces.{waitingIn, waits}
 use Rattle.pieces.proofs.Shares.{waiting-length, waits-length}
 use Rattle.desk.specs.declared.Record.{Record}
 use Rattle.desk.specs.Gate.{PIECE, shareOf, gate, isDue, inRange, inPieces, underWay}
-use Rattle.desk.specs.Desk.{Ask, piece, resume, holding, Given, desk}
+use Rattle.desk.specs.Desk.{Ask, piece, resume, Given, desk}
 use Rattle.desk.specs.Surface.{heardOf, besides, hosted}
 use Rattle.desk.proofs.Apart.{placed, its-own, own-share, other-share, same-length}
 use Rattle.desk.proofs.Ranged.{open-range}
@@ -36,8 +36,9 @@ use Rattle.desk.proofs.Settled.{refused-keeps}
 use Rattle.desk.proofs.Turned.{none}
 use Rattle.dictation.specs.Dictation.{Lent, Told, Dictated, dictate}
 use Rattle.dictation.proofs.Joins.{first, second, shareAfter, recAfter, dictate-more, dictate-none, after-length, share-size, washed, then, again, rejoin}
-use Rattle.dictation.proofs.Taken.{onward, ends, pauses, piece-passed, resume-passed}
+use Rattle.dictation.proofs.Taken.{onward, ends, pauses, piece-passed}
 use Rattle.dictation.proofs.Follows.{place, following, follows}
+use Rattle.dictation.proofs.Cuts.{short, long}
 use Rattle.whole.specs.Taking.{answersOf}
 use Rattle.isolation.specs.Run.{On, State, recordAt, given, after, ended, done, desks, expand}
 use Rattle.isolation.proofs.Runs.{record-after, store-after}
@@ -170,30 +171,6 @@ module _ (n s : ℕ) (h : s < n) where
 -- ---- the resumes of a piece
 
 module _ (store : List Float) (size : length store ≡ 1 * SHARE) (samples : List Float) (some : 1 ≤ length samples) (room : ℕ) where
-  module _ (o : Given) (rec : Record) (reply : Reply) (share rest : List Float) (progress : ℕ) (w : Written)
-      (e : o ≡ onward 0 store rec reply share rest (length samples) progress w) where
-    short : o .answer .rec .piece ≡ 0 → length rest < 480
-    short z = go (ltb (length rest) 480) refl
-      where
-        go : (t : Bool) → ltb (length rest) 480 ≡ t → length rest < 480
-        go true f = ltb-true (length rest) 480 f
-        go false f =
-            let q = e ∙ pauses 0 store rec reply share rest (length samples) progress w (ltb-false (length rest) 480 f) in
-            let z′ : length samples ≡ 0 = rw q at z in
-            absurd (omega arith)
-
-    long : (logs : List Float) (model : List ℕ) → passed (desk 1 0 (o .answer .rec) (o .store) (resume samples logs model room 22) .answer .reply) ≡ true
-        → 480 ≤ length rest
-    long logs model p = go (ltb (length rest) 480) refl
-      where
-        go : (t : Bool) → ltb (length rest) 480 ≡ t → 480 ≤ length rest
-        go false f = ltb-false (length rest) 480 f
-        go true f =
-            let there = put (shareOf 0) store (waits share rest) in
-            let q = e ∙ ends 0 store rec reply share rest (length samples) progress w (ltb-true (length rest) 480 f) in
-            let t = resume-passed 1 0 (holding 1 rec (length rest) 0 0) there samples logs model room 22 (rw q at p) in
-            absurd (omega (arith, t .1 .begun))
-
   -- a row of calls is this dictation, with its share in a store; the sums of its first frame stand in what was given before, with what is told besides
   record Dictates (o : Given) (us : List Written) (gs : List (List Float × List ℕ)) (rest : List Float) (d : Dictated) : Type 0 where
     rec : left (o .answer .rec) (o .store) (resumes samples room gs) .rec ≡ d .rec
@@ -211,7 +188,7 @@ module _ (store : List Float) (size : length store ≡ 1 * SHARE) (samples : Lis
   unfolding left AllDone written
   resumed [] o us rec reply share rest progress k ys e full same begun all z =
       let w = from k ys in
-      let little = short o rec reply share rest progress w e z in
+      let little = short 1 0 store samples some o rec reply share rest progress w e z in
       let q = e ∙ ends 0 store rec reply share rest (length samples) progress w little in
       let none = dictate-none rec share rest in
       record {
@@ -225,7 +202,7 @@ module _ (store : List Float) (size : length store ≡ 1 * SHARE) (samples : Lis
   resumed (g ∷ more) o us rec reply share rest progress k ys e full same begun all z =
       let w = from k ys in
       let l = asGiven g in
-      let enough = long o rec reply share rest progress w e (g .0) (g .1) (all .0) in
+      let enough = long 1 0 store samples some o rec reply share rest progress w e (g .0) (g .1) room (all .0) in
       let q = e ∙ pauses 0 store rec reply share rest (length samples) progress w enough in
       let a = resume samples (g .0) (g .1) room 22 in
       let there = desk 1 0 (o .answer .rec) (o .store) a in

@@ -38,12 +38,13 @@ use Rattle.desk.specs.Gate.{PIECE, RESUME, shareOf, isDue, gate}
 use Rattle.desk.specs.Desk.{piece, resume, holding, carried, Given, desk}
 use Rattle.desk.specs.Surface.{heardOf}
 use Rattle.desk.proofs.Turned.{none, through}
-use Rattle.dictation.specs.Dictation.{Lent, Dictated}
-use Rattle.dictation.specs.Cutting.{Led, ended, paused}
-use Rattle.dictation.specs.Resuming.{handedIn, Fitting}
+use Rattle.dictation.specs.Dictation.{Dictated}
+use Rattle.dictation.specs.Cutting.{handedIn, outOf, sumsIn, Led, ended, paused}
+use Rattle.dictation.specs.Resuming.{Fitting}
+use Rattle.dictation.proofs.Cuts.{passes}
 use Rattle.dictation.proofs.Resumes.{comes-to-its-end}
 use Rattle.dictation.proofs.Taken.{let-through, onward, half-passes, piece-passed, resume-passed}
-use Rattle.whole.specs.Whole.{Taking, takeFrames, takeBegins, sumsIn}
+use Rattle.whole.specs.Whole.{Taking, takeFrames, takeBegins}
 use Rattle.whole.specs.Parts.{Midway, behind, three, stepsOf}
 use Rattle.whole.specs.Taking.{ourLent, lentToEach, answersOf}
 use Rattle.whole.proofs.Accepted.{good-both, logs-length, Take, fits-sizes}
@@ -77,6 +78,9 @@ writes-onward side store rec reply share rest size progress w = go (ltb (length 
     go false = record { sums = all (buffer (firstHalf (get framePart share) (rec .hearing .way) (take 480 rest) 22)); writes = refl; pauses = λ h. (refl, refl) }
 
 module _ {w : Written} {progress : ℕ} {o : Given} (k : Onward w progress o) where
+  out-is : (held : List Float) → outOf o held ≡ over w held
+  out-is held = ap (λ (ws : List Written). over (getD ws 0 nothing) held) (k .writes)
+
   first-is : (held kept : List Float) → getD (onto (o .written) (held ∷ kept ∷ [])) 0 [] ≡ over w held
   first-is held kept = ap (λ (ws : List Written). getD (onto ws (held ∷ kept ∷ [])) 0 []) (k .writes)
 
@@ -90,11 +94,6 @@ module _ {w : Written} {progress : ℕ} {o : Given} (k : Onward w progress o) wh
 unfinished : (n side : ℕ) (rec : Record) (len : ℕ) → gate n side rec len RESUME ≡ 0 → rec .piece ≡ 0 → ⊥
 unfolding isDue
 unfinished n side rec len e = eqb-false (rec .piece) 0 (not-true _ (not-false _ (none n side rec len RESUME e .1 .1 .1 .1 .0)))
-
-led-passed : {n side : ℕ} {samples : List Float} {o : Given} {held : List Float} {ls : List Lent} {d : Dictated}
-    → Led n side samples o held ls d → passed (o .answer .reply) ≡ true
-led-passed (ended before p w e) = p
-led-passed (paused before p w q r) = p
 
 three-long : (r : Reply) → length (heardOf r) ≡ 3
 three-long Done = refl
@@ -125,9 +124,8 @@ module _ (n side : ℕ) (rec : Record) (store samples : List Float) (model : Lis
     stores : (at j .store ≡ o .store) × (mid j .store ≡ o .store)
     sums : at j .sums ≡ sumsIn o
     lent : Unfinished o → mid j .sums ≡ sumsIn o
-    wrote : Unfinished o → (held kept : List Float) → getD (onto (o .written) (held ∷ kept ∷ [])) 1 [] ≡ sumsIn o
     progress : Unfinished o → o .answer .rec .progress + rec .waiting ≡ 480 * j + 480
-    here : (kept : List Float) → getD (onto (o .written) (was ∷ kept ∷ [])) 0 [] ≡ mid j .out
+    here : outOf o was ≡ mid j .out
     out : mid j .out ≡ over (from 0 (at j .out)) held
     filled : length (at j .out) ≡ 480 * j
     told : mid j .answers ≡ over (from 0 (at j .answers)) answers
@@ -143,9 +141,8 @@ module _ (n side : ℕ) (rec : Record) (store samples : List Float) (model : Lis
         stores = (refl, refl);
         sums = refl;
         lent = λ h. sums-are k h held (zeros 22);
-        wrote = λ h. sums-are k h;
         progress = λ h. omega (arith, k .pauses h .1);
-        here = λ kept. first-is k held kept ∙ sym (first-is k held (zeros 22));
+        here = out-is k held ∙ sym (first-is k held (zeros 22));
         out = first-is k held (zeros 22);
         filled = refl;
         told = sym (over-none 0 answers);
@@ -179,18 +176,18 @@ module _ (n side : ℕ) (rec : Record) (store samples : List Float) (model : Lis
       rw (a .recs .1, a .stores .1, a .lent begun, ← a .sums, size) (sym q) in
       let given : firstIn (next .written) ≡ ys = ap firstIn (k .writes) in
       let more : at (suc j) .out ≡ at j .out ++ ys = ap (λ (g : Given). at j .out ++ firstIn (g .written)) call ∙ ap (λ (x : List Float). at j .out ++ x) given in
+      let stands : mid (suc j) .out ≡ over (from (480 * j) ys) (mid j .out) =
+      ap (λ (g : Given). getD (onto (g .written) (mid j .out ∷ mid j .sums ∷ [])) 0 []) call′ ∙ first-is k (mid j .out) (mid j .sums) in
       let heard : at (suc j) .answers ≡ at j .answers ++ heardOf r = heard-more j next call in
       record {
         recs = (ap (λ (g : Given). g .answer .rec) call, ap (λ (g : Given). g .answer .rec) call′);
         stores = (ap (λ (g : Given). g .store) call, ap (λ (g : Given). g .store) call′);
         sums = ap sumsIn call;
         lent = λ h. ap (λ (g : Given). getD (onto (g .written) (mid j .out ∷ mid j .sums ∷ [])) 1 []) call′ ∙ sums-are k h (mid j .out) (mid j .sums);
-        wrote = λ h. sums-are k h;
         progress = λ h. omega (arith, k .pauses h .1, a .progress begun);
-        here = λ kept. first-is k (mid j .out) kept ∙ sym (first-is k (mid j .out) (mid j .sums)) ∙ sym (ap (λ (g : Given). getD (onto (g .written) (mid j .out ∷ mid j .sums ∷ [])) 0 []) call′);
+        here = out-is k (mid j .out) ∙ sym stands;
         out =
-            ap (λ (g : Given). getD (onto (g .written) (mid j .out ∷ mid j .sums ∷ [])) 0 []) call′
-            ∙ first-is k (mid j .out) (mid j .sums)
+            stands
             ∙ ap (over (from (480 * j) ys)) (a .out)
             ∙ further-on (480 * j) (at j .out) ys held (a .filled)
             ∙ ap (λ (x : List Float). over (from 0 x) held) (sym more);
@@ -231,7 +228,7 @@ module _ (n side : ℕ) (rec : Record) (store samples : List Float) (model : Lis
 
   follow : (m : ℕ) {o : Given} {was : List Float} {d : Dictated} → Led n side samples o was (replicate m (ourLent model)) d → (j e : ℕ) → Alike j o was
       → rec .waiting ≤ 479 → 480 * j + 480 * m ≤ length held → 3 * j + 3 * m ≤ length answers → j + m ≡ e → Followed j e d
-  follow zero (ended {o} {held = was} before p w z) j e a few room places last =
+  follow zero (ended {o} {held = was} p z) j e a few room places last =
       let same : j ≡ e = omega arith in
       rw (← same)
       (record {
@@ -240,22 +237,17 @@ module _ (n side : ℕ) (rec : Record) (store samples : List Float) (model : Lis
         alike = a;
         recs = refl;
         stores = refl;
-        outs = sym (a .here before) ∙ ap (λ (l : List (List Float)). getD l 0 []) w;
+        outs = sym (a .here);
         answered = sym (append-nil (at j .answers));
         done = λ i low high. absurd (omega arith);
       })
-  follow (suc m) (paused {o} {next} {held = was} {out = to} {sums = sent} {d = d} before p w q rest) j e a few room places last =
-      let stands : to ≡ mid j .out = sym (ap (λ (x : List (List Float)). getD x 0 []) w) ∙ a .here before in
+  follow (suc m) (paused {o} {next} {held = was} {d = d} p q rest) j e a few room places last =
+      let to = outOf o was in
       let size : length to ≡ length held =
-      ap length (stands ∙ a .out) ∙ length-put (record { at = 0; size = length (at j .out) }) held (at j .out) (omega (arith, a .filled)) refl in
-      let passes = led-passed rest in
-      let resumed =
-      resume-passed n side (o .answer .rec) (o .store) samples (logsOf sent) model (length to) 22 (ap (λ (g : Given). passed (g .answer .reply)) (sym q) ∙ passes) in
-      let begun = unfinished n side (o .answer .rec) (length (o .store)) (resumed .0) in
-      let sums : sent ≡ at j .sums = sym (ap (λ (x : List (List Float)). getD x 1 []) w) ∙ a .wrote begun was before ∙ sym (a .sums) in
-      let call : next ≡ desk n side (o .answer .rec) (o .store) (resume samples (logsOf (at j .sums)) model (length held) 22) = rw (sums, size) at q in
+      ap length (a .here ∙ a .out) ∙ length-put (record { at = 0; size = length (at j .out) }) held (at j .out) (omega (arith, a .filled)) refl in
+      let call : next ≡ desk n side (o .answer .rec) (o .store) (resume samples (logsOf (at j .sums)) model (length held) 22) = rw (← a .sums, size) at q in
       let there : desk n side (at j .rec) (at j .store) (resume samples (logsOf (at j .sums)) model (length held) 22) ≡ next = rw (a .recs .0, a .stores .0) (sym call) in
-      let b : Alike (suc j) next to = rw stands (goes-on j o next a call passes few (omega arith) (omega arith)) in
+      let b : Alike (suc j) next to = rw (a .here) (goes-on j o next a call (passes rest) few (omega arith) (omega arith)) in
       let f = follow m rest (suc j) e b few (omega arith) (omega arith) (omega arith) in
       record {
         last = f .last;
@@ -268,7 +260,7 @@ module _ (n side : ℕ) (rec : Record) (store samples : List Float) (model : Lis
             f .answered
             ∙ ap (λ (x : List Float). x ++ answersOf (d .told)) (heard-more j next there)
             ∙ append-assoc (at j .answers) (heardOf (next .answer .reply)) (answersOf (d .told));
-        done = from-first j e (ap (λ (g : Given). passed (g .answer .reply)) there ∙ passes) (f .done);
+        done = from-first j e (ap (λ (g : Given). passed (g .answer .reply)) there ∙ passes rest) (f .done);
       }
 
 -- what the take lends fits each frame

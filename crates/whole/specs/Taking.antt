@@ -13,8 +13,7 @@ use Rattle.pieces.specs.Pieces.{completes}
 use Rattle.desk.specs.declared.Record.{Record}
 use Rattle.desk.specs.Surface.{heardOf}
 use Rattle.dictation.specs.Dictation.{Lent, Told, Dictated, dictated}
-use Rattle.dictation.specs.Cutting.{Led}
-use Rattle.dictation.specs.Resuming.{handedIn}
+use Rattle.dictation.specs.Cutting.{handedIn, Led}
 use Rattle.whole.specs.Whole.{takeReply, take}
 
 -- to a frame our logarithms of its sums are lent, and this model

@@ -4,12 +4,12 @@ use Prim.Native.Nat.{ℕ, _*_}
 use mathlib.Core.Bool.{cond, not}
 use mathlib.Core.List.{List, [], _∷_, _++_}
 use lib.Dec.{eqb, leb}
-use lib.ListN.{length, getD}
+use lib.ListN.{length}
 use lib.Ieee.{Float}
 use Rattle.rules.specs.Loop.{loop}
 use Rattle.rules.specs.Place.{get}
 use Rattle.rules.specs.Refusals.{Row, _when_, refusing, wrong}
-use Rattle.rules.specs.Written.{from, nothing, numbersIn, firstIn}
+use Rattle.rules.specs.Written.{from, firstIn}
 use Rattle.samples.specs.Samples.{good}
 use Rattle.logs.specs.Log10.{logsOf}
 use Rattle.frame.specs.Reply.{passed}
@@ -20,6 +20,7 @@ use Rattle.desk.specs.declared.Record.{Record}
 use Rattle.desk.specs.Gate.{PIECE, gate, shareOf}
 use Rattle.desk.specs.Desk.{firstHalf, secondHalf, piece, resume, Given, desk}
 use Rattle.desk.specs.Surface.{heardOf}
+use Rattle.dictation.specs.Cutting.{sumsIn}
 
 abbrev pub unchanged : Record → List Float → Reply → Given
 unchanged rec store reply = record { answer = record { reply = reply; rec = rec }; store = store; written = [] }
@@ -60,10 +61,6 @@ unfoldable pub takeReply : ℕ → ℕ → Record → List Float → List Float 
 takeReply n side rec store samples model out answers =
     tested (gate n side rec (length store) PIECE) rec (takeRows rec (length samples) out answers) model
     (waitingIn (rec .waiting) (get (shareOf side) store) ++ samples)
-
--- a piece and a resume write to two buffers, the output and the sums of the frame that is then under way
-abbrev pub sumsIn : Given → List Float
-sumsIn o = numbersIn (getD (o .written) 1 nothing)
 
 -- how far it came: the record, the store and the sums of the frame under way; and what is handed out so far, the samples of the frames and their answers
 pub record Taking : Type 0 where
