@@ -18,16 +18,12 @@ use lib.Ieee.{Float, nan, eq}
 use Rattle.rules.specs.F32.{f32, at, natAt}
 use Rattle.rules.specs.Tab.{tab}
 use Rattle.rules.proofs.Tabs.{length-tab, tab-same}
-use Rattle.frame.specs.declared.Reply.{Reply}
-use Rattle.frame.specs.declared.Reply.the-variants.{Done, Silent, Heard, Numbered, Refused, Misread}
 use Rattle.frame.specs.Reply.{oneMore}
 use Rattle.halves.proofs.Cases.{second-half-by}
 use Rattle.desk.specs.declared.Record.{Record}
 use Rattle.desk.specs.Desk.{nextFrame}
-use Rattle.desk.specs.Surface.{heardOf}
-use Rattle.dictation.specs.Dictation.{Lent, Told, dictate}
-use Rattle.dictation.proofs.Joins.{first, lentTo, second, recAfter, shareAfter}
-use Rattle.whole.specs.Taking.{answersOf}
+use Rattle.dictation.specs.Dictation.{Lent, dictate}
+use Rattle.dictation.proofs.Joins.{first, itsLogs, second, recAfter, shareAfter}
 use Rattle.pcm.specs.Pcm.{width, numberAt, placeOf, unpacked, byteOf, nearest16, packed, UnpackFits}
 use Rattle.pcm.proofs.Channels.{own-channel}
 use Rattle.pcm.proofs.Patterns.{room}
@@ -78,18 +74,6 @@ entries-both frame next p q xs ys l k number =
     behind j =
         let place : 3 * (p + j) ≡ length xs + 3 * j = omega (arith, l) in
         ap₂ (λ (n : ℕ) (x : Float). n + cond (eq x (f32 0)) 0 4294967296) (number j) (ap (at (xs ++ ys)) place ∙ getD-append-add xs ys (3 * j) nan)
-
-three : (r : Reply) → length (heardOf r) ≡ 3
-three Done = refl
-three Silent = refl
-three (Heard v e) = refl
-three (Numbered f h) = refl
-three (Refused n) = refl
-three (Misread n l) = refl
-
-pub answers-length : (told : List Told) → length (answersOf told) ≡ 3 * length told
-answers-length [] = refl
-answers-length (f ∷ fs) = omega (arith, length-append (heardOf (f .1)) (answersOf fs), three (f .1), answers-length fs)
 
 -- ---- bytes in a row, as samples
 
@@ -144,7 +128,7 @@ samples-both xs ys format channels channel p q =
 -- a second half is no numbering
 unnumbered : (frame : ℕ) (rec : Record) (share xs : List Float) (l : Lent) → nextFrame frame (second rec share xs l .reply) ≡ frame
 unnumbered frame rec share xs l =
-    second-half-by (first rec share xs l .share) (λ f. nextFrame frame (f .reply) ≡ frame) (λ _. refl) (rec .hearing) (lentTo rec share xs l) (l .model) 480
+    second-half-by (first rec share xs l .share) (λ f. nextFrame frame (f .reply) ≡ frame) (λ _. refl) (rec .hearing) (itsLogs rec share xs l) (l .model) 480
     (λ _ _ _. refl) (λ _. refl) (λ _ _ _ _ _. refl)
 
 one-more : (n : ℕ) → n < 4294967296 → oneMore n ≡ (n + 1) % 4294967296

@@ -12,11 +12,10 @@ use Rattle.rules.specs.Place.{get}
 use Rattle.rules.specs.Refusals.{refusing}
 use Rattle.rules.specs.Written.{firstIn}
 use Rattle.frame.specs.Share.{SHARE}
-use Rattle.pieces.specs.Pieces.{waitingIn}
 use Rattle.desk.specs.declared.Record.{Record}
 use Rattle.desk.specs.Gate.{BENCHES, PIECE, gate, shareOf}
 use Rattle.whole.specs.Taking.{lentToEach, answersOf}
-use Rattle.dictation.specs.Dictation.{Dictated, dictate}
+use Rattle.dictation.specs.Dictation.{Dictated, dictatedOn}
 use Rattle.isolation.specs.Run.{Returned, On, State, recordAt, ended, received, done, Made, Expands}
 use Rattle.isolation.specs.Memory.{Counts}
 use Rattle.surface.specs.Surface.{take, madeOf}
@@ -74,9 +73,9 @@ hasOf n s st calls =
 
 -- ---- and what a dictation gives
 
--- the samples stand behind those that wait, and each frame is lent our logarithms of its sums, and the one model
+-- each frame is lent our logarithms of its sums, and the one model
 abbrev pub said : Record → List Float → List Float → List ℕ → Dictated
-said rec share samples model = dictate rec share (waitingIn (rec .waiting) share ++ samples) (lentToEach rec samples model)
+said rec share samples model = dictatedOn rec share samples (lentToEach rec samples model)
 
 abbrev pub hasSaid : Record → List Float → List Float → List ℕ → Has
 hasSaid rec share samples model =

@@ -182,7 +182,7 @@ fills-front n side rec store samples held lent d led = whole-piece n side rec st
 -- ---- a row of pieces
 
 -- of the output that a piece leaves, what its frames filled
-filled : (m : ℕ) (ys held : List Float) → length ys ≡ m → take m (over (from 0 ys) held) ≡ ys
+pub filled : (m : ℕ) (ys held : List Float) → length ys ≡ m → take m (over (from 0 ys) held) ≡ ys
 unfolding put
 filled m ys held e = take-at ys (drop (length ys) held) m e
 

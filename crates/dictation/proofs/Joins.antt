@@ -10,12 +10,12 @@ use Rattle.rules.specs.Place.{get, put}
 use Rattle.frame.specs.Frame.{Effect}
 use Rattle.frame.specs.Share.{SHARE, PART}
 use Rattle.halves.specs.Halves.{buffer, firstHalf, secondHalf}
-use Rattle.pieces.specs.Pieces.{framePart, waitingIn, waits}
+use Rattle.pieces.specs.Pieces.{framePart, waits}
 use Rattle.pieces.proofs.Halved.{first-length, second-length}
 use Rattle.pieces.proofs.Shares.{part-length, waits-length, waits-waits, frame-waits, waiting-back, frame-length, waits-frame}
 use Rattle.desk.specs.declared.Record.{Record}
 use Rattle.desk.specs.Desk.{holding, advanced, numbered}
-use Rattle.dictation.specs.Dictation.{Lent, Told, Dictated, dictate}
+use Rattle.dictation.specs.Dictation.{Lent, Told, Dictated, dictate, dictatedOn}
 
 -- ---- one frame: its halves, and the share and the record behind it
 
@@ -24,11 +24,11 @@ module _ (rec : Record) (share xs : List Float) (l : Lent) where
   first = firstHalf (get framePart share) (rec .hearing .way) (take 480 xs) 22
 
   -- the logarithms that it is lent
-  abbrev pub lentTo : List Float
-  lentTo = l .logs (buffer first)
+  abbrev pub itsLogs : List Float
+  itsLogs = l .logs (buffer first)
 
   abbrev pub second : Effect
-  second = secondHalf (first .share) (rec .hearing) lentTo (l .model) 480
+  second = secondHalf (first .share) (rec .hearing) itsLogs (l .model) 480
 
   abbrev pub shareAfter : List Float
   shareAfter = put framePart share (second .share)
@@ -41,7 +41,7 @@ module _ (rec : Record) (share xs : List Float) (l : Lent) where
     first-part = first-length (get framePart share) (rec .hearing .way) (take 480 xs) 22 (part-length share k)
 
     pub second-part : length (second .share) ≡ PART
-    second-part = second-length (first .share) (rec .hearing) lentTo (l .model) 480 first-part
+    second-part = second-length (first .share) (rec .hearing) itsLogs (l .model) 480 first-part
 
     pub after-length : length shareAfter ≡ SHARE
     after-length = frame-length share k (second .share) second-part
@@ -93,7 +93,7 @@ then d e = record { rec = e .rec; kept = e .kept; told = d .told ++ e .told; out
 
 -- one that goes on where d ended
 abbrev pub again : Dictated → List Float → List Lent → Dictated
-again d ys ms = dictate (d .rec) (d .kept) (waitingIn (d .rec .waiting) (d .kept) ++ ys) ms
+again d ys ms = dictatedOn (d .rec) (d .kept) ys ms
 
 -- what waits and which call is due are no part of what a dictation starts from
 rested : (rec : Record) (share xs : List Float) (w : ℕ) (lent : List Lent) → dictate (holding 1 rec w 0 0) share xs lent ≡ dictate rec share xs lent

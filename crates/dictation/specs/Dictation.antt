@@ -37,8 +37,12 @@ dictate rec share xs (l ∷ more) =
     let d = dictate after (put framePart share (s .share)) (drop 480 xs) more in
     record { rec = d .rec; kept = d .kept; told = (buffer f, s .reply, after) ∷ d .told; out = buffer s ++ d .out }
 
--- on a side of a store: the samples that wait, and these behind them
+-- the samples that wait in a share, and these behind them
+abbrev pub dictatedOn : Record → List Float → List Float → List Lent → Dictated
+dictatedOn rec share samples lent = dictate rec share (waitingIn (rec .waiting) share ++ samples) lent
+
+-- and so on a side of a store
 abbrev pub dictated : ℕ → Record → List Float → List Float → List Lent → Dictated
 dictated side rec store samples lent =
-    let d = dictate rec (get (shareOf side) store) (waitingIn (rec .waiting) (get (shareOf side) store) ++ samples) lent in
+    let d = dictatedOn rec (get (shareOf side) store) samples lent in
     record { rec = d .rec; kept = put (shareOf side) store (d .kept); told = d .told; out = d .out }

@@ -34,12 +34,13 @@ use Rattle.desk.proofs.Apart.{placed, its-own, own-share, other-share, same-len
 use Rattle.desk.proofs.Ranged.{open-range}
 use Rattle.desk.proofs.Settled.{refused-keeps}
 use Rattle.desk.proofs.Turned.{none}
-use Rattle.dictation.specs.Dictation.{Lent, Told, Dictated, dictate}
+use Rattle.dictation.specs.Dictation.{Lent, Told, Dictated, dictate, dictatedOn}
 use Rattle.dictation.proofs.Joins.{first, second, shareAfter, recAfter, dictate-more, dictate-none, after-length, share-size, washed, then, again, rejoin}
 use Rattle.dictation.proofs.Taken.{onward, ends, pauses, piece-passed}
 use Rattle.dictation.proofs.Follows.{place, following, follows}
 use Rattle.dictation.proofs.Cuts.{short, long}
 use Rattle.whole.specs.Taking.{answersOf}
+use Rattle.whole.proofs.Dictations.{answers-both}
 use Rattle.isolation.specs.Run.{On, State, recordAt, given, after, ended, done, desks, expand}
 use Rattle.isolation.proofs.Runs.{record-after, store-after}
 use Rattle.surface.specs.Surface.{ask, surface, madeOf}
@@ -276,7 +277,7 @@ module _ (x : List Float) (room : ℕ) (gs : List (List Float × List ℕ)) (b :
       resumed xs (omega (arith, full)) x (k .some) room gs o [] b Done (waits share []) (ws ++ x) (480 - b .waiting) 0 []
       (t .2) (waits-length share (k .size) []) same (omega (arith, k .waits)) (all .1) z in
       let clean =
-      washed b share [] (ws ++ x) (map asGiven gs) (k .size) ∙ ap (λ (t : List Float). dictate b t (waitingIn (b .waiting) t ++ x) (map asGiven gs)) its in
+      washed b share [] (ws ++ x) (map asGiven gs) (k .size) ∙ ap (λ (t : List Float). dictatedOn b t x (map asGiven gs)) its in
       let behind : ℕ → List Float = λ i. written i (o .answer .rec) (o .store) (resumes x room gs) in (
         record {
           rec = r .rec ∙ ap (λ (d : Dictated). d .rec) clean;
@@ -299,12 +300,8 @@ sums-both : (fs gs : List Told) → sumsTold (fs ++ gs) ≡ sumsTold fs ++ sumsT
 sums-both [] gs = refl
 sums-both (f ∷ fs) gs = ap (λ (x : List Float). f .0 ++ x) (sums-both fs gs) ∙ sym (append-assoc (f .0) (sumsTold fs) (sumsTold gs))
 
-pub answers-both : (fs gs : List Told) → answersOf (fs ++ gs) ≡ answersOf fs ++ answersOf gs
-answers-both [] gs = refl
-answers-both (f ∷ fs) gs = ap (λ (x : List Float). heardOf (f .1) ++ x) (answers-both fs gs) ∙ sym (append-assoc (heardOf (f .1)) (answersOf fs) (answersOf gs))
-
 rows : {asks : List Ask} {ys : List Float} {ms : List Lent} → InARow asks ys ms → (b : Record) (xs : List Float) → length xs ≡ SHARE → AllDone b xs asks
-    → left b xs asks .rec .piece ≡ 0 → Is b xs asks (dictate b xs (waitingIn (b .waiting) xs ++ ys) ms)
+    → left b xs asks .rec .piece ≡ 0 → Is b xs asks (dictatedOn b xs ys ms)
 rows (lastPiece x room gs) b xs full all z = one-piece x room gs b xs full all z .0
 rows (morePieces x room gs {asks} {ys} {ms} r) b xs full all z =
     let s = split (piece x room 22 ∷ resumes x room gs) asks b xs all in
@@ -318,8 +315,8 @@ rows (morePieces x room gs {asks} {ys} {ms} r) b xs full all z =
     let more = again d ys ms in
     let ih =
     rows r (l .rec) (l .share) (ap length (k .share) ∙ share-size b xs these ls full) (s .behind) (ap (λ (q : Left). q .rec .piece) (sym (s .leads)) ∙ z) in
-    let on : dictate (l .rec) (l .share) (waitingIn (l .rec .waiting) (l .share) ++ ys) ms ≡ more = rw (k .rec, k .share) in
-    let joined : then d more ≡ dictate b xs (waitingIn (b .waiting) xs ++ (x ++ ys)) (ls ++ ms) =
+    let on : dictatedOn (l .rec) (l .share) ys ms ≡ more = rw (k .rec, k .share) in
+    let joined : then d more ≡ dictatedOn b xs (x ++ ys) (ls ++ ms) =
     sym (rejoin b xs these ys ls ms full (omega (arith, many, p .1)) (omega (arith, many, p .1)))
     ∙ ap (λ (t : List Float). dictate b xs t (ls ++ ms)) (append-assoc (waitingIn (b .waiting) xs) x ys) in
     record {

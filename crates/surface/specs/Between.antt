@@ -10,10 +10,9 @@ use lib.Ieee.{Float}
 use Rattle.rules.specs.Place.{get}
 use Rattle.rules.specs.Written.{Written, nothing, numbersIn}
 use Rattle.frame.specs.Share.{SHARE}
-use Rattle.pieces.specs.Pieces.{waitingIn}
 use Rattle.desk.specs.Gate.{shareOf}
 use Rattle.desk.specs.Desk.{Ask, piece, resume}
-use Rattle.dictation.specs.Dictation.{Lent, Told, dictate}
+use Rattle.dictation.specs.Dictation.{Lent, Told, dictatedOn}
 use Rattle.whole.specs.Taking.{answersOf}
 use Rattle.isolation.specs.Isolation.{own}
 use Rattle.isolation.specs.Run.{Kind, On, State, recordAt, given, after, ended, done, desks, expand}
@@ -57,8 +56,7 @@ Between n =
     → (calls : List (On Request)) (samples : List Float) (lent : List Lent)
     → let asks = expand surface madeOf n st calls in let end = ended surface n st calls in
     InARow (done desks n s st asks) samples lent → recordAt s end .piece ≡ 0
-    → let b = recordAt s st in let share = get (shareOf s) (st .store) in
-    let d = dictate b share (waitingIn (b .waiting) share ++ samples) lent in
+    → let d = dictatedOn (recordAt s st) (get (shareOf s) (st .store)) samples lent in
     (recordAt s end ≡ d .rec) × (get (shareOf s) (end .store) ≡ d .kept) × (inBuffer surface (λ _. 0) n s st calls ≡ d .out)
     × (inBuffer surface answersAt n s st calls ≡ answersOf (d .told)) × (inBuffer desks (λ _. 1) n s st asks ≡ sumsTold (d .told))
     × ((mine : List Ask) → own s calls ≡ map ask mine → inBuffer surface (λ _. 1) n s st calls ≡ sumsTold (d .told))

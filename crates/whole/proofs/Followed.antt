@@ -95,7 +95,7 @@ unfinished : (n side : ℕ) (rec : Record) (len : ℕ) → gate n side rec len R
 unfolding isDue
 unfinished n side rec len e = eqb-false (rec .piece) 0 (not-true _ (not-false _ (none n side rec len RESUME e .1 .1 .1 .1 .0)))
 
-three-long : (r : Reply) → length (heardOf r) ≡ 3
+pub three-long : (r : Reply) → length (heardOf r) ≡ 3
 three-long Done = refl
 three-long Silent = refl
 three-long (Heard v e) = refl
