@@ -24,7 +24,7 @@ use Rattle.desk.specs.declared.Record.{Record}
 use Rattle.desk.specs.Gate.{shareOf, gate}
 use Rattle.desk.specs.Desk.{resume, holding, Given, desk}
 use Rattle.dictation.specs.Dictation.{Lent}
-use Rattle.dictation.proofs.Joins.{first, second, shareAfter, recAfter, first-part}
+use Rattle.dictation.proofs.Joins.{first, itsLogs, second, shareAfter, recAfter, first-part}
 use Rattle.dictation.proofs.Taken.{let-through, onward, half-passes, goes, resumed-onward, resume-passed}
 
 -- where the frame under way is written
@@ -52,7 +52,7 @@ module _ (n side : ℕ) (h : side < n) (store : List Float) (size : length store
     storeHere = put (shareOf side) store shareHere
 
     abbrev pub following : Given
-    following = desk n side recHere storeHere (resume samples (l .logs) (l .model) room 22)
+    following = desk n side recHere storeHere (resume samples (itsLogs rec share rest l) (l .model) room 22)
 
     abbrev pub next : Given
     next =
@@ -73,23 +73,23 @@ module _ (n side : ℕ) (h : side < n) (store : List Float) (size : length store
 
     -- what is known of it, where it is not refused
     abbrev pub Known : Type 0
-    Known = Resume (get (shareOf side) storeHere) (rec .hearing) (length samples) progress samples (l .logs) (l .model) room 22
+    Known = Resume (get (shareOf side) storeHere) (rec .hearing) (length samples) progress samples (itsLogs rec share rest l) (l .model) room 22
 
     pub fits-in : Known → place progress + 480 ≤ room
     fits-in t = omega (arith, t .room, t .begun, t .within)
 
     pub halved : Known → Halved 480 (second rec share rest l)
-    halved t = rw (back, front) at (half-passes n side recHere storeHere samples (l .logs) (l .model) room 22 t)
+    halved t = rw (back, front) at (half-passes n side recHere storeHere samples (itsLogs rec share rest l) (l .model) room 22 t)
 
-    goes-on : goes n side recHere storeHere samples (l .logs) (l .model) room 22 ≡ next
+    goes-on : goes n side recHere storeHere samples (itsLogs rec share rest l) (l .model) room 22 ≡ next
     goes-on =
         rw (back, front, frame-frame share k (first rec share rest l .share) part (second rec share rest l .share), same, own-own shareHere here-length)
 
     pub follows : passed (following .answer .reply) ≡ true → Known × (following ≡ next)
-    follows p = let t = resume-passed n side recHere storeHere samples (l .logs) (l .model) room 22 p in (t .1, t .2 ∙ goes-on)
+    follows p = let t = resume-passed n side recHere storeHere samples (itsLogs rec share rest l) (l .model) room 22 p in (t .1, t .2 ∙ goes-on)
 
     pub admits : gate n side recHere (length storeHere) 6 ≡ 0 → Known → following ≡ next
     admits e t =
-        let-through n side recHere storeHere (resume samples (l .logs) (l .model) room 22) e
-        ∙ resumed-onward n side recHere storeHere samples (l .logs) (l .model) room 22 t
+        let-through n side recHere storeHere (resume samples (itsLogs rec share rest l) (l .model) room 22) e
+        ∙ resumed-onward n side recHere storeHere samples (itsLogs rec share rest l) (l .model) room 22 t
         ∙ goes-on

@@ -7,16 +7,15 @@ use lib.ListN.{length, take, drop, length-drop}
 use lib.Seq.{take-append-le, drop-append-le}
 use lib.Ieee.{Float}
 use Rattle.rules.specs.Place.{get, put}
-use Rattle.frame.specs.declared.Reply.{Reply}
 use Rattle.frame.specs.Frame.{Effect}
 use Rattle.frame.specs.Share.{SHARE, PART}
 use Rattle.halves.specs.Halves.{buffer, firstHalf, secondHalf}
-use Rattle.pieces.specs.Pieces.{framePart, waitingIn, waits}
+use Rattle.pieces.specs.Pieces.{framePart, waits}
 use Rattle.pieces.proofs.Halved.{first-length, second-length}
 use Rattle.pieces.proofs.Shares.{part-length, waits-length, waits-waits, frame-waits, waiting-back, frame-length, waits-frame}
 use Rattle.desk.specs.declared.Record.{Record}
 use Rattle.desk.specs.Desk.{holding, advanced, numbered}
-use Rattle.dictation.specs.Dictation.{Lent, Dictated, dictate}
+use Rattle.dictation.specs.Dictation.{Lent, Told, Dictated, dictate, dictatedOn}
 
 -- ---- one frame: its halves, and the share and the record behind it
 
@@ -24,8 +23,12 @@ module _ (rec : Record) (share xs : List Float) (l : Lent) where
   abbrev pub first : Effect
   first = firstHalf (get framePart share) (rec .hearing .way) (take 480 xs) 22
 
+  -- the logarithms that it is lent
+  abbrev pub itsLogs : List Float
+  itsLogs = l .logs (buffer first)
+
   abbrev pub second : Effect
-  second = secondHalf (first .share) (rec .hearing) (l .logs) (l .model) 480
+  second = secondHalf (first .share) (rec .hearing) itsLogs (l .model) 480
 
   abbrev pub shareAfter : List Float
   shareAfter = put framePart share (second .share)
@@ -38,18 +41,18 @@ module _ (rec : Record) (share xs : List Float) (l : Lent) where
     first-part = first-length (get framePart share) (rec .hearing .way) (take 480 xs) 22 (part-length share k)
 
     pub second-part : length (second .share) ≡ PART
-    second-part = second-length (first .share) (rec .hearing) (l .logs) (l .model) 480 first-part
+    second-part = second-length (first .share) (rec .hearing) itsLogs (l .model) 480 first-part
 
     pub after-length : length shareAfter ≡ SHARE
     after-length = frame-length share k (second .share) second-part
 
   -- what it tells
-  abbrev pub toldThere : List Float × Reply × Record
+  abbrev pub toldThere : Told
   toldThere = (buffer first, second .reply, recAfter)
 
 -- d with one frame in front, which told this and filled these
-abbrev pub framed : List Float × Reply × Record → List Float → Dictated → Dictated
-framed told ys d = record { rec = d .rec; store = d .store; told = told ∷ d .told; out = ys ++ d .out }
+abbrev pub framed : Told → List Float → Dictated → Dictated
+framed told ys d = record { rec = d .rec; kept = d .kept; told = told ∷ d .told; out = ys ++ d .out }
 
 pub dictate-more : (rec : Record) (share xs : List Float) (l : Lent) (more : List Lent)
     → dictate rec share xs (l ∷ more)
@@ -58,13 +61,13 @@ unfolding dictate
 dictate-more rec share xs l more = refl
 
 pub dictate-none : (rec : Record) (share xs : List Float)
-    → dictate rec share xs [] ≡ record { rec = holding 1 rec (length xs) 0 0; store = waits share xs; told = []; out = [] }
+    → dictate rec share xs [] ≡ record { rec = holding 1 rec (length xs) 0 0; kept = waits share xs; told = []; out = [] }
 unfolding dictate
 dictate-none rec share xs = refl
 
 -- ---- what a share is left with
 
-pub share-size : (rec : Record) (share xs : List Float) (lent : List Lent) → length share ≡ SHARE → length (dictate rec share xs lent .store) ≡ SHARE
+pub share-size : (rec : Record) (share xs : List Float) (lent : List Lent) → length share ≡ SHARE → length (dictate rec share xs lent .kept) ≡ SHARE
 unfolding dictate
 share-size rec share xs [] k = waits-length share k xs
 share-size rec share xs (l ∷ more) k = share-size (recAfter rec share xs l) (shareAfter rec share xs l) (drop 480 xs) more (after-length rec share xs l k)
@@ -86,11 +89,11 @@ washed rec share ws xs (l ∷ more) k =
 
 -- one dictation and then another
 abbrev pub then : Dictated → Dictated → Dictated
-then d e = record { rec = e .rec; store = e .store; told = d .told ++ e .told; out = d .out ++ e .out }
+then d e = record { rec = e .rec; kept = e .kept; told = d .told ++ e .told; out = d .out ++ e .out }
 
 -- one that goes on where d ended
 abbrev pub again : Dictated → List Float → List Lent → Dictated
-again d ys ms = dictate (d .rec) (d .store) (waitingIn (d .rec .waiting) (d .store) ++ ys) ms
+again d ys ms = dictatedOn (d .rec) (d .kept) ys ms
 
 -- what waits and which call is due are no part of what a dictation starts from
 rested : (rec : Record) (share xs : List Float) (w : ℕ) (lent : List Lent) → dictate (holding 1 rec w 0 0) share xs lent ≡ dictate rec share xs lent

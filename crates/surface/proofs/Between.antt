@@ -7,11 +7,11 @@
 use Prim.Native.Nat.{ℕ, _+_, _-_, _*_, _/_, _≤_, _<_}
 use native.Mathlib.Omega.{arith}
 use mathlib.Core.Bool.{Bool, true, false, cond, _&&_}
-use mathlib.Core.List.{List, [], _∷_, _++_, append-assoc}
+use mathlib.Core.List.{List, [], _∷_, _++_, map, append-assoc}
 use mathlib.Core.Path.{_≡_, refl, sym, ap, ap₂, _∙_}
-use borrow.Author.Tests.{eqb-true, eqb-false, ltb-true, ltb-false, not-false}
-use lib.Dec.{eqb, ltb, leb}
-use lib.ListN.{length, getD, drop, length-drop}
+use borrow.Author.Tests.{eqb-true, eqb-false, not-false}
+use lib.Dec.{eqb, leb}
+use lib.ListN.{length, getD, drop, length-drop, length-map}
 use lib.Seq.{drop-drop, drop-append-add}
 use lib.Ieee.{Float}
 use Rattle.rules.specs.Place.{get, put}
@@ -28,21 +28,23 @@ use Rattle.pieces.specs.Pieces.{waitingIn, waits}
 use Rattle.pieces.proofs.Shares.{waiting-length, waits-length}
 use Rattle.desk.specs.declared.Record.{Record}
 use Rattle.desk.specs.Gate.{PIECE, shareOf, gate, isDue, inRange, inPieces, underWay}
-use Rattle.desk.specs.Desk.{Ask, piece, resume, holding, Given, desk}
+use Rattle.desk.specs.Desk.{Ask, piece, resume, Given, desk}
 use Rattle.desk.specs.Surface.{heardOf, besides, hosted}
 use Rattle.desk.proofs.Apart.{placed, its-own, own-share, other-share, same-length}
 use Rattle.desk.proofs.Ranged.{open-range}
 use Rattle.desk.proofs.Settled.{refused-keeps}
 use Rattle.desk.proofs.Turned.{none}
-use Rattle.dictation.specs.Dictation.{Lent, Dictated, dictate}
+use Rattle.dictation.specs.Dictation.{Lent, Told, Dictated, dictate, dictatedOn}
 use Rattle.dictation.proofs.Joins.{first, second, shareAfter, recAfter, dictate-more, dictate-none, after-length, share-size, washed, then, again, rejoin}
-use Rattle.dictation.proofs.Taken.{onward, ends, pauses, piece-passed, resume-passed}
+use Rattle.dictation.proofs.Taken.{onward, ends, pauses, piece-passed}
 use Rattle.dictation.proofs.Follows.{place, following, follows}
-use Rattle.whole.specs.Taking.{Told, answersOf}
+use Rattle.dictation.proofs.Cuts.{short, long}
+use Rattle.whole.specs.Taking.{answersOf}
+use Rattle.whole.proofs.Dictations.{answers-both}
 use Rattle.isolation.specs.Run.{On, State, recordAt, given, after, ended, done, desks, expand}
 use Rattle.isolation.proofs.Runs.{record-after, store-after}
 use Rattle.surface.specs.Surface.{ask, surface, madeOf}
-use Rattle.surface.specs.Between.{resumes, InARow, lastPiece, morePieces, inBuffer, sumsTold, Between}
+use Rattle.surface.specs.Between.{asGiven, resumes, InARow, lastPiece, morePieces, inBuffer, sumsTold, Between}
 use Rattle.surface.proofs.Expanded.{expands}
 use Rattle.surface.proofs.Numbers.{zero-is-done}
 use Rattle.surface.proofs.Outputs.{column, wrote, first-written, piece-none, piece-unheard, resume-heard, row-hands, outputs-are, answers-are, sums-are}
@@ -170,82 +172,60 @@ module _ (n s : ℕ) (h : s < n) where
 -- ---- the resumes of a piece
 
 module _ (store : List Float) (size : length store ≡ 1 * SHARE) (samples : List Float) (some : 1 ≤ length samples) (room : ℕ) where
-  module _ (o : Given) (rec : Record) (reply : Reply) (share rest : List Float) (progress : ℕ) (w : Written)
-      (e : o ≡ onward 0 store rec reply share rest (length samples) progress w) where
-    short : o .answer .rec .piece ≡ 0 → length rest < 480
-    short z = go (ltb (length rest) 480) refl
-      where
-        go : (t : Bool) → ltb (length rest) 480 ≡ t → length rest < 480
-        go true f = ltb-true (length rest) 480 f
-        go false f =
-            let q = e ∙ pauses 0 store rec reply share rest (length samples) progress w (ltb-false (length rest) 480 f) in
-            let z′ : length samples ≡ 0 = rw q at z in
-            absurd (omega arith)
-
-    long : (l : Lent) → passed (desk 1 0 (o .answer .rec) (o .store) (resume samples (l .logs) (l .model) room 22) .answer .reply) ≡ true → 480 ≤ length rest
-    long l p = go (ltb (length rest) 480) refl
-      where
-        go : (t : Bool) → ltb (length rest) 480 ≡ t → 480 ≤ length rest
-        go false f = ltb-false (length rest) 480 f
-        go true f =
-            let there = put (shareOf 0) store (waits share rest) in
-            let q = e ∙ ends 0 store rec reply share rest (length samples) progress w (ltb-true (length rest) 480 f) in
-            let t = resume-passed 1 0 (holding 1 rec (length rest) 0 0) there samples (l .logs) (l .model) room 22 (rw q at p) in
-            absurd (omega (arith, t .1 .begun))
-
   -- a row of calls is this dictation, with its share in a store; the sums of its first frame stand in what was given before, with what is told besides
-  record Dictates (o : Given) (us : List Written) (ls : List Lent) (rest : List Float) (d : Dictated) : Type 0 where
-    rec : left (o .answer .rec) (o .store) (resumes samples room ls) .rec ≡ d .rec
-    share : left (o .answer .rec) (o .store) (resumes samples room ls) .share ≡ put (shareOf 0) store (d .store)
-    out : written 0 (o .answer .rec) (o .store) (resumes samples room ls) ≡ d .out
-    sums : numbersIn (getD (o .written ++ us) 1 nothing) ++ written 1 (o .answer .rec) (o .store) (resumes samples room ls) ≡ sumsTold (d .told)
-    heard : written 2 (o .answer .rec) (o .store) (resumes samples room ls) ≡ answersOf (d .told)
-    count : length ls ≡ length rest / 480
+  record Dictates (o : Given) (us : List Written) (gs : List (List Float × List ℕ)) (rest : List Float) (d : Dictated) : Type 0 where
+    rec : left (o .answer .rec) (o .store) (resumes samples room gs) .rec ≡ d .rec
+    share : left (o .answer .rec) (o .store) (resumes samples room gs) .share ≡ put (shareOf 0) store (d .kept)
+    out : written 0 (o .answer .rec) (o .store) (resumes samples room gs) ≡ d .out
+    sums : numbersIn (getD (o .written ++ us) 1 nothing) ++ written 1 (o .answer .rec) (o .store) (resumes samples room gs) ≡ sumsTold (d .told)
+    heard : written 2 (o .answer .rec) (o .store) (resumes samples room gs) ≡ answersOf (d .told)
+    count : length gs ≡ length rest / 480
 
-  resumed : (ls : List Lent) (o : Given) (us : List Written) (rec : Record) (reply : Reply) (share rest : List Float) (progress k : ℕ) (ys : List Float)
+  resumed : (gs : List (List Float × List ℕ)) (o : Given) (us : List Written) (rec : Record) (reply : Reply) (share rest : List Float) (progress k : ℕ) (ys : List Float)
       → o ≡ onward 0 store rec reply share rest (length samples) progress (from k ys)
-      → length share ≡ SHARE → drop progress samples ≡ drop 480 rest → 1 ≤ progress → AllDone (o .answer .rec) (o .store) (resumes samples room ls)
-      → left (o .answer .rec) (o .store) (resumes samples room ls) .rec .piece ≡ 0
-      → Dictates o us ls rest (dictate rec share rest ls)
+      → length share ≡ SHARE → drop progress samples ≡ drop 480 rest → 1 ≤ progress → AllDone (o .answer .rec) (o .store) (resumes samples room gs)
+      → left (o .answer .rec) (o .store) (resumes samples room gs) .rec .piece ≡ 0
+      → Dictates o us gs rest (dictate rec share rest (map asGiven gs))
   unfolding left AllDone written
   resumed [] o us rec reply share rest progress k ys e full same begun all z =
       let w = from k ys in
-      let little = short o rec reply share rest progress w e z in
+      let little = short 1 0 store samples some o rec reply share rest progress w e z in
       let q = e ∙ ends 0 store rec reply share rest (length samples) progress w little in
       let none = dictate-none rec share rest in
       record {
         rec = ap (λ (g : Given). g .answer .rec) q ∙ sym (ap (λ (x : Dictated). x .rec) none);
-        share = ap (λ (g : Given). g .store) q ∙ sym (ap (λ (x : Dictated). put (shareOf 0) store (x .store)) none);
+        share = ap (λ (g : Given). g .store) q ∙ sym (ap (λ (x : Dictated). put (shareOf 0) store (x .kept)) none);
         out = sym (ap (λ (x : Dictated). x .out) none);
         sums = ap (λ (g : Given). numbersIn (getD (g .written ++ us) 1 nothing) ++ []) q ∙ sym (ap (λ (x : Dictated). sumsTold (x .told)) none);
         heard = sym (ap (λ (x : Dictated). answersOf (x .told)) none);
         count = omega arith;
       }
-  resumed (l ∷ more) o us rec reply share rest progress k ys e full same begun all z =
+  resumed (g ∷ more) o us rec reply share rest progress k ys e full same begun all z =
       let w = from k ys in
-      let enough = long o rec reply share rest progress w e l (all .0) in
+      let l = asGiven g in
+      let enough = long 1 0 store samples some o rec reply share rest progress w e (g .0) (g .1) room (all .0) in
       let q = e ∙ pauses 0 store rec reply share rest (length samples) progress w enough in
-      let a = resume samples (l .logs) (l .model) room 22 in
+      let a = resume samples (g .0) (g .1) room 22 in
       let there = desk 1 0 (o .answer .rec) (o .store) a in
       let here : there ≡ following 1 0 (omega arith) store size samples rec share rest l progress room full same =
-      ap (λ (g : Given). desk 1 0 (g .answer .rec) (g .store) a) q in
-      let g = follows 1 0 (omega arith) store size samples rec share rest l progress room full same (ap (λ (x : Given). passed (x .answer .reply)) (sym here) ∙ all .0) in
+      ap (λ (x : Given). desk 1 0 (x .answer .rec) (x .store) a) q in
+      let f = follows 1 0 (omega arith) store size samples rec share rest l progress room full same (ap (λ (x : Given). passed (x .answer .reply)) (sym here) ∙ all .0) in
       let y = second rec share rest l in
       let rec′ = recAfter rec share rest l in
       let share′ = shareAfter rec share rest l in
-      let nx = here ∙ g .1 in
+      let nx = here ∙ f .1 in
       let samples-out : wrote 0 a there ≡ buffer y =
       ap (wrote 0 a) nx
       ∙ first-written 0 store rec′ (y .reply) share′ (drop 480 rest) (length samples) (progress + 480) (place progress) (buffer y) (besides a (y .reply)) in
       let answered : wrote 2 a there ≡ heardOf (y .reply) =
-      resume-heard 1 0 (o .answer .rec) (o .store) samples room (l .logs) (l .model) (all .0) ∙ ap (λ (x : Given). heardOf (x .answer .reply)) nx in
+      resume-heard 1 0 (o .answer .rec) (o .store) samples room (g .0) (g .1) (all .0) ∙ ap (λ (x : Given). heardOf (x .answer .reply)) nx in
       let ih =
       resumed more there (besides a (there .answer .reply)) rec′ (y .reply) share′ (drop 480 rest) (progress + 480) (place progress) (buffer y) nx
       (after-length rec share rest l full) (sym (drop-drop 480 progress samples) ∙ ap (drop 480) same) (omega arith) (all .1) z in
-      let d = dictate-more rec share rest l more in
+      let d = dictate-more rec share rest l (map asGiven more) in
       record {
         rec = ih .rec ∙ sym (ap (λ (x : Dictated). x .rec) d);
-        share = ih .share ∙ sym (ap (λ (x : Dictated). put (shareOf 0) store (x .store)) d);
+        share = ih .share ∙ sym (ap (λ (x : Dictated). put (shareOf 0) store (x .kept)) d);
         out = ap₂ (λ (x y : List Float). x ++ y) samples-out (ih .out) ∙ sym (ap (λ (x : Dictated). x .out) d);
         sums =
             ap₂ (λ (x y : List Float). x ++ y) (ap (λ (x : Given). numbersIn (getD (x .written ++ us) 1 nothing)) q) (ih .sums)
@@ -272,16 +252,16 @@ at-rest n side rec len e = go (eqb (rec .piece) 0) refl
 
 record Is (b : Record) (xs : List Float) (asks : List Ask) (d : Dictated) : Type 0 where
   rec : left b xs asks .rec ≡ d .rec
-  share : left b xs asks .share ≡ d .store
+  share : left b xs asks .share ≡ d .kept
   out : written 0 b xs asks ≡ d .out
   sums : written 1 b xs asks ≡ sumsTold (d .told)
   heard : written 2 b xs asks ≡ answersOf (d .told)
 
 -- one piece, resumed to its end
-module _ (x : List Float) (room : ℕ) (ls : List Lent) (b : Record) (xs : List Float) (full : length xs ≡ SHARE) where
-  one-piece : AllDone b xs (piece x room 22 ∷ resumes x room ls) → left b xs (piece x room 22 ∷ resumes x room ls) .rec .piece ≡ 0
+module _ (x : List Float) (room : ℕ) (gs : List (List Float × List ℕ)) (b : Record) (xs : List Float) (full : length xs ≡ SHARE) where
+  one-piece : AllDone b xs (piece x room 22 ∷ resumes x room gs) → left b xs (piece x room 22 ∷ resumes x room gs) .rec .piece ≡ 0
       → let all = waitingIn (b .waiting) xs ++ x in
-      Is b xs (piece x room 22 ∷ resumes x room ls) (dictate b xs all ls) × (length ls ≡ length all / 480)
+      Is b xs (piece x room 22 ∷ resumes x room gs) (dictate b xs all (map asGiven gs)) × (length gs ≡ length all / 480)
   unfolding left AllDone written
   one-piece all z =
       let o = desk 1 0 b xs (piece x room 22) in
@@ -294,14 +274,14 @@ module _ (x : List Float) (room : ℕ) (ls : List Lent) (b : Record) (xs : List 
       let sum : b .waiting + (480 - b .waiting) ≡ 480 = omega (arith, k .waits) in
       let same : drop (480 - b .waiting) x ≡ drop 480 (ws ++ x) = sym (rw (waited, sum) at (drop-append-add ws x (480 - b .waiting))) in
       let r =
-      resumed xs (omega (arith, full)) x (k .some) room ls o [] b Done (waits share []) (ws ++ x) (480 - b .waiting) 0 []
+      resumed xs (omega (arith, full)) x (k .some) room gs o [] b Done (waits share []) (ws ++ x) (480 - b .waiting) 0 []
       (t .2) (waits-length share (k .size) []) same (omega (arith, k .waits)) (all .1) z in
       let clean =
-      washed b share [] (ws ++ x) ls (k .size) ∙ ap (λ (t : List Float). dictate b t (waitingIn (b .waiting) t ++ x) ls) its in
-      let behind : ℕ → List Float = λ i. written i (o .answer .rec) (o .store) (resumes x room ls) in (
+      washed b share [] (ws ++ x) (map asGiven gs) (k .size) ∙ ap (λ (t : List Float). dictatedOn b t x (map asGiven gs)) its in
+      let behind : ℕ → List Float = λ i. written i (o .answer .rec) (o .store) (resumes x room gs) in (
         record {
           rec = r .rec ∙ ap (λ (d : Dictated). d .rec) clean;
-          share = r .share ∙ put-whole xs SHARE full _ ∙ ap (λ (d : Dictated). d .store) clean;
+          share = r .share ∙ put-whole xs SHARE full _ ∙ ap (λ (d : Dictated). d .kept) clean;
           out = ap (λ (u : List Float). u ++ behind 0) (piece-none 1 0 b xs x room (all .0)) ∙ r .out ∙ ap (λ (d : Dictated). d .out) clean;
           sums = r .sums ∙ ap (λ (d : Dictated). sumsTold (d .told)) clean;
           heard = ap (λ (u : List Float). u ++ behind 2) (piece-unheard 1 0 b xs x room (all .0)) ∙ r .heard ∙ ap (λ (d : Dictated). answersOf (d .told)) clean;
@@ -312,38 +292,36 @@ module _ (x : List Float) (room : ℕ) (ls : List Lent) (b : Record) (xs : List 
 -- a row begins with a piece
 begins : {asks : List Ask} {ys : List Float} {ms : List Lent} → InARow asks ys ms → (b : Record) (xs : List Float) → AllDone b xs asks → b .piece ≡ 0
 unfolding AllDone
-begins (lastPiece x o ls) b xs all = at-rest 1 0 b (length xs) (piece-passed 1 0 b xs x o 22 (all .0) .0)
-begins (morePieces x o ls r) b xs all = at-rest 1 0 b (length xs) (piece-passed 1 0 b xs x o 22 (all .0) .0)
+begins (lastPiece x o gs) b xs all = at-rest 1 0 b (length xs) (piece-passed 1 0 b xs x o 22 (all .0) .0)
+begins (morePieces x o gs r) b xs all = at-rest 1 0 b (length xs) (piece-passed 1 0 b xs x o 22 (all .0) .0)
 
 -- what is told of frames, and of others behind them
 sums-both : (fs gs : List Told) → sumsTold (fs ++ gs) ≡ sumsTold fs ++ sumsTold gs
 sums-both [] gs = refl
 sums-both (f ∷ fs) gs = ap (λ (x : List Float). f .0 ++ x) (sums-both fs gs) ∙ sym (append-assoc (f .0) (sumsTold fs) (sumsTold gs))
 
-pub answers-both : (fs gs : List Told) → answersOf (fs ++ gs) ≡ answersOf fs ++ answersOf gs
-answers-both [] gs = refl
-answers-both (f ∷ fs) gs = ap (λ (x : List Float). heardOf (f .1) ++ x) (answers-both fs gs) ∙ sym (append-assoc (heardOf (f .1)) (answersOf fs) (answersOf gs))
-
 rows : {asks : List Ask} {ys : List Float} {ms : List Lent} → InARow asks ys ms → (b : Record) (xs : List Float) → length xs ≡ SHARE → AllDone b xs asks
-    → left b xs asks .rec .piece ≡ 0 → Is b xs asks (dictate b xs (waitingIn (b .waiting) xs ++ ys) ms)
-rows (lastPiece x room ls) b xs full all z = one-piece x room ls b xs full all z .0
-rows (morePieces x room ls {asks} {ys} {ms} r) b xs full all z =
-    let s = split (piece x room 22 ∷ resumes x room ls) asks b xs all in
-    let l = left b xs (piece x room 22 ∷ resumes x room ls) in
-    let p = one-piece x room ls b xs full (s .before) (begins r (l .rec) (l .share) (s .behind)) in
+    → left b xs asks .rec .piece ≡ 0 → Is b xs asks (dictatedOn b xs ys ms)
+rows (lastPiece x room gs) b xs full all z = one-piece x room gs b xs full all z .0
+rows (morePieces x room gs {asks} {ys} {ms} r) b xs full all z =
+    let s = split (piece x room 22 ∷ resumes x room gs) asks b xs all in
+    let l = left b xs (piece x room 22 ∷ resumes x room gs) in
+    let ls = map asGiven gs in
+    let p = one-piece x room gs b xs full (s .before) (begins r (l .rec) (l .share) (s .behind)) in
     let k = p .0 in
     let these = waitingIn (b .waiting) xs ++ x in
+    let many = length-map gs asGiven in
     let d = dictate b xs these ls in
     let more = again d ys ms in
     let ih =
     rows r (l .rec) (l .share) (ap length (k .share) ∙ share-size b xs these ls full) (s .behind) (ap (λ (q : Left). q .rec .piece) (sym (s .leads)) ∙ z) in
-    let on : dictate (l .rec) (l .share) (waitingIn (l .rec .waiting) (l .share) ++ ys) ms ≡ more = rw (k .rec, k .share) in
-    let joined : then d more ≡ dictate b xs (waitingIn (b .waiting) xs ++ (x ++ ys)) (ls ++ ms) =
-    sym (rejoin b xs these ys ls ms full (omega (arith, p .1)) (omega (arith, p .1)))
+    let on : dictatedOn (l .rec) (l .share) ys ms ≡ more = rw (k .rec, k .share) in
+    let joined : then d more ≡ dictatedOn b xs (x ++ ys) (ls ++ ms) =
+    sym (rejoin b xs these ys ls ms full (omega (arith, many, p .1)) (omega (arith, many, p .1)))
     ∙ ap (λ (t : List Float). dictate b xs t (ls ++ ms)) (append-assoc (waitingIn (b .waiting) xs) x ys) in
     record {
       rec = ap (λ (q : Left). q .rec) (s .leads) ∙ ih .rec ∙ ap (λ (e : Dictated). e .rec) on ∙ ap (λ (e : Dictated). e .rec) joined;
-      share = ap (λ (q : Left). q .share) (s .leads) ∙ ih .share ∙ ap (λ (e : Dictated). e .store) on ∙ ap (λ (e : Dictated). e .store) joined;
+      share = ap (λ (q : Left). q .share) (s .leads) ∙ ih .share ∙ ap (λ (e : Dictated). e .kept) on ∙ ap (λ (e : Dictated). e .kept) joined;
       out =
           s .writes 0 ∙ ap₂ (λ (u v : List Float). u ++ v) (k .out) (ih .out ∙ ap (λ (e : Dictated). e .out) on)
           ∙ ap (λ (e : Dictated). e .out) joined;

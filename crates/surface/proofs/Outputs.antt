@@ -75,13 +75,13 @@ hands-split : (xs ys : List Ask) → AllHands (xs ++ ys) → AllHands xs × AllH
 hands-split [] ys h = (tt, h)
 hands-split (x ∷ xs) ys h = let k = hands-split xs ys (h .1) in ((h .0, k .0), k .1)
 
-resumes-hand : (x : List Float) (o : ℕ) (ls : List Lent) → AllHands (resumes x o ls)
+resumes-hand : (x : List Float) (o : ℕ) (gs : List (List Float × List ℕ)) → AllHands (resumes x o gs)
 resumes-hand x o [] = tt
-resumes-hand x o (l ∷ ls) = (tt, resumes-hand x o ls)
+resumes-hand x o (g ∷ gs) = (tt, resumes-hand x o gs)
 
 pub row-hands : {asks : List Ask} {ys : List Float} {ms : List Lent} → InARow asks ys ms → AllHands asks
-row-hands (lastPiece x o ls) = (tt, resumes-hand x o ls)
-row-hands (morePieces x o ls {asks} r) = (tt, hands-both (resumes x o ls) asks (resumes-hand x o ls) (row-hands r))
+row-hands (lastPiece x o gs) = (tt, resumes-hand x o gs)
+row-hands (morePieces x o gs {asks} r) = (tt, hands-both (resumes x o gs) asks (resumes-hand x o gs) (row-hands r))
 
 -- ---- runs one after the other
 

@@ -4,12 +4,12 @@ use Prim.Native.Nat.{ℕ, _*_}
 use mathlib.Core.Bool.{cond, not}
 use mathlib.Core.List.{List, [], _∷_, _++_}
 use lib.Dec.{eqb, leb}
-use lib.ListN.{length, getD}
+use lib.ListN.{length}
 use lib.Ieee.{Float}
 use Rattle.rules.specs.Loop.{loop}
 use Rattle.rules.specs.Place.{get}
 use Rattle.rules.specs.Refusals.{wrong}
-use Rattle.rules.specs.Written.{from, nothing, numbersIn, firstIn}
+use Rattle.rules.specs.Written.{from, firstIn}
 use Rattle.samples.specs.Samples.{good}
 use Rattle.logs.specs.Log10.{logsOf}
 use Rattle.model.specs.Model.{readOf}
@@ -23,6 +23,7 @@ use Rattle.desk.specs.declared.Record.{Record}
 use Rattle.desk.specs.Gate.{PIECE, gate, shareOf}
 use Rattle.desk.specs.Desk.{firstHalf, secondHalf, piece, resume, desk}
 use Rattle.desk.specs.Surface.{heardOf}
+use Rattle.dictation.specs.Cutting.{sumsIn}
 
 -- ---- a frame is its two halves
 
@@ -68,10 +69,6 @@ takeRows n side rec store samples model out answers =
 
 unfoldable pub takeReply : ℕ → ℕ → Record → List Float → List Float → List ℕ → ℕ → ℕ → Reply
 takeReply n side rec store samples model out answers = firstOf (takeRows n side rec store samples model out answers)
-
--- a piece and a resume write to two buffers, the output and the sums of the frame that is then under way
-abbrev pub sumsIn : Effect Answer → List Float
-sumsIn o = numbersIn (getD (o .written) 1 nothing)
 
 -- how far it came: the record, the store and the sums of the frame under way; and what is handed out so far, the samples of the frames and their answers
 pub record Taking : Type 0 where
