@@ -25,7 +25,7 @@ use Rattle.desk.specs.declared.Record.{Record}
 use Rattle.desk.specs.Gate.{shareOf, gate}
 use Rattle.desk.specs.Desk.{piece, resume, holding, carried, Given, desk}
 use Rattle.dictation.specs.Dictation.{Lent, Told, Dictated, dictate, dictated}
-use Rattle.dictation.specs.Cutting.{handedIn, outOf, sumsIn, Led, ended, paused, Cut, last, more, Cutting}
+use Rattle.dictation.specs.Cutting.{handedIn, outputOf, sumsIn, Led, ended, paused, Cut, last, more, Cutting}
 use Rattle.dictation.specs.Resuming.{FillsFront}
 use Rattle.desk.proofs.Turned.{through}
 use Rattle.dictation.proofs.Joins.{second, shareAfter, recAfter, toldThere, framed, dictate-more, dictate-none, after-length, share-size, washed, then, again, rejoin}
@@ -102,10 +102,10 @@ module _ (n side : ℕ) (h : side < n) (store : List Float) (size : length store
       (omega arith, ap (λ (x : Dictated). length (x .out)) none, rw (q, none, over-none (place progress) (over w held)))
   whole (paused {o = o} {next = after} {held = held} {l = l} {more = ms} {d = d} p en led) rec reply share rest progress w e k same begun =
       let enough =
-      long n side store samples some o rec reply share rest progress w e (l .logs (sumsIn o)) (l .model) (length (outOf o held)) (rw en at (passes led)) in
+      long n side store samples some o rec reply share rest progress w e (l .logs (sumsIn o)) (l .model) (length (outputOf o held)) (rw en at (passes led)) in
       let q = e ∙ pauses side store rec reply share rest (length samples) progress w enough in
       let out = over w held in
-      let written : outOf o held ≡ out = ap (λ (x : Given). outOf x held) q in
+      let written : outputOf o held ≡ out = ap (λ (x : Given). outputOf x held) q in
       let en′ : after ≡ following n side h store size samples rec share rest l progress (length out) k same = rw q at en in
       let g = follows n side h store size samples rec share rest l progress (length out) k same (rw en′ at (passes led)) in
       let nx = en′ ∙ g .1 in
@@ -124,11 +124,11 @@ module _ (n side : ℕ) (h : side < n) (store : List Float) (size : length store
       let further : place (progress + 480) ≡ place progress + 480 = omega arith in
       let more = dictate-more rec share rest l ms in
       let filled : length (buffer y ++ d′ .out) ≡ 480 * length (l ∷ ms) = length-append (buffer y) (d′ .out) ∙ omega (arith, full, ih .1) in
-      let behind = ih .2 ∙ ap (λ (j : ℕ). from-place j side store d′ (over (from (place progress) (buffer y)) (outOf o held))) further in (
+      let behind = ih .2 ∙ ap (λ (j : ℕ). from-place j side store d′ (over (from (place progress) (buffer y)) (outputOf o held))) further in (
         omega (arith, ih .0, length-drop 480 rest, enough),
         ap (λ (x : Dictated). length (x .out)) more ∙ filled,
         ap₂ (λ (t : Told) (x : Dictated). framed t [] x) (three (ap sumsIn q) said noted) behind
-            ∙ in-front (toldThere rec share rest l) (place progress) side store (buffer y) (outOf o held) out d′ full (omega (arith, ap length written)) written
+            ∙ in-front (toldThere rec share rest l) (place progress) side store (buffer y) (outputOf o held) out d′ full (omega (arith, ap length written)) written
             ∙ ap (λ (x : Dictated). from-place (place progress) side store x out) (sym more),
       )
 

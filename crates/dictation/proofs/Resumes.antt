@@ -28,7 +28,7 @@ use Rattle.desk.specs.declared.Record.{Record}
 use Rattle.desk.specs.Gate.{shareOf, idle, allZero, inCounts, underWay, inPieces, inRange, isDue, gate}
 use Rattle.desk.specs.Desk.{piece, resume, holding, Given, desk}
 use Rattle.dictation.specs.Dictation.{Lent, Dictated}
-use Rattle.dictation.specs.Cutting.{outOf, sumsIn, Led, ended, paused}
+use Rattle.dictation.specs.Cutting.{outputOf, sumsIn, Led, ended, paused}
 use Rattle.dictation.specs.Resuming.{FrameKnown, Accepts, Fitting, ComesToItsEnd}
 use Rattle.desk.proofs.Ranged.{bounded, next-index, open-range}
 use Rattle.desk.proofs.Turned.{none, through}
@@ -152,10 +152,10 @@ module _ (n side : ℕ) (h : side < n) (store : List Float) (size : length store
       (sym (drop-drop 480 progress samples) ∙ ap (drop 480) same)
       (omega arith) (omega (arith, length-drop 480 rest)) (rw (stays, same-wait progress) room) (omega (arith, length-drop 480 rest))
       (fitting-on rec (recAfter rec share rest l) more refl refl refl (f .2)) in
-      let call : Given → Given = λ x. desk n side (x .answer .rec) (x .store) (resume samples (l .logs (sumsIn x)) (l .model) (length (outOf x held)) 22) in
+      let call : Given → Given = λ x. desk n side (x .answer .rec) (x .store) (resume samples (l .logs (sumsIn x)) (l .model) (length (outputOf x held)) 22) in
       let o = onward side store rec reply share rest (length samples) progress w in
-      let led : Led n side samples (next n side h store size samples rec share rest l progress (length out) k same) (outOf o held) more (ih .0) =
-      rw (ap (λ (x : Given). outOf x held) q) (ih .1) in
+      let led : Led n side samples (next n side h store size samples rec share rest l progress (length out) k same) (outputOf o held) more (ih .0) =
+      rw (ap (λ (x : Given). outputOf x held) q) (ih .1) in
       (_, paused p (sym (ap call q ∙ nx)) led)
 
 pub comes-to-its-end : ComesToItsEnd

@@ -6,30 +6,32 @@ use mathlib.Core.Path.{_≡_}
 use lib.ListN.{length, getD, take}
 use lib.Ieee.{Float}
 use Rattle.rules.specs.Written.{nothing, numbersIn, over}
+use Rattle.frame.specs.Effect.{Effect}
 use Rattle.frame.specs.Reply.{passed}
+use Rattle.desk.specs.declared.Answer.{Answer}
 use Rattle.desk.specs.declared.Record.{Record}
-use Rattle.desk.specs.Desk.{holding, piece, resume, Given, desk}
+use Rattle.desk.specs.Desk.{holding, piece, resume, desk}
 use Rattle.dictation.specs.Dictation.{Lent, Dictated, dictated}
 
 -- a piece of these samples, where the output held this
-abbrev pub handedIn : ℕ → ℕ → Record → List Float → List Float → List Float → Given
+abbrev pub handedIn : ℕ → ℕ → Record → List Float → List Float → List Float → Effect Answer
 handedIn n side rec store samples held = desk n side rec store (piece samples (length held) 22)
 
 -- a piece and a resume write to two buffers: the output, which held this, and the sums of the frame that is then under way
-abbrev pub outOf : Given → List Float → List Float
-outOf o held = over (getD (o .written) 0 nothing) held
+abbrev pub outputOf : Effect Answer → List Float → List Float
+outputOf o held = over (getD (o .written) 0 nothing) held
 
-abbrev pub sumsIn : Given → List Float
+abbrev pub sumsIn : Effect Answer → List Float
 sumsIn o = numbersIn (getD (o .written) 1 nothing)
 
 -- a call on a piece of these samples gave o, where the output held this, and a resume for each that is lent followed; none is refused, and the
 -- last ends the piece. Told of a frame are the sums of the pause before it, and its resume's reply and record, the pause behind it apart
-pub data Led (n side : ℕ) (samples : List Float) : Given → List Float → List Lent → Dictated → Type 0 where
-  ended : {o : Given} {held : List Float} → passed (o .answer .reply) ≡ true → o .answer .rec .piece ≡ 0
-      → Led n side samples o held [] (record { rec = o .answer .rec; kept = o .store; told = []; out = outOf o held })
-  paused : {o next : Given} {held : List Float} {l : Lent} {more : List Lent} {d : Dictated} → passed (o .answer .reply) ≡ true
-      → next ≡ desk n side (o .answer .rec) (o .store) (resume samples (l .logs (sumsIn o)) (l .model) (length (outOf o held)) 22)
-      → Led n side samples next (outOf o held) more d
+pub data Led (n side : ℕ) (samples : List Float) : Effect Answer → List Float → List Lent → Dictated → Type 0 where
+  ended : {o : Effect Answer} {held : List Float} → passed (o .answer .reply) ≡ true → o .answer .rec .piece ≡ 0
+      → Led n side samples o held [] (record { rec = o .answer .rec; kept = o .kept; told = []; out = outputOf o held })
+  paused : {o next : Effect Answer} {held : List Float} {l : Lent} {more : List Lent} {d : Dictated} → passed (o .answer .reply) ≡ true
+      → next ≡ desk n side (o .answer .rec) (o .kept) (resume samples (l .logs (sumsIn o)) (l .model) (length (outputOf o held)) 22)
+      → Led n side samples next (outputOf o held) more d
       → Led n side samples o held (l ∷ more)
       (record { rec = d .rec; kept = d .kept; told = (sumsIn o, next .answer .reply, holding 1 (next .answer .rec) 0 0 0) ∷ d .told; out = d .out })
 

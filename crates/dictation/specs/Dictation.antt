@@ -4,8 +4,9 @@ use mathlib.Core.List.{List, [], _∷_, _++_}
 use lib.ListN.{length, take, drop}
 use lib.Ieee.{Float}
 use Rattle.rules.specs.Place.{get, put}
+use Rattle.rules.specs.Written.{firstIn}
 use Rattle.frame.specs.declared.Reply.{Reply}
-use Rattle.halves.specs.Halves.{buffer, firstHalf, secondHalf}
+use Rattle.halves.specs.Halves.{firstHalf, secondHalf}
 use Rattle.pieces.specs.Pieces.{framePart, waitingIn, waits}
 use Rattle.desk.specs.declared.Record.{Record}
 use Rattle.desk.specs.Gate.{shareOf}
@@ -32,10 +33,10 @@ unfoldable pub dictate : Record → List Float → List Float → List Lent → 
 dictate rec share xs [] = record { rec = holding 1 rec (length xs) 0 0; kept = waits share xs; told = []; out = [] }
 dictate rec share xs (l ∷ more) =
     let f = firstHalf (get framePart share) (rec .hearing .way) (take 480 xs) 22 in
-    let s = secondHalf (f .share) (rec .hearing) (l .logs (buffer f)) (l .model) 480 in
-    let after = numbered (advanced (holding 3 rec 0 0 0) (s .reply)) in
-    let d = dictate after (put framePart share (s .share)) (drop 480 xs) more in
-    record { rec = d .rec; kept = d .kept; told = (buffer f, s .reply, after) ∷ d .told; out = buffer s ++ d .out }
+    let s = secondHalf (f .kept) (rec .hearing) (l .logs (firstIn (f .written))) (l .model) 480 in
+    let after = numbered (advanced (holding 3 rec 0 0 0) (s .answer)) in
+    let d = dictate after (put framePart share (s .kept)) (drop 480 xs) more in
+    record { rec = d .rec; kept = d .kept; told = (firstIn (f .written), s .answer, after) ∷ d .told; out = firstIn (s .written) ++ d .out }
 
 -- the samples that wait in a share, and these behind them
 abbrev pub dictatedOn : Record → List Float → List Float → List Lent → Dictated

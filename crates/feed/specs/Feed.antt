@@ -17,7 +17,7 @@ use Rattle.pieces.specs.Pieces.{completes, pieceFits}
 use Rattle.desk.specs.declared.Answer.{Answer}
 use Rattle.desk.specs.declared.Record.{Record}
 use Rattle.desk.specs.Gate.{PIECE, gate}
-use Rattle.desk.specs.Desk.{Given}
+use Rattle.frame.specs.Effect.{Effect}
 use Rattle.whole.specs.Whole.{take}
 use Rattle.pcm.specs.Pcm.{width, unpacked, packed}
 
@@ -88,12 +88,12 @@ abbrev pub entriesOf : ℕ → List Float → List ℕ
 entriesOf frame answers = tab (length answers / 3) (λ j. entryOf frame j (at answers (3 * j)))
 
 -- what comes of a take: its samples packed, an entry for each frame, and its answers
-abbrev pub fedBy : ℕ → Given → Fed
+abbrev pub fedBy : ℕ → Effect Answer → Fed
 fedBy frame t =
     let answers = numbersIn (getD (t .written) 1 nothing) in
     record {
       answer = t .answer;
-      store = t .store;
+      store = t .kept;
       cleaned = packed (firstIn (t .written));
       entries = entriesOf frame answers;
       answers = answers;

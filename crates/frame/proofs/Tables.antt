@@ -7,23 +7,23 @@ use lib.Ieee.{Float}
 use Rattle.frame.specs.declared.Reply.{Reply}
 use Rattle.frame.specs.declared.Reply.the-variants.{Done, Refused}
 use Rattle.frame.specs.Effect.{Effect, refusal, unless}
-use Rattle.frame.specs.Reply.{passed, _when_, firstOf}
+use Rattle.frame.specs.Reply.{passed, _when_, firstRefusal}
 
 -- no row refuses
 abbrev pub Clear : List Reply → Type 0
 Clear [] = Unit
 Clear (row ∷ rows) = (passed row ≡ true) × Clear rows
 
-pub clear : (rows : List Reply) → Clear rows → firstOf rows ≡ Done
+pub clear : (rows : List Reply) → Clear rows → firstRefusal rows ≡ Done
 clear [] h = refl
 clear (row ∷ rows) h = rw (h .0) (clear rows (h .1))
 
 -- where the first is no refusal, no row refuses
-pub cleared : (rows : List Reply) → passed (firstOf rows) ≡ true → Clear rows
+pub cleared : (rows : List Reply) → passed (firstRefusal rows) ≡ true → Clear rows
 cleared [] h = tt
 cleared (row ∷ rows) h = go (cleared rows) (passed row) refl h
   where
-    go : (passed (firstOf rows) ≡ true → Clear rows) → (t : Bool) → passed row ≡ t → passed (cond t (firstOf rows) row) ≡ true → Clear (row ∷ rows)
+    go : (passed (firstRefusal rows) ≡ true → Clear rows) → (t : Bool) → passed row ≡ t → passed (cond t (firstRefusal rows) row) ≡ true → Clear (row ∷ rows)
     go more true e k = (e, more k)
     go more false e k = absurd (false≢true (sym e ∙ k))
 
@@ -46,20 +46,20 @@ module _ (P : Reply → Type 0) where
   by-number bad n true h = bad n
   by-number bad n false h = absurd (true≢false h)
 
-  pub first-refusal : (rows : List Reply) → Each rows → passed (firstOf rows) ≡ false → P (firstOf rows)
+  pub first-refusal : (rows : List Reply) → Each rows → passed (firstRefusal rows) ≡ false → P (firstRefusal rows)
   first-refusal [] bad h = absurd (true≢false h)
   first-refusal (row ∷ rows) bad h = go (first-refusal rows (bad .1)) (passed row) refl h
     where
-      go : (passed (firstOf rows) ≡ false → P (firstOf rows)) → (t : Bool) → passed row ≡ t
-          → passed (cond t (firstOf rows) row) ≡ false → P (cond t (firstOf rows) row)
+      go : (passed (firstRefusal rows) ≡ false → P (firstRefusal rows)) → (t : Bool) → passed row ≡ t
+          → passed (cond t (firstRefusal rows) row) ≡ false → P (cond t (firstRefusal rows) row)
       go more true e k = more k
       go more false e k = bad .0 e
 
   -- what holds of each row's refusal, and of Done where no row refuses, holds of the first
-  pub by-each : (rows : List Reply) → Each rows → (Clear rows → P Done) → P (firstOf rows)
-  by-each rows bad good = go (passed (firstOf rows)) refl
+  pub by-each : (rows : List Reply) → Each rows → (Clear rows → P Done) → P (firstRefusal rows)
+  by-each rows bad good = go (passed (firstRefusal rows)) refl
     where
-      go : (t : Bool) → passed (firstOf rows) ≡ t → P (firstOf rows)
+      go : (t : Bool) → passed (firstRefusal rows) ≡ t → P (firstRefusal rows)
       go true e = rw (clear rows (cleared rows e)) (good (cleared rows e))
       go false e = first-refusal rows bad e
 
@@ -70,17 +70,17 @@ module _ (share : List Float) (f : Effect Reply) where
 
   pub by-rows : (P : Effect Reply → Type 0) (rows : List Reply) → Each (λ reply. P (refusal reply share)) rows → (Clear rows → P f)
       → P (unless rows share f)
-  by-rows P rows bad good = go (passed (firstOf rows)) refl
+  by-rows P rows bad good = go (passed (firstRefusal rows)) refl
     where
-      go : (t : Bool) → passed (firstOf rows) ≡ t → P (cond t f (refusal (firstOf rows) share))
+      go : (t : Bool) → passed (firstRefusal rows) ≡ t → P (cond t f (refusal (firstRefusal rows) share))
       go true e = good (cleared rows e)
       go false e = first-refusal (λ reply. P (refusal reply share)) rows bad e
 
   -- of a call that is accepted
   pub by-accepted : (Q : Effect Reply → Type 0) (rows : List Reply) → (Clear rows → passed (f .answer) ≡ true → Q f)
       → passed (unless rows share f .answer) ≡ true → Q (unless rows share f)
-  by-accepted Q rows h = go (passed (firstOf rows)) refl
+  by-accepted Q rows h = go (passed (firstRefusal rows)) refl
     where
-      go : (t : Bool) → passed (firstOf rows) ≡ t → passed (cond t f (refusal (firstOf rows) share) .answer) ≡ true → Q (cond t f (refusal (firstOf rows) share))
+      go : (t : Bool) → passed (firstRefusal rows) ≡ t → passed (cond t f (refusal (firstRefusal rows) share) .answer) ≡ true → Q (cond t f (refusal (firstRefusal rows) share))
       go true e p = h (cleared rows e) p
       go false e p = absurd (false≢true (sym e ∙ p))

@@ -4,7 +4,7 @@ use mathlib.Core.List.{List, []}
 use mathlib.Core.Path.{_≡_}
 use lib.Ieee.{Float}
 use Rattle.rules.specs.Written.{Written, onto}
-use Rattle.frame.specs.Reply.{passed, firstOf}
+use Rattle.frame.specs.Reply.{passed, firstRefusal}
 use Rattle.frame.specs.declared.Reply.{Reply}
 
 -- what is answered, what is kept, a share or a store, and what is written to each answer buffer, in order
@@ -19,7 +19,7 @@ refusal answer kept = record { answer = answer; kept = kept; written = [] }
 
 -- the first refusal of a table, or f
 abbrev pub unless : List Reply → List Float → Effect Reply → Effect Reply
-unless rows share f = let reply = firstOf rows in cond (passed reply) f (refusal reply share)
+unless rows share f = let reply = firstRefusal rows in cond (passed reply) f (refusal reply share)
 
 -- what a contract says of a call: its answer, what it kept, and the answer buffers, by what they held
 pub record Worked {A : Type 0} (f : Effect A) (answer : A) (kept : List Float) (held out : List (List Float)) : Type 0 where

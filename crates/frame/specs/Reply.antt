@@ -34,6 +34,6 @@ abbrev pub _when_ : ℕ → Bool → Reply
 n when t = cond t (Refused n) Done
 
 -- the first refusal, or Done
-abbrev pub firstOf : List Reply → Reply
-firstOf [] = Done
-firstOf (row ∷ rows) = cond (passed row) (firstOf rows) row
+abbrev pub firstRefusal : List Reply → Reply
+firstRefusal [] = Done
+firstRefusal (row ∷ rows) = cond (passed row) (firstRefusal rows) row

@@ -35,7 +35,7 @@ came reply told rec store = record { reply = reply; told = told; rec = rec; stor
 unfoldable pub perform : {O : Type 0} → ℕ → ℕ → Record → List Float → Plan O → Came O
 perform n side rec store (answers reply told) = came reply told rec store
 perform n side rec store (asks ask more) =
-    let o = desk n side rec store ask in perform n side (o .answer .rec) (o .store) (more (o .answer) (o .written))
+    let o = desk n side rec store ask in perform n side (o .answer .rec) (o .kept) (more (o .answer) (o .written))
 perform n side rec store (enters i turned more) =
     let number = gate n side rec (length store) (suc i) in
     cond (eqb number 0) (perform n side rec store (more rec (get (shareOf side) store))) (came (Refused number) (turned number) rec store)

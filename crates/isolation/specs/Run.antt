@@ -70,7 +70,7 @@ module _ {C O : Type 0} (serve : Kind C O) (n : ℕ) where
 -- ---- the desk's calls, and what is made of them
 
 abbrev pub desks : Kind Ask (List Written)
-desks n side ns store a = let o = hosted n side ns store a in gives ns (o .answer) (o .written) (o .store)
+desks n side ns store a = let o = hosted n side ns store a in gives ns (o .answer) (o .written) (o .kept)
 
 -- the calls of the desk that a call is made of, all on its side
 abbrev pub Made : Type 0 → Type 0

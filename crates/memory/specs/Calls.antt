@@ -6,6 +6,7 @@ use lib.Dec.{ltb}
 use lib.ListN.{length, take, drop}
 use lib.Ieee.{Float}
 use Rattle.rules.specs.Place.{get}
+use Rattle.rules.specs.Written.{firstIn}
 use Rattle.lag.specs.Lag.{ownLag}
 use Rattle.frame.specs.Share.{inputMem}
 use Rattle.frame.specs.Reply.{passed, isHeard}
@@ -13,7 +14,7 @@ use Rattle.frame.specs.declared.Reply.{Reply}
 use Rattle.frame.specs.declared.Way.{Way}
 use Rattle.frame.specs.Frame.{done1}
 use Rattle.halves.specs.Ways.{lagBy, forwardBy}
-use Rattle.halves.specs.Halves.{buffer, lookedBack}
+use Rattle.halves.specs.Halves.{lookedBack}
 use Rattle.halves.specs.Halves as halves
 use Rattle.pieces.specs.Pieces.{framePart, waitingIn}
 use Rattle.desk.specs.declared.Record.{Record}
@@ -28,7 +29,7 @@ pub data FrameCall : Type 0 where
 
 -- a first half and a second half, by the bench's way, where they find a frame's part of the share so
 abbrev pub firstCalls : Way → List Float → List Float → List FrameCall
-firstCalls way part x = let a = done1 part x in one ∷ two (forwardBy way (buffer a)) (lagBy way (a .share)) ∷ []
+firstCalls way part x = let a = done1 part x in one ∷ two (forwardBy way (firstIn (a .written))) (lagBy way (a .kept)) ∷ []
 
 abbrev pub secondCalls : Way → List Float → Bool → List Float → List ℕ → List FrameCall
 secondCalls way part heard logs m = three heard (forwardBy way (lookedBack part)) logs m ∷ four ∷ []
@@ -52,7 +53,7 @@ callsOf rec share (resume x logs m o s) heard =
     let part = get framePart share in
     let way = rec .hearing .way in
     let done = halves.secondHalf part (rec .hearing) logs m 480 in
-    secondCalls way part heard logs m ++ restCalls way (done .share) (drop (rec .progress) x)
+    secondCalls way part heard logs m ++ restCalls way (done .kept) (drop (rec .progress) x)
 
 -- by its reply; a refused call is made of none
 abbrev pub callsDone : Record → List Float → Ask → Reply → List FrameCall

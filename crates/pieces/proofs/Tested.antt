@@ -15,7 +15,7 @@ use Rattle.model.specs.declared.Reading.the-variants.{Good, Refused as Unread}
 use Rattle.frame.specs.declared.Hearing.{Hearing}
 use Rattle.frame.specs.declared.Reply.{Reply}
 use Rattle.frame.specs.declared.Reply.the-variants.{Done, Refused, Misread}
-use Rattle.frame.specs.Reply.{passed, _when_, firstOf}
+use Rattle.frame.specs.Reply.{passed, _when_, firstRefusal}
 use Rattle.frame.specs.Frame.{counted, checked}
 use Rattle.frame.proofs.Tables.{cleared, not-when, by-number, by-each}
 
@@ -43,10 +43,10 @@ module _ (hearing : Hearing) (model : List ℕ) where
   module _ (fine : Bool) where
     pub last-tests-by : (P : Reply → Type 0) → ((n : ℕ) → P (Refused n)) → ((n l : ℕ) → Unread n l ≡ readOf model → P (Misread n l))
         → (passed (checked (counted hearing) (readOf model)) ≡ true → fine ≡ true → P Done)
-        → P (firstOf (checked (counted hearing) (readOf model) ∷ 9 when not fine ∷ []))
+        → P (firstRefusal (checked (counted hearing) (readOf model) ∷ 9 when not fine ∷ []))
     last-tests-by P bad misread k =
         by-each P (row ∷ 9 when not fine ∷ []) (by-model P bad misread, (by-number P bad 9 (not fine), tt)) (λ c. k (c .0) (not-not 9 fine (c .1 .0)))
 
-    pub last-passed : passed (firstOf (checked (counted hearing) (readOf model) ∷ 9 when not fine ∷ [])) ≡ true
+    pub last-passed : passed (firstRefusal (checked (counted hearing) (readOf model) ∷ 9 when not fine ∷ [])) ≡ true
         → (passed (checked (counted hearing) (readOf model)) ≡ true) × (fine ≡ true)
     last-passed e = let c = cleared (row ∷ 9 when not fine ∷ []) e in (c .0, not-not 9 fine (c .1 .0))

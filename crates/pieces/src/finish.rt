@@ -9,7 +9,7 @@ ghost use Rattle.samples.specs.Samples.{good};
 ghost use Rattle.model.specs.Model.{readOf};
 ghost use Rattle.frame.specs.declared.Reply.the-variants.{Done};
 ghost use Rattle.frame.specs.Effect.{Worked};
-ghost use Rattle.frame.specs.Reply.{_when_, firstOf};
+ghost use Rattle.frame.specs.Reply.{_when_, firstRefusal};
 ghost use Rattle.frame.specs.Frame.{counted, checked};
 ghost use Rattle.pieces.specs.Pieces.{further, resumeFits, resume};
 ghost use Rattle.pieces.specs.Parts.{resumeReply};
@@ -56,7 +56,7 @@ fn resume_fits(
 
 // Refusals 7 to 9, behind the lengths, or Done.
 pub fn last_tests(hearing: Hearing, model: &[u8], fine: bool) -> Reply
-    ensures { λ r. ⌜ r ≡ firstOf (checked (counted hearing) (readOf (now (model .entry))) ∷ 9 when not fine ∷ []) ⌝ }
+    ensures { λ r. ⌜ r ≡ firstRefusal (checked (counted hearing) (readOf (now (model .entry))) ∷ 9 when not fine ∷ []) ⌝ }
 {
     let reply = frame::check(model, hearing);
     if !frame::passed(reply) {

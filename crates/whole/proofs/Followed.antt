@@ -39,7 +39,7 @@ use Rattle.desk.specs.Desk.{piece, resume, holding, carried, Given, desk}
 use Rattle.desk.specs.Surface.{heardOf}
 use Rattle.desk.proofs.Turned.{none, through}
 use Rattle.dictation.specs.Dictation.{Dictated}
-use Rattle.dictation.specs.Cutting.{handedIn, outOf, sumsIn, Led, ended, paused}
+use Rattle.dictation.specs.Cutting.{handedIn, outputOf, sumsIn, Led, ended, paused}
 use Rattle.dictation.specs.Resuming.{Fitting}
 use Rattle.dictation.proofs.Cuts.{passes}
 use Rattle.dictation.proofs.Resumes.{comes-to-its-end}
@@ -78,7 +78,7 @@ writes-onward side store rec reply share rest size progress w = go (ltb (length 
     go false = record { sums = all (buffer (firstHalf (get framePart share) (rec .hearing .way) (take 480 rest) 22)); writes = refl; pauses = λ h. (refl, refl) }
 
 module _ {w : Written} {progress : ℕ} {o : Given} (k : Onward w progress o) where
-  out-is : (held : List Float) → outOf o held ≡ over w held
+  out-is : (held : List Float) → outputOf o held ≡ over w held
   out-is held = ap (λ (ws : List Written). over (getD ws 0 nothing) held) (k .writes)
 
   first-is : (held kept : List Float) → getD (onto (o .written) (held ∷ kept ∷ [])) 0 [] ≡ over w held
@@ -125,7 +125,7 @@ module _ (n side : ℕ) (rec : Record) (store samples : List Float) (model : Lis
     sums : at j .sums ≡ sumsIn o
     lent : Unfinished o → mid j .sums ≡ sumsIn o
     progress : Unfinished o → o .answer .rec .progress + rec .waiting ≡ 480 * j + 480
-    here : outOf o was ≡ mid j .out
+    here : outputOf o was ≡ mid j .out
     out : mid j .out ≡ over (from 0 (at j .out)) held
     filled : length (at j .out) ≡ 480 * j
     told : mid j .answers ≡ over (from 0 (at j .answers)) answers
@@ -242,7 +242,7 @@ module _ (n side : ℕ) (rec : Record) (store samples : List Float) (model : Lis
         done = λ i low high. absurd (omega arith);
       })
   follow (suc m) (paused {o} {next} {held = was} {d = d} p q rest) j e a few room places last =
-      let to = outOf o was in
+      let to = outputOf o was in
       let size : length to ≡ length held =
       ap length (a .here ∙ a .out) ∙ length-put (record { at = 0; size = length (at j .out) }) held (at j .out) (omega (arith, a .filled)) refl in
       let call : next ≡ desk n side (o .answer .rec) (o .store) (resume samples (logsOf (at j .sums)) model (length held) 22) = rw (← a .sums, size) at q in

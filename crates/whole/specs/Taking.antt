@@ -45,4 +45,4 @@ AsDictated =
     → let d = dictated side rec store samples (lentToEach rec samples model) in
     (length (d .out) ≡ 480 * completes (rec .waiting) (length samples))
     × (take n side rec store samples model out answers
-    ≡ record { answer = record { reply = reply; rec = d .rec }; store = d .kept; written = from 0 (d .out) ∷ from 0 (answersOf (d .told)) ∷ [] })
+    ≡ record { answer = record { reply = reply; rec = d .rec }; kept = d .kept; written = from 0 (d .out) ∷ from 0 (answersOf (d .told)) ∷ [] })

@@ -14,7 +14,7 @@ use Rattle.samples.specs.Samples.{good}
 use Rattle.logs.specs.Log10.{logsOf}
 use Rattle.model.specs.Model.{readOf}
 use Rattle.frame.specs.Effect.{Effect, refusal}
-use Rattle.frame.specs.Reply.{passed, _when_, firstOf}
+use Rattle.frame.specs.Reply.{passed, _when_, firstRefusal}
 use Rattle.frame.specs.declared.Reply.{Reply}
 use Rattle.frame.specs.Frame.{counted, checked}
 use Rattle.pieces.specs.Pieces.{waitingIn, completes, pieceFits}
@@ -38,7 +38,7 @@ frameRows n side rec len samples model out =
     ∷ []
 
 unfoldable pub frameReply : ℕ → ℕ → Record → ℕ → List Float → List ℕ → ℕ → Reply
-frameReply n side rec len samples model out = firstOf (frameRows n side rec len samples model out)
+frameReply n side rec len samples model out = firstRefusal (frameRows n side rec len samples model out)
 
 abbrev pub frameBegins : ℕ → ℕ → Record → List Float → List Float → Effect Answer
 frameBegins n side rec store samples = desk n side rec store (firstHalf samples 22)
@@ -68,7 +68,7 @@ takeRows n side rec store samples model out answers =
     ∷ []
 
 unfoldable pub takeReply : ℕ → ℕ → Record → List Float → List Float → List ℕ → ℕ → ℕ → Reply
-takeReply n side rec store samples model out answers = firstOf (takeRows n side rec store samples model out answers)
+takeReply n side rec store samples model out answers = firstRefusal (takeRows n side rec store samples model out answers)
 
 -- how far it came: the record, the store and the sums of the frame under way; and what is handed out so far, the samples of the frames and their answers
 pub record Taking : Type 0 where
