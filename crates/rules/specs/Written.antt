@@ -1,4 +1,4 @@
--- What a call writes to a lent buffer, whatever the buffer held. Laws: proofs/Writing.antt.
+-- What a call writes to a lent buffer, whatever the buffer held. Laws: proofs/Places.antt.
 use Prim.Native.Nat.{ℕ}
 use mathlib.Core.List.{List, [], _∷_}
 use lib.ListN.{length, getD}
