@@ -1,4 +1,4 @@
--- What is claimed of remembered gains (proofs/Remembered), and of the test for silence (proofs/Silence).
+-- What is claimed of remembered gains (proofs/Remembered, Order), and of the test for silence (proofs/Silence).
 use mathlib.Core.Path.{_≡_}
 use mathlib.Core.Bool.{true, false}
 use mathlib.Core.List.{List, [], _∷_, map}
@@ -14,6 +14,10 @@ abbrev pub Remembered : Type 0
 Remembered =
     (g last : List Float) (i : ℕ) → i < 22 → isNan (at last i) ≡ false
     → (isNan (at (gained g last) i) ≡ false) × (le (sixTenths (at last i)) (at (gained g last) i) ≡ true)
+
+-- the rounded product by 0.6 keeps the order of all floats, infinities too; with NaN there is none to keep
+abbrev pub SixTenthsMono : Type 0
+SixTenthsMono = (x y : Float) → le x y ≡ true → le (sixTenths x) (sixTenths y) ≡ true
 
 -- f32 0.04 is heard, the f32 just below is silent, and NaN is heard
 abbrev pub SilentBelow : Type 0

@@ -2,4 +2,3 @@ pub mod Kept
 pub mod Calls
 pub mod Gains
 pub mod Heard
-pub mod Order

@@ -1,4 +1,4 @@
--- What is claimed of remembered gains over heard frames (proofs/Gains), and of the order of floats (proofs/Order).
+-- What is claimed of remembered gains over heard frames. The proof is in proofs/Gains.
 use Prim.Native.Nat.{ℕ, _<_}
 use mathlib.Core.Bool.{true, false}
 use mathlib.Core.List.{List}
@@ -6,7 +6,6 @@ use mathlib.Core.Path.{_≡_}
 use lib.ListN.{length}
 use lib.Ieee.{Float, isNan, le}
 use Rattle.rules.specs.F32.{at}
-use Rattle.features.specs.Gains.{sixTenths}
 use Rattle.memory.specs.Hear.{Recalled, HeardFrame, heardAll, faded}
 
 -- a gain that is a number stays one, and is at least its value before the frames multiplied by 0.6 for each, rounded each time
@@ -15,7 +14,3 @@ HeldGains =
     (i : ℕ) → i < 22
     → (fs : List HeardFrame) (m : Recalled) → isNan (at (m .gains) i) ≡ false
     → let last = at (heardAll m fs .gains) i in (isNan last ≡ false) × (le (faded (length fs) (at (m .gains) i)) last ≡ true)
-
--- the rounded product by 0.6 keeps the order of all floats, infinities too; with NaN there is none to keep
-abbrev pub SixTenthsMono : Type 0
-SixTenthsMono = (x y : Float) → le x y ≡ true → le (sixTenths x) (sixTenths y) ≡ true

@@ -1,11 +1,9 @@
--- A test of two floats that antt computes, and that it means that they are equal (`floats`); and that the factors of a product may be swapped (`mul-swap`). Assumes nothing.
+-- A test of two floats that antt computes, and that it means that they are equal (`floats`). Assumes nothing.
 use mathlib.Core.Path.{_≡_, refl, ap}
 use mathlib.Core.Bool.{Bool, true, false, _&&_}
-use Prim.Native.Nat.{_*_}
-use native.Mathlib.Nat.{mul-comm}
 use lib.Dec.{T, eqb, eqb→eq}
 use lib.IntN.{ℤ, pos, negsuc}
-use lib.Ieee.{Float, nan, inf, fin, Format, unlike, up, down, mul}
+use lib.Ieee.{Float, nan, inf, fin}
 use lib.Ieee.Fits.{and-l, and-r}
 
 abbrev same-sign : Bool → Bool → Bool
@@ -51,21 +49,3 @@ floats (fin s m e) nan h = absurd h
 floats (fin s m e) (inf t) h = absurd h
 floats nan y h = absurd h
 floats (inf s) y h = absurd h
-
-unlike-swap : (s t : Bool) → unlike s t ≡ unlike t s
-unlike-swap true true = refl
-unlike-swap true false = refl
-unlike-swap false true = refl
-unlike-swap false false = refl
-
-pub mul-swap : (f : Format) (x y : Float) → mul f x y ≡ mul f y x
-unfolding mul
-mul-swap f nan nan = refl
-mul-swap f nan (inf t) = refl
-mul-swap f nan (fin t n d) = refl
-mul-swap f (inf s) nan = refl
-mul-swap f (inf s) (inf t) = rw (unlike-swap s t)
-mul-swap f (inf s) (fin t n d) = rw (unlike-swap s t)
-mul-swap f (fin s m e) nan = refl
-mul-swap f (fin s m e) (inf t) = rw (unlike-swap s t)
-mul-swap f (fin s m e) (fin t n d) = rw (unlike-swap s t, mul-comm (m * up e) (n * up d), mul-comm (down e) (down d))

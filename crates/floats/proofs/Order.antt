@@ -1,24 +1,118 @@
--- The order of floats.
---     le-refl          a number is at most itself
---     le-trans         `le` goes on from one to the next
---     six-tenths-mono  the law of order: a rounded product by 0.6 keeps it
--- For all floats: where one is NaN there is no order to keep. Assumes nothing.
-use Prim.Native.Nat.{ℕ, zero, suc, _+_, _*_, _^_, _≤_, _<_}
+-- The order of floats, for all of them: where one is NaN there is none.
+--     not-lt, lt-asym       of two that compare equal, neither is below the other; what is above the other is not below it
+--     even, not-below       of two numbers of which neither is below the other, they compare equal; what is not below is at least the other
+--     itself, le-refl       a number compares equal to itself, and is at most itself
+--     le-trans              `le` goes on from one to the next
+--     product-mono          a rounded product by a factor above zero keeps it
+-- Assumes nothing.
+use mathlib.Core.Path.{_≡_, refl, sym, _∙_, subst}
+use mathlib.Core.Bool.{Bool, true, false, not, _&&_, _||_, Bool·beq, Bool·not-not, or-true, false≢true}
+use mathlib.Core.Logic.{_⊎_, inl, inr}
+use Prim.Native.Nat.{ℕ, zero, suc, _+_, _*_, _≤_, _<_}
 use native.Mathlib.Nat.{le-of-lt, le-of-eq, eq-or-lt-of-le, eq-of-mul-eq-mul-right, mul-mul-mul-comm, mul-le-mul-left, mul-pos, zero-mul, mul-zero}
 use native.Mathlib.Omega.{arith}
-use mathlib.Core.Bool.{Bool, true, false, cond, not, _&&_, _||_, Bool·not-not, false≢true}
-use mathlib.Core.Logic.{_⊎_, inl, inr}
-use mathlib.Core.Path.{_≡_, refl, sym, _∙_}
-use lib.Dec.{T, eqb, ltb, eqb-refl, eqb·suc-zero, eqb→eq, ltb→lt, lt→ltb}
-use lib.IntN.{ℤ, negsuc}
-use lib.Pow.{pow-pos}
-use lib.Ieee.{Float, nan, inf, fin, Format, binary32, prec, emax, low, up, down, unlike, below, level, neg, odd, units, round, mul, le, isNan, ofBits}
-use lib.Ieee.Exact.{HasValue, round-exact}
-use lib.Ieee.Fits.{and-l, and-r, down-pos}
+use lib.Dec.{T, eqb, ltb, eqb·suc-zero, eqb→eq, ltb→lt, lt→ltb}
+use lib.IntN.{ℤ}
+use lib.Ieee.{Float, nan, inf, fin, Format, up, down, unlike, below, level, neg, round, mul, lt, eq, le, isNan}
+use lib.Ieee.Bits.{is-true}
+use lib.Ieee.Exact.{HasValue}
+use lib.Ieee.Fits.{and-i, and-l, and-r, eq→eqb, down-pos}
 use lib.Ieee.Order.{round-mono}
 use lib.Ieee.Positive.{through}
-use Rattle.features.specs.Gains.{sixTenths}
-use Rattle.memory.specs.Laws.{SixTenthsMono}
+use borrow.Author.Tests.{le-ltb, ltb-true, ltb-false, eq-eqb}
+use Rattle.floats.proofs.Rounded.{rounded, zero-rounds}
+use Rattle.floats.proofs.Signs.{neg-round}
+
+-- ---- equal, below, above
+
+level-apart : (s : Bool) (a : ℕ) (t : Bool) (b : ℕ) → level s a t b ≡ true → (below s a t b ≡ false) × (below t b s a ≡ false)
+level-apart s a t b h =
+    let says : T (level s a t b) = subst T (sym h) tt in
+    go s t (eqb→eq a b (and-l (eqb a b) (Bool·beq s t || eqb a 0) says)) (and-r (eqb a b) (Bool·beq s t || eqb a 0) says)
+  where
+    go : (s t : Bool) → a ≡ b → T (Bool·beq s t || eqb a 0) → (below s a t b ≡ false) × (below t b s a ≡ false)
+    go false false e z = (le-ltb a b (omega arith), le-ltb b a (omega arith))
+    go true true e z = (le-ltb b a (omega arith), le-ltb a b (omega arith))
+    go false true e z = (refl, le-ltb 0 (b + a) (omega (arith, eqb→eq a 0 z)))
+    go true false e z = (le-ltb 0 (a + b) (omega (arith, eqb→eq a 0 z)), refl)
+
+pub not-lt : (x y : Float) → eq x y ≡ true → (isNan x ≡ false) × (lt x y ≡ false) × (lt y x ≡ false)
+unfolding isNan lt eq
+not-lt nan y h = absurd (false≢true h)
+not-lt (inf s) nan h = absurd (false≢true h)
+not-lt (inf true) (inf true) h = (refl, refl, refl)
+not-lt (inf true) (inf false) h = absurd (false≢true h)
+not-lt (inf false) (inf true) h = absurd (false≢true h)
+not-lt (inf false) (inf false) h = (refl, refl, refl)
+not-lt (inf s) (fin t n d) h = absurd (false≢true h)
+not-lt (fin s m e) nan h = absurd (false≢true h)
+not-lt (fin s m e) (inf t) h = absurd (false≢true h)
+not-lt (fin s m e) (fin t n d) h = let k = level-apart s (m * up e * down d) t (n * up d * down e) h in (refl, k .0, k .1)
+
+above-apart : (s : Bool) (a : ℕ) (t : Bool) (b : ℕ) → below t b s a ≡ true → below s a t b ≡ false
+above-apart false a false b h = le-ltb a b (omega (arith, ltb-true b a h))
+above-apart false a true b h = refl
+above-apart true a false b h = absurd (false≢true h)
+above-apart true a true b h = le-ltb b a (omega (arith, ltb-true a b h))
+
+pub lt-asym : (x y : Float) → lt y x ≡ true → (isNan x ≡ false) × (lt x y ≡ false)
+unfolding isNan lt
+lt-asym x nan h = absurd (false≢true h)
+lt-asym nan (inf t) h = absurd (false≢true h)
+lt-asym nan (fin t n d) h = absurd (false≢true h)
+lt-asym (inf true) (inf true) h = absurd (false≢true h)
+lt-asym (inf true) (inf false) h = absurd (false≢true h)
+lt-asym (inf false) (inf t) h = (refl, refl)
+lt-asym (inf true) (fin t n d) h = absurd (false≢true h)
+lt-asym (inf false) (fin t n d) h = (refl, refl)
+lt-asym (fin s m e) (inf true) h = (refl, refl)
+lt-asym (fin s m e) (inf false) h = absurd (false≢true h)
+lt-asym (fin s m e) (fin t n d) h = (refl, above-apart s (m * up e * down d) t (n * up d * down e) h)
+
+-- where neither is below the other they compare equal
+as-high : (s : Bool) (a : ℕ) (t : Bool) (b : ℕ) → below s a t b ≡ false → below t b s a ≡ false → level s a t b ≡ true
+as-high false a false b h k = let same : a ≡ b = omega (arith, ltb-false a b h, ltb-false b a k) in rw (eq-eqb a b same)
+as-high true a true b h k = let same : a ≡ b = omega (arith, ltb-false b a h, ltb-false a b k) in rw (eq-eqb a b same)
+as-high false a true b h k =
+    let none : b + a ≡ 0 = omega (arith, ltb-false 0 (b + a) k) in
+    rw (eq-eqb a b (omega arith), eq-eqb a 0 (omega arith))
+as-high true a false b h k =
+    let none : a + b ≡ 0 = omega (arith, ltb-false 0 (a + b) h) in
+    rw (eq-eqb a b (omega arith), eq-eqb a 0 (omega arith))
+
+pub even : (x y : Float) → isNan x ≡ false → isNan y ≡ false → lt x y ≡ false → lt y x ≡ false → eq x y ≡ true
+unfolding isNan lt eq
+even nan y p q h k = absurd (false≢true (sym p))
+even (inf s) nan p q h k = absurd (false≢true (sym q))
+even (fin s m e) nan p q h k = absurd (false≢true (sym q))
+even (inf true) (inf true) p q h k = refl
+even (inf false) (inf false) p q h k = refl
+even (inf true) (inf false) p q h k = absurd (false≢true (sym h))
+even (inf false) (inf true) p q h k = absurd (false≢true (sym k))
+even (inf true) (fin t n d) p q h k = absurd (false≢true (sym h))
+even (inf false) (fin t n d) p q h k = absurd (false≢true (sym k))
+even (fin s m e) (inf false) p q h k = absurd (false≢true (sym h))
+even (fin s m e) (inf true) p q h k = absurd (false≢true (sym k))
+even (fin s m e) (fin t n d) p q h k = as-high s (m * up e * down d) t (n * up d * down e) h k
+
+pub itself : (x : Float) → isNan x ≡ false → eq x x ≡ true
+itself x p = go (lt x x) refl
+  where
+    go : (b : Bool) → lt x x ≡ b → eq x x ≡ true
+    go false h = even x x p p h h
+    go true h = absurd (false≢true (sym (lt-asym x x h .1) ∙ h))
+
+pub not-below : (x y : Float) → isNan x ≡ false → isNan y ≡ false → lt x y ≡ false → le y x ≡ true
+unfolding le
+not-below x y p q h = go (lt y x) refl
+  where
+    go : (b : Bool) → lt y x ≡ b → (lt y x || eq y x) ≡ true
+    go true k = rw k
+    go false k = rw (even y x q p k h) (or-true (lt y x))
+
+pub le-refl : (x : Float) → isNan x ≡ false → le x x ≡ true
+unfolding le
+le-refl x p = rw (itself x p) (or-true (lt x x))
 
 -- ---- the order as one of signed fractions
 
@@ -54,10 +148,6 @@ or-r : (a b : Bool) → T b → T (a || b)
 or-r true b t = tt
 or-r false b t = t
 
-and-both : (a b : Bool) → T a → T b → T (a && b)
-and-both true b t u = u
-and-both false b t u = t
-
 under : (s : Bool) (a : ℕ) (t : Bool) (b : ℕ) → T (below s a t b || level s a t b) → Under s a t b
 under false a false b h = elim (either (ltb a b) (eqb a b && true) h) [ inl u ↦ le-of-lt (ltb→lt a b u) | inr u ↦ le-of-eq (eqb→eq a b (and-l (eqb a b) true u)) ]
 under true a true b h = elim (either (ltb b a) (eqb a b && true) h) [ inl u ↦ le-of-lt (ltb→lt b a u) | inr u ↦ le-of-eq (sym (eqb→eq a b (and-l (eqb a b) true u))) ]
@@ -81,16 +171,13 @@ most (fin s m e) (inf true) h = absurd h
 most (fin s m e) (inf false) h = tt
 most (fin s m e) (fin t n d) h = under s (m * up e * down d) t (n * up d * down e) h
 
-same : (a b : ℕ) → a ≡ b → T (eqb a b)
-same a b e = rw e (eqb-refl b)
-
 ordered : (s : Bool) (a : ℕ) (t : Bool) (b : ℕ) → Under s a t b → T (below s a t b || level s a t b)
-ordered false a false b h = elim (eq-or-lt-of-le h) [ inl e ↦ or-r (ltb a b) (eqb a b && true) (and-both (eqb a b) true (same a b e) tt) | inr l ↦ or-l (ltb a b) (eqb a b && true) (lt→ltb a b l) ]
-ordered true a true b h = elim (eq-or-lt-of-le h) [ inl e ↦ or-r (ltb b a) (eqb a b && true) (and-both (eqb a b) true (same a b (sym e)) tt) | inr l ↦ or-l (ltb b a) (eqb a b && true) (lt→ltb b a l) ]
+ordered false a false b h = elim (eq-or-lt-of-le h) [ inl e ↦ or-r (ltb a b) (eqb a b && true) (and-i (eqb a b) true (eq→eqb e) tt) | inr l ↦ or-l (ltb a b) (eqb a b && true) (lt→ltb a b l) ]
+ordered true a true b h = elim (eq-or-lt-of-le h) [ inl e ↦ or-r (ltb b a) (eqb a b && true) (and-i (eqb a b) true (eq→eqb (sym e)) tt) | inr l ↦ or-l (ltb b a) (eqb a b && true) (lt→ltb b a l) ]
 ordered true zero false zero h = tt
 ordered true zero false (suc b) h = or-l (ltb 0 (0 + suc b)) _ (lt→ltb 0 (0 + suc b) (omega arith))
 ordered true (suc a) false b h = or-l (ltb 0 (suc a + b)) _ (lt→ltb 0 (suc a + b) (omega arith))
-ordered false a true b h = and-both (eqb a b) (eqb a 0) (same a b (h .0 ∙ sym (h .1))) (same a 0 (h .0))
+ordered false a true b h = and-i (eqb a b) (eqb a 0) (eq→eqb (h .0 ∙ sym (h .1))) (eq→eqb (h .0))
 
 is-le : (x y : Float) → AtMost x y → T (le x y)
 unfolding le
@@ -161,54 +248,18 @@ most-trans (fin s m e) (fin t n d) (fin u l c) h k = under-trans s t u (m * up e
 
 -- ---- what is rounded
 
--- an infinity or a finite value, of the sign that it was given
-module _ (f : Format) (s : Bool) (P : Float → Type 0) (infinite : P (inf s)) (finite : (m : ℕ) (e : ℤ) → P (fin s m e)) where
-  by-odd : (q k : ℕ) → P (odd (suc (prec f)) s q k (low f))
-  unfolding odd
-  by-odd zero k = finite _ _
-  by-odd (suc q) k = finite _ _
-
-  by-units : (q k : ℕ) → P (units f s q k)
-  unfolding units
-  by-units q k = go (ltb (q * 2 ^ k) (2 ^ (low f + suc (emax f))))
-    where
-      go : (b : Bool) → P (cond b (odd (suc (prec f)) s q k (low f)) (inf s))
-      go true = by-odd q k
-      go false = infinite
-
-  by-sign : (a b : ℕ) → P (round f s a b)
-  unfolding round
-  by-sign a b = by-units _ _
-
 above-lowest : (f : Format) (s : Bool) (a b : ℕ) → AtMost (inf true) (round f s a b)
-above-lowest f s = by-sign f s (AtMost (inf true)) tt (λ m e. tt)
+above-lowest f s = rounded f s (AtMost (inf true)) tt (λ m e. tt)
 
 below-top : (f : Format) (s : Bool) (a b : ℕ) → AtMost (round f s a b) (inf false)
-below-top f true = by-sign f true (λ x. AtMost x (inf false)) tt (λ m e. tt)
-below-top f false = by-sign f false (λ x. AtMost x (inf false)) tt (λ m e. tt)
+below-top f true = rounded f true (λ x. AtMost x (inf false)) tt (λ m e. tt)
+below-top f false = rounded f false (λ x. AtMost x (inf false)) tt (λ m e. tt)
 
 across : (f : Format) (a b c d : ℕ) → AtMost (round f true a b) (round f false c d)
 across f a b c d =
-    by-sign f true (λ x. AtMost x (round f false c d)) (above-lowest f false c d) (λ m e. by-sign f false (AtMost (fin true m e)) tt (λ n g. tt) c d) a b
+    rounded f true (λ x. AtMost x (round f false c d)) (above-lowest f false c d) (λ m e. rounded f false (AtMost (fin true m e)) tt (λ n g. tt) c d) a b
 
 -- the other sign turns it
-odd-turned : (p q k l : ℕ) → odd p true q k l ≡ neg (odd p false q k l)
-unfolding odd neg
-odd-turned p zero k l = refl
-odd-turned p (suc q) k l = refl
-
-units-turned : (f : Format) (q k : ℕ) → units f true q k ≡ neg (units f false q k)
-unfolding units neg
-units-turned f q k = go (ltb (q * 2 ^ k) (2 ^ (low f + suc (emax f))))
-  where
-    go : (b : Bool) → cond b (odd (suc (prec f)) true q k (low f)) (inf true) ≡ neg (cond b (odd (suc (prec f)) false q k (low f)) (inf false))
-    go true = odd-turned (suc (prec f)) q k (low f)
-    go false = refl
-
-turned : (f : Format) (a b : ℕ) → round f true a b ≡ neg (round f false a b)
-unfolding round
-turned f a b = units-turned f _ _
-
 under-turned : (s : Bool) (a : ℕ) (t : Bool) (b : ℕ) → Under s a t b → Under (not t) b (not s) a
 under-turned false a false b h = h
 under-turned true a true b h = h
@@ -241,15 +292,11 @@ zeros (fin s m e) (fin t n c) b d B D h k =
     let y₀ = none (n * up c) d D (k .1 ∙ zero-mul (down c)) in
     rw (h .0, k .0, x₀, y₀) (zero-mul (down c), zero-mul (down e))
 
-zero-rounds : (f : Format) (s : Bool) (b : ℕ) → 0 < b → HasValue (round f s 0 b) s 0 b
-zero-rounds f s b B =
-    round-exact f s 0 b 0 0 B (pow-pos (prec f)) (pow-pos (low f + suc (emax f))) (zero-mul (2 ^ low f) ∙ sym (zero-mul b))
-
 -- ±a / b at most ±c / d, rounded
 round-order : (f : Format) (s t : Bool) (a b c d : ℕ) → 0 < b → 0 < d → Under s (a * d) t (c * b) → AtMost (round f s a b) (round f t c d)
 round-order f false false a b c d B D h = most (round f false a b) (round f false c d) (round-mono f a b c d B D h)
 round-order f true true a b c d B D h =
-    rw (turned f a b, turned f c d) (most-turned (round f false c d) (round f false a b) (most _ _ (round-mono f c d a b D B h)))
+    rw (neg-round f false a b, neg-round f false c d) (most-turned (round f false c d) (round f false a b) (most _ _ (round-mono f c d a b D B h)))
 round-order f true false a b c d B D h = across f a b c d
 round-order f false true a b c d B D h =
     let a₀ = none a d D (h .0) in
@@ -294,25 +341,8 @@ module _ (f : Format) (k : ℕ) (w : ℤ) where
 
 -- ---- as equations
 
-T-of : (t : Bool) → t ≡ true → T t
-T-of true e = tt
-T-of false e = absurd (false≢true e)
-
-of-T : (t : Bool) → T t → t ≡ true
-of-T true h = refl
-of-T false h = absurd h
-
-pub le-refl : (x : Float) → isNan x ≡ false → le x x ≡ true
-unfolding isNan
-le-refl nan h = absurd (false≢true (sym h))
-le-refl (inf true) h = of-T _ (is-le (inf true) (inf true) tt)
-le-refl (inf false) h = of-T _ (is-le (inf false) (inf false) tt)
-le-refl (fin true m e) h = of-T _ (is-le (fin true m e) (fin true m e) (le-of-eq refl))
-le-refl (fin false m e) h = of-T _ (is-le (fin false m e) (fin false m e) (le-of-eq refl))
-
 pub le-trans : (x y z : Float) → le x y ≡ true → le y z ≡ true → le x z ≡ true
-le-trans x y z h k = of-T _ (is-le x z (most-trans x y z (most x y (T-of _ h)) (most y z (T-of _ k))))
+le-trans x y z h k = is-true _ (is-le x z (most-trans x y z (most x y (rw h tt)) (most y z (rw k tt))))
 
-pub six-tenths-mono : SixTenthsMono
-unfolding ofBits
-six-tenths-mono x y h = of-T _ (is-le (sixTenths x) (sixTenths y) (product binary32 5033164 (negsuc 22) x y (most x y (T-of _ h))))
+pub product-mono : (f : Format) (k : ℕ) (w : ℤ) (x y : Float) → le x y ≡ true → le (mul f (fin false (suc k) w) x) (mul f (fin false (suc k) w) y) ≡ true
+product-mono f k w x y h = is-true _ (is-le _ _ (product f k w x y (most x y (rw h tt))))

@@ -1,0 +1,12 @@
+-- The floats that a sum may be which starts from +0. Laws: proofs/Plain.antt.
+use mathlib.Core.Bool.{Bool, true, false}
+use Prim.Native.Nat.{zero, suc}
+use lib.Ieee.{Float, nan, inf, fin}
+
+-- anything but -0
+abbrev pub plain : Float → Bool
+plain nan = true
+plain (inf s) = true
+plain (fin false m e) = true
+plain (fin true zero e) = false
+plain (fin true (suc m) e) = true
