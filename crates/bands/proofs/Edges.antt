@@ -4,7 +4,7 @@ use mathlib.Core.List.{List}
 use Prim.Native.Nat.{ℕ, _+_, _-_, _≤_, _<_}
 use lib.Dec.{leb, ltb, leb→le, ltb→lt}
 use lib.ListN.{getD}
-use Rattle.rules.proofs.Below.{at-each}
+use Rattle.rules.proofs.Tests.{at-each}
 use Rattle.bands.specs.Bands.{edges, edge}
 
 pub record Edge (i : ℕ) : Type 0 where

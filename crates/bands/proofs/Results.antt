@@ -7,8 +7,8 @@ use lib.ListN.{length, length-set, length-replicate, getD-replicate}
 use lib.Seq.{getD-set-other}
 use lib.Ieee.{Float, nan}
 use Rattle.rules.specs.F32.{at, f32, zeros}
-use Rattle.rules.proofs.Runs.{kept}
-use Rattle.rules.proofs.Tabs.{length-tab}
+use Rattle.rules.proofs.Loops.{kept}
+use Rattle.rules.proofs.Lists.{length-tab}
 use Rattle.bands.specs.Bands.{edge, inBand, corrStep, bandCorr, gainStep, bandGain}
 use Rattle.bands.specs.Dct.{dctIn, dctOf}
 use Rattle.bands.specs.Laws.{Lengths, GainEnds}

@@ -10,7 +10,7 @@ use lib.Seq.{getD-set-same, getD-set-other, set-getD, set-set, set-comm}
 use lib.Ieee.{Float, nan, binary32, ofInt, ofBits}
 use Rattle.rules.specs.Loop.{loop, range}
 use Rattle.rules.specs.F32.{_⊕_, _⊖_, _⊗_, _⊘_, at, f32, zeros}
-use Rattle.rules.proofs.Runs.{range-after}
+use Rattle.rules.proofs.Loops.{range-after}
 use Rattle.bands.specs.Bands.{edges, edge, added, frac, rest, binCorr, corrStep, inBand}
 use Rattle.bands.proofs.Edges.{edges-rule}
 

@@ -9,7 +9,7 @@ use lib.Ieee.{Float}
 use Rattle.rules.specs.Place.{get}
 use Rattle.rules.specs.Refusals.{Row, refusing}
 use Rattle.rules.specs.Written.{Written, from, nothing, numbersIn, firstIn}
-use Rattle.rules.proofs.Rows.{along}
+use Rattle.rules.proofs.Refusals.{along}
 use Rattle.frame.specs.declared.Reply.the-variants.{Refused}
 use Rattle.desk.specs.declared.Record.{Record}
 use Rattle.desk.specs.Gate.{PIECE, gate, shareOf}

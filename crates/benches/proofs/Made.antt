@@ -6,7 +6,7 @@ use Prim.Native.Nat.{ℕ}
 use mathlib.Core.List.{List, [], map}
 use mathlib.Core.Path.{_≡_, refl, sym, _∙_}
 use lib.ListN.{length}
-use Rattle.rules.proofs.Rows.{along}
+use Rattle.rules.proofs.Refusals.{along}
 use Rattle.frame.specs.declared.Reply.the-variants.{Refused}
 use Rattle.desk.specs.Gate.{BENCHES, PIECE, gate}
 use Rattle.desk.specs.Desk.{Ask}

@@ -17,7 +17,7 @@ use lib.Seq.{getD-append-add}
 use lib.Ieee.{Float, nan, eq}
 use Rattle.rules.specs.F32.{f32, at, natAt}
 use Rattle.rules.specs.Tab.{tab}
-use Rattle.rules.proofs.Tabs.{length-tab, tab-same}
+use Rattle.rules.proofs.Lists.{length-tab, tab-same}
 use Rattle.frame.specs.Reply.{oneMore}
 use Rattle.halves.proofs.Cases.{second-half-by}
 use Rattle.desk.specs.declared.Record.{Record}

@@ -15,8 +15,7 @@ use Rattle.rules.specs.Place.{get, put}
 use Rattle.rules.specs.Refusals.{_when_, refusing}
 use Rattle.rules.specs.Written.{firstIn}
 use Rattle.rules.proofs.Places.{length-get, get-put}
-use Rattle.rules.proofs.Refused.{by-rows}
-use Rattle.rules.proofs.Rows.{by-each}
+use Rattle.rules.proofs.Refusals.{by-rows, by-each}
 use Rattle.frame.specs.declared.Reply.{Reply}
 use Rattle.frame.specs.declared.Reply.the-variants.{Refused}
 use Rattle.frame.specs.Reply.{passed}

@@ -16,8 +16,7 @@ use lib.Dec.{eqb, ltb}
 use lib.ListN.{length}
 use lib.Ieee.{Float}
 use Rattle.rules.specs.Place.{get, put}
-use Rattle.rules.proofs.Places.{Within, length-get, length-put, get-put, get-put-apart, put-get}
-use Rattle.rules.proofs.Wholes.{get-whole, put-whole}
+use Rattle.rules.proofs.Places.{Within, length-get, length-put, get-put, get-put-apart, put-get, get-whole, put-whole}
 use Rattle.model.specs.Model.{readOf}
 use Rattle.model.specs.declared.Reading.{Reading}
 use Rattle.model.specs.declared.Reading.the-variants.{Good, Refused as Unread}

@@ -12,8 +12,8 @@ use lib.Ieee.{Float}
 use Rattle.rules.specs.Place.{get, put}
 use Rattle.rules.specs.Written.{firstIn}
 use Rattle.rules.proofs.Places.{Within, length-get, length-put, get-put, put-put}
-use Rattle.rules.proofs.Refused.{clear}
-use Rattle.rules.proofs.Truth.{both}
+use Rattle.rules.proofs.Refusals.{clear}
+use Rattle.rules.proofs.Tests.{both}
 use Rattle.transforms.specs.Transform.{forwardOf}
 use Rattle.frame.specs.Reply.{passed}
 use Rattle.frame.specs.Share.{SHARE, PART}

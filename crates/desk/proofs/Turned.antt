@@ -9,8 +9,7 @@ use mathlib.Core.Bool.{Bool, true, false, true≢false}
 use mathlib.Core.Path.{_≡_, refl}
 use borrow.Author.Tests.{lt-ltb, eq-eqb, ltb-true, eqb-true, not-false}
 use lib.Dec.{eqb, ltb}
-use Rattle.rules.proofs.Cleared.{cleared}
-use Rattle.rules.proofs.Refused.{Clear}
+use Rattle.rules.proofs.Refusals.{cleared, Clear}
 use Rattle.frame.specs.Share.{SHARE}
 use Rattle.desk.specs.declared.Record.{Record}
 use Rattle.desk.specs.Gate.{refusals, gate}

@@ -15,7 +15,7 @@ use Rattle.rules.specs.F32.{f32, zeros}
 use Rattle.rules.specs.Place.{Place, get, put}
 use Rattle.rules.specs.Written.{Written, from, nothing, firstIn}
 use Rattle.rules.proofs.Places.{Within, length-get, get-put, get-put-apart}
-use Rattle.rules.proofs.Truth.{both}
+use Rattle.rules.proofs.Tests.{both}
 use Rattle.model.specs.Model.{readOf}
 use Rattle.model.specs.declared.Reading.{Reading}
 use Rattle.model.specs.declared.Reading.the-variants.{Good, Refused as Unread}

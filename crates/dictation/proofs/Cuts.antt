@@ -12,7 +12,7 @@ use lib.Seq.{take-at, drop-drop, drop-append-add}
 use lib.Ieee.{Float}
 use Rattle.rules.specs.Place.{get, put}
 use Rattle.rules.specs.Written.{Written, from, nothing, over}
-use Rattle.rules.proofs.Writing.{over-none, over-next}
+use Rattle.rules.proofs.Places.{over-none, over-next}
 use Rattle.frame.specs.declared.Reply.{Reply}
 use Rattle.frame.specs.declared.Reply.the-variants.{Done}
 use Rattle.frame.specs.Reply.{passed}

@@ -11,9 +11,8 @@ use lib.Seq.{drop-drop, drop-append-add}
 use lib.Ieee.{Float}
 use Rattle.rules.specs.Place.{get, put}
 use Rattle.rules.specs.Written.{Written, from, nothing, over}
-use Rattle.rules.proofs.Places.{length-get, length-put}
-use Rattle.rules.proofs.Writing.{over-none}
-use Rattle.rules.proofs.Truth.{both}
+use Rattle.rules.proofs.Places.{length-get, length-put, over-none}
+use Rattle.rules.proofs.Tests.{both}
 use Rattle.samples.specs.Samples.{good}
 use Rattle.frame.specs.declared.Reply.{Reply}
 use Rattle.frame.specs.declared.Reply.the-variants.{Done}

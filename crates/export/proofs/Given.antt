@@ -15,7 +15,7 @@ use lib.Seq.{take-all}
 use lib.Ieee.{Float}
 use Rattle.rules.specs.Place.{Place, get, put}
 use Rattle.rules.specs.Written.{Written, all, onto}
-use Rattle.rules.proofs.Writing.{onto-more, to-none}
+use Rattle.rules.proofs.Places.{onto-more, to-none}
 use Rattle.frame.specs.Effect.{Effect, Worked}
 use Rattle.frame.specs.Reply.{passed}
 use Rattle.desk.specs.declared.Record.{Record}

@@ -6,7 +6,7 @@ use native.Mathlib.Omega.{arith}
 use lib.Ieee.{Float}
 use lib.ListN.{length, length-set, length-append, length-drop}
 use Rattle.rules.proofs.Places.{length-put}
-use Rattle.rules.proofs.Tabs.{length-tab}
+use Rattle.rules.proofs.Lists.{length-tab}
 use Rattle.bands.proofs.Results.{length-dct}
 use Rattle.features.specs.Cepstra.{row, followLogs, cepstrum, deltas}
 use Rattle.features.specs.Features.{normalised, normalisedCorr, pitchFeatures, withCepstrum, laid, featuresOf}

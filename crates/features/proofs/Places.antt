@@ -9,8 +9,7 @@ use lib.ListN.{length, set, take, drop, length-append, length-take, length-drop,
 use lib.Seq.{drop-drop, set-at, take-all}
 use Rattle.rules.specs.F32.{part}
 use Rattle.rules.specs.Place.{Place, get, put}
-use Rattle.rules.proofs.Fronts.{put-behind}
-use Rattle.rules.proofs.Places.{get-get, get-put, get-put-apart, length-put}
+use Rattle.rules.proofs.Places.{put-behind, get-get, get-put, get-put-apart, length-put}
 
 abbrev pub place : ℕ → ℕ → Place
 place at size = record { at = at; size = size }

@@ -5,7 +5,7 @@ use mathlib.Core.Bool.{true, false}
 use Prim.Native.Nat.{ℕ, _<_}
 use lib.Ieee.{Float, nan, le, isNan}
 use Rattle.rules.specs.F32.{at}
-use Rattle.rules.proofs.Tabs.{getD-tab}
+use Rattle.rules.proofs.Lists.{getD-tab}
 use Rattle.features.specs.Gains.{sixTenths, atLeast, gained}
 use Rattle.features.specs.Laws.{Remembered}
 use Rattle.features.proofs.Order.{held-no-nan, larger-no-nan, larger-at-least}

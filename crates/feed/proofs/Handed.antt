@@ -19,9 +19,8 @@ use Rattle.rules.specs.Place.{put}
 use Rattle.rules.specs.Refusals.{_when_, refusing}
 use Rattle.rules.specs.Tab.{tab}
 use Rattle.rules.specs.Written.{from, over}
-use Rattle.rules.proofs.Tabs.{tab-same}
-use Rattle.rules.proofs.Tests.{answered-no, answered-yes}
-use Rattle.rules.proofs.Truth.{both}
+use Rattle.rules.proofs.Lists.{tab-same}
+use Rattle.rules.proofs.Tests.{answered-no, answered-yes, both}
 use Rattle.frame.specs.declared.Reply.the-variants.{Refused}
 use Rattle.frame.specs.Reply.{passed}
 use Rattle.pieces.specs.Pieces.{completes, pieceFits}

@@ -12,7 +12,7 @@ use lib.ListN.{length}
 use lib.Ieee.{Float, eq}
 use Rattle.rules.specs.F32.{f32}
 use Rattle.rules.specs.Tab.{tab}
-use Rattle.rules.proofs.Refused.{by-rows}
+use Rattle.rules.proofs.Refusals.{by-rows}
 use Rattle.frame.specs.declared.Reply.the-variants.{Refused}
 use Rattle.frame.specs.Reply.{passed}
 use Rattle.desk.specs.declared.Answer.{Answer}

@@ -9,7 +9,7 @@ use native.Mathlib.Omega.{arith}
 use borrow.Author.Tests.{eq-eqb, ne-eqb}
 use lib.Dec.{eqb}
 use Rattle.rules.specs.Loop.{loop, range}
-use Rattle.rules.proofs.Tabs.{tab-same}
+use Rattle.rules.proofs.Lists.{tab-same}
 use Rattle.fft.specs.Ops.{Ops, Complex, numberAt}
 use Rattle.fft.specs.Exact.{Ring, Cosines}
 use Rattle.fft.specs.Fast.{complexAt, transformed, binIn, merged, mergedAt, mergedOf, sampleOut, inverseOver}

@@ -15,7 +15,7 @@ use lib.ListN.{length, set, length-set}
 use lib.Seq.{getD-set-same, getD-set-other, ext-getD}
 use Rattle.rules.specs.F32.{at}
 use Rattle.rules.specs.Tab.{tab}
-use Rattle.rules.proofs.Tabs.{length-tab, getD-tab, tab-same}
+use Rattle.rules.proofs.Lists.{length-tab, getD-tab, tab-same}
 use Rattle.fft.specs.Ops.{Complex}
 use Rattle.fft.specs.Fast.{complexAt, complexes, stage}
 use Rattle.fft.specs.Single.{single}

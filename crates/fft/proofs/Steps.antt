@@ -8,7 +8,7 @@ use native.Mathlib.Nat.{add-mul, mul-add, mul-mul-mul-comm, mul-assoc, mul-left-
 use native.Mathlib.Omega.{arith}
 use borrow.Author.Tests.{lt-ltb, le-ltb}
 use lib.Dec.{ltb}
-use Rattle.rules.proofs.Tabs.{getD-tab}
+use Rattle.rules.proofs.Lists.{getD-tab}
 use Rattle.fft.specs.Ops.{Ops, Complex}
 use Rattle.fft.specs.Exact.{Ring, Cosines}
 use Rattle.fft.specs.Fast.{complexAt, complexes, ofTwo, ofThree, ofFour, ofFive, first, angle, row2, row3, row4, row5, stage, transformed}

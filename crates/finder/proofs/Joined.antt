@@ -10,10 +10,8 @@ use lib.Seq.{take-all}
 use Rattle.rules.specs.F32.{_⊕_, _⊘_, at, f32}
 use Rattle.rules.specs.Leaf.{Leaf, _leaving_}
 use Rattle.rules.specs.Tab.{tab}
-use Rattle.rules.proofs.Leaves.{fitting}
-use Rattle.rules.proofs.Called.{left}
-use Rattle.rules.proofs.Tabs.{length-tab}
-use Rattle.rules.proofs.Filling.{Filling}
+use Rattle.rules.proofs.Refusals.{fitting, left}
+use Rattle.rules.proofs.Lists.{length-tab, Filling}
 use Rattle.pitch.specs.Xcorr.{pitchXcorr, XcorrFits}
 use Rattle.pitch.specs.Downsample.{downsampled}
 use Rattle.pitch_search.specs.Best.{bestOf, firstOf, secondOf, BestFits}

@@ -8,7 +8,7 @@ use lib.Ieee.{Float}
 use Rattle.rules.specs.F32.{f32}
 use Rattle.rules.specs.Place.{Place, get, put}
 use Rattle.rules.proofs.Places.{Apart, length-get, length-put, get-put-apart}
-use Rattle.rules.proofs.Tabs.{length-tab}
+use Rattle.rules.proofs.Lists.{length-tab}
 use Rattle.numbers.specs.Filter.{highPass, outputs}
 use Rattle.numbers.proofs.Outputs.{length-outputs}
 use Rattle.bands.proofs.Results.{length-corr}

@@ -8,7 +8,7 @@ use lib.Dec.{ltb}
 use lib.ListN.{length}
 use lib.Ieee.{Float}
 use Rattle.rules.specs.Place.{get}
-use Rattle.rules.proofs.Refused.{Right, right}
+use Rattle.rules.proofs.Refusals.{Right, right}
 use Rattle.samples.specs.Samples.{good}
 use Rattle.model.specs.Model.{readOf}
 use Rattle.model.specs.declared.Model.{Model}

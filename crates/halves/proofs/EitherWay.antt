@@ -10,7 +10,7 @@ use lib.Ieee.{Float}
 use Rattle.rules.specs.F32.{at}
 use Rattle.rules.specs.Place.{Place, get}
 use Rattle.rules.proofs.Places.{Apart}
-use Rattle.rules.proofs.Tabs.{length-tab}
+use Rattle.rules.proofs.Lists.{length-tab}
 use Rattle.lag.proofs.Ranges.{in-range}
 use Rattle.finder.proofs.Ranges.{period-in-range}
 use Rattle.transforms.specs.Transform.{forwardOf, inverseOf}

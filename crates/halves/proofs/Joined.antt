@@ -9,7 +9,7 @@ use lib.ListN.{length, drop}
 use lib.Ieee.{Float}
 use Rattle.rules.specs.Refusals.{wrong}
 use Rattle.rules.specs.Written.{firstIn}
-use Rattle.rules.proofs.Refused.{Right, right}
+use Rattle.rules.proofs.Refusals.{Right, right}
 use Rattle.transforms.specs.Transform.{forwardOf, inverseOf}
 use Rattle.frame.specs.declared.Hearing.{Hearing}
 use Rattle.frame.specs.declared.Reply.{Reply}

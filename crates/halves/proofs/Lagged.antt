@@ -13,9 +13,9 @@ use Rattle.rules.specs.F32.{at}
 use Rattle.rules.specs.Place.{get, put}
 use Rattle.rules.specs.Refusals.{wrong}
 use Rattle.rules.specs.Written.{firstIn}
-use Rattle.rules.proofs.Refused.{right}
+use Rattle.rules.proofs.Refusals.{right}
 use Rattle.rules.proofs.Places.{get-put, length-put}
-use Rattle.rules.proofs.Tabs.{length-tab}
+use Rattle.rules.proofs.Lists.{length-tab}
 use Rattle.bands.specs.Windowed.{windowed}
 use Rattle.bands.proofs.Results.{length-corr}
 use Rattle.lag.specs.Lag.{ownLag}

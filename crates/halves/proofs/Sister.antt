@@ -8,7 +8,7 @@ use lib.Ieee.{Float}
 use lib.ListN.{length}
 use Rattle.rules.specs.Leaf.{Leaf}
 use Rattle.rules.specs.Place.{get}
-use Rattle.rules.proofs.Leaves.{fitting}
+use Rattle.rules.proofs.Refusals.{fitting}
 use Rattle.rules.proofs.Places.{length-get}
 use Rattle.lag.specs.Lag.{ownLag, lagIn}
 use Rattle.lag.specs.declared.OwnLag.{OwnLag}

@@ -16,8 +16,7 @@ use lib.ListN.{length}
 use lib.Ieee.{Float}
 use Rattle.rules.specs.F32.{zeros}
 use Rattle.rules.specs.Place.{get, put}
-use Rattle.rules.proofs.Places.{length-get, length-put, get-put, get-put-apart}
-use Rattle.rules.proofs.Wholes.{get-whole}
+use Rattle.rules.proofs.Places.{length-get, length-put, get-put, get-put-apart, get-whole}
 use Rattle.frame.specs.Reply.{passed}
 use Rattle.frame.specs.Share.{SHARE}
 use Rattle.desk.specs.declared.Record.{Record}

@@ -15,8 +15,7 @@ use lib.Dec.{eqb}
 use lib.ListN.{length}
 use lib.Ieee.{Float}
 use Rattle.rules.specs.Place.{get, put}
-use Rattle.rules.proofs.Places.{length-get, length-put, get-put, put-get, put-put}
-use Rattle.rules.proofs.Wholes.{get-whole}
+use Rattle.rules.proofs.Places.{length-get, length-put, get-put, put-get, put-put, get-whole}
 use Rattle.frame.specs.Share.{SHARE}
 use Rattle.frame.specs.declared.Reply.the-variants.{Refused}
 use Rattle.desk.specs.declared.Record.{Record}

@@ -6,7 +6,7 @@ use native.Mathlib.Omega.{arith}
 use lib.Ieee.{Float}
 use lib.ListN.{length, take, drop}
 use Rattle.rules.specs.Leaf.{Leaf}
-use Rattle.rules.proofs.Leaves.{fitting}
+use Rattle.rules.proofs.Refusals.{fitting}
 use Rattle.pitch.specs.Xcorr.{pitchXcorr}
 use Rattle.pitch_search.specs.Best.{bestOf, firstOf, BestFits}
 use Rattle.pitch.specs.Downsample.{downsampled}

@@ -5,7 +5,7 @@ use Prim.Native.Nat.{_<_}
 use native.Mathlib.Omega.{arith}
 use lib.Ieee.{Float}
 use lib.ListN.{length}
-use Rattle.rules.proofs.Tabs.{length-tab}
+use Rattle.rules.proofs.Lists.{length-tab}
 use Rattle.pitch.specs.Xcorr.{pitchXcorr}
 use Rattle.pitch.specs.Downsample.{downsampled}
 use Rattle.pitch_search.proofs.Firsts.{first-below, first-none}

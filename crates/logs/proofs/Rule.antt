@@ -6,7 +6,7 @@ use native.Mathlib.Nat.{div-add-mod', add-zero}
 use lib.Dec.{T, leb, eqb, leb→le, eqb→eq}
 use lib.Ieee.{Float, nan, inf, fin, up, down, ofBits}
 use lib.Ieee.Fits.{and-l, and-r}
-use Rattle.rules.proofs.Below.{at-each}
+use Rattle.rules.proofs.Tests.{at-each}
 use Rattle.logs.specs.Tables.{rowBits, rows, rowAt, twoHigh}
 use Rattle.logs.specs.Exact.{Grained, Rule}
 

@@ -7,7 +7,7 @@ use lib.IntN.{ℤ, pos, negsuc, _-ℤ_}
 use lib.Signed.{mag}
 use mir.Syntax.{w16}
 use mir.Val.{toZ, ofZ}
-use Rattle.rules.proofs.Below.{at-each}
+use Rattle.rules.proofs.Tests.{at-each}
 use Rattle.matrix.specs.Sums.{signed}
 
 abbrev moved : ℕ → ℤ

@@ -10,10 +10,9 @@ use lib.Seq.{getD-take, getD-drop}
 use lib.Ieee.{Float, nan}
 use Rattle.rules.specs.F32.{at, part, _⊕_, _⊗_}
 use Rattle.rules.specs.Loop.{loop}
-use Rattle.rules.proofs.Fused.{fused}
-use Rattle.rules.proofs.Loops.{more}
+use Rattle.rules.proofs.Lists.{fused}
+use Rattle.rules.proofs.Loops.{more, loop-same}
 use Rattle.rules.proofs.Numbers.{row-fits}
-use Rattle.rules.proofs.Runs.{loop-same}
 use Rattle.matrix.specs.Sums.{ofByte, columnStep, addColumn, mulStep, MulAddFits}
 use Rattle.matrix.proofs.Lengths.{length-addColumn}
 

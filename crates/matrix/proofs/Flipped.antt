@@ -6,8 +6,8 @@ use lib.Dec.{T}
 use lib.Bits.{bitXor}
 use lib.Ieee.{binary32, ofBits, ofInt, sub, add, neg, sum, round, units, odd, climb, span, size, nanBits, ofFields}
 use Rattle.rules.specs.F32.{f32, _⊖_}
-use Rattle.rules.proofs.Below.{at-each}
-use Rattle.rules.proofs.Floats.{same, floats}
+use Rattle.rules.proofs.Tests.{at-each}
+use Rattle.floats.proofs.Same.{same, floats}
 use Rattle.matrix.specs.Sums.{ofByte}
 
 -- in the last eight digits

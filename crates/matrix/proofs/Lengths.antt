@@ -5,7 +5,7 @@ use Prim.Native.Nat.{ℕ, _+_, _*_}
 use lib.ListN.{length, length-set}
 use lib.Ieee.{Float}
 use Rattle.rules.specs.F32.{at, part}
-use Rattle.rules.proofs.Lengths.{same-length}
+use Rattle.rules.proofs.Loops.{same-length}
 use Rattle.matrix.specs.Sums.{columnStep, addColumn, mulStep, mulAdd}
 
 pub length-addColumn : (out : List Float) (col : List ℕ) (x : Float) → length (addColumn out col x) ≡ length out

@@ -10,10 +10,8 @@ use lib.Ieee.{Float, nan}
 use Rattle.rules.specs.F32.{at, part, _⊕_, _⊗_}
 use Rattle.rules.specs.Loop.{loop}
 use Rattle.rules.specs.Tab.{tab}
-use Rattle.rules.proofs.Loops.{more}
-use Rattle.rules.proofs.Lengths.{same-length}
-use Rattle.rules.proofs.Fused.{behind}
-use Rattle.rules.proofs.Tabs.{length-tab, getD-tab, tab-same, tab-four-more}
+use Rattle.rules.proofs.Loops.{more, same-length}
+use Rattle.rules.proofs.Lists.{behind, length-tab, getD-tab, tab-same, tab-four-more}
 use Rattle.matrix.specs.Sums.{ofByte, addColumn, mulStep, mulAdd, MulAddFits}
 use Rattle.matrix.specs.Parts.{addedAt, plusFour, plusSixteen, sixteenSums, fourAt, sixteenAt, neuron, spot, storeFour}
 use Rattle.matrix.specs.declared.lanes.Sixteen.{Sixteen}

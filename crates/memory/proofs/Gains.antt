@@ -10,7 +10,8 @@ use Rattle.features.specs.Gains.{sixTenths}
 use Rattle.features.proofs.Remembered.{never-nan, at-least-held}
 use Rattle.memory.specs.Hear.{hear, heardAll, faded}
 use Rattle.memory.specs.Laws.{HeldGains}
-use Rattle.memory.proofs.Order.{le-refl, le-trans, six-tenths-mono}
+use Rattle.floats.proofs.Order.{le-refl, le-trans}
+use Rattle.features.proofs.Order.{six-tenths-mono}
 
 faded-mono : (k : ℕ) (x y : Float) → le x y ≡ true → le (faded k x) (faded k y) ≡ true
 unfolding faded

@@ -14,8 +14,7 @@ use lib.Seq.{getD-drop}
 use Rattle.rules.specs.Lists.{Bytes, sum}
 use Rattle.rules.specs.Refusals.{Row, _when_}
 use Rattle.rules.specs.Leaf.{_leaving_}
-use Rattle.rules.proofs.Refused.{Clear, clear}
-use Rattle.rules.proofs.Cleared.{cleared, due}
+use Rattle.rules.proofs.Refusals.{Clear, clear, cleared, due}
 use Rattle.model.specs.declared.Kind.{Kind}
 use Rattle.model.specs.Layer.{activationOf, activationNumber}
 use Rattle.model.specs.Model.{kinds, matchFaults}

@@ -13,7 +13,7 @@ use lib.ListN.{length}
 use Rattle.model.specs.declared.Model.{Model}
 use Rattle.model.specs.declared.Reading.{Reading}
 use Rattle.model.specs.declared.Reading.the-variants.{Good, Refused}
-use Rattle.rules.proofs.Refused.{Clear, clear, by-rows}
+use Rattle.rules.proofs.Refusals.{Clear, clear, by-rows}
 use Rattle.model.specs.Layer.{Layer}
 use Rattle.model.specs.Model.{kinds, readLayers, headersAt, modelOf, countsIn, matchFaults, readOf}
 use Rattle.model.specs.Writer.{fileOf}

@@ -12,9 +12,7 @@ use lib.ListN.{length, getD, take, drop}
 use lib.Seq.{drop-cons, take-all, getD-drop}
 use Rattle.rules.specs.Lists.{sum}
 use Rattle.rules.specs.Refusals.{Row}
-use Rattle.rules.proofs.Refused.{Clear, clear}
-use Rattle.rules.proofs.Cleared.{cleared, due}
-use Rattle.rules.proofs.Rows.{by-each}
+use Rattle.rules.proofs.Refusals.{Clear, clear, cleared, due, by-each}
 use Rattle.model.specs.declared.Kind.{Kind}
 use Rattle.model.specs.declared.Kind.the-variants.{Dense}
 use Rattle.model.specs.declared.Counts.{Counts}

@@ -15,7 +15,7 @@ use Rattle.model.specs.declared.Activation.the-variants.{Tanh, Sigmoid, 
 use Rattle.model.specs.declared.Kind.{Kind}
 use Rattle.model.specs.declared.Reading.{Reading}
 use Rattle.model.specs.declared.Reading.the-variants.{Refused}
-use Rattle.rules.proofs.Refused.{Clear, clear, by-rows}
+use Rattle.rules.proofs.Refusals.{Clear, clear, by-rows}
 use Rattle.model.specs.Layer.{lengths, sizeOf, activationOf, activationNumber, joined, cut, bytesOf, Layer, layerOf, faultsOf, restOf}
 use Rattle.model.specs.Model.{readLayers, refusingLayers}
 use Rattle.model.specs.Writer.{fileOf}

@@ -4,7 +4,7 @@ use mathlib.Core.Bool.{true, false}
 use mathlib.Core.List.{List, [], _∷_, _++_}
 use Prim.Native.Nat.{ℕ, _+_, _*_}
 use Rattle.rules.specs.Refusals.{Row, _when_}
-use Rattle.rules.proofs.Refused.{Clear}
+use Rattle.rules.proofs.Refusals.{Clear}
 use Rattle.model.specs.Writer.{inLayer}
 use Rattle.model.specs.Parts.{faultIn}
 

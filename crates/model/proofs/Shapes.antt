@@ -7,8 +7,8 @@ use native.Mathlib.Nat.{le-refl}
 use borrow.Author.Tests.{eqb-true, not-false}
 use lib.Dec.{eqb}
 use lib.ListN.{length}
-use Rattle.rules.proofs.Refused.{Clear}
-use Rattle.rules.proofs.Truth.{neither}
+use Rattle.rules.proofs.Refusals.{Clear}
+use Rattle.rules.proofs.Tests.{neither}
 use Rattle.model.specs.declared.Model.{Model}
 use Rattle.model.specs.declared.Reading.the-variants.{Good}
 use Rattle.model.specs.Model.{_≠_, countsIn, matchFaults, readOf}

@@ -13,9 +13,8 @@ use lib.ListN.{length, getD, take, drop, length-drop, length-map, take-append-dr
 use lib.Seq.{take-append-seam, take-at, drop-at}
 use Rattle.rules.specs.Leaf.{_leaving_}
 use Rattle.rules.specs.Refusals.{_when_}
-use Rattle.rules.proofs.Refused.{Clear, clear}
-use Rattle.rules.proofs.Cleared.{none-held}
-use Rattle.rules.proofs.Truth.{neither}
+use Rattle.rules.proofs.Refusals.{Clear, clear, none-held}
+use Rattle.rules.proofs.Tests.{neither}
 use Rattle.model.specs.declared.Kind.{Kind}
 use Rattle.model.specs.declared.Kind.the-variants.{Dense, Gru}
 use Rattle.model.specs.declared.Model.{Model}

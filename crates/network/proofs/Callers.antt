@@ -13,8 +13,7 @@ use native.Mathlib.Omega.{arith}
 use lib.ListN.{length, take, drop, length-append, length-take, length-drop}
 use lib.Ieee.{Float}
 use Rattle.rules.specs.Refusals.{Row, _when_, wrong}
-use Rattle.rules.proofs.Refused.{clear, by-rows, Right, right, none-wrong, one-wrong}
-use Rattle.rules.proofs.Rows.{by-each}
+use Rattle.rules.proofs.Refusals.{clear, by-rows, Right, right, none-wrong, one-wrong, by-each}
 use Rattle.model.specs.Model.{readOf}
 use Rattle.model.specs.declared.Model.{Model}
 use Rattle.model.specs.declared.Reading.{Reading}

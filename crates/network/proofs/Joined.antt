@@ -7,7 +7,7 @@ use lib.ListN.{length}
 use lib.Ieee.{Float}
 use Rattle.rules.specs.Loop.{loop}
 use Rattle.rules.specs.F32.{part, _⊗_}
-use Rattle.rules.proofs.Called.{left}
+use Rattle.rules.proofs.Refusals.{left}
 use Rattle.matrix.specs.Sums.{MulAddFits, MulAdd}
 use Rattle.network.specs.Layers.{weightsScale, copied, activated, denseOf, gateSums, updateStep, resetStep, blendStep, gruOf, DenseArrays, GruArrays}
 use Rattle.network.specs.Parts.{GateFits}

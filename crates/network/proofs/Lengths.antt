@@ -5,7 +5,7 @@ use Prim.Native.Nat.{ℕ}
 use lib.ListN.{length, length-set, length-map}
 use lib.Ieee.{Float}
 use Rattle.rules.specs.Loop.{loop}
-use Rattle.rules.proofs.Lengths.{same-length}
+use Rattle.rules.proofs.Loops.{same-length}
 use Rattle.rules.proofs.Places.{length-get}
 use Rattle.matrix.specs.Sums.{ofByte, mulAdd}
 use Rattle.matrix.proofs.Lengths.{length-mulAdd}

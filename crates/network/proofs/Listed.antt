@@ -7,11 +7,9 @@ use lib.ListN.{length, set}
 use lib.Ieee.{Float, binary32, nan}
 use Rattle.rules.specs.F32.{one, at, _⊕_, _⊖_, _⊗_}
 use Rattle.rules.specs.Loop.{loop}
-use Rattle.rules.proofs.Floats.{mul-swap}
-use Rattle.rules.proofs.Fused.{fused}
-use Rattle.rules.proofs.Mapped.{tab-map, each-map}
-use Rattle.rules.proofs.Runs.{loop-same}
-use Rattle.rules.proofs.Tabs.{getD-tab}
+use Rattle.floats.proofs.Signs.{mul-swap}
+use Rattle.rules.proofs.Lists.{fused, tab-map, each-map, getD-tab}
+use Rattle.rules.proofs.Loops.{loop-same}
 use Rattle.numbers.specs.Activations.{sigmoidIn, sigmoidApprox}
 use Rattle.numbers.specs.Tansig.{tansig}
 use Rattle.model.specs.declared.Activation.{Activation}

@@ -24,8 +24,8 @@ use Rattle.numbers.specs.Activations.{magnitude, signOf, place, near, ta
 use Rattle.numbers.specs.Parts.{UpToEight, insideOf, entryIn, followed}
 use Rattle.rules.specs.F32.{f32, _⊕_, _⊖_, _⊗_}
 use Rattle.rules.proofs.Numbers.{casts}
-use Rattle.rules.proofs.Below.{at-each}
-use Rattle.rules.proofs.Floats.{same, floats}
+use Rattle.rules.proofs.Tests.{at-each}
+use Rattle.floats.proofs.Same.{same, floats}
 
 closest-scaled : (a c s : ℕ) → 0 < c → 0 < s → closest (a * s) (c * s) ≡ closest a c
 closest-scaled a c s C S = closest-same (a * s) (c * s) a c (mul-pos C S) C (mul-right-comm a s c ∙ mul-assoc a c s)

@@ -10,8 +10,8 @@ use lib.Ieee.{Float, binary32, binary64, fits, add, sub, mul}
 use Rattle.rules.specs.F32.{at}
 use Rattle.rules.specs.Leaf.{Leaf, _leaving_}
 use Rattle.rules.specs.Loop.{loop}
-use Rattle.rules.proofs.Leaves.{fitting}
-use Rattle.rules.proofs.Tabs.{front-more}
+use Rattle.rules.proofs.Refusals.{fitting}
+use Rattle.rules.proofs.Lists.{front-more}
 use Rattle.numbers.specs.declared.filter.Biquad.{Biquad}
 use Rattle.numbers.specs.declared.filter.Memory.{Memory}
 use Rattle.numbers.specs.declared.filter.Filtered.{Filtered}

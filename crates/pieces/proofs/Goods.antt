@@ -7,7 +7,7 @@ use lib.ListN.{getD, take, drop}
 use lib.Ieee.{Float, le, ofBits}
 use Rattle.rules.specs.F32.{f32}
 use Rattle.rules.specs.Tab.{tab}
-use Rattle.rules.proofs.Truth.{both}
+use Rattle.rules.proofs.Tests.{both}
 use Rattle.samples.specs.Samples.{goodSample, good}
 use Rattle.pieces.specs.Pieces.{paddedTo}
 

@@ -10,7 +10,7 @@ use lib.ListN.{length}
 use lib.Ieee.{Float}
 use Rattle.rules.specs.Place.{get}
 use Rattle.rules.specs.Written.{all, firstIn}
-use Rattle.rules.proofs.Tabs.{length-tab}
+use Rattle.rules.proofs.Lists.{length-tab}
 use Rattle.samples.specs.Samples.{good}
 use Rattle.model.specs.Model.{readOf}
 use Rattle.model.specs.declared.Model.{Model}

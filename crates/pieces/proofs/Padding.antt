@@ -10,7 +10,7 @@ use lib.Ieee.{Float, nan}
 use Rattle.rules.specs.F32.{at, f32, zeros}
 use Rattle.rules.specs.Place.{get}
 use Rattle.rules.specs.Tab.{tab}
-use Rattle.rules.proofs.Tabs.{tab-getD, length-tab, getD-tab}
+use Rattle.rules.proofs.Lists.{tab-getD, length-tab, getD-tab}
 use Rattle.pieces.specs.Pieces.{paddedTo}
 
 same-at : {A : Type 0} (l : List A) (i : ℕ) (d e : A) → i < length l → getD l i d ≡ getD l i e

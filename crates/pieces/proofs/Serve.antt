@@ -16,8 +16,7 @@ use lib.ListN.{length, getD, take, drop, length-append, length-drop}
 use lib.Ieee.{Float}
 use Rattle.rules.specs.Place.{Place, get, put}
 use Rattle.rules.specs.Written.{Written, from, nothing, over, onto, firstIn}
-use Rattle.rules.proofs.Places.{length-get}
-use Rattle.rules.proofs.Writing.{over-none, lent-over}
+use Rattle.rules.proofs.Places.{length-get, over-none, lent-over}
 use Rattle.samples.specs.Samples.{good}
 use Rattle.model.specs.Model.{readOf}
 use Rattle.frame.specs.declared.Hearing.{Hearing}

@@ -9,7 +9,7 @@ use lib.ListN.{length}
 use Rattle.rules.specs.F32.{_⊕_, _⊗_, at, f32}
 use Rattle.rules.specs.Loop.{loop}
 use Rattle.rules.proofs.Loops.{more}
-use Rattle.rules.proofs.Filling.{Filling, filling-more}
+use Rattle.rules.proofs.Lists.{Filling, filling-more}
 use Rattle.pitch.specs.Xcorr.{termStep, corr, wholeFours, lagOf}
 use Rattle.pitch.specs.Parts.{fourOf, fourSums, addFour, fourLags, sixteenLags, storeFour, storeSixteen}
 use Rattle.pitch.specs.declared.lanes.Four.{Four}

@@ -7,7 +7,7 @@ use native.Mathlib.Omega.{arith}
 use lib.Ieee.{Float, neg, lt}
 use lib.ListN.{length}
 use Rattle.rules.specs.F32.{_⊗_, at, f32, one}
-use Rattle.rules.proofs.Runs.{kept}
+use Rattle.rules.proofs.Loops.{kept}
 use Rattle.pitch_search.specs.Best.{Search, searched, startNorm, considered, slid, pitchStep, best, bestOf, firstOf, secondOf}
 use Rattle.pitch_search.specs.Laws.{FirstIsTried, SecondIsTried, FirstOfNone}
 

@@ -11,9 +11,9 @@ use lib.ListN.{length, getD, take, drop, length-drop, take-append-drop}
 use lib.Seq.{take-all, getD-drop, drop-drop, take-add}
 use Rattle.rules.specs.Lists.{sum, Bytes}
 use Rattle.rules.specs.Tab.{tab}
-use Rattle.rules.proofs.Refused.{Clear, by-rows}
-use Rattle.rules.proofs.Tabs.{tab-getD}
-use Rattle.rules.proofs.Truth.{both, neither}
+use Rattle.rules.proofs.Refusals.{Clear, by-rows}
+use Rattle.rules.proofs.Lists.{tab-getD}
+use Rattle.rules.proofs.Tests.{both, neither}
 use Rattle.sheet.specs.Sheet.{four, kind, recordOf, recordsOf, trailerOf, bytesOf}
 use Rattle.sheet.specs.End.{fromFour, zeros, good, run, entryOf, entriesOf, trailer, distance, number, sideByte, padded, sumNoted, start, records, faults, End, sheet, refused, endOf}
 use Rattle.sheet.specs.Written.{kinds}

@@ -10,9 +10,8 @@ use lib.Seq.{take-all, getD-drop, drop-drop}
 use Rattle.rules.specs.Leaf.{_leaving_}
 use Rattle.rules.specs.Lists.{sum}
 use Rattle.rules.specs.Refusals.{refusing}
-use Rattle.rules.proofs.Refused.{Clear, clear, by-rows, passed-clear}
-use Rattle.rules.proofs.Rows.{along, stopped-so}
-use Rattle.rules.proofs.Truth.{neither}
+use Rattle.rules.proofs.Refusals.{Clear, clear, by-rows, passed-clear, along, stopped-so}
+use Rattle.rules.proofs.Tests.{neither}
 use Rattle.sheet.specs.End.{fromFour, run, entryOf, entriesOf, distance, number, sideByte, padded, zeros, sumNoted, start, records, faults, End, sheet, refused, endOf, readingOf, readOf}
 use Rattle.sheet.specs.Asked.{entryIn}
 use Rattle.sheet.specs.Parts.{pointed, Pointed, checked}

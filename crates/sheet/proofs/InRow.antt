@@ -8,8 +8,8 @@ use borrow.Author.Tests.{lt-ltb, le-ltb, eq-eqb, ne-eqb}
 use lib.ListN.{length, getD, set, drop, length-append}
 use Rattle.rules.specs.Leaf.{_leaving_}
 use Rattle.rules.specs.Lists.{sum}
-use Rattle.rules.proofs.Leaves.{leave-both}
-use Rattle.rules.proofs.Stores.{all-stored}
+use Rattle.rules.proofs.Refusals.{leave-both}
+use Rattle.rules.proofs.Places.{all-stored}
 use Rattle.sheet.specs.Sheet.{four, recordsOf, trailerOf, bytesOf}
 use Rattle.sheet.specs.Rows.{Tally, withRecords, recordsLaid}
 use Rattle.sheet.specs.Laws.{inRow, together, PartsAreWhole}

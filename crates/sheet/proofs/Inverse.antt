@@ -8,7 +8,7 @@ use borrow.Author.Tests.{le-ltb, eq-eqb, ltb-false, not-false}
 use lib.ListN.{length, getD, take, drop, length-append}
 use lib.Seq.{take-at, drop-at, take-append-seam, drop-append-seam}
 use Rattle.rules.specs.Lists.{sum}
-use Rattle.rules.proofs.Refused.{Clear, clear}
+use Rattle.rules.proofs.Refusals.{Clear, clear}
 use Rattle.sheet.specs.Sheet.{four, Sheet, kind, recordOf, recordsOf, trailerOf, bytesOf}
 use Rattle.sheet.specs.End.{fromFour, zeros, good, run, entryOf, entriesOf, trailer, distance, number, sideByte, padded, sumNoted, start, records, faults, sheet, refused, endOf, readingOf, readOf}
 use Rattle.sheet.specs.Written.{kinds, writtenFaults}

@@ -11,8 +11,7 @@ use lib.Seq.{take-all, take-at, drop-at, take-append-seam, drop-append-seam, dro
 use Rattle.rules.specs.Leaf.{_leaving_}
 use Rattle.rules.specs.Lists.{sum, Bytes}
 use Rattle.rules.specs.Refusals.{_when_, refusing}
-use Rattle.rules.proofs.Refused.{Clear, clear}
-use Rattle.rules.proofs.Cleared.{none-held}
+use Rattle.rules.proofs.Refusals.{Clear, clear, none-held}
 use Rattle.sheet.specs.Sheet.{trailerOf, bytesOf}
 use Rattle.sheet.specs.End.{readOf}
 use Rattle.sheet.specs.Mended.{kept, torn, readsAt, recordsIn, Mended, mended, mendFaults, mendOf}

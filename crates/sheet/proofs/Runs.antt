@@ -11,7 +11,7 @@ use lib.Dec.{ltb}
 use lib.ListN.{length, getD, take, drop}
 use lib.Seq.{drop-drop, drop-cons, take-suc}
 use Rattle.rules.specs.Lists.{sum}
-use Rattle.rules.proofs.Truth.{both}
+use Rattle.rules.proofs.Tests.{both}
 use Rattle.sheet.specs.Sheet.{kind}
 use Rattle.sheet.specs.End.{good, run}
 use Rattle.sheet.specs.Written.{kinds}

@@ -7,8 +7,7 @@ use borrow.Author.Tests.{le-ltb}
 use lib.ListN.{length, drop, length-append}
 use lib.Seq.{take-at, drop-append-seam}
 use Rattle.rules.specs.Leaf.{_leaving_}
-use Rattle.rules.proofs.Refused.{Clear, clear}
-use Rattle.rules.proofs.Cleared.{none-held}
+use Rattle.rules.proofs.Refusals.{Clear, clear, none-held}
 use Rattle.sheet.specs.Sheet.{Sheet, bytesOf, sizeOf}
 use Rattle.sheet.specs.End.{sheet}
 use Rattle.sheet.specs.Written.{writtenFaults, writtenOf}

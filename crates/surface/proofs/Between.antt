@@ -16,9 +16,8 @@ use lib.Seq.{drop-drop, drop-append-add}
 use lib.Ieee.{Float}
 use Rattle.rules.specs.Place.{get, put}
 use Rattle.rules.specs.Written.{Written, from, nothing, numbersIn}
-use Rattle.rules.proofs.Places.{length-get}
-use Rattle.rules.proofs.Truth.{both}
-use Rattle.rules.proofs.Wholes.{get-whole, put-whole}
+use Rattle.rules.proofs.Places.{length-get, get-whole, put-whole}
+use Rattle.rules.proofs.Tests.{both}
 use Rattle.frame.specs.declared.Reply.{Reply}
 use Rattle.frame.specs.declared.Reply.the-variants.{Done}
 use Rattle.frame.specs.Reply.{passed}

@@ -12,7 +12,7 @@ use Rattle.rules.specs.F32.{f32}
 use Rattle.rules.specs.Place.{get, put}
 use Rattle.rules.specs.Refusals.{Row, _when_, refusing, wrong}
 use Rattle.rules.specs.Written.{from, nothing, firstIn}
-use Rattle.rules.proofs.Rows.{Each, by-each}
+use Rattle.rules.proofs.Refusals.{Each, by-each}
 use Rattle.samples.specs.Samples.{good}
 use Rattle.logs.specs.Log10.{logsOf}
 use Rattle.model.specs.Model.{readOf}

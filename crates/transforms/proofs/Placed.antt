@@ -6,7 +6,7 @@ use native.Mathlib.Nat.{mul-add, mul-one, mul-zero}
 use native.Mathlib.Omega.{arith}
 use lib.Ieee.{Float, nan}
 use Rattle.rules.specs.F32.{at}
-use Rattle.rules.proofs.Tabs.{getD-tab}
+use Rattle.rules.proofs.Lists.{getD-tab}
 use Rattle.transforms.specs.Cosine.{cosine}
 use Rattle.transforms.specs.Transform.{wave}
 use Rattle.transforms.specs.Parts.{fourOf, places, extended}

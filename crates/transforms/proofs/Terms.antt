@@ -10,7 +10,7 @@ use lib.Dec.{T, eqb, ltb, ltb→lt}
 use lib.Ieee.{Float, binary32, fits}
 use Rattle.rules.specs.F32.{_⊕_, _⊖_, _⊗_, at, f32}
 use Rattle.rules.specs.Loop.{loop, range}
-use Rattle.rules.proofs.Below.{at-each}
+use Rattle.rules.proofs.Tests.{at-each}
 use Rattle.rules.proofs.Loops.{more, range-more}
 use Rattle.transforms.specs.Cosine.{cosine}
 use Rattle.transforms.specs.Transform.{wave, forwardStep, re, im, two, inverseStep}
@@ -18,7 +18,7 @@ use Rattle.transforms.specs.Parts.{fourOf, both, plusTerm, Lane, ahead, 
 use Rattle.transforms.specs.declared.lanes.Four.{Four}
 use Rattle.transforms.specs.declared.lanes.Places.{Places}
 use Rattle.transforms.specs.declared.lanes.Sums.{Sums}
-use Rattle.transforms.specs.Laws.{plain}
+use Rattle.floats.specs.Plain.{plain}
 use Rattle.transforms.proofs.Quarters.{same, mirror, half}
 use Rattle.transforms.proofs.Sound.{Sound, sound-add, sound-forward, sound-inverse}
 

@@ -7,7 +7,7 @@ use native.Mathlib.Omega.{arith}
 use borrow.Author.Tests.{eqb-true}
 use lib.Dec.{eqb, ltb}
 use lib.ListN.{length, drop}
-use Rattle.rules.proofs.Rows.{by-each}
+use Rattle.rules.proofs.Refusals.{by-each}
 use Rattle.sheet.specs.End.{fromFour}
 use Rattle.wav.specs.Chunks.{RIFF, WAVE, FMT, DATA, frontOf, pastChunk, formatFaults, formatted, chunkOf, stepOf}
 use Rattle.wav.specs.Laws.{Onward}

@@ -14,9 +14,9 @@ use lib.ListN.{length}
 use lib.Ieee.{Float}
 use Rattle.rules.specs.Place.{get}
 use Rattle.rules.specs.Refusals.{Row, _when_, refusing, wrong}
-use Rattle.rules.proofs.Refused.{Clear, by-rows, right}
-use Rattle.rules.proofs.Tabs.{length-tab}
-use Rattle.rules.proofs.Truth.{both}
+use Rattle.rules.proofs.Refusals.{Clear, by-rows, right}
+use Rattle.rules.proofs.Lists.{length-tab}
+use Rattle.rules.proofs.Tests.{both}
 use Rattle.samples.specs.Samples.{goodSample, good}
 use Rattle.logs.specs.Log10.{logsOf}
 use Rattle.model.specs.Model.{readOf}

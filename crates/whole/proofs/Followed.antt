@@ -17,8 +17,7 @@ use Rattle.rules.specs.F32.{zeros}
 use Rattle.rules.specs.Loop.{loop}
 use Rattle.rules.specs.Place.{get, put}
 use Rattle.rules.specs.Written.{Written, all, from, nothing, numbersIn, firstIn, over, onto}
-use Rattle.rules.proofs.Places.{length-get, length-put}
-use Rattle.rules.proofs.Writing.{over-none, over-next}
+use Rattle.rules.proofs.Places.{length-get, length-put, over-none, over-next}
 use Rattle.logs.specs.Log10.{logsOf}
 use Rattle.model.specs.Model.{readOf}
 use Rattle.model.specs.declared.Model.{Model}

@@ -18,7 +18,7 @@ use Rattle.rules.specs.Loop.{loop}
 use Rattle.rules.specs.Place.{get}
 use Rattle.rules.specs.Refusals.{Row, _when_, refusing, wrong}
 use Rattle.rules.specs.Written.{firstIn}
-use Rattle.rules.proofs.Refused.{by-rows}
+use Rattle.rules.proofs.Refusals.{by-rows}
 use Rattle.samples.specs.Samples.{good}
 use Rattle.logs.specs.Log10.{logsOf}
 use Rattle.model.proofs.Bounds.{refused-in}

@@ -7,7 +7,7 @@ use lib.ListN.{length, drop, length-set}
 use Rattle.rules.specs.F32.{_⊗_, at}
 use Rattle.rules.specs.Tab.{tab}
 use Rattle.rules.proofs.Loops.{turns}
-use Rattle.rules.proofs.Tabs.{tab-none, tab-more, tab-done, tab-ahead}
+use Rattle.rules.proofs.Lists.{tab-none, tab-more, tab-done, tab-ahead}
 use Rattle.bands.specs.Windowed.{windowedBy}
 use Rattle.bands.proofs.apply_window_in_place_core.Statement.{statement}
 use Rattle.bands.proofs.apply_window_in_place_core.Tie as tie

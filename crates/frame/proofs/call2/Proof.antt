@@ -6,7 +6,7 @@ use borrow.Author.Needs.{needs}
 use denote.Ref.{now}
 use lib.ListN.{length, length-take, length-drop}
 use lib.Ieee.{Float}
-use Rattle.rules.proofs.Called.{left as fitted}
+use Rattle.rules.proofs.Refusals.{left as fitted}
 use Rattle.rules.proofs.Tests.{tests}
 use Rattle.bands.specs.Windowed.{windowed}
 use Rattle.frame.specs.Frame.{call2}

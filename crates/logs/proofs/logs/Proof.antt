@@ -5,8 +5,8 @@ use native.Mathlib.Omega.{arith}
 use lib.ListN.{length}
 use Rattle.rules.specs.F32.{at}
 use Rattle.rules.specs.Leaf.{done, refused}
-use Rattle.rules.proofs.Filling.{Filling, fills, filling-ended}
-use Rattle.rules.proofs.Leaves.{leaves}
+use Rattle.rules.proofs.Lists.{Filling, fills, filling-ended}
+use Rattle.rules.proofs.Refusals.{leaves}
 use Rattle.logs.specs.Log10.{log10Of, logsOf}
 use Rattle.logs.proofs.logs.Statement.{statement}
 use Rattle.logs.proofs.logs.Tie as tie

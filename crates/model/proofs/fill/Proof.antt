@@ -8,7 +8,7 @@ use borrow.Author.Needs.{needs}
 use denote.Ref.{now}
 use lib.ListN.{length, drop, length-set}
 use Rattle.rules.specs.Tab.{tab}
-use Rattle.rules.proofs.Tabs.{tab-none, tab-more, tab-done}
+use Rattle.rules.proofs.Lists.{tab-none, tab-more, tab-done}
 use Rattle.model.specs.Model.{readOf}
 use Rattle.model.specs.Summary.{numberIn}
 use Rattle.model.proofs.Bounds.{line-small}

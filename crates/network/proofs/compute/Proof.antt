@@ -5,7 +5,7 @@ use native.Mathlib.Omega.{arith}
 use borrow.Author.Needs.{needs}
 use lib.ListN.{length}
 use Rattle.rules.specs.F32.{part}
-use Rattle.rules.proofs.Called.{left as fitted}
+use Rattle.rules.proofs.Refusals.{left as fitted}
 use Rattle.network.proofs.Parts.{cut-length}
 use Rattle.network.proofs.Callers.{computed-wrong}
 use Rattle.network.proofs.States.{joined-in, parted}

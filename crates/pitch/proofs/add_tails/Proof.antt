@@ -9,7 +9,7 @@ use lib.ListN.{length, length-set, drop}
 use Rattle.rules.specs.F32.{at, _⊕_}
 use Rattle.rules.specs.Tab.{tab}
 use Rattle.rules.proofs.Loops.{turns}
-use Rattle.rules.proofs.Tabs.{tab-none, tab-more, tab-still, tab-done}
+use Rattle.rules.proofs.Lists.{tab-none, tab-more, tab-still, tab-done}
 use Rattle.pitch.specs.Autocorr.{tailOf}
 use Rattle.pitch.proofs.add_tails.Statement.{statement}
 use Rattle.pitch.proofs.add_tails.Tie as tie

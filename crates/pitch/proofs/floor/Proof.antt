@@ -9,7 +9,7 @@ use lib.ListN.{length, length-set, drop}
 use Rattle.rules.specs.F32.{at}
 use Rattle.rules.specs.Tab.{tab}
 use Rattle.rules.proofs.Loops.{turns}
-use Rattle.rules.proofs.Tabs.{tab-none, tab-more, tab-still, tab-done}
+use Rattle.rules.proofs.Lists.{tab-none, tab-more, tab-still, tab-done}
 use Rattle.pitch.specs.Downsample.{flooredAt, floored}
 use Rattle.pitch.proofs.floor.Statement.{statement}
 use Rattle.pitch.proofs.floor.Tie as tie

@@ -6,7 +6,7 @@ use native.Mathlib.Omega.{arith}
 use lib.ListN.{length, length-set, drop}
 use Rattle.rules.specs.Tab.{tab}
 use Rattle.rules.proofs.Loops.{turns}
-use Rattle.rules.proofs.Tabs.{tab-none, tab-more, tab-done}
+use Rattle.rules.proofs.Lists.{tab-none, tab-more, tab-done}
 use Rattle.pitch.specs.Downsample.{halvedAt, halved}
 use Rattle.pitch.proofs.halve.Statement.{statement}
 use Rattle.pitch.proofs.halve.Tie as tie

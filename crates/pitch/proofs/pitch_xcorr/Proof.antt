@@ -7,7 +7,7 @@ use lib.ListN.{length}
 use borrow.Author.Needs.{needs}
 use Rattle.rules.specs.Tab.{tab}
 use Rattle.rules.specs.Leaf.{done, refused}
-use Rattle.rules.proofs.Leaves.{leaves}
+use Rattle.rules.proofs.Refusals.{leaves}
 use Rattle.pitch.specs.Xcorr.{pitchXcorr}
 use Rattle.pitch.proofs.pitch_xcorr.Statement.{statement}
 use Rattle.pitch.proofs.pitch_xcorr.Tie as tie

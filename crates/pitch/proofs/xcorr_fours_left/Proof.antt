@@ -5,8 +5,7 @@ use native.Mathlib.Omega.{arith}
 use denote.Ref.{now}
 use lib.ListN.{length}
 use Rattle.rules.proofs.Loops.{turns}
-use Rattle.rules.proofs.Filling.{Filling}
-use Rattle.rules.proofs.Tabs.{tab-front, front-tab}
+use Rattle.rules.proofs.Lists.{Filling, tab-front, front-tab}
 use Rattle.pitch.specs.Xcorr.{lagOf, wholeFours}
 use Rattle.pitch.specs.Parts.{wholeSixteens}
 use Rattle.pitch.proofs.Sums.{lags-stored}

@@ -7,7 +7,7 @@ use denote.Ref.{now}
 use lib.ListN.{length, length-set, drop}
 use Rattle.rules.specs.Tab.{tab}
 use Rattle.rules.proofs.Loops.{turns}
-use Rattle.rules.proofs.Tabs.{tab-front, tab-more, tab-done}
+use Rattle.rules.proofs.Lists.{tab-front, tab-more, tab-done}
 use Rattle.pitch.specs.Xcorr.{lagOf, pitchXcorr}
 use Rattle.pitch.proofs.Starts.{behind-fours}
 use Rattle.pitch.proofs.xcorr_rest.Statement.{statement}

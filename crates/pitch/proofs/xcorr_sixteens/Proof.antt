@@ -5,8 +5,7 @@ use native.Mathlib.Omega.{arith}
 use denote.Ref.{now}
 use lib.ListN.{length}
 use Rattle.rules.proofs.Loops.{turns}
-use Rattle.rules.proofs.Filling.{Filling, filling-begin}
-use Rattle.rules.proofs.Tabs.{front-tab}
+use Rattle.rules.proofs.Lists.{Filling, filling-begin, front-tab}
 use Rattle.pitch.specs.Xcorr.{lagOf}
 use Rattle.pitch.specs.Parts.{wholeSixteens}
 use Rattle.pitch.proofs.Sums.{sixteen-stored}

@@ -6,7 +6,7 @@ use denote.Ref.{now}
 use lib.ListN.{length, getD, drop, length-set}
 use Rattle.rules.specs.Tab.{tab}
 use Rattle.rules.proofs.Loops.{turns}
-use Rattle.rules.proofs.Tabs.{tab-none, tab-more, tab-done, tab-id}
+use Rattle.rules.proofs.Lists.{tab-none, tab-more, tab-done, tab-id}
 use Rattle.sheet.proofs.copy.Statement.{statement}
 use Rattle.sheet.proofs.copy.Tie as tie
 

@@ -8,8 +8,8 @@ use denote.Ref.{now}
 use lib.ListN.{length, take, drop, length-take, length-set}
 use lib.Seq.{getD-drop}
 use Rattle.rules.specs.Lists.{Bytes}
-use Rattle.rules.proofs.Leaves.{leave-both}
-use Rattle.rules.proofs.Stores.{all-stored}
+use Rattle.rules.proofs.Refusals.{leave-both}
+use Rattle.rules.proofs.Places.{all-stored}
 use Rattle.sheet.specs.Sheet.{bytesOf}
 use Rattle.sheet.specs.Mended.{kept, torn, mendOf}
 use Rattle.sheet.proofs.Kept.{kept-known}

@@ -4,8 +4,8 @@ use borrow.Author.Needs.{needs}
 use borrow.Author.Tests.{eq-eqb}
 use denote.Ref.{now}
 use Rattle.rules.proofs.Tests.{tests}
-use Rattle.rules.proofs.Leaves.{leaves}
-use Rattle.rules.proofs.Stores.{all-stored}
+use Rattle.rules.proofs.Refusals.{leaves}
+use Rattle.rules.proofs.Places.{all-stored}
 use Rattle.sheet.specs.Asked.{summaryOf}
 use Rattle.sheet.proofs.summary.Statement.{statement}
 use Rattle.sheet.proofs.summary.Tie as tie

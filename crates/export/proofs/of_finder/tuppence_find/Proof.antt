@@ -9,7 +9,7 @@ use lib.Ieee.{binary32, ofInt}
 use lib.ListN.{length, length-set}
 use Rattle.rules.specs.F32.{at}
 use Rattle.rules.specs.Leaf.{done, refused}
-use Rattle.rules.proofs.Leaves.{leave-both}
+use Rattle.rules.proofs.Refusals.{leave-both}
 use Rattle.rules.proofs.Numbers.{casts}
 use Rattle.finder.specs.Finder.{foundNumber, periodIn, gainIn}
 use Rattle.finder.specs.declared.Found.{Found}

@@ -5,7 +5,7 @@ use borrow.Author.Needs.{needs}
 use denote.Ref.{now}
 use lib.ListN.{length, length-set}
 use Rattle.rules.specs.Leaf.{done, refused}
-use Rattle.rules.proofs.Leaves.{leaves}
+use Rattle.rules.proofs.Refusals.{leaves}
 use Rattle.pitch_search.specs.Best.{pitchesNumber, firstOf, secondOf}
 use Rattle.export.proofs.Answers.{turned-down, taken-up, stored-two}
 use Rattle.export.proofs.of_pitch.tuppence_find_best_pitch.Statement.{statement}

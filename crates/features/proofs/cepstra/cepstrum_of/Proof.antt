@@ -6,7 +6,7 @@ use borrow.Author.Needs.{needs}
 use lib.Ieee.{Float}
 use lib.ListN.{length-set}
 use Rattle.rules.specs.F32.{f32}
-use Rattle.rules.proofs.Called.{left}
+use Rattle.rules.proofs.Refusals.{left}
 use Rattle.bands.specs.Dct.{dctOf}
 use Rattle.features.specs.Cepstra.{followLogs, lessen, cepstrum}
 use Rattle.features.proofs.cepstra.cepstrum_of.Statement.{statement}

@@ -5,7 +5,7 @@ use native.Mathlib.Omega.{arith}
 use Rattle.rules.specs.F32.{at}
 use Rattle.rules.specs.Loop.{loop}
 use Rattle.rules.proofs.Loops.{more}
-use Rattle.rules.proofs.Filling.{Filling, fills, filling-more}
+use Rattle.rules.proofs.Lists.{Filling, fills, filling-more}
 use Rattle.features.specs.Cepstra.{floorsOf, lyOf, floorStep, floors, followLogs}
 use Rattle.features.proofs.cepstra.follow_logs.Statement.{statement}
 use Rattle.features.proofs.cepstra.follow_logs.Tie as tie

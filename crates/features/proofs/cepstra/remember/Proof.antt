@@ -8,7 +8,7 @@ use lib.Ieee.{Float}
 use lib.ListN.{take, drop, length-take, length-drop}
 use borrow.Author.Needs.{needs}
 use Rattle.rules.specs.Place.{put}
-use Rattle.rules.proofs.Called.{left}
+use Rattle.rules.proofs.Refusals.{left}
 use Rattle.features.proofs.cepstra.remember.Statement.{statement}
 use Rattle.features.proofs.cepstra.remember.Tie as tie
 

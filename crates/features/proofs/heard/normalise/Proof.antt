@@ -3,7 +3,7 @@ use Prim.Native.Nat.{_≤_, _-_}
 use native.Mathlib.Omega.{arith}
 use lib.Ieee.{nan, binary32}
 use Rattle.rules.specs.F32.{_⊕_, _⊗_, _⊘_, at, f32}
-use Rattle.rules.proofs.Filling.{Filling, fills, filling-more, filling-ahead}
+use Rattle.rules.proofs.Lists.{Filling, fills, filling-more, filling-ahead}
 use Rattle.numbers.specs.Root.{root}
 use Rattle.features.specs.Features.{normalised}
 use Rattle.features.proofs.heard.normalise.Statement.{statement}

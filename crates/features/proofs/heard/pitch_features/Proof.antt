@@ -9,7 +9,7 @@ use lib.Ieee.{Float}
 use lib.ListN.{length, length-set, drop-of-length-le}
 use lib.Seq.{sets, sets-eq}
 use Rattle.rules.specs.F32.{_⊖_, _⊗_, at, f32}
-use Rattle.rules.proofs.Called.{left}
+use Rattle.rules.proofs.Refusals.{left}
 use Rattle.bands.specs.Dct.{dctOf}
 use Rattle.features.specs.Features.{pitchFeatures}
 use Rattle.features.proofs.heard.pitch_features.Statement.{statement}

@@ -3,7 +3,7 @@ use mathlib.Core.Path.{_≡_, _∙_}
 use mathlib.Core.List.{List}
 use lib.Ieee.{Float}
 use borrow.Author.Needs.{needs}
-use Rattle.rules.proofs.Called.{left}
+use Rattle.rules.proofs.Refusals.{left}
 use Rattle.bands.specs.Bands.{bandGain}
 use Rattle.features.specs.Pitch.{pitchGains, pitchAdded, restored, pitchFiltered}
 use Rattle.features.proofs.pitch.filter.Statement.{statement}

@@ -3,7 +3,7 @@ use mathlib.Core.Path.{_≡_}
 use mathlib.Core.List.{List}
 use lib.Ieee.{Float}
 use borrow.Author.Needs.{needs}
-use Rattle.rules.proofs.Called.{left}
+use Rattle.rules.proofs.Refusals.{left}
 use Rattle.bands.specs.Bands.{bandCorr, bandGain}
 use Rattle.features.specs.Pitch.{renormalised, applied, restored}
 use Rattle.features.proofs.pitch.restore.Statement.{statement}

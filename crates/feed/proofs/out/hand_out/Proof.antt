@@ -11,8 +11,8 @@ use lib.ListN.{length, take, length-take}
 use Rattle.rules.specs.F32.{at, part}
 use Rattle.rules.specs.Place.{put}
 use Rattle.rules.specs.Tab.{tab}
-use Rattle.rules.proofs.Called.{left}
-use Rattle.rules.proofs.Tabs.{length-tab}
+use Rattle.rules.proofs.Refusals.{left}
+use Rattle.rules.proofs.Lists.{length-tab}
 use Rattle.pcm.specs.Pcm.{packed}
 use Rattle.feed.specs.Feed.{entryOf, atFront}
 use Rattle.feed.proofs.out.hand_out.Statement.{statement}

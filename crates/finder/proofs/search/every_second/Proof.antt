@@ -4,7 +4,7 @@ use Prim.Native.Nat.{_≤_, _-_}
 use lib.ListN.{length}
 use Rattle.rules.specs.F32.{at}
 use Prim.Native.Nat.{_*_}
-use Rattle.rules.proofs.Filling.{Filling, fills}
+use Rattle.rules.proofs.Lists.{Filling, fills}
 use Rattle.finder.proofs.search.every_second.Statement.{statement}
 use Rattle.finder.proofs.search.every_second.Tie as tie
 

@@ -6,7 +6,7 @@ use borrow.Author.Needs.{needs}
 use denote.Ref.{now}
 use lib.Ieee.{Float}
 use Rattle.rules.specs.Place.{get}
-use Rattle.rules.proofs.Called.{left as fitted}
+use Rattle.rules.proofs.Refusals.{left as fitted}
 use Rattle.frame.specs.Heard.{spokenFrom}
 use Rattle.frame.proofs.Sizes.{ex-size}
 use Rattle.frame.proofs.heard.hear_in.Statement.{statement}

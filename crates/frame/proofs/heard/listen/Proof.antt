@@ -4,8 +4,7 @@ use mathlib.Core.List.{[], _∷_}
 use borrow.Author.Needs.{needs}
 use denote.Ref.{now}
 use Rattle.rules.specs.Place.{get}
-use Rattle.rules.proofs.Called.{left as fitted}
-use Rattle.rules.proofs.Leaves.{fitting}
+use Rattle.rules.proofs.Refusals.{left as fitted, fitting}
 use Rattle.frame.proofs.Sizes.{x-size, ex-size}
 use Rattle.frame.proofs.Sounded.{is-silent, is-heard}
 use Rattle.frame.proofs.heard.listen.Statement.{statement}

@@ -7,7 +7,7 @@ use denote.Ref.{now}
 use lib.ListN.{length-take, length-drop}
 use lib.Ieee.{Float}
 use Rattle.rules.specs.Place.{get, put}
-use Rattle.rules.proofs.Called.{left as fitted}
+use Rattle.rules.proofs.Refusals.{left as fitted}
 use Rattle.bands.specs.Bands.{bandGain}
 use Rattle.features.specs.Pitch.{applied}
 use Rattle.frame.specs.Share.{lastg}

@@ -4,7 +4,7 @@ use mathlib.Core.List.{List}
 use borrow.Author.Needs.{needs}
 use denote.Ref.{now}
 use lib.Ieee.{Float}
-use Rattle.rules.proofs.Called.{left as fitted}
+use Rattle.rules.proofs.Refusals.{left as fitted}
 use Rattle.bands.specs.Bands.{bandGain}
 use Rattle.features.specs.Pitch.{applied}
 use Rattle.frame.specs.Heard.{heldGains}

@@ -7,8 +7,7 @@ use lib.ListN.{take}
 use lib.Seq.{take-at}
 use Rattle.rules.specs.F32.{at}
 use Rattle.rules.specs.Tab.{tab}
-use Rattle.rules.proofs.Filling.{Filling, filling-more, filling-ahead, fills}
-use Rattle.rules.proofs.Tabs.{length-tab}
+use Rattle.rules.proofs.Lists.{Filling, filling-more, filling-ahead, fills, length-tab}
 use Rattle.frame.proofs.input.shift.Statement.{statement}
 use Rattle.frame.proofs.input.shift.Tie as tie
 

@@ -10,8 +10,7 @@ use lib.Ieee.{Float}
 use Rattle.rules.specs.F32.{at}
 use Rattle.rules.specs.Place.{get}
 use Rattle.rules.specs.Tab.{tab}
-use Rattle.rules.proofs.Called.{left as fitted}
-use Rattle.rules.proofs.Leaves.{fitting}
+use Rattle.rules.proofs.Refusals.{left as fitted, fitting}
 use Rattle.numbers.specs.Filter.{highPass, outputs}
 use Rattle.numbers.specs.declared.filter.Filtered.{Filtered}
 use Rattle.bands.specs.Windowed.{windowed}

@@ -7,7 +7,7 @@ use denote.Ref.{now}
 use lib.IntN.{pos}
 use lib.Ieee.{Float, binary32, ofInt}
 use Rattle.rules.specs.Place.{get, put}
-use Rattle.rules.proofs.Called.{left as fitted}
+use Rattle.rules.proofs.Refusals.{left as fitted}
 use Rattle.rules.proofs.Numbers.{casts}
 use Rattle.rules.proofs.Places.{length-get, length-put, put-sets}
 use Rattle.frame.specs.Share.{keptEx, keptLag}

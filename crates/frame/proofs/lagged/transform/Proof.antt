@@ -4,7 +4,7 @@ use mathlib.Core.List.{List}
 use native.Mathlib.Omega.{arith}
 use borrow.Author.Needs.{needs}
 use lib.Ieee.{Float}
-use Rattle.rules.proofs.Called.{left as fitted}
+use Rattle.rules.proofs.Refusals.{left as fitted}
 use Rattle.bands.specs.Bands.{bandCorr}
 use Rattle.frame.specs.Heard.{energies}
 use Rattle.frame.proofs.lagged.transform.Statement.{statement}

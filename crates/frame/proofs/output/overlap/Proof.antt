@@ -7,8 +7,7 @@ use native.Mathlib.Omega.{arith}
 use lib.Ieee.{Float, nan}
 use denote.Ref.{now}
 use Rattle.rules.specs.F32.{_⊕_, _⊗_, _⊘_, at, f32}
-use Rattle.rules.proofs.Filling.{Filling, filling-more, filling-ahead, fills}
-use Rattle.rules.proofs.Tabs.{getD-tab}
+use Rattle.rules.proofs.Lists.{Filling, filling-more, filling-ahead, fills, getD-tab}
 use Rattle.bands.specs.Window.{window}
 use Rattle.bands.specs.Windowed.{windowedBy}
 use Rattle.frame.specs.Frame.{windowBuf, overlapped, laterHalf}

@@ -5,7 +5,7 @@ use native.Mathlib.Omega.{arith}
 use borrow.Author.Needs.{needs}
 use denote.Ref.{now}
 use lib.ListN.{length-take, length-drop}
-use Rattle.rules.proofs.Called.{left as fitted}
+use Rattle.rules.proofs.Refusals.{left as fitted}
 use Rattle.finder.proofs.Lags.{lag-small}
 use Rattle.halves.specs.Ways.{forwardBy}
 use Rattle.halves.proofs.Lagged.{looked-back}

@@ -11,7 +11,7 @@ use lib.Ieee.{Float, binary32, ofInt}
 use Rattle.rules.specs.F32.{at}
 use Rattle.rules.specs.Leaf.{Leaf}
 use Rattle.rules.specs.Place.{get}
-use Rattle.rules.proofs.Leaves.{fitting}
+use Rattle.rules.proofs.Refusals.{fitting}
 use Rattle.rules.proofs.Numbers.{casts}
 use Rattle.rules.proofs.Places.{length-get, put-sets}
 use Rattle.finder.specs.Finder.{find, periodIn, gainIn}

@@ -5,7 +5,7 @@ use Prim.Native.Nat.{ℕ, _≤_, _<_, _+_, _-_, _%_}
 use native.Mathlib.Omega.{arith}
 use lib.ListN.{length, drop}
 use Rattle.rules.specs.Tab.{tab}
-use Rattle.rules.proofs.Tabs.{tab-none, tab-done}
+use Rattle.rules.proofs.Lists.{tab-none, tab-done}
 use Rattle.matrix.specs.Parts.{neuron, spot, sixteenSums}
 use Rattle.matrix.proofs.Neurons.{block-kept}
 use Rattle.matrix.proofs.lanes.blocks.Statement.{statement}

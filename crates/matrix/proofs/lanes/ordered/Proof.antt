@@ -6,7 +6,7 @@ use native.Mathlib.Omega.{arith}
 use lib.ListN.{length, drop}
 use Rattle.rules.specs.F32.{at}
 use Rattle.rules.specs.Tab.{tab}
-use Rattle.rules.proofs.Tabs.{tab-none, tab-done}
+use Rattle.rules.proofs.Lists.{tab-none, tab-done}
 use Rattle.matrix.specs.Parts.{spot}
 use Rattle.matrix.proofs.Neurons.{block-ordered}
 use Rattle.matrix.proofs.lanes.ordered.Statement.{statement}

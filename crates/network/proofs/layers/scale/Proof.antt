@@ -4,7 +4,7 @@ use Prim.Native.Nat.{_≤_, _-_}
 use lib.ListN.{length}
 use lib.Ieee.{nan}
 use Rattle.rules.specs.F32.{_⊗_}
-use Rattle.rules.proofs.Mapped.{Mapping, maps}
+use Rattle.rules.proofs.Lists.{Mapping, maps}
 use Rattle.network.specs.Layers.{weightsScale}
 use Rattle.network.proofs.layers.scale.Statement.{statement}
 use Rattle.network.proofs.layers.scale.Tie as tie

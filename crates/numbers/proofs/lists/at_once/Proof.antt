@@ -7,8 +7,7 @@ use lib.ListN.{length}
 use lib.Ieee.{Float, nan}
 use Rattle.rules.specs.F32.{at}
 use Rattle.rules.specs.Tab.{tab}
-use Rattle.rules.proofs.Mapped.{tab-map}
-use Rattle.rules.proofs.Tabs.{getD-tab, tab-same}
+use Rattle.rules.proofs.Lists.{tab-map, getD-tab, tab-same}
 use Rattle.numbers.specs.Activations.{tansigIn}
 use Rattle.numbers.specs.Parts.{entryIn, followed}
 use Rattle.numbers.proofs.Floors.{ends}

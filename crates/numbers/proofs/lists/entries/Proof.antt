@@ -6,8 +6,7 @@ use native.Mathlib.Omega.{arith}
 use lib.ListN.{length}
 use lib.Ieee.{Float, nan}
 use Rattle.rules.specs.F32.{at}
-use Rattle.rules.proofs.Filling.{Filling, filling-begin, filling-ahead, fills}
-use Rattle.rules.proofs.Tabs.{length-tab, getD-tab}
+use Rattle.rules.proofs.Lists.{Filling, filling-begin, filling-ahead, fills, length-tab, getD-tab}
 use Rattle.numbers.specs.Parts.{entryIn}
 use Rattle.numbers.proofs.lists.entries.Statement.{statement}
 use Rattle.numbers.proofs.lists.entries.Tie as tie

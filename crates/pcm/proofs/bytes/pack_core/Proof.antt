@@ -7,7 +7,7 @@ use denote.Ref.{now}
 use lib.Ieee.{Float}
 use lib.ListN.{length, set, length-set}
 use Rattle.rules.specs.F32.{at}
-use Rattle.rules.proofs.Filling.{Filling, fills, filling-more, filling-ended}
+use Rattle.rules.proofs.Lists.{Filling, fills, filling-more, filling-ended}
 use Rattle.pcm.specs.Pcm.{nearest16, byteOf, packed}
 use Rattle.pcm.proofs.bytes.pack_core.Statement.{statement}
 use Rattle.pcm.proofs.bytes.pack_core.Tie as tie

@@ -4,7 +4,7 @@ use mathlib.Core.Path.{_≡_}
 use Prim.Native.Nat.{_≤_, _-_}
 use lib.ListN.{length, getD}
 use Rattle.rules.specs.F32.{f32}
-use Rattle.rules.proofs.Filling.{Filling, fills}
+use Rattle.rules.proofs.Lists.{Filling, fills}
 use Rattle.pieces.specs.Pieces.{paddedTo}
 use Rattle.pieces.proofs.waiting.join.Statement.{statement}
 use Rattle.pieces.proofs.waiting.join.Tie as tie

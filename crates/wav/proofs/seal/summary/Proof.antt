@@ -3,8 +3,8 @@ use mathlib.Core.List.{[], _∷_}
 use borrow.Author.Tests.{eq-eqb}
 use denote.Ref.{now}
 use Rattle.rules.proofs.Tests.{tests}
-use Rattle.rules.proofs.Leaves.{leaves}
-use Rattle.rules.proofs.Stores.{all-stored}
+use Rattle.rules.proofs.Refusals.{leaves}
+use Rattle.rules.proofs.Places.{all-stored}
 use Rattle.wav.specs.Seal.{sealSummary}
 use borrow.Author.Needs.{needs}
 use Rattle.wav.proofs.seal.summary.Statement.{statement}
