@@ -1,10 +1,5 @@
 -- `compute_band_corr` and `interp_band_gain` of lib.rs.
-use mathlib.Core.Path.{_≡_}
-use mathlib.Core.List.{List, [], _∷_, map}
-use Prim.Native.Nat.{ℕ, _+_, _-_, _*_}
-use lib.IntN.{pos}
-use lib.Ieee.{Float, binary32, ofInt}
-use lib.ListN.{set}
+use Rattle.rules.specs.Common.{ℕ, _+_, _-_, _*_, List, [], _∷_, map, _≡_, set, pos, Float, binary32, ofInt}
 use Rattle.rules.specs.Loop.{loop}
 use Rattle.rules.specs.F32.{_⊕_, _⊖_, _⊗_, _⊘_, at, natAt, f32, one, zeros}
 use Rattle.bands.specs.Spectrum.{re, im}

@@ -1,8 +1,6 @@
 -- `dct` of lib.rs.
-use mathlib.Core.Path.{_≡_}
-use mathlib.Core.List.{List}
-use Prim.Native.Nat.{ℕ, _+_, _*_}
-use lib.Ieee.{Float, binary64, ofBits, mul, div}
+use Rattle.rules.specs.Common.{ℕ, _+_, _*_, List, _≡_, Float, binary64, ofBits}
+use lib.Ieee.{mul, div}
 use Rattle.rules.specs.Loop.{loop}
 use Rattle.rules.specs.Tab.{tab}
 use Rattle.rules.specs.F32.{_⊕_, _⊗_, at, f32}

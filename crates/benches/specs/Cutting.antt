@@ -3,11 +3,7 @@
 -- A feed is a take of its channel's samples. So it is made of calls of the desk, as every other call is, and what holds over any run of these holds with feeds
 -- among them. And where a bench's stream is cut makes no difference: its cleaned bytes, entries and answers in a row, and its record and share at the end, are
 -- those of one dictation of its channel, whatever other benches do in between, and however often a call of its own is refused.
-use Prim.Native.Nat.{ℕ, _*_, _<_}
-use mathlib.Core.List.{List, [], _∷_, _++_}
-use mathlib.Core.Path.{_≡_}
-use lib.ListN.{length, getD}
-use lib.Ieee.{Float}
+use Rattle.rules.specs.Common.{ℕ, _*_, _<_, List, [], _∷_, _++_, _≡_, length, getD, Float}
 use Rattle.rules.specs.Place.{get}
 use Rattle.rules.specs.Refusals.{refusing}
 use Rattle.rules.specs.Written.{firstIn}

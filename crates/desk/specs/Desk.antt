@@ -1,10 +1,5 @@
 -- What a call gives: the definition that the desk's contracts cite, and that the law of isolation is about.
-use Prim.Native.Nat.{ℕ, _+_, _-_}
-use mathlib.Core.Bool.{cond, _&&_}
-use mathlib.Core.List.{List, []}
-use lib.Dec.{eqb, ltb}
-use lib.ListN.{length}
-use lib.Ieee.{Float}
+use Rattle.rules.specs.Common.{ℕ, _+_, _-_, cond, _&&_, List, [], eqb, ltb, length, Float}
 use Rattle.rules.specs.F32.{zeros}
 use Rattle.rules.specs.Place.{get, put}
 use Rattle.model.specs.Model.{readOf}

@@ -1,11 +1,6 @@
 -- What is claimed of the desk's calls, for any number of benches. The proofs are in proofs/Kept, Ranged, Noted, Replies, Buffers, Halved, Apart and Zeros.
-use Prim.Native.Nat.{ℕ, _+_, _*_, _≤_, _<_}
-use mathlib.Core.Bool.{true, false, cond}
-use mathlib.Core.List.{List}
+use Rattle.rules.specs.Common.{ℕ, _+_, _*_, _≤_, _<_, true, false, cond, List, _≡_, length, drop, Float}
 use mathlib.Core.Logic.{_⊎_}
-use mathlib.Core.Path.{_≡_}
-use lib.ListN.{length, drop}
-use lib.Ieee.{Float}
 use Rattle.rules.specs.Place.{get, put}
 use Rattle.rules.specs.Written.{Written, firstIn}
 use Rattle.transforms.specs.Transform.{forwardOf}

@@ -1,7 +1,5 @@
 -- For the parts of the code.
-use Prim.Native.Nat.{ℕ, _+_, _-_, _≤_}
-use mathlib.Core.Bool.{cond}
-use mathlib.Core.Path.{_≡_}
+use Rattle.rules.specs.Common.{ℕ, _+_, _-_, _≤_, cond, _≡_}
 use Rattle.model.specs.declared.Reading.{Reading}
 use Rattle.model.specs.declared.Reading.the-variants.{Good, Refused as Unread}
 use Rattle.frame.specs.Share.{SHARE, PART}

@@ -1,10 +1,5 @@
 -- The desk for a host that has numbers alone: what the functions of the C surface return and leave.
-use Prim.Native.Nat.{ℕ, _+_, _*_}
-use mathlib.Core.Bool.{cond, _&&_}
-use mathlib.Core.List.{List, [], _∷_, _++_}
-use lib.Dec.{eqb, leb}
-use lib.ListN.{length, getD, replicate}
-use lib.Ieee.{Float}
+use Rattle.rules.specs.Common.{ℕ, _+_, _*_, cond, _&&_, List, [], _∷_, _++_, eqb, leb, length, getD, replicate, Float}
 use Rattle.rules.specs.F32.{f32}
 use Rattle.rules.specs.Written.{Written, all}
 use Rattle.frame.specs.Effect.{Effect}

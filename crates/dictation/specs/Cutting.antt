@@ -1,10 +1,5 @@
 -- The law of cutting, request 12, for any side of any desk: what is claimed. The proofs are in proofs/Cuts.antt.
-use Prim.Native.Nat.{ℕ, _*_}
-use mathlib.Core.Bool.{true}
-use mathlib.Core.List.{List, [], _∷_, _++_}
-use mathlib.Core.Path.{_≡_}
-use lib.ListN.{length, getD, take}
-use lib.Ieee.{Float}
+use Rattle.rules.specs.Common.{ℕ, _*_, true, List, [], _∷_, _++_, _≡_, length, getD, take, Float}
 use Rattle.rules.specs.Written.{nothing, numbersIn, over}
 use Rattle.frame.specs.Effect.{Effect}
 use Rattle.frame.specs.Reply.{passed}

@@ -1,8 +1,5 @@
 -- Dictation by frames, request 12: 480 samples at a time, each with what is lent to a frame, and the rest waits. It knows of no piece.
-use Prim.Native.Nat.{ℕ}
-use mathlib.Core.List.{List, [], _∷_, _++_}
-use lib.ListN.{length, take, drop}
-use lib.Ieee.{Float}
+use Rattle.rules.specs.Common.{ℕ, List, [], _∷_, _++_, length, take, drop, Float}
 use Rattle.rules.specs.Place.{get, put}
 use Rattle.rules.specs.Written.{firstIn}
 use Rattle.frame.specs.declared.Reply.{Reply}

@@ -1,10 +1,5 @@
 -- Laws of a record and of one piece: what is claimed. The proofs are in proofs/Cuts.antt and proofs/Resumes.antt.
-use Prim.Native.Nat.{ℕ, _+_, _*_, _≤_, _<_}
-use mathlib.Core.Bool.{true}
-use mathlib.Core.List.{List, [], _∷_}
-use mathlib.Core.Path.{_≡_}
-use lib.ListN.{length}
-use lib.Ieee.{Float}
+use Rattle.rules.specs.Common.{ℕ, _+_, _*_, _≤_, _<_, true, List, [], _∷_, _≡_, length, Float}
 use Rattle.rules.specs.Place.{get}
 use Rattle.rules.specs.Written.{from, over}
 use Rattle.samples.specs.Samples.{good}

@@ -1,5 +1,5 @@
 -- What crosses the boundary of `network` as a number: an activation, and a frame's answer.
-use Prim.Native.Nat.{ℕ, _≤_}
+use Rattle.rules.specs.Common.{ℕ, _≤_}
 use Rattle.rules.specs.Leaf.{_leaving_}
 use Rattle.network.specs.Compute.{Frame, Computing}
 use Rattle.network.specs.declared.Computed.{Computed}

@@ -1,9 +1,5 @@
 -- What is claimed of remembered gains (proofs/Remembered, Order), and of the test for silence (proofs/Silence).
-use mathlib.Core.Path.{_≡_}
-use mathlib.Core.Bool.{true, false}
-use mathlib.Core.List.{List, [], _∷_, map}
-use Prim.Native.Nat.{ℕ, _<_}
-use lib.Ieee.{Float, nan, le, isNan}
+use Rattle.rules.specs.Common.{ℕ, _<_, true, false, List, [], _∷_, map, _≡_, Float, nan, le, isNan}
 use Rattle.rules.specs.F32.{at, f32}
 use Rattle.features.specs.Gains.{sixTenths, gained}
 use Rattle.features.specs.Silence.{soundOf}

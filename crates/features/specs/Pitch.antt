@@ -1,9 +1,5 @@
 -- `pitch_filter` and `apply_gain` of features.rs.
-use mathlib.Core.Path.{_≡_}
-use mathlib.Core.List.{List}
-use mathlib.Core.Bool.{cond}
-use Prim.Native.Nat.{ℕ}
-use lib.Ieee.{Float, binary32, lt}
+use Rattle.rules.specs.Common.{ℕ, cond, List, _≡_, Float, binary32, lt}
 use Rattle.rules.specs.F32.{_⊕_, _⊖_, _⊗_, _⊘_, at, f32, one}
 use Rattle.rules.specs.Tab.{tab}
 use Rattle.numbers.specs.Larger.{clamped}

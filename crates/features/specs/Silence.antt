@@ -1,8 +1,5 @@
 -- The test for silence, from `compute_frame_features` of features.rs.
-use mathlib.Core.List.{List}
-use mathlib.Core.Bool.{Bool, cond}
-use Prim.Native.Nat.{ℕ}
-use lib.Ieee.{Float, lt}
+use Rattle.rules.specs.Common.{ℕ, Bool, cond, List, Float, lt}
 use Rattle.rules.specs.Loop.{loop}
 use Rattle.rules.specs.F32.{_⊕_, at, f32}
 use Rattle.features.specs.declared.Sound.{Sound}

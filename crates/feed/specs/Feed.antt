@@ -1,12 +1,7 @@
 -- A block of recorded bytes in one call: a bench's own channel of it is unpacked, taken, and packed again, with an entry of the side sheet for each frame. By
 -- definition these one after the other; what may refuse them is tested before anything changes, the lowest number first.
-use Prim.Native.Nat.{ℕ, _+_, _*_, _/_, _%_}
-use mathlib.Core.Bool.{Bool, cond, not, _&&_}
-use mathlib.Core.List.{List, [], _∷_, _++_}
-use mathlib.Core.Path.{_≡_}
-use lib.Dec.{eqb, leb, ltb}
-use lib.ListN.{length, getD, drop}
-use lib.Ieee.{Float, eq}
+use Rattle.rules.specs.Common.{ℕ, _+_, _*_, _/_, _%_, Bool, cond, not, _&&_, List, [], _∷_, _++_, _≡_, eqb, leb, ltb, length, getD, drop, Float}
+use lib.Ieee.{eq}
 use Rattle.rules.specs.F32.{f32, at}
 use Rattle.rules.specs.Refusals.{Row, _when_, refusing}
 use Rattle.rules.specs.Tab.{tab}

@@ -1,9 +1,5 @@
 -- What is claimed of a feed by itself. The proofs are in proofs/Ranged.antt.
-use Prim.Native.Nat.{ℕ, _<_}
-use mathlib.Core.Bool.{false}
-use mathlib.Core.List.{List}
-use mathlib.Core.Path.{_≡_}
-use lib.Ieee.{Float}
+use Rattle.rules.specs.Common.{ℕ, _<_, false, List, _≡_, Float}
 use Rattle.frame.specs.Reply.{passed}
 use Rattle.desk.specs.declared.Record.{Record}
 use Rattle.feed.specs.Feed.{Block, entryOf, unfed, feed}

@@ -1,6 +1,5 @@
 -- The plain sums of `transforms`, over any operations and cosines. With the operations of f32 and its table they are the definitions of `transforms` (specs/Laws).
-use mathlib.Core.List.{List}
-use Prim.Native.Nat.{ℕ, _+_, _-_, _*_, _%_}
+use Rattle.rules.specs.Common.{ℕ, _+_, _-_, _*_, _%_, List}
 use Rattle.rules.specs.Loop.{loop, range}
 use Rattle.rules.specs.Tab.{tab}
 use Rattle.transforms.specs.Transform.{binOf, partOf}

@@ -1,8 +1,5 @@
 -- What a call gives, and what a contract says of it.
-use mathlib.Core.Bool.{cond}
-use mathlib.Core.List.{List, []}
-use mathlib.Core.Path.{_≡_}
-use lib.Ieee.{Float}
+use Rattle.rules.specs.Common.{cond, List, [], _≡_, Float}
 use Rattle.rules.specs.Written.{Written, onto}
 use Rattle.frame.specs.Reply.{passed, firstRefusal}
 use Rattle.frame.specs.declared.Reply.{Reply}

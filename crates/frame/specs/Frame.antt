@@ -1,11 +1,5 @@
 -- What the four calls of a frame do to one share: the definitions that the calls of `frame` are held to. A share knows of no side.
-use Prim.Native.Nat.{ℕ, _+_, _-_}
-use mathlib.Core.Bool.{Bool, cond, not, _&&_}
-use mathlib.Core.List.{List, [], _∷_, _++_}
-use lib.Dec.{eqb, ltb}
-use lib.IntN.{pos}
-use lib.ListN.{length}
-use lib.Ieee.{Float, binary32, ofInt}
+use Rattle.rules.specs.Common.{ℕ, _+_, _-_, Bool, cond, not, _&&_, List, [], _∷_, _++_, eqb, ltb, length, pos, Float, binary32, ofInt}
 use Rattle.rules.specs.F32.{_⊕_, _⊘_, at, f32}
 use Rattle.rules.specs.Place.{Place, get, put}
 pub use Rattle.rules.specs.Refusals.{wrong}

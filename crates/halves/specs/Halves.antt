@@ -1,11 +1,6 @@
 -- A frame in two halves, request 08: calls 1 and 2, and calls 3 and 4, with the lag and the transforms of the bench's way put in. What is left to
 -- a host is the logarithms of the first half's sums. A half tests all refusals of its two calls before it changes anything.
-use Prim.Native.Nat.{ℕ}
-use mathlib.Core.Bool.{cond}
-use mathlib.Core.List.{List, [], _∷_}
-use lib.Dec.{ltb}
-use lib.ListN.{length, drop}
-use lib.Ieee.{Float}
+use Rattle.rules.specs.Common.{ℕ, cond, List, [], _∷_, ltb, length, drop, Float}
 use Rattle.rules.specs.F32.{at}
 use Rattle.rules.specs.Place.{get}
 use Rattle.rules.specs.Refusals.{wrong}

@@ -1,10 +1,5 @@
 -- What is claimed of the calls that are made of others, over one share. The proofs are in proofs/Sister, proofs/Lagged and proofs/Joined.
-use Prim.Native.Nat.{ℕ}
-use mathlib.Core.Bool.{true}
-use mathlib.Core.List.{List, [], _∷_}
-use mathlib.Core.Path.{_≡_}
-use lib.ListN.{length, drop}
-use lib.Ieee.{Float}
+use Rattle.rules.specs.Common.{ℕ, true, List, [], _∷_, _≡_, length, drop, Float}
 use Rattle.rules.specs.Place.{get}
 use Rattle.rules.specs.Refusals.{wrong}
 use Rattle.rules.specs.Written.{Written, firstIn}

@@ -1,7 +1,5 @@
 -- The sister of call 2, request 04: call 2 with our own lag, of the share's own `input_mem`.
-use Prim.Native.Nat.{ℕ}
-use mathlib.Core.List.{List}
-use lib.Ieee.{Float}
+use Rattle.rules.specs.Common.{ℕ, List, Float}
 use Rattle.rules.specs.Place.{get}
 use Rattle.lag.specs.Lag.{ownLag}
 use Rattle.frame.specs.Share.{inputMem}

@@ -4,12 +4,7 @@
 -- what `hear` makes of the side's heard frames, one after another: of their logarithms, normalised band correlations, lags and models
 -- alone (request 13). A silent frame, a refused call and another bench leave it as it is. No remembered gain is ever NaN, and after k
 -- heard frames each is at least its value before them multiplied k times by 0.6, rounded each time.
-use Prim.Native.Nat.{ℕ, _*_, _<_}
-use mathlib.Core.Bool.{true, false}
-use mathlib.Core.List.{List, [], _∷_}
-use mathlib.Core.Path.{_≡_}
-use lib.ListN.{length}
-use lib.Ieee.{Float, isNan, le}
+use Rattle.rules.specs.Common.{ℕ, _*_, _<_, true, false, List, [], _∷_, _≡_, length, Float, le, isNan}
 use Rattle.rules.specs.F32.{_⊗_, at, f32}
 use Rattle.rules.specs.Place.{get}
 use Rattle.frame.specs.declared.Reply.the-variants.{Heard}

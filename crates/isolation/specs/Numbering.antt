@@ -2,12 +2,7 @@
 --
 -- From an opening on, whatever calls follow on whatever sides, a side's record has the number of its own call 4s done since, and that of
 -- its own heard call 3s, both modulo 2^32, until it is opened anew.
-use Prim.Native.Nat.{ℕ, _+_, _*_, _%_, _<_}
-use mathlib.Core.Bool.{true, false, cond}
-use mathlib.Core.List.{List, [], _∷_, _++_}
-use mathlib.Core.Path.{_≡_}
-use lib.Dec.{eqb}
-use lib.ListN.{length}
+use Rattle.rules.specs.Common.{ℕ, _+_, _*_, _%_, _<_, true, false, cond, List, [], _∷_, _++_, _≡_, eqb, length}
 use Rattle.rules.specs.Place.{get}
 use Rattle.frame.specs.Reply.{passed}
 use Rattle.frame.specs.Share.{SHARE}

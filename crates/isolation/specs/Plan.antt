@@ -1,10 +1,5 @@
 -- A plan: calls of the desk on one side, one after another, where each is chosen by what the side received so far.
-use Prim.Native.Nat.{ℕ, suc}
-use mathlib.Core.Bool.{cond}
-use mathlib.Core.List.{List}
-use lib.Dec.{eqb}
-use lib.ListN.{length}
-use lib.Ieee.{Float}
+use Rattle.rules.specs.Common.{ℕ, suc, cond, List, eqb, length, Float}
 use Rattle.rules.specs.Place.{get}
 use Rattle.rules.specs.Written.{Written}
 use Rattle.frame.specs.declared.Reply.{Reply}

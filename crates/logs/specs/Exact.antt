@@ -1,9 +1,8 @@
 -- The constants' rule, and the steps that lose nothing. An f64 is exactly z / c, for a whole number z; zero is +0.
-use Prim.Native.Nat.{ℕ, suc, _+_, _*_, _/_, _%_, _^_, _≤_, _<_}
-use mathlib.Core.Bool.{true, false}
+use Rattle.rules.specs.Common.{ℕ, suc, _+_, _*_, _/_, _%_, _^_, _≤_, _<_, true, false, pos, Float, binary32, binary64, nan, inf, fin, up, down}
 use lib.Dec.{T}
-use lib.IntN.{ℤ, pos, negsuc, _+ℤ_, _-ℤ_, _*ℤ_}
-use lib.Ieee.{Float, nan, inf, fin, binary32, binary64, up, down, fits, toBits}
+use lib.IntN.{ℤ, negsuc, _+ℤ_, _-ℤ_, _*ℤ_}
+use lib.Ieee.{fits, toBits}
 use lib.Ieee.Exact.{HasValue}
 use lib.Ieee.Positive.{positive}
 use Rattle.logs.specs.Tables.{rowAt, twoHigh}

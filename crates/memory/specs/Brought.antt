@@ -1,10 +1,6 @@
 -- What the calls of a frame bring to the memory of their side: call 2 the first spectrum and the lag, a heard call 3 the second spectrum, the
 -- logarithms and the model. Nothing else does.
-use Prim.Native.Nat.{ℕ}
-use mathlib.Core.Bool.{cond}
-use mathlib.Core.List.{List, [], _∷_}
-use lib.IntN.{pos}
-use lib.Ieee.{Float, binary32, ofInt}
+use Rattle.rules.specs.Common.{ℕ, cond, List, [], _∷_, pos, Float, binary32, ofInt}
 use Rattle.rules.specs.F32.{f32, zeros}
 use Rattle.rules.specs.Place.{get}
 use Rattle.features.specs.Features.{normalisedCorr}

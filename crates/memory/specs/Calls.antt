@@ -1,10 +1,5 @@
 -- The four calls of a frame, and which of them a call of the desk is made of: a half of two, a piece and a resume of halves.
-use Prim.Native.Nat.{ℕ}
-use mathlib.Core.Bool.{Bool, cond}
-use mathlib.Core.List.{List, [], _∷_, _++_}
-use lib.Dec.{ltb}
-use lib.ListN.{length, take, drop}
-use lib.Ieee.{Float}
+use Rattle.rules.specs.Common.{ℕ, Bool, cond, List, [], _∷_, _++_, ltb, length, take, drop, Float}
 use Rattle.rules.specs.Place.{get}
 use Rattle.rules.specs.Written.{firstIn}
 use Rattle.lag.specs.Lag.{ownLag}

@@ -1,10 +1,5 @@
 -- What is claimed of remembered gains over heard frames. The proof is in proofs/Gains.
-use Prim.Native.Nat.{ℕ, _<_}
-use mathlib.Core.Bool.{true, false}
-use mathlib.Core.List.{List}
-use mathlib.Core.Path.{_≡_}
-use lib.ListN.{length}
-use lib.Ieee.{Float, isNan, le}
+use Rattle.rules.specs.Common.{ℕ, _<_, true, false, List, _≡_, length, Float, le, isNan}
 use Rattle.rules.specs.F32.{at}
 use Rattle.memory.specs.Hear.{Recalled, HeardFrame, heardAll, faded}
 

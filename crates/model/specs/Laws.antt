@@ -1,8 +1,5 @@
 -- What is claimed of the writer and the reader, each the other's inverse (proofs/Written), and of what reads (proofs/Shapes, proofs/Bounds, proofs/Arrays).
-use Prim.Native.Nat.{ℕ, _+_, _≤_, _<_}
-use mathlib.Core.List.{List, [], _∷_, _++_}
-use mathlib.Core.Path.{_≡_}
-use lib.ListN.{length, getD, take, drop}
+use Rattle.rules.specs.Common.{ℕ, _+_, _≤_, _<_, List, [], _∷_, _++_, _≡_, length, getD, take, drop}
 use Rattle.rules.specs.Leaf.{_leaving_}
 use Rattle.rules.specs.Place.{get}
 use Rattle.model.specs.declared.Activation.the-variants.{Tanh}

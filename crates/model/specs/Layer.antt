@@ -1,8 +1,5 @@
 -- One layer of a model file (rnn.rs, `read_dense` and `read_gru` in `from_bytes_impl`): as data, as bytes, and what reading it gives.
-use Prim.Native.Nat.{ℕ, zero, suc, _+_, _*_}
-use mathlib.Core.List.{List, [], _∷_, _++_}
-use lib.Dec.{eqb, ltb}
-use lib.ListN.{length, getD, take, drop}
+use Rattle.rules.specs.Common.{ℕ, zero, suc, _+_, _*_, List, [], _∷_, _++_, eqb, ltb, length, getD, take, drop}
 use Rattle.rules.specs.Lists.{sum}
 use Rattle.rules.specs.Refusals.{Row, _when_, refusing}
 use Rattle.model.specs.declared.Activation.{Activation}

@@ -1,9 +1,5 @@
 -- A model file: six layers in a row (rnn.rs, `from_bytes_impl`).
-use Prim.Native.Nat.{ℕ, suc, _+_}
-use mathlib.Core.Bool.{Bool, not, _||_}
-use mathlib.Core.List.{List, [], _∷_, map}
-use lib.Dec.{eqb}
-use lib.ListN.{length, getD}
+use Rattle.rules.specs.Common.{ℕ, suc, _+_, Bool, not, _||_, List, [], _∷_, map, eqb, length, getD}
 use Rattle.rules.specs.Refusals.{Row, _when_, refusing}
 use Rattle.model.specs.Layer.{Layer, bytesOf, layerOf, faultsOf, restOf, headerAt}
 use Rattle.model.specs.declared.Activation.the-variants.{Tanh}

@@ -1,8 +1,5 @@
 -- `RnnState::compute` of rnn.rs: the six layers for one frame, on a model's bytes.
-use mathlib.Core.List.{List, [], _∷_, _++_}
-use Prim.Native.Nat.{ℕ}
-use lib.ListN.{length, take, drop}
-use lib.Ieee.{Float}
+use Rattle.rules.specs.Common.{ℕ, List, [], _∷_, _++_, length, take, drop, Float}
 use Rattle.rules.specs.Place.{get}
 use Rattle.rules.specs.Refusals.{_when_, refusing, wrong}
 use Rattle.model.specs.Array.{placeOf}

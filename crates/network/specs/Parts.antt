@@ -1,9 +1,5 @@
 -- What the private functions promise and ask for.
-use mathlib.Core.Path.{_≡_}
-use mathlib.Core.List.{List}
-use Prim.Native.Nat.{ℕ, _+_, _*_, _≤_}
-use lib.ListN.{set}
-use lib.Ieee.{Float}
+use Rattle.rules.specs.Common.{ℕ, _+_, _*_, _≤_, List, _≡_, set, Float}
 use Rattle.rules.specs.F32.{one, at, _⊕_, _⊖_, _⊗_}
 use Rattle.rules.specs.Place.{Place}
 use Rattle.model.specs.Laws.{LiesIn}

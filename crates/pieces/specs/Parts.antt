@@ -1,7 +1,5 @@
 -- For the parts of the code.
-use Prim.Native.Nat.{ℕ}
-use mathlib.Core.List.{List}
-use lib.Ieee.{Float}
+use Rattle.rules.specs.Common.{ℕ, List, Float}
 use Rattle.frame.specs.Reply.{firstRefusal}
 use Rattle.frame.specs.declared.Hearing.{Hearing}
 use Rattle.frame.specs.declared.Reply.{Reply}

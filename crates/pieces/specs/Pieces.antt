@@ -1,11 +1,6 @@
 -- Dictation in pieces, request 12, over one share: a frame's part, and behind it 479 places for samples that wait. A piece goes on with the
 -- samples that wait and its own; a resume finishes the frame under way, and goes on with what is left of the piece.
-use Prim.Native.Nat.{ℕ, _+_, _-_, _*_, _/_}
-use mathlib.Core.Bool.{Bool, cond, not, _&&_}
-use mathlib.Core.List.{List, [], _∷_, _++_}
-use lib.Dec.{eqb, leb, ltb}
-use lib.ListN.{length, getD, take, drop}
-use lib.Ieee.{Float}
+use Rattle.rules.specs.Common.{ℕ, _+_, _-_, _*_, _/_, Bool, cond, not, _&&_, List, [], _∷_, _++_, eqb, leb, ltb, length, getD, take, drop, Float}
 use Rattle.rules.specs.F32.{f32}
 use Rattle.rules.specs.Place.{Place, get, put}
 use Rattle.rules.specs.Tab.{tab}

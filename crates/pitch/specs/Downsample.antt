@@ -1,11 +1,5 @@
 -- `pitch_downsample` of pitch.rs: 1,728 numbers to 864.
-use mathlib.Core.Path.{_≡_}
-use mathlib.Core.Bool.{cond}
-use mathlib.Core.List.{List, [], _∷_}
-use Prim.Native.Nat.{ℕ, _+_, _-_, _*_}
-use lib.Dec.{eqb}
-use lib.IntN.{pos}
-use lib.Ieee.{Float, binary32, ofInt}
+use Rattle.rules.specs.Common.{ℕ, _+_, _-_, _*_, cond, List, [], _∷_, _≡_, eqb, pos, Float, binary32, ofInt}
 use Rattle.rules.specs.Loop.{loop}
 use Rattle.rules.specs.Tab.{tab}
 use Rattle.rules.specs.F32.{_⊕_, _⊖_, _⊗_, _⊘_, at, f32, one}

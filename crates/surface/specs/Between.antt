@@ -1,12 +1,6 @@
 -- Cutting, with others in between: however a bench's samples are cut, into takes or pieces, whatever other benches do in between, and however often a call
 -- of its own is refused, it is one dictation of its samples. What is claimed; the proof is in proofs/Between.antt.
-use Prim.Native.Nat.{ℕ, _*_, _<_}
-use mathlib.Core.Bool.{cond}
-use mathlib.Core.List.{List, [], _∷_, _++_, map}
-use mathlib.Core.Path.{_≡_}
-use lib.Dec.{eqb}
-use lib.ListN.{length, getD}
-use lib.Ieee.{Float}
+use Rattle.rules.specs.Common.{ℕ, _*_, _<_, cond, List, [], _∷_, _++_, map, _≡_, eqb, length, getD, Float}
 use Rattle.rules.specs.Place.{get}
 use Rattle.rules.specs.Written.{Written, nothing, numbersIn}
 use Rattle.frame.specs.Share.{SHARE}

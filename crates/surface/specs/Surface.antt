@@ -1,11 +1,5 @@
 -- Every call of the C surface that touches the store, by what its contract cites, and what is claimed of all of them. The proofs are in proofs/.
-use Prim.Native.Nat.{ℕ, _*_, _≤_, _<_}
-use mathlib.Core.Bool.{true, false, cond}
-use mathlib.Core.List.{List, [], _∷_}
-use mathlib.Core.Path.{_≡_}
-use lib.Dec.{eqb}
-use lib.ListN.{length}
-use lib.Ieee.{Float}
+use Rattle.rules.specs.Common.{ℕ, _*_, _≤_, _<_, true, false, cond, List, [], _∷_, _≡_, eqb, length, Float}
 use Rattle.rules.specs.Tab.{tab}
 use Rattle.rules.specs.Written.{Written, firstIn}
 use Rattle.logs.specs.Log10.{logsOf}

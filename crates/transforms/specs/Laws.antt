@@ -1,9 +1,8 @@
 -- What is claimed of the transforms' sums, which start from +0: none of them is ever -0. So a product of a zero may be added with either sign. The proofs are in
 -- proofs/Sound.antt.
-use mathlib.Core.List.{List}
-use Prim.Native.Nat.{ℕ}
+use Rattle.rules.specs.Common.{ℕ, List, Float, binary32}
 use lib.Dec.{T}
-use lib.Ieee.{Float, binary32, fits}
+use lib.Ieee.{fits}
 use Rattle.rules.specs.F32.{_⊕_, at, f32}
 use Rattle.rules.specs.Loop.{loop, range}
 use Rattle.floats.specs.Plain.{plain}

@@ -1,12 +1,6 @@
 -- For the parts of the code: how the sums are shared out. The indices k, 240 * i + k and 240 * i - k have the same products but for their signs; so eight sums are
 -- kept at a time, and each for four neighbours.
-use mathlib.Core.Path.{_≡_}
-use mathlib.Core.List.{List, [], _∷_}
-use mathlib.Core.Bool.{cond}
-use Prim.Native.Nat.{ℕ, _+_, _-_, _*_, _/_, _%_, _<_}
-use lib.Dec.{eqb}
-use lib.Ieee.{Float}
-use lib.ListN.{getD, take}
+use Rattle.rules.specs.Common.{ℕ, _+_, _-_, _*_, _/_, _%_, _<_, cond, List, [], _∷_, _≡_, eqb, getD, take, Float}
 use Rattle.rules.specs.Loop.{loop, range}
 use Rattle.rules.specs.Tab.{tab}
 use Rattle.rules.specs.F32.{_⊕_, _⊖_, at, f32}

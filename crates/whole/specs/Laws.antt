@@ -1,10 +1,5 @@
 -- A frame and a take in one call: what is claimed. The proofs are in proofs/Halves.antt.
-use Prim.Native.Nat.{ℕ}
-use mathlib.Core.Bool.{true, false}
-use mathlib.Core.List.{List}
-use mathlib.Core.Path.{_≡_}
-use lib.ListN.{length}
-use lib.Ieee.{Float}
+use Rattle.rules.specs.Common.{ℕ, true, false, List, _≡_, length, Float}
 use Rattle.frame.specs.Effect.{refusal}
 use Rattle.frame.specs.Reply.{passed}
 use Rattle.desk.specs.declared.Record.{Record}

@@ -1,8 +1,5 @@
 -- For the parts of the code: a take between two calls, with the buffers that they are lent.
-use Prim.Native.Nat.{ℕ, _*_}
-use mathlib.Core.List.{List, [], _∷_}
-use lib.ListN.{length, getD}
-use lib.Ieee.{Float}
+use Rattle.rules.specs.Common.{ℕ, _*_, List, [], _∷_, length, getD, Float}
 use Rattle.rules.specs.Loop.{loop}
 use Rattle.rules.specs.Place.{Place, put}
 use Rattle.rules.specs.Written.{onto}

@@ -1,7 +1,5 @@
 -- A frame and a take for a host that has numbers alone: what the functions of the C surface return and leave.
-use Prim.Native.Nat.{ℕ}
-use mathlib.Core.List.{List}
-use lib.Ieee.{Float}
+use Rattle.rules.specs.Common.{ℕ, List, Float}
 use Rattle.frame.specs.Effect.{Effect}
 use Rattle.desk.specs.declared.Answer.{Answer}
 use Rattle.desk.specs.Surface.{recordIn, telling}

@@ -1,11 +1,6 @@
 -- A take that is accepted is a piece, resumed to its end with our logarithms: by the law of cutting it is the dictation of its samples. What is claimed;
 -- the proofs are in proofs/Dictations.antt.
-use Prim.Native.Nat.{ℕ, _*_}
-use mathlib.Core.Bool.{true}
-use mathlib.Core.List.{List, [], _∷_, _++_}
-use mathlib.Core.Path.{_≡_}
-use lib.ListN.{length, replicate}
-use lib.Ieee.{Float}
+use Rattle.rules.specs.Common.{ℕ, _*_, true, List, [], _∷_, _++_, _≡_, length, replicate, Float}
 use Rattle.rules.specs.Written.{from}
 use Rattle.logs.specs.Log10.{logsOf}
 use Rattle.frame.specs.Reply.{passed}

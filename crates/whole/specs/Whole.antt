@@ -1,11 +1,6 @@
 -- A frame, and a piece, in one call: where they pause for logarithms, our own are lent, and nothing is left to a host. By definition they are calls of
 -- the desk, one after the other; what may refuse these is tested before anything changes.
-use Prim.Native.Nat.{ℕ, _*_}
-use mathlib.Core.Bool.{cond, not}
-use mathlib.Core.List.{List, [], _∷_, _++_}
-use lib.Dec.{eqb, leb}
-use lib.ListN.{length}
-use lib.Ieee.{Float}
+use Rattle.rules.specs.Common.{ℕ, _*_, cond, not, List, [], _∷_, _++_, eqb, leb, length, Float}
 use Rattle.rules.specs.Loop.{loop}
 use Rattle.rules.specs.Place.{get}
 use Rattle.rules.specs.Refusals.{wrong}
