@@ -11,19 +11,20 @@ use lib.ListN.{length, take, drop, length-append, length-drop}
 use lib.Seq.{take-at, drop-drop, drop-append-add}
 use lib.Ieee.{Float}
 use Rattle.rules.specs.Place.{get, put}
-use Rattle.rules.specs.Written.{Written, from, nothing, over}
+use Rattle.rules.specs.Written.{Written, from, nothing, over, firstIn}
 use Rattle.rules.proofs.Places.{over-none, over-next}
+use Rattle.desk.specs.declared.Answer.{Answer}
+use Rattle.frame.specs.Effect.{Effect}
 use Rattle.frame.specs.declared.Reply.{Reply}
 use Rattle.frame.specs.declared.Reply.the-variants.{Done}
 use Rattle.frame.specs.Reply.{passed}
 use Rattle.frame.specs.Share.{SHARE}
-use Rattle.halves.specs.Halves.{buffer}
 use Rattle.pieces.specs.Pieces.{waitingIn, waits, completes}
 use Rattle.pieces.proofs.Accepted.{Piece}
 use Rattle.pieces.proofs.Shares.{waiting-length, waits-length}
 use Rattle.desk.specs.declared.Record.{Record}
 use Rattle.desk.specs.Gate.{shareOf, gate}
-use Rattle.desk.specs.Desk.{piece, resume, holding, carried, Given, desk}
+use Rattle.desk.specs.Desk.{piece, resume, holding, carried, desk}
 use Rattle.dictation.specs.Dictation.{Lent, Told, Dictated, dictate, dictated}
 use Rattle.dictation.specs.Cutting.{handedIn, outputOf, sumsIn, Led, ended, paused, Cut, last, more, Cutting}
 use Rattle.dictation.specs.Resuming.{FillsFront}
@@ -33,7 +34,7 @@ use Rattle.dictation.proofs.Taken.{onward, ends, pauses, begins, piece-
 use Rattle.dictation.proofs.Follows.{place, own-back, own-own, following, fits-in, halved, follows}
 
 -- what is resumed to its end was not refused
-pub passes : {n side : ℕ} {samples : List Float} {o : Given} {held : List Float} {lent : List Lent} {d : Dictated} → Led n side samples o held lent d
+pub passes : {n side : ℕ} {samples : List Float} {o : Effect Answer} {held : List Float} {lent : List Lent} {d : Dictated} → Led n side samples o held lent d
     → passed (o .answer .reply) ≡ true
 passes (ended p z) = p
 passes (paused p e led) = p
@@ -64,7 +65,7 @@ moved rec rest size progress = go (ltb rest 480)
 
 -- a call on the rest of a piece, by what follows it: with none unfinished the rest is too short for a frame, and what is resumed has begun one
 module _ (n side : ℕ) (store samples : List Float) (some : 1 ≤ length samples) where
-  module _ (o : Given) (rec : Record) (reply : Reply) (share rest : List Float) (progress : ℕ) (w : Written)
+  module _ (o : Effect Answer) (rec : Record) (reply : Reply) (share rest : List Float) (progress : ℕ) (w : Written)
       (e : o ≡ onward side store rec reply share rest (length samples) progress w) where
     pub short : o .answer .rec .piece ≡ 0 → length rest < 480
     short z = go (ltb (length rest) 480) refl
@@ -77,7 +78,7 @@ module _ (n side : ℕ) (store samples : List Float) (some : 1 ≤ length sample
             absurd (omega arith)
 
     pub long : (logs : List Float) (model : List ℕ) (room : ℕ)
-        → passed (desk n side (o .answer .rec) (o .store) (resume samples logs model room 22) .answer .reply) ≡ true → 480 ≤ length rest
+        → passed (desk n side (o .answer .rec) (o .kept) (resume samples logs model room 22) .answer .reply) ≡ true → 480 ≤ length rest
     long logs model room p = go (ltb (length rest) 480) refl
       where
         go : (t : Bool) → ltb (length rest) 480 ≡ t → 480 ≤ length rest
@@ -89,7 +90,7 @@ module _ (n side : ℕ) (store samples : List Float) (some : 1 ≤ length sample
             absurd (omega (arith, t .1 .begun))
 
 module _ (n side : ℕ) (h : side < n) (store : List Float) (size : length store ≡ n * SHARE) (samples : List Float) (some : 1 ≤ length samples) where
-  whole : {o : Given} {held : List Float} {lent : List Lent} {d : Dictated} → Led n side samples o held lent d
+  whole : {o : Effect Answer} {held : List Float} {lent : List Lent} {d : Dictated} → Led n side samples o held lent d
       → (rec : Record) (reply : Reply) (share rest : List Float) (progress : ℕ) (w : Written)
       → o ≡ onward side store rec reply share rest (length samples) progress w
       → length share ≡ SHARE → drop progress samples ≡ drop 480 rest → 1 ≤ progress
@@ -105,7 +106,7 @@ module _ (n side : ℕ) (h : side < n) (store : List Float) (size : length store
       long n side store samples some o rec reply share rest progress w e (l .logs (sumsIn o)) (l .model) (length (outputOf o held)) (rw en at (passes led)) in
       let q = e ∙ pauses side store rec reply share rest (length samples) progress w enough in
       let out = over w held in
-      let written : outputOf o held ≡ out = ap (λ (x : Given). outputOf x held) q in
+      let written : outputOf o held ≡ out = ap (λ (x : Effect Answer). outputOf x held) q in
       let en′ : after ≡ following n side h store size samples rec share rest l progress (length out) k same = rw q at en in
       let g = follows n side h store size samples rec share rest l progress (length out) k same (rw en′ at (passes led)) in
       let nx = en′ ∙ g .1 in
@@ -115,20 +116,20 @@ module _ (n side : ℕ) (h : side < n) (store : List Float) (size : length store
       let rec′ = recAfter rec share rest l in
       let share′ = shareAfter rec share rest l in
       let ih =
-      whole led rec′ (y .reply) share′ (drop 480 rest) (progress + 480) (from (place progress) (buffer y)) nx (after-length rec share rest l k)
+      whole led rec′ (y .answer) share′ (drop 480 rest) (progress + 480) (from (place progress) (firstIn (y .written))) nx (after-length rec share rest l k)
       (sym (drop-drop 480 progress samples) ∙ ap (drop 480) same) (omega arith) in
       let d′ = dictate rec′ share′ (drop 480 rest) ms in
-      let said : after .answer .reply ≡ y .reply = ap (λ (x : Given). x .answer .reply) nx in
+      let said : after .answer .reply ≡ y .answer = ap (λ (x : Effect Answer). x .answer .reply) nx in
       let noted : holding 1 (after .answer .rec) 0 0 0 ≡ rec′ =
-      ap (λ (x : Given). holding 1 (x .answer .rec) 0 0 0) nx ∙ moved rec′ (length (drop 480 rest)) (length samples) (progress + 480) in
+      ap (λ (x : Effect Answer). holding 1 (x .answer .rec) 0 0 0) nx ∙ moved rec′ (length (drop 480 rest)) (length samples) (progress + 480) in
       let further : place (progress + 480) ≡ place progress + 480 = omega arith in
       let more = dictate-more rec share rest l ms in
-      let filled : length (buffer y ++ d′ .out) ≡ 480 * length (l ∷ ms) = length-append (buffer y) (d′ .out) ∙ omega (arith, full, ih .1) in
-      let behind = ih .2 ∙ ap (λ (j : ℕ). from-place j side store d′ (over (from (place progress) (buffer y)) (outputOf o held))) further in (
+      let filled : length (firstIn (y .written) ++ d′ .out) ≡ 480 * length (l ∷ ms) = length-append (firstIn (y .written)) (d′ .out) ∙ omega (arith, full, ih .1) in
+      let behind = ih .2 ∙ ap (λ (j : ℕ). from-place j side store d′ (over (from (place progress) (firstIn (y .written))) (outputOf o held))) further in (
         omega (arith, ih .0, length-drop 480 rest, enough),
         ap (λ (x : Dictated). length (x .out)) more ∙ filled,
         ap₂ (λ (t : Told) (x : Dictated). framed t [] x) (three (ap sumsIn q) said noted) behind
-            ∙ in-front (toldThere rec share rest l) (place progress) side store (buffer y) (outputOf o held) out d′ full (omega (arith, ap length written)) written
+            ∙ in-front (toldThere rec share rest l) (place progress) side store (firstIn (y .written)) (outputOf o held) out d′ full (omega (arith, ap length written)) written
             ∙ ap (λ (x : Dictated). from-place (place progress) side store x out) (sym more),
       )
 

@@ -7,9 +7,11 @@ use lib.ListN.{length, take, drop, length-drop}
 use lib.Seq.{take-append-le, drop-append-le}
 use lib.Ieee.{Float}
 use Rattle.rules.specs.Place.{get, put}
-use Rattle.frame.specs.Frame.{Effect}
+use Rattle.rules.specs.Written.{firstIn}
+use Rattle.frame.specs.declared.Reply.{Reply}
+use Rattle.frame.specs.Effect.{Effect}
 use Rattle.frame.specs.Share.{SHARE, PART}
-use Rattle.halves.specs.Halves.{buffer, firstHalf, secondHalf}
+use Rattle.halves.specs.Halves.{firstHalf, secondHalf}
 use Rattle.pieces.specs.Pieces.{framePart, waits}
 use Rattle.pieces.proofs.Halved.{first-length, second-length}
 use Rattle.pieces.proofs.Shares.{part-length, waits-length, waits-waits, frame-waits, waiting-back, frame-length, waits-frame}
@@ -20,35 +22,35 @@ use Rattle.dictation.specs.Dictation.{Lent, Told, Dictated, dictate, dic
 -- ---- one frame: its halves, and the share and the record behind it
 
 module _ (rec : Record) (share xs : List Float) (l : Lent) where
-  abbrev pub first : Effect
+  abbrev pub first : Effect Reply
   first = firstHalf (get framePart share) (rec .hearing .way) (take 480 xs) 22
 
   -- the logarithms that it is lent
   abbrev pub itsLogs : List Float
-  itsLogs = l .logs (buffer first)
+  itsLogs = l .logs (firstIn (first .written))
 
-  abbrev pub second : Effect
-  second = secondHalf (first .share) (rec .hearing) itsLogs (l .model) 480
+  abbrev pub second : Effect Reply
+  second = secondHalf (first .kept) (rec .hearing) itsLogs (l .model) 480
 
   abbrev pub shareAfter : List Float
-  shareAfter = put framePart share (second .share)
+  shareAfter = put framePart share (second .kept)
 
   abbrev pub recAfter : Record
-  recAfter = numbered (advanced (holding 3 rec 0 0 0) (second .reply))
+  recAfter = numbered (advanced (holding 3 rec 0 0 0) (second .answer))
 
   module _ (k : length share ≡ SHARE) where
-    pub first-part : length (first .share) ≡ PART
+    pub first-part : length (first .kept) ≡ PART
     first-part = first-length (get framePart share) (rec .hearing .way) (take 480 xs) 22 (part-length share k)
 
-    pub second-part : length (second .share) ≡ PART
-    second-part = second-length (first .share) (rec .hearing) itsLogs (l .model) 480 first-part
+    pub second-part : length (second .kept) ≡ PART
+    second-part = second-length (first .kept) (rec .hearing) itsLogs (l .model) 480 first-part
 
     pub after-length : length shareAfter ≡ SHARE
-    after-length = frame-length share k (second .share) second-part
+    after-length = frame-length share k (second .kept) second-part
 
   -- what it tells
   abbrev pub toldThere : Told
-  toldThere = (buffer first, second .reply, recAfter)
+  toldThere = (firstIn (first .written), second .answer, recAfter)
 
 -- d with one frame in front, which told this and filled these
 abbrev pub framed : Told → List Float → Dictated → Dictated
@@ -56,7 +58,7 @@ framed told ys d = record { rec = d .rec; kept = d .kept; told = told ∷ d .tol
 
 pub dictate-more : (rec : Record) (share xs : List Float) (l : Lent) (more : List Lent)
     → dictate rec share xs (l ∷ more)
-    ≡ framed (toldThere rec share xs l) (buffer (second rec share xs l)) (dictate (recAfter rec share xs l) (shareAfter rec share xs l) (drop 480 xs) more)
+    ≡ framed (toldThere rec share xs l) (firstIn (second rec share xs l .written)) (dictate (recAfter rec share xs l) (shareAfter rec share xs l) (drop 480 xs) more)
 unfolding dictate
 dictate-more rec share xs l more = refl
 
@@ -81,7 +83,7 @@ washed rec share ws xs [] k = rw (waits-waits share k ws xs)
 washed rec share ws xs (l ∷ more) k =
     rw (
       frame-waits share k ws,
-      waits-frame share k (second rec share xs l .share) (second-part rec share xs l k) ws,
+      waits-frame share k (second rec share xs l .kept) (second-part rec share xs l k) ws,
       washed (recAfter rec share xs l) (shareAfter rec share xs l) ws (drop 480 xs) more (after-length rec share xs l k),
     )
 

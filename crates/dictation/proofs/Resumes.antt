@@ -10,22 +10,23 @@ use lib.ListN.{length, drop, length-append, length-drop}
 use lib.Seq.{drop-drop, drop-append-add}
 use lib.Ieee.{Float}
 use Rattle.rules.specs.Place.{get, put}
-use Rattle.rules.specs.Written.{Written, from, nothing, over}
+use Rattle.rules.specs.Written.{Written, from, nothing, over, firstIn}
 use Rattle.rules.proofs.Places.{length-get, length-put, over-none}
 use Rattle.rules.proofs.Tests.{both}
 use Rattle.samples.specs.Samples.{good}
+use Rattle.desk.specs.declared.Answer.{Answer}
+use Rattle.frame.specs.Effect.{Effect}
 use Rattle.frame.specs.declared.Reply.{Reply}
 use Rattle.frame.specs.declared.Reply.the-variants.{Done}
 use Rattle.frame.specs.Reply.{passed}
 use Rattle.frame.specs.Share.{SHARE}
-use Rattle.halves.specs.Halves.{buffer}
 use Rattle.pieces.specs.Pieces.{waitingIn, waits, waitedOf, completes}
 use Rattle.pieces.proofs.Accepted.{Piece, piece-taken}
 use Rattle.pieces.proofs.Kept.{further-reply}
 use Rattle.pieces.proofs.Shares.{waiting-length, waits-length}
 use Rattle.desk.specs.declared.Record.{Record}
 use Rattle.desk.specs.Gate.{shareOf, idle, allZero, inCounts, underWay, inPieces, inRange, isDue, gate}
-use Rattle.desk.specs.Desk.{piece, resume, holding, Given, desk}
+use Rattle.desk.specs.Desk.{piece, resume, holding, desk}
 use Rattle.dictation.specs.Dictation.{Lent, Dictated}
 use Rattle.dictation.specs.Cutting.{outputOf, sumsIn, Led, ended, paused}
 use Rattle.dictation.specs.Resuming.{FrameKnown, Accepts, Fitting, ComesToItsEnd}
@@ -114,7 +115,7 @@ module _ (n side : ℕ) (h : side < n) (store : List Float) (size : length store
       → (d : Dictated) × Led n side samples (onward side store rec reply share rest (length samples) progress w) held lent d
   comes [] rec reply share rest progress w held p k i c same begun sum room m f =
       let q = ends side store rec reply share rest (length samples) progress w (omega arith) in
-      (_, ended p (ap (λ (x : Given). x .answer .rec .piece) q))
+      (_, ended p (ap (λ (x : Effect Answer). x .answer .rec .piece) q))
   comes (l ∷ more) rec reply share rest progress w held p k i c same begun sum room m f =
       let out = over w held in
       let q = pauses side store rec reply share rest (length samples) progress w (omega arith) in
@@ -129,7 +130,7 @@ module _ (n side : ℕ) (h : side < n) (store : List Float) (size : length store
         within = within;
         few = few;
         same = refl;
-        taken = f .0 (buffer (first rec share rest l));
+        taken = f .0 (firstIn (first rec share rest l .written));
         room = room;
         places = refl;
         right = ap passed (f .1);
@@ -142,19 +143,19 @@ module _ (n side : ℕ) (h : side < n) (store : List Float) (size : length store
       let y = halved n side h store size samples rec share rest l progress (length out) k same known in
       let s = second rec share rest l in
       let wide = fits-in n side h store size samples rec share rest l progress (length out) k same known in
-      let stays : length (over (from (place progress) (buffer s)) out) ≡ length out =
-      length-put (record { at = place progress; size = length (buffer s) }) out (buffer s) (omega (arith, y .fills)) refl in
+      let stays : length (over (from (place progress) (firstIn (s .written))) out) ≡ length out =
+      length-put (record { at = place progress; size = length (firstIn (s .written)) }) out (firstIn (s .written)) (omega (arith, y .fills)) refl in
       let ih =
-      comes more (recAfter rec share rest l) (s .reply) (shareAfter rec share rest l) (drop 480 rest) (progress + 480)
-      (from (place progress) (buffer s)) out
-      (y .passes) (after-length rec share rest l k) (next-index (rec .hearing .index) (s .reply) i) (counts-on rec share rest l c)
+      comes more (recAfter rec share rest l) (s .answer) (shareAfter rec share rest l) (drop 480 rest) (progress + 480)
+      (from (place progress) (firstIn (s .written))) out
+      (y .passes) (after-length rec share rest l k) (next-index (rec .hearing .index) (s .answer) i) (counts-on rec share rest l c)
       (sym (drop-drop 480 progress samples) ∙ ap (drop 480) same)
       (omega arith) (omega (arith, length-drop 480 rest)) (rw (stays, same-wait progress) room) (omega (arith, length-drop 480 rest))
       (fitting-on rec (recAfter rec share rest l) more refl refl refl (f .2)) in
-      let call : Given → Given = λ x. desk n side (x .answer .rec) (x .store) (resume samples (l .logs (sumsIn x)) (l .model) (length (outputOf x held)) 22) in
+      let call : Effect Answer → Effect Answer = λ x. desk n side (x .answer .rec) (x .kept) (resume samples (l .logs (sumsIn x)) (l .model) (length (outputOf x held)) 22) in
       let o = onward side store rec reply share rest (length samples) progress w in
       let led : Led n side samples (next n side h store size samples rec share rest l progress (length out) k same) (outputOf o held) more (ih .0) =
-      rw (ap (λ (x : Given). outputOf x held) q) (ih .1) in
+      rw (ap (λ (x : Effect Answer). outputOf x held) q) (ih .1) in
       (_, paused p (sym (ap call q ∙ nx)) led)
 
 pub comes-to-its-end : ComesToItsEnd
