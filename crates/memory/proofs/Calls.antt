@@ -20,7 +20,7 @@ use lib.IntN.{pos}
 use lib.Ieee.{Float, binary32, ofInt}
 use Rattle.rules.specs.F32.{at, f32}
 use Rattle.rules.specs.Place.{Place, get, put}
-use Rattle.rules.specs.Written.{Written, from, nothing}
+use Rattle.rules.specs.Written.{Written, from, nothing, firstIn}
 use Rattle.rules.proofs.Places.{length-put, get-get, get-put, get-put-apart}
 use Rattle.rules.proofs.Lists.{length-tab}
 use Rattle.bands.proofs.Results.{length-corr}
@@ -29,11 +29,13 @@ use Rattle.model.specs.declared.Model.{Model}
 use Rattle.model.specs.declared.Reading.{Reading}
 use Rattle.model.specs.declared.Reading.the-variants.{Good, Refused as Unread}
 use Rattle.samples.specs.Samples.{good}
+use Rattle.desk.specs.declared.Answer.{Answer}
+use Rattle.frame.specs.Effect.{Effect, refusal}
 use Rattle.frame.specs.Reply.{passed, isHeard, oneMore}
 use Rattle.lag.specs.Lag.{ownLag}
 use Rattle.frame.specs.Share.{SHARE, PART, inputMem, keptX, keptEx, keptLag, lastg, cepstralMem, vadState, noiseState, denoiseState}
 use Rattle.frame.specs.Heard.{scaled, energies, spoken}
-use Rattle.frame.specs.Frame.{Effect, done1, putKept, done4}
+use Rattle.frame.specs.Frame.{done1, putKept, done4}
 use Rattle.frame.specs.declared.Reply.{Reply}
 use Rattle.frame.specs.declared.Reply.the-variants.{Done, Silent, Heard, Refused}
 use Rattle.frame.specs.declared.Way.{Way}
@@ -41,13 +43,13 @@ use Rattle.frame.proofs.Keeps.{Keeps, end, call1-keeps, call2-keeps, call3-keep
 use Rattle.frame.proofs.Beside.{Beside, AllApart, done1-beside, done2-beside, done3-beside, done4-beside}
 use Rattle.frame.proofs.Cases.{call1-by, call2-by, call3-by, call4-by}
 use Rattle.halves.specs.Ways.{lagBy, remembered, forwardBy, inverseBy}
-use Rattle.halves.specs.Halves.{buffer, lookedBack}
+use Rattle.halves.specs.Halves.{lookedBack}
 use Rattle.halves.specs.Halves as halves
 use Rattle.halves.proofs.Sister.{call2-own-by, call2-own-keeps}
 use Rattle.halves.proofs.Cases.{doneFirst, whole-after-1, first-half-by, second-half-by}
 use Rattle.halves.proofs.Kept.{done-first-beside, first-half-keeps, second-half-keeps}
 use Rattle.halves.proofs.EitherWay.{whole-remembered}
-use Rattle.pieces.specs.Pieces.{framePart, waitingIn, waits, frameAt, Outcome, refused, inPart, atEnd, paused, further}
+use Rattle.pieces.specs.Pieces.{framePart, waitingIn, waits, frameAt, inPart, atEnd, paused, further}
 use Rattle.pieces.specs.Pieces as pieces
 use Rattle.pieces.proofs.Cases.{piece-by, resume-by}
 use Rattle.pieces.proofs.Goods.{good-append, good-take, good-drop}
@@ -56,7 +58,8 @@ use Rattle.pieces.proofs.Kept.{further-reply, piece-kept, resume-kept}
 use Rattle.pieces.proofs.Shares.{part-length, waits-length, frame-waits, frame-length, frame-back}
 use Rattle.desk.specs.declared.Record.{Record}
 use Rattle.desk.specs.Gate.{gate}
-use Rattle.desk.specs.Desk.{Ask, opening, call1, call2, call2Own, call3, call4, firstHalf, secondHalf, piece, resume, callOf, advanced, numbered, carried, answered, opened, onShare, Given, desk}
+use Rattle.desk.specs.Desk.{Ask, opening, call1, call2, call2Own, call3, call4, firstHalf, secondHalf, piece, resume, callOf, advanced, numbered, carried, replyTo, answered, opened, onShare, desk}
+use Rattle.desk.proofs.Answered.{refused}
 use Rattle.desk.proofs.Apart.{givenOf, one-bench}
 use Rattle.desk.proofs.Zeros.{get-replicate}
 use Rattle.desk.proofs.Leaves.{carried-leaves}
@@ -107,7 +110,7 @@ kept-noted share spectrum lag whole =
 -- ---- the calls of a frame on its part of a share, whatever the record's numbers
 
 module _ (b : Record) (part : List Float) (whole : length part ≡ PART) where
-  one-kept : (x : List Float) → length x ≡ 480 → keptIn b (done1 part x .share) ≡ keptIn b part
+  one-kept : (x : List Float) → length x ≡ 480 → keptIn b (done1 part x .kept) ≡ keptIn b part
   one-kept x l =
       alike
       (same-recalled (b .hearing .index) part _ (λ q h k. done1-beside q part x (inl (omega arith), (inl (omega arith), tt)) whole l .same))
@@ -119,20 +122,20 @@ module _ (b : Record) (part : List Float) (whole : length part ≡ PART) where
       (same-recalled (b .hearing .index) part _ (λ q h k. done2-beside q part x lag (inl (omega arith), (inl (omega arith), (inl (omega arith), tt))) whole .same))
       (kept-noted part x lag whole)
 
-  four-kept : (frame heard : ℕ) (x : List Float) → keptIn b (done4 part frame heard x .share) ≡ keptIn b part
-  four-kept frame heard x =
+  four-kept : (x : List Float) → keptIn b (done4 part x .kept) ≡ keptIn b part
+  four-kept x =
       alike
-      (same-recalled (b .hearing .index) part _ (λ q h k. done4-beside q part frame heard x (inl (omega arith), tt) whole .same))
-      (same-noted part _ (λ q h k. done4-beside q part frame heard x (inl (omega arith), tt) whole .same))
+      (same-recalled (b .hearing .index) part _ (λ q h k. done4-beside q part x (inl (omega arith), tt) whole .same))
+      (same-noted part _ (λ q h k. done4-beside q part x (inl (omega arith), tt) whole .same))
 
-  first-kept : (way : Way) (x : List Float) → length x ≡ 480 → keptIn b (doneFirst part way x .share) ≡ kept (keptIn b part) (firstCalls way part x)
+  first-kept : (way : Way) (x : List Float) → length x ≡ 480 → keptIn b (doneFirst part way x .kept) ≡ kept (keptIn b part) (firstCalls way part x)
   unfolding kept
   first-kept way x l =
       let a = done1 part x in
       alike
       (same-recalled (b .hearing .index) part _
       (λ q h k. done-first-beside q part way x (inl (omega arith), (inl (omega arith), (inl (omega arith), (inl (omega arith), (inl (omega arith), (inr (omega arith), tt)))))) whole l .same))
-      (kept-noted (remembered way (a .share)) (forwardBy way (buffer a)) (lagBy way (a .share)) (whole-remembered (a .share) way (whole-after-1 part x whole l)))
+      (kept-noted (remembered way (a .kept)) (forwardBy way (firstIn (a .written))) (lagBy way (a .kept)) (whole-remembered (a .kept) way (whole-after-1 part x whole l)))
 
   module _ (p l : List Float) (m : List ℕ) (k : Model) (good : readOf m ≡ Good k) (inside : b .hearing .index ≤ 7) where
     abbrev said : List Float
@@ -164,15 +167,15 @@ module _ (share : List Float) (whole : length share ≡ SHARE) where
 -- ---- one call on a share
 
 -- what is kept is what the calls of a frame make of it; and they bring a frame where the reply is heard
-pub record Remembers (b : Record) (share : List Float) (ask : Ask) (o : Given) : Type 0 where
-  pub keeps : keptIn (o .answer .rec) (o .store) ≡ kept (keptIn b share) (callsDone b share ask (o .answer .reply))
+pub record Remembers (b : Record) (share : List Float) (ask : Ask) (o : Effect Answer) : Type 0 where
+  pub keeps : keptIn (o .answer .rec) (o .kept) ≡ kept (keptIn b share) (callsDone b share ask (o .answer .reply))
   pub counts : (k : Noted) → length (brought k (callsDone b share ask (o .answer .reply))) ≡ cond (isHeard (o .answer .reply)) 1 0
 
 -- an opening that is done
-pub record Opens (ask : Ask) (o : Given) : Type 0 where
+pub record Opens (ask : Ask) (o : Effect Answer) : Type 0 where
   pub opens : callOf ask ≡ 0
   pub passes : passed (o .answer .reply) ≡ true
-  pub forgets : keptIn (o .answer .rec) (o .store) ≡ keptOf blank unnoted 0 0
+  pub forgets : keptIn (o .answer .rec) (o .kept) ≡ keptOf blank unnoted 0 0
   pub unheard : isHeard (o .answer .reply) ≡ false
 
 wiped : (n : ℕ) → SHARE ≤ n → keptOf (recalledIn 0 (replicate n (f32 0))) (notedIn (replicate n (f32 0))) 0 0 ≡ keptOf blank unnoted 0 0
@@ -198,32 +201,32 @@ module _ (b : Record) (share : List Float) (whole : length share ≡ SHARE) wher
   calls ask reply = callsDone b share ask reply
 
   record Leaves (ask : Ask) (reply : Reply) (after : List Float) : Type 0 where
-    keeps : keptIn (answered b ask reply .rec) after ≡ kept (keptIn b part) (calls ask reply)
-    counts : (k : Noted) → length (brought k (calls ask reply)) ≡ cond (isHeard reply) 1 0
+    keeps : keptIn (answered b ask reply .rec) after ≡ kept (keptIn b part) (calls ask (replyTo b ask reply))
+    counts : (k : Noted) → length (brought k (calls ask (replyTo b ask reply))) ≡ cond (isHeard (replyTo b ask reply)) 1 0
 
-  lift : (ask : Ask) (o : Outcome) → length (o .share) ≡ SHARE → Leaves ask (o .reply) (get framePart (o .share)) → Remembers b share ask (givenOf b ask o)
+  lift : (ask : Ask) (o : Effect Reply) → length (o .kept) ≡ SHARE → Leaves ask (o .answer) (get framePart (o .kept)) → Remembers b share ask (givenOf b ask o)
   lift ask o left r =
       record {
         keeps =
-            sym (part-kept (o .share) left (answered b ask (o .reply) .rec))
+            sym (part-kept (o .kept) left (answered b ask (o .answer) .rec))
             ∙ r .keeps
-            ∙ ap (λ (k : Kept). kept k (calls ask (o .reply))) (part-kept share whole b);
+            ∙ ap (λ (k : Kept). kept k (calls ask (replyTo b ask (o .answer)))) (part-kept share whole b);
         counts = r .counts;
       }
 
   -- a call of a frame
-  abbrev LeavesOf : Ask → Effect → Type 0
-  LeavesOf ask f = Leaves ask (f .reply) (f .share)
+  abbrev LeavesOf : Ask → Effect Reply → Type 0
+  LeavesOf ask f = Leaves ask (f .answer) (f .kept)
 
-  in-part : (ask : Ask) (f : Effect) → Keeps part f → LeavesOf ask f → Remembers b share ask (givenOf b ask (inPart share f))
+  in-part : (ask : Ask) (f : Effect Reply) → Keeps part f → LeavesOf ask f → Remembers b share ask (givenOf b ask (inPart share f))
   in-part ask f k r =
-      let l : length (f .share) ≡ PART = k .size ∙ part-length share whole in
-      lift ask (inPart share f) (frame-length share whole (f .share) l) (subst (Leaves ask (f .reply)) (sym (frame-back share whole (f .share) l)) r)
+      let l : length (f .kept) ≡ PART = k .size ∙ part-length share whole in
+      lift ask (inPart share f) (frame-length share whole (f .kept) l) (subst (Leaves ask (f .answer)) (sym (frame-back share whole (f .kept) l)) r)
 
   -- a refusal leaves all alone
   unmoved : (ask : Ask) (n : ℕ) → Leaves ask (Refused n) part
   unfolding kept brought
-  unmoved ask n = record { keeps = refl; counts = λ _. refl }
+  unmoved ask n = rw (refused b ask n) (record { keeps = refl; counts = λ _. refl })
 
   second-half-leaves : (l : List Float) (m : List ℕ) (o : ℕ) → LeavesOf (secondHalf l m o) (halves.secondHalf part (b .hearing) l m o)
   unfolding kept brought
@@ -231,13 +234,13 @@ module _ (b : Record) (share : List Float) (whole : length share ≡ SHARE) wher
       let way = b .hearing .way in
       second-half-by part (LeavesOf (secondHalf l m o)) (unmoved (secondHalf l m o)) (b .hearing) l m o
       (λ _ _ _. record { keeps = refl; counts = λ _. refl })
-      (λ whole. record { keeps = four-kept (numbered (advanced b Silent)) part whole 0 0 (inverseBy way (get keptX part)); counts = λ _. refl })
+      (λ whole. record { keeps = four-kept (numbered (advanced b Silent)) part whole (inverseBy way (get keptX part)); counts = λ _. refl })
       (λ e k good whole inside.
       let p = forwardBy way (lookedBack part) in
       let t = spoken part (b .hearing .index) p l m k in
       record {
         keeps =
-            four-kept (numbered (advanced b (Heard (t .voice) e))) (t .share) (said-whole b part whole p l m k good inside) 0 0 (inverseBy way (t .spectrum))
+            four-kept (numbered (advanced b (Heard (t .voice) e))) (t .share) (said-whole b part whole p l m k good inside) (inverseBy way (t .spectrum))
             ∙ three-kept b part whole p l m k good inside (oneMore (b .frame)) (oneMore (b .heard));
         counts = λ _. refl;
       })
@@ -255,36 +258,36 @@ module _ (b : Record) (share : List Float) (whole : length share ≡ SHARE) wher
 
   rest-keeps : (r : Record) (reply : Reply) (mid : List Float) (way : Way) (rest : List Float) (w : Written) → length mid ≡ SHARE → good rest ≡ true
       → let q = get framePart mid in
-      keptIn r (get framePart (further reply mid way rest w .share)) ≡ kept (keptIn r q) (restCalls way q rest)
+      keptIn r (get framePart (further reply mid way rest w .kept)) ≡ kept (keptIn r q) (restCalls way q rest)
   unfolding further kept
   rest-keeps r reply mid way rest w l g = go (ltb (length rest) 480) refl
     where
       go : (t : Bool) → ltb (length rest) 480 ≡ t
           → let q = get framePart mid in
-          keptIn r (get framePart (cond t (atEnd reply mid rest w) (paused reply mid way rest w) .share)) ≡ kept (keptIn r q) (cond t [] (firstCalls way q (take 480 rest)))
+          keptIn r (get framePart (cond t (atEnd reply mid rest w) (paused reply mid way rest w) .kept)) ≡ kept (keptIn r q) (cond t [] (firstCalls way q (take 480 rest)))
       go true e = ap (keptIn r) (frame-waits mid l rest)
       go false e =
           let q = get framePart mid in
           let x = take 480 rest in
           let more = ltb-false (length rest) 480 e in
           let f = first-passes q way x (part-length mid l) (simp length-take (omega arith)) (good-take 480 rest g) in
-          ap (keptIn r) (frame-back mid l (halves.firstHalf q way x 22 .share) (f .part))
-          ∙ first-half-by q (λ f. passed (f .reply) ≡ true → keptIn r (f .share) ≡ kept (keptIn r q) (firstCalls way q x)) (λ n e. absurd (false≢true e)) way x 22
+          ap (keptIn r) (frame-back mid l (halves.firstHalf q way x 22 .kept) (f .part))
+          ∙ first-half-by q (λ f. passed (f .answer) ≡ true → keptIn r (f .kept) ≡ kept (keptIn r q) (firstCalls way q x)) (λ n e. absurd (false≢true e)) way x 22
           (λ sized l _. first-kept r q sized way x l) (f .passes)
 
   -- a piece moves no index, nor a number
   carried-keeps : (r : Record) (rest size progress : ℕ) (q : List Float) → keptIn (carried r rest size progress) q ≡ keptIn r q
   carried-keeps r rest size progress q = carried-leaves (λ (x : Record). keptIn x q) r (λ _ _ _ _. refl) rest size progress
 
-  piece-leaves : (x : List Float) (o s : ℕ) → let f = pieces.piece share (b .hearing .way) (b .waiting) x o s in Leaves (piece x o s) (f .reply) (get framePart (f .share))
+  piece-leaves : (x : List Float) (o s : ℕ) → let f = pieces.piece share (b .hearing .way) (b .waiting) x o s in Leaves (piece x o s) (f .answer) (get framePart (f .kept))
   unfolding kept brought
   piece-leaves x o s =
-      piece-by share (λ f. Leaves (piece x o s) (f .reply) (get framePart (f .share))) (unmoved (piece x o s)) (b .hearing .way) (b .waiting) x o s
+      piece-by share (λ f. Leaves (piece x o s) (f .answer) (get framePart (f .kept))) (unmoved (piece x o s)) (b .hearing .way) (b .waiting) x o s
       (λ k.
       let way = b .hearing .way in
       let mid = waits share [] in
       let rest = waitingIn (b .waiting) share ++ x in
-      subst (λ r. Leaves (piece x o s) r (get framePart (further Done mid way rest nothing .share))) (sym (further-reply Done mid way rest nothing))
+      subst (λ r. Leaves (piece x o s) r (get framePart (further Done mid way rest nothing .kept))) (sym (further-reply Done mid way rest nothing))
       (record {
         keeps =
             carried-keeps b _ _ _ _
@@ -294,10 +297,10 @@ module _ (b : Record) (share : List Float) (whole : length share ≡ SHARE) wher
       }))
 
   resume-leaves : (x l : List Float) (m : List ℕ) (o s : ℕ)
-      → let f = pieces.resume share (b .hearing) (b .piece) (b .progress) x l m o s in Leaves (resume x l m o s) (f .reply) (get framePart (f .share))
+      → let f = pieces.resume share (b .hearing) (b .piece) (b .progress) x l m o s in Leaves (resume x l m o s) (f .answer) (get framePart (f .kept))
   unfolding kept brought
   resume-leaves x l m o s =
-      resume-by share (λ f. Leaves (resume x l m o s) (f .reply) (get framePart (f .share))) (unmoved (resume x l m o s))
+      resume-by share (λ f. Leaves (resume x l m o s) (f .answer) (get framePart (f .kept))) (unmoved (resume x l m o s))
       (b .hearing) (b .piece) (b .progress) x l m o s
       (λ _ _ _. record { keeps = refl; counts = λ _. refl })
       (λ k.
@@ -305,19 +308,19 @@ module _ (b : Record) (share : List Float) (whole : length share ≡ SHARE) wher
       let h = halves.secondHalf part (b .hearing) l m 480 in
       let p = second-passes part (b .hearing) l m (part-length share whole) (k .taken) (k .inside) (k .right) in
       let c = second-half-leaves l m 480 in
-      let mid = put framePart share (h .share) in
+      let mid = put framePart share (h .kept) in
       let rest = drop (b .progress) x in
-      let w = from (480 * (frameAt (b .progress) - 1)) (buffer h) in
-      let next = numbered (advanced b (h .reply)) in
-      subst (λ r. Leaves (resume x l m o s) r (get framePart (further (h .reply) mid way rest w .share))) (sym (further-reply (h .reply) mid way rest w))
+      let w = from (480 * (frameAt (b .progress) - 1)) (firstIn (h .written)) in
+      let next = numbered (advanced b (h .answer)) in
+      subst (λ r. Leaves (resume x l m o s) r (get framePart (further (h .answer) mid way rest w .kept))) (sym (further-reply (h .answer) mid way rest w))
       (record {
         keeps =
             rw (p .passes)
             (carried-keeps next _ _ _ _
-            ∙ rest-keeps next (h .reply) mid way rest w (frame-length share whole (h .share) (p .part)) (good-drop (b .progress) x (k .fine))
-            ∙ ap (λ (q : List Float). kept (keptIn next q) (restCalls way q rest)) (frame-back share whole (h .share) (p .part))
-            ∙ ap (λ (t : Kept). kept t (restCalls way (h .share) rest)) (rw (p .passes) at (c .keeps)));
-        counts = λ n. rw (p .passes, rest-brings way (h .share) rest n) (rw (p .passes) at (c .counts n));
+            ∙ rest-keeps next (h .answer) mid way rest w (frame-length share whole (h .kept) (p .part)) (good-drop (b .progress) x (k .fine))
+            ∙ ap (λ (q : List Float). kept (keptIn next q) (restCalls way q rest)) (frame-back share whole (h .kept) (p .part))
+            ∙ ap (λ (t : Kept). kept t (restCalls way (h .kept) rest)) (rw (p .passes) at (c .keeps)));
+        counts = λ n. rw (p .passes, rest-brings way (h .kept) rest n) (rw (p .passes) at (c .counts n));
       }))
 
   -- ---- any call
@@ -349,9 +352,9 @@ module _ (b : Record) (share : List Float) (whole : length share ≡ SHARE) wher
       (record { keeps = refl; counts = λ _. refl })
       (λ e k good whole inside. record { keeps = three-kept b part whole x l m k good inside (b .frame) (oneMore (b .heard)); counts = λ _. refl })))
   on-share (call4 x o) =
-      inr (in-part (call4 x o) _ (call4-keeps part (b .frame) (b .heard) x o)
-      (call4-by part (LeavesOf (call4 x o)) (unmoved (call4 x o)) (b .frame) (b .heard) x o
-      (λ whole. record { keeps = four-kept (numbered b) part whole (b .frame) (b .heard) x; counts = λ _. refl })))
+      inr (in-part (call4 x o) _ (call4-keeps part x o)
+      (call4-by part (LeavesOf (call4 x o)) (unmoved (call4 x o)) x o
+      (λ whole. record { keeps = four-kept (numbered b) part whole x; counts = λ _. refl })))
   on-share (firstHalf x s) =
       inr (in-part (firstHalf x s) _ (first-half-keeps part (b .hearing .way) x s)
       (first-half-by part (LeavesOf (firstHalf x s)) (unmoved (firstHalf x s)) (b .hearing .way) x s
@@ -368,18 +371,18 @@ module _ (b : Record) (share : List Float) (whole : length share ≡ SHARE) (ask
   number = gate 1 0 b SHARE (callOf ask)
 
   -- a call is refused by the gate, or it is let through
-  by-gate : (P : Given → Type 0) → P (givenOf b ask (refused (Refused number) share)) → P (givenOf b ask (onShare b share ask)) → P (desk 1 0 b share ask)
+  by-gate : (P : Effect Answer → Type 0) → P (givenOf b ask (refusal (Refused number) share)) → P (givenOf b ask (onShare b share ask)) → P (desk 1 0 b share ask)
   unfolding number
   by-gate P turned let-in = rw (one-bench b share ask whole) (go (eqb number 0))
     where
-      go : (t : Bool) → P (givenOf b ask (cond t (onShare b share ask) (refused (Refused number) share)))
+      go : (t : Bool) → P (givenOf b ask (cond t (onShare b share ask) (refusal (Refused number) share)))
       go true = let-in
       go false = turned
 
   pub either : Opens ask (desk 1 0 b share ask) ⊎ Remembers b share ask (desk 1 0 b share ask)
   either =
       by-gate (λ o. Opens ask o ⊎ Remembers b share ask o)
-      (inr (lift b share whole ask (refused (Refused number) share) whole (unmoved b share whole ask number))) (on-share b share whole ask)
+      (inr (lift b share whole ask (refusal (Refused number) share) whole (unmoved b share whole ask number))) (on-share b share whole ask)
 
   pub remembers : (callOf ask ≡ 0 → passed (desk 1 0 b share ask .answer .reply) ≡ false) → Remembers b share ask (desk 1 0 b share ask)
   remembers shut = ⊎-elim (λ o. absurd (false≢true (sym (shut (o .opens)) ∙ o .passes))) (λ r. r) either
@@ -389,6 +392,6 @@ pub opens : (b : Record) (share : List Float) → length share ≡ SHARE → (w 
 opens b share whole w m =
     by-gate b share whole (opening w m) (λ o. passed (o .answer .reply) ≡ true → Opens (opening w m) o) (λ e. absurd (false≢true e)) (go (readOf m) refl)
   where
-    go : (r : Reading) → readOf m ≡ r → passed (opened share r .reply) ≡ true → Opens (opening w m) (givenOf b (opening w m) (opened share r))
+    go : (r : Reading) → readOf m ≡ r → passed (opened share r .answer) ≡ true → Opens (opening w m) (givenOf b (opening w m) (opened share r))
     go (Good k) e p = rw e (record { opens = refl; passes = refl; forgets = wiped SHARE (omega arith); unheard = refl })
     go (Unread n l) e p = absurd (false≢true p)
