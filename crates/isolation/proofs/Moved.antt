@@ -14,11 +14,12 @@ use lib.ListN.{length}
 use lib.Ieee.{Float}
 use Rattle.rules.specs.Place.{get}
 use Rattle.rules.proofs.Places.{length-get}
+use Rattle.frame.specs.Effect.{Effect}
 use Rattle.frame.specs.Reply.{passed}
 use Rattle.frame.specs.Share.{SHARE}
 use Rattle.desk.specs.declared.Answer.{Answer}
 use Rattle.desk.specs.Gate.{shareOf}
-use Rattle.desk.specs.Desk.{Ask, callOf, Given, desk}
+use Rattle.desk.specs.Desk.{Ask, callOf, desk}
 use Rattle.desk.proofs.Apart.{its-own, own-share, other-share, same-length}
 use Rattle.memory.specs.Hear.{blank}
 use Rattle.memory.specs.Calls.{FrameCall, callsDone}
@@ -46,14 +47,14 @@ module _ (n s : ℕ) (inside : s < n) where
 
   -- a call on side s is the bench's own
   module _ (st : State) (l : Whole st) (c : On Ask) (e : c .side ≡ s) where
-    abbrev pub lone : Given
+    abbrev pub lone : Effect Answer
     lone = desk 1 0 (recordAt s st) (share st) (c .call)
 
-    own : share (after desks n st c) ≡ lone .store
+    own : share (after desks n st c) ≡ lone .kept
     own = rw (store-after n st c, e) (own-share n s (recordAt s st) (st .store) (c .call) l inside)
 
     answers : desk n (c .side) (recordAt (c .side) st) (st .store) (c .call) .answer ≡ lone .answer
-    answers = rw e (ap (λ (o : Given). o .answer) (its-own n s (recordAt s st) (st .store) (c .call) l inside))
+    answers = rw e (ap (λ (o : Effect Answer). o .answer) (its-own n s (recordAt s st) (st .store) (c .call) l inside))
 
     pub replies : replied n st c ≡ lone .answer .reply
     replies = ap (λ (a : Answer). a .reply) answers
@@ -61,7 +62,7 @@ module _ (n s : ℕ) (inside : s < n) where
     recorded : recordAt s (after desks n st c) ≡ lone .answer .rec
     recorded = rw (record-after n s st c, eq-eqb (c .side) s e) (ap (λ (a : Answer). a .rec) answers)
 
-    pub kept-then : keptIn (recordAt s (after desks n st c)) (share (after desks n st c)) ≡ keptIn (lone .answer .rec) (lone .store)
+    pub kept-then : keptIn (recordAt s (after desks n st c)) (share (after desks n st c)) ≡ keptIn (lone .answer .rec) (lone .kept)
     kept-then = ap₂ keptIn recorded own
 
   -- what side s keeps, and the calls of its frame that a call on any side is made of

@@ -60,7 +60,7 @@ record-after n s st c = go (eqb (c .side) s)
     go true = handed ns a (λ p. refused-keeps n (c .side) (recordIn ns) (st .store) (c .call) p .0)
     go false = refl
 
-pub store-after : (n : ℕ) (st : State) (c : On Ask) → after desks n st c .store ≡ desk n (c .side) (recordAt (c .side) st) (st .store) (c .call) .store
+pub store-after : (n : ℕ) (st : State) (c : On Ask) → after desks n st c .store ≡ desk n (c .side) (recordAt (c .side) st) (st .store) (c .call) .kept
 unfolding hosted
 store-after n st c = refl
 
