@@ -16,6 +16,8 @@ use Rattle.rules.specs.Refusals.{_when_, refusing}
 use Rattle.rules.specs.Written.{firstIn}
 use Rattle.rules.proofs.Places.{length-get, get-put}
 use Rattle.rules.proofs.Refusals.{by-rows, by-each}
+use Rattle.desk.specs.declared.Answer.{Answer}
+use Rattle.frame.specs.Effect.{Effect}
 use Rattle.frame.specs.declared.Reply.{Reply}
 use Rattle.frame.specs.declared.Reply.the-variants.{Refused}
 use Rattle.frame.specs.Reply.{passed}
@@ -23,7 +25,6 @@ use Rattle.frame.specs.Share.{SHARE}
 use Rattle.pieces.specs.Pieces.{waitingIn}
 use Rattle.desk.specs.declared.Record.{Record}
 use Rattle.desk.specs.Gate.{PIECE, gate, shareOf}
-use Rattle.desk.specs.Desk.{Given}
 use Rattle.desk.specs.Surface.{recordIn, replyNumber}
 use Rattle.dictation.proofs.Joins.{share-size}
 use Rattle.whole.specs.Whole.{takeReply}
@@ -111,7 +112,7 @@ module _ (n s : ℕ) (inside : s < n) (ns : List ℕ) (store : List Float) (l : 
   abbrev share : List Float
   share = get (shareOf s) store
 
-  abbrev taken : Given
+  abbrev taken : Effect Answer
   taken = whole.take n s rec store (samplesOf b) model ROOM answers
 
   -- where it is done, it is what comes of its take
@@ -126,7 +127,7 @@ module _ (n s : ℕ) (inside : s < n) (ns : List ℕ) (store : List Float) (l : 
       (λ _ p. (
         refl,
         take-by n s (samplesOf b) model rec store ROOM answers
-            (λ (o : Given). passed (o .answer .reply) ≡ true → passed (takeReply n s rec store (samplesOf b) model ROOM answers) ≡ true) (λ q _. q) (λ _ q. q) p,
+            (λ (o : Effect Answer). passed (o .answer .reply) ≡ true → passed (takeReply n s rec store (samplesOf b) model ROOM answers) ≡ true) (λ q _. q) (λ _ q. q) p,
       ))
 
   gave-said : passed (feeding.feed n s rec store b model cleaned entries answers .answer .reply) ≡ true
@@ -141,7 +142,7 @@ module _ (n s : ℕ) (inside : s < n) (ns : List ℕ) (store : List Float) (l : 
       get-put (shareOf s) store (d .kept) (omega arith)
       (share-size rec share (waitingIn (rec .waiting) share ++ samplesOf b) (lentToEach rec (samplesOf b) model) full) in (
         record { waits = sizes .0; some = sizes .1 },
-        ap (λ (o : Fed). gaveOf s (ofBytes ns o)) (f .0) ∙ ap (λ (g : Given). gaveOf s (ofBytes ns (fedBy (rec .frame) g))) (t .1) ∙ rw (f .1, back, reads (d .rec)),
+        ap (λ (o : Fed). gaveOf s (ofBytes ns o)) (f .0) ∙ ap (λ (g : Effect Answer). gaveOf s (ofBytes ns (fedBy (rec .frame) g))) (t .1) ∙ rw (f .1, back, reads (d .rec)),
       )
 
 -- ---- calls that are done, one after the other

@@ -18,16 +18,16 @@ use Rattle.rules.specs.F32.{at, part}
 use Rattle.rules.specs.Place.{put}
 use Rattle.rules.specs.Refusals.{_when_, refusing}
 use Rattle.rules.specs.Tab.{tab}
-use Rattle.rules.specs.Written.{from, over}
+use Rattle.rules.specs.Written.{from, over, firstIn}
 use Rattle.rules.proofs.Lists.{tab-same}
 use Rattle.rules.proofs.Tests.{answered-no, answered-yes, both}
+use Rattle.frame.specs.Effect.{refusal, Worked}
 use Rattle.frame.specs.declared.Reply.the-variants.{Refused}
 use Rattle.frame.specs.Reply.{passed}
 use Rattle.pieces.specs.Pieces.{completes, pieceFits}
 use Rattle.desk.specs.declared.Answer.{Answer}
 use Rattle.desk.specs.declared.Record.{Record}
 use Rattle.desk.specs.Gate.{PIECE, gate}
-use Rattle.desk.specs.Desk.{Given, Served}
 use Rattle.whole.specs.Whole.{takeEnds, take}
 use Rattle.whole.proofs.Accepted.{fits-sizes}
 use Rattle.whole.proofs.Dictations.{take-fills}
@@ -39,7 +39,7 @@ use Rattle.feed.proofs.Blocks.{block-fits}
 
 -- ---- a take
 
--- what stands at the front of a buffer to which these were written
+-- what stands at the front of a firstIn (to .written) which these were written
 module _ (k frame : ℕ) (xs held : List Float) {held′ : List Float} (o : held′ ≡ over (from 0 xs) held) where
   front-bytes : length xs ≡ 480 * k → packed (part 0 (480 * k) held′) ≡ packed xs
   unfolding put
@@ -56,13 +56,13 @@ module _ (k frame : ℕ) (xs held : List Float) {held′ : List Float} (o : held
   front-answers = o
 
 module _ (n side : ℕ) (rec : Record) (store samples : List Float) (model : List ℕ) {a : Answer} {s out out′ told told′ : List Float} {b : Bool} where
-  module _ (w : Served (take n side rec store samples model (length out) (length told)) a s (out ∷ told ∷ []) (out′ ∷ told′ ∷ [])) (e : b ≡ passed (a .reply)) where
+  module _ (w : Worked (take n side rec store samples model (length out) (length told)) a s (out ∷ told ∷ []) (out′ ∷ told′ ∷ [])) (e : b ≡ passed (a .reply)) where
     pub handed : b ≡ true → (k : ℕ) → k ≡ completes (rec .waiting) (length samples) → {cleaned cleaned′ entries entries′ : List ℕ}
         → (cleaned′ ≡ atFront (packed (part 0 (480 * k) out′)) cleaned) × (entries′ ≡ atFront (tab k (λ j. entryOf (rec .frame) j (at told′ (3 * j)))) entries)
         → FedTo (fedBy (rec .frame) (take n side rec store samples model (length out) (length told))) a s cleaned cleaned′ entries entries′ told told′
     handed p k count {cleaned} {cleaned′} {entries} {entries′} h =
         take-by n side samples model rec store (length out) (length told)
-        (λ o. Served o a s (out ∷ told ∷ []) (out′ ∷ told′ ∷ []) → FedTo (fedBy (rec .frame) o) a s cleaned cleaned′ entries entries′ told told′)
+        (λ o. Worked o a s (out ∷ told ∷ []) (out′ ∷ told′ ∷ []) → FedTo (fedBy (rec .frame) o) a s cleaned cleaned′ entries entries′ told told′)
         (λ q v.
         let t = takeEnds n side rec store samples model (length out) in
         let f = take-fills n side rec store samples model (length out) (length told) q in
@@ -82,7 +82,7 @@ module _ (n side : ℕ) (rec : Record) (store samples : List Float) (model : Lis
     unfolding packed tab
     unhanded p {cleaned} {entries} =
         take-by n side samples model rec store (length out) (length told)
-        (λ o. Served o a s (out ∷ told ∷ []) (out′ ∷ told′ ∷ []) → FedTo (fedBy (rec .frame) o) a s cleaned cleaned entries entries told told′)
+        (λ o. Worked o a s (out ∷ told ∷ []) (out′ ∷ told′ ∷ []) → FedTo (fedBy (rec .frame) o) a s cleaned cleaned entries entries told told′)
         (λ q v. absurd (false≢true (sym p ∙ e ∙ ap (λ (x : Answer). passed (x .reply)) (v .answers) ∙ q)))
         (λ q v. record { answered = v .answers; stores = v .stores; cleans = refl; notes = refl; tells = ap (λ (xs : List (List Float)). getD xs 1 []) (v .writes) })
         w

@@ -13,12 +13,12 @@ use lib.Ieee.{Float, eq}
 use Rattle.rules.specs.F32.{f32}
 use Rattle.rules.specs.Tab.{tab}
 use Rattle.rules.proofs.Refusals.{by-rows}
+use Rattle.frame.specs.Effect.{refusal}
 use Rattle.frame.specs.declared.Reply.the-variants.{Refused}
 use Rattle.frame.specs.Reply.{passed}
 use Rattle.desk.specs.declared.Answer.{Answer}
 use Rattle.desk.specs.declared.Record.{Record}
 use Rattle.desk.specs.Gate.{PIECE, inRange, gate}
-use Rattle.desk.specs.Desk.{Given}
 use Rattle.desk.proofs.Replies.{SmallSeven}
 use Rattle.whole.specs.Whole.{take}
 use Rattle.whole.proofs.Ranged.{take-small, take-range, take-by}

@@ -15,19 +15,20 @@ use lib.ListN.{length, getD, drop, length-drop, length-map}
 use lib.Seq.{drop-drop, drop-append-add}
 use lib.Ieee.{Float}
 use Rattle.rules.specs.Place.{get, put}
-use Rattle.rules.specs.Written.{Written, from, nothing, numbersIn}
+use Rattle.rules.specs.Written.{Written, from, nothing, numbersIn, firstIn}
 use Rattle.rules.proofs.Places.{length-get, get-whole, put-whole}
 use Rattle.rules.proofs.Tests.{both}
+use Rattle.desk.specs.declared.Answer.{Answer}
+use Rattle.frame.specs.Effect.{Effect}
 use Rattle.frame.specs.declared.Reply.{Reply}
 use Rattle.frame.specs.declared.Reply.the-variants.{Done}
 use Rattle.frame.specs.Reply.{passed}
 use Rattle.frame.specs.Share.{SHARE}
-use Rattle.halves.specs.Halves.{buffer}
 use Rattle.pieces.specs.Pieces.{waitingIn, waits}
 use Rattle.pieces.proofs.Shares.{waiting-length, waits-length}
 use Rattle.desk.specs.declared.Record.{Record}
 use Rattle.desk.specs.Gate.{PIECE, shareOf, gate, isDue, inRange, inPieces, underWay}
-use Rattle.desk.specs.Desk.{Ask, piece, resume, Given, desk}
+use Rattle.desk.specs.Desk.{Ask, piece, resume, desk}
 use Rattle.desk.specs.Surface.{heardOf, besides, hosted}
 use Rattle.desk.proofs.Apart.{placed, its-own, own-share, other-share, same-length}
 use Rattle.desk.proofs.Ranged.{open-range}
@@ -63,7 +64,7 @@ AllDone : Record → List Float → List Ask → Type 0
 AllDone b xs [] = Unit
 AllDone b xs (a ∷ more) = let o = desk 1 0 b xs a in (passed (o .answer .reply) ≡ true) × AllDone (o .answer .rec) (o .store) more
 
--- what they write to buffer k
+-- what they write to firstIn (k .written)
 written : ℕ → Record → List Float → List Ask → List Float
 written k b xs [] = []
 written k b xs (a ∷ more) = let o = desk 1 0 b xs a in wrote k a o ++ written k (o .answer .rec) (o .store) more
@@ -111,13 +112,13 @@ module _ (n s : ℕ) (h : s < n) where
       next : State
       next = after desks n st c
 
-      was : Given
+      was : Effect Answer
       was = desk n (c .side) (recordAt (c .side) st) (st .store) (c .call)
 
       sized : length (next .store) ≡ n * SHARE
       sized = rw (store-after n st c) (same-length n (c .side) (recordAt (c .side) st) (st .store) (c .call) l ∙ l)
 
-      o : Given
+      o : Effect Answer
       o = desk 1 0 b xs (c .call)
 
       here : c .side ≡ s → was ≡ placed s (st .store) o
@@ -143,9 +144,9 @@ module _ (n s : ℕ) (h : s < n) where
           (λ k. cond t (numbersIn (getD (given desks n st c .returned .told) k nothing)) [] ++ column k n s next cs)
       go true t true p ih =
           let k = here (eqb-true (c .side) s t) in
-          let r = ih (o .answer .rec) (o .store) (noted true t ∙ ap (λ (g : Given). g .answer .rec) k) (back (eqb-true (c .side) s t)) in
+          let r = ih (o .answer .rec) (o .store) (noted true t ∙ ap (λ (g : Effect Answer). g .answer .rec) k) (back (eqb-true (c .side) s t)) in
           record {
-            all = (ap (λ (g : Given). passed (g .answer .reply)) (sym k) ∙ is-done ∙ p, r .all);
+            all = (ap (λ (g : Effect Answer). passed (g .answer .reply)) (sym k) ∙ is-done ∙ p, r .all);
             rec = r .rec;
             share = r .share;
             writes = λ i. ap₂ (λ (x y : List Float). x ++ y) (told i ∙ ap (wrote i (c .call)) k) (r .writes i);
@@ -172,7 +173,7 @@ module _ (n s : ℕ) (h : s < n) where
 
 module _ (store : List Float) (size : length store ≡ 1 * SHARE) (samples : List Float) (some : 1 ≤ length samples) (room : ℕ) where
   -- a row of calls is this dictation, with its share in a store; the sums of its first frame stand in what was given before, with what is told besides
-  record Dictates (o : Given) (us : List Written) (gs : List (List Float × List ℕ)) (rest : List Float) (d : Dictated) : Type 0 where
+  record Dictates (o : Effect Answer) (us : List Written) (gs : List (List Float × List ℕ)) (rest : List Float) (d : Dictated) : Type 0 where
     rec : left (o .answer .rec) (o .store) (resumes samples room gs) .rec ≡ d .rec
     share : left (o .answer .rec) (o .store) (resumes samples room gs) .share ≡ put (shareOf 0) store (d .kept)
     out : written 0 (o .answer .rec) (o .store) (resumes samples room gs) ≡ d .out
@@ -180,7 +181,7 @@ module _ (store : List Float) (size : length store ≡ 1 * SHARE) (samples : Lis
     heard : written 2 (o .answer .rec) (o .store) (resumes samples room gs) ≡ answersOf (d .told)
     count : length gs ≡ length rest / 480
 
-  resumed : (gs : List (List Float × List ℕ)) (o : Given) (us : List Written) (rec : Record) (reply : Reply) (share rest : List Float) (progress k : ℕ) (ys : List Float)
+  resumed : (gs : List (List Float × List ℕ)) (o : Effect Answer) (us : List Written) (rec : Record) (reply : Reply) (share rest : List Float) (progress k : ℕ) (ys : List Float)
       → o ≡ onward 0 store rec reply share rest (length samples) progress (from k ys)
       → length share ≡ SHARE → drop progress samples ≡ drop 480 rest → 1 ≤ progress → AllDone (o .answer .rec) (o .store) (resumes samples room gs)
       → left (o .answer .rec) (o .store) (resumes samples room gs) .rec .piece ≡ 0
@@ -192,10 +193,10 @@ module _ (store : List Float) (size : length store ≡ 1 * SHARE) (samples : Lis
       let q = e ∙ ends 0 store rec reply share rest (length samples) progress w little in
       let none = dictate-none rec share rest in
       record {
-        rec = ap (λ (g : Given). g .answer .rec) q ∙ sym (ap (λ (x : Dictated). x .rec) none);
-        share = ap (λ (g : Given). g .store) q ∙ sym (ap (λ (x : Dictated). put (shareOf 0) store (x .kept)) none);
+        rec = ap (λ (g : Effect Answer). g .answer .rec) q ∙ sym (ap (λ (x : Dictated). x .rec) none);
+        share = ap (λ (g : Effect Answer). g .store) q ∙ sym (ap (λ (x : Dictated). put (shareOf 0) store (x .kept)) none);
         out = sym (ap (λ (x : Dictated). x .out) none);
-        sums = ap (λ (g : Given). numbersIn (getD (g .written ++ us) 1 nothing) ++ []) q ∙ sym (ap (λ (x : Dictated). sumsTold (x .told)) none);
+        sums = ap (λ (g : Effect Answer). numbersIn (getD (g .written ++ us) 1 nothing) ++ []) q ∙ sym (ap (λ (x : Dictated). sumsTold (x .told)) none);
         heard = sym (ap (λ (x : Dictated). answersOf (x .told)) none);
         count = omega arith;
       }
@@ -207,19 +208,19 @@ module _ (store : List Float) (size : length store ≡ 1 * SHARE) (samples : Lis
       let a = resume samples (g .0) (g .1) room 22 in
       let there = desk 1 0 (o .answer .rec) (o .store) a in
       let here : there ≡ following 1 0 (omega arith) store size samples rec share rest l progress room full same =
-      ap (λ (x : Given). desk 1 0 (x .answer .rec) (x .store) a) q in
-      let f = follows 1 0 (omega arith) store size samples rec share rest l progress room full same (ap (λ (x : Given). passed (x .answer .reply)) (sym here) ∙ all .0) in
+      ap (λ (x : Effect Answer). desk 1 0 (x .answer .rec) (x .store) a) q in
+      let f = follows 1 0 (omega arith) store size samples rec share rest l progress room full same (ap (λ (x : Effect Answer). passed (x .answer .reply)) (sym here) ∙ all .0) in
       let y = second rec share rest l in
       let rec′ = recAfter rec share rest l in
       let share′ = shareAfter rec share rest l in
       let nx = here ∙ f .1 in
-      let samples-out : wrote 0 a there ≡ buffer y =
+      let samples-out : wrote 0 a there ≡ firstIn (y .written) =
       ap (wrote 0 a) nx
-      ∙ first-written 0 store rec′ (y .reply) share′ (drop 480 rest) (length samples) (progress + 480) (place progress) (buffer y) (besides a (y .reply)) in
+      ∙ first-written 0 store rec′ (y .reply) share′ (drop 480 rest) (length samples) (progress + 480) (place progress) (firstIn (y .written)) (besides a (y .reply)) in
       let answered : wrote 2 a there ≡ heardOf (y .reply) =
-      resume-heard 1 0 (o .answer .rec) (o .store) samples room (g .0) (g .1) (all .0) ∙ ap (λ (x : Given). heardOf (x .answer .reply)) nx in
+      resume-heard 1 0 (o .answer .rec) (o .store) samples room (g .0) (g .1) (all .0) ∙ ap (λ (x : Effect Answer). heardOf (x .answer .reply)) nx in
       let ih =
-      resumed more there (besides a (there .answer .reply)) rec′ (y .reply) share′ (drop 480 rest) (progress + 480) (place progress) (buffer y) nx
+      resumed more there (besides a (there .answer .reply)) rec′ (y .reply) share′ (drop 480 rest) (progress + 480) (place progress) (firstIn (y .written)) nx
       (after-length rec share rest l full) (sym (drop-drop 480 progress samples) ∙ ap (drop 480) same) (omega arith) (all .1) z in
       let d = dictate-more rec share rest l (map asGiven more) in
       record {
@@ -227,7 +228,7 @@ module _ (store : List Float) (size : length store ≡ 1 * SHARE) (samples : Lis
         share = ih .share ∙ sym (ap (λ (x : Dictated). put (shareOf 0) store (x .kept)) d);
         out = ap₂ (λ (x y : List Float). x ++ y) samples-out (ih .out) ∙ sym (ap (λ (x : Dictated). x .out) d);
         sums =
-            ap₂ (λ (x y : List Float). x ++ y) (ap (λ (x : Given). numbersIn (getD (x .written ++ us) 1 nothing)) q) (ih .sums)
+            ap₂ (λ (x y : List Float). x ++ y) (ap (λ (x : Effect Answer). numbersIn (getD (x .written ++ us) 1 nothing)) q) (ih .sums)
             ∙ sym (ap (λ (x : Dictated). sumsTold (x .told)) d);
         heard = ap₂ (λ (x y : List Float). x ++ y) answered (ih .heard) ∙ sym (ap (λ (x : Dictated). answersOf (x .told)) d);
         count = omega (arith, ih .count, length-drop 480 rest, enough);

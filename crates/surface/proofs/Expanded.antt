@@ -15,13 +15,14 @@ use Rattle.rules.specs.Loop.{loop}
 use Rattle.rules.specs.Tab.{tab}
 use Rattle.rules.specs.Written.{firstIn}
 use Rattle.logs.specs.Log10.{logsOf}
+use Rattle.frame.specs.Effect.{Effect}
 use Rattle.frame.specs.declared.Reply.{Reply}
 use Rattle.frame.specs.Reply.{passed}
 use Rattle.pieces.specs.Pieces.{completes}
 use Rattle.desk.specs.declared.Answer.{Answer}
 use Rattle.desk.specs.declared.Record.{Record}
 use Rattle.desk.specs.Gate.{BENCHES}
-use Rattle.desk.specs.Desk.{Ask, firstHalf, secondHalf, piece, resume, Given, desk}
+use Rattle.desk.specs.Desk.{Ask, firstHalf, secondHalf, piece, resume, desk}
 use Rattle.desk.specs.Surface.{numbersOf, recordIn, handedBack, hosted}
 use Rattle.desk.proofs.Settled.{refused-keeps}
 use Rattle.whole.specs.Whole.{unchanged, frameReply, frameBegins, frameEnds, takeReply, Taking, takeFrames, takeBegins, takeEnds, takenAs}
@@ -63,7 +64,7 @@ handed : (n side : ℕ) (rec : Record) (store : List Float) (a : Ask)
     → let o = desk n side rec store a in handedBack (o .answer) (numbersOf rec) ≡ numbersOf (o .answer .rec)
 handed n side rec store a = go (passed (o .answer .reply)) refl
   where
-    o : Given
+    o : Effect Answer
     o = desk n side rec store a
 
     go : (t : Bool) → passed (o .answer .reply) ≡ t → cond t (numbersOf (o .answer .rec)) (numbersOf rec) ≡ numbersOf (o .answer .rec)
@@ -101,7 +102,7 @@ map-more f (y ∷ xs) x = ap (λ (cs : List (On Ask)). f y ∷ cs) (map-more f x
 -- ---- each of the calls, on a side with its record
 
 -- so many calls of the desk lead to what was given
-abbrev Leads : ℕ → ℕ → State → List Ask → Given → Type 0
+abbrev Leads : ℕ → ℕ → State → List Ask → Effect Answer → Type 0
 Leads n side st asks o = leaving st side (handedBack (o .answer) (st .numbers side)) (o .store) ≡ ended desks n st (map (on side) asks)
 
 module _ (n side : ℕ) (st : State) where
@@ -124,24 +125,24 @@ module _ (n side : ℕ) (st : State) where
       reply : Reply
       reply = frameReply n side rec (length (st .store)) x m o
 
-      one : Given
+      one : Effect Answer
       one = frameBegins n side rec (st .store) x
 
       second : Ask
       second = secondHalf (logsOf (firstIn (one .written))) m o
 
-      two : Given
+      two : Effect Answer
       two = frameEnds n side rec (st .store) x m o
 
       go : (t : Bool) → passed reply ≡ t → Leads n side st (cond t (firstHalf x 22 ∷ second ∷ []) []) (whole.frame n side rec (st .store) x m o)
       go true p =
           let h = two-halves n side rec (st .store) x m o p in
-          ap (λ (g : Given). leaving st side (handedBack (g .answer) ns) (g .store)) (h .2)
+          ap (λ (g : Effect Answer). leaving st side (handedBack (g .answer) ns) (g .store)) (h .2)
           ∙ ap (λ (r : List ℕ). leaving st side r (two .store)) (back (two .answer) ns (h .1))
           ∙ sym (again n side st (one .answer .rec) (one .store) second)
           ∙ ap (λ (s : State). after desks n s (on side second)) (begun n side st (firstHalf x 22) (h .0))
       go false p =
-          ap (λ (g : Given). leaving st side (handedBack (g .answer) ns) (g .store)) (refused-is n side rec (st .store) x m o p)
+          ap (λ (g : Effect Answer). leaving st side (handedBack (g .answer) ns) (g .store)) (refused-is n side rec (st .store) x m o p)
           ∙ none-runs reply p
 
   module _ (x : List Float) (m : List ℕ) (o : ℕ) where

@@ -23,6 +23,7 @@ use Rattle.model.proofs.Bounds.{refused-in}
 use Rattle.lag.specs.Lag.{ownLag}
 use Rattle.features.specs.Silence.{energy, soundOf}
 use Rattle.features.specs.declared.Sound.{Sound}
+use Rattle.frame.specs.Effect.{Effect, refusal, unless}
 use Rattle.frame.specs.declared.Reply.{Reply}
 use Rattle.frame.specs.declared.Reply.the-variants.{Done, Silent, Heard, Numbered, Refused, Misread}
 use Rattle.frame.specs.declared.Way.{Way}
@@ -30,12 +31,12 @@ use Rattle.frame.specs.declared.Hearing.{Hearing}
 use Rattle.frame.specs.Reply.{passed}
 use Rattle.frame.specs.Share.{PART, inputMem, keptEx}
 use Rattle.frame.specs.Heard.{Spoken, spoken}
-use Rattle.frame.specs.Frame.{Effect, refusal, unless, sounded, done3, counted, checked, modelled}
+use Rattle.frame.specs.Frame.{sounded, done3, counted, checked, modelled}
 use Rattle.frame.specs.Frame as frames
 use Rattle.halves.specs.Own as own
 use Rattle.halves.specs.Ways.{lagBy, remembered, forwardBy}
 use Rattle.halves.specs.Halves as halves
-use Rattle.pieces.specs.Pieces.{framePart, waitingIn, waits, frameAt, refused, lastTests, resumeReply, resumed}
+use Rattle.pieces.specs.Pieces.{framePart, waitingIn, waits, frameAt, lastTests, resumeReply, resumed}
 use Rattle.pieces.specs.Pieces as pieces
 use Rattle.pieces.proofs.Kept.{further-reply}
 use Rattle.desk.specs.declared.Record.{Record}
@@ -114,18 +115,18 @@ sounds e share s = go (lt e (f32 0x3D23D70A))
     go false = tt
 
 module _ (share : List Float) where
-  abbrev KnownOf : Effect → Type 0
+  abbrev KnownOf : Effect Reply → Type 0
   KnownOf f = Known (f .reply)
 
-  by-one : (a : ℕ) (s : Bool) (f : Effect) → Known (Refused a) → KnownOf f → KnownOf (unless (a when s ∷ []) share f)
+  by-one : (a : ℕ) (s : Bool) (f : Effect Reply) → Known (Refused a) → KnownOf f → KnownOf (unless (a when s ∷ []) share f)
   by-one a true f k h = k
   by-one a false f k h = h
 
-  by-two : (a b : ℕ) (s t : Bool) (f : Effect) → Known (Refused a) → Known (Refused b) → KnownOf f → KnownOf (unless (a when s ∷ b when t ∷ []) share f)
+  by-two : (a b : ℕ) (s t : Bool) (f : Effect Reply) → Known (Refused a) → Known (Refused b) → KnownOf f → KnownOf (unless (a when s ∷ b when t ∷ []) share f)
   by-two a b true t f k l h = k
   by-two a b false t f k l h = by-one b t f l h
 
-  either : (t : Bool) (f g : Effect) → KnownOf f → KnownOf g → KnownOf (cond t f g)
+  either : (t : Bool) (f g : Effect Reply) → KnownOf f → KnownOf g → KnownOf (cond t f g)
   either true f g h k = h
   either false f g h k = k
 
@@ -163,9 +164,9 @@ module _ (share : List Float) where
   unfolding halves.firstHalf
   of-first way x s =
       let a = frames.call1 share x 960 in
-      let b = halves.analysed (a .share) way (halves.buffer a) s in
+      let b = halves.analysed (a .share) way (halves.firstIn (a .written)) s in
       by-one share 5 (wrong ((length share, PART) ∷ (length x, 480) ∷ (s, 22) ∷ [])) (cond (passed (a .reply)) b a) five
-      (either share (passed (a .reply)) b a (of-2 (remembered way (a .share)) (forwardBy way (halves.buffer a)) (lagBy way (a .share)) 960 s) (of-1 share x 960))
+      (either share (passed (a .reply)) b a (of-2 (remembered way (a .share)) (forwardBy way (halves.firstIn (a .written))) (lagBy way (a .share)) 960 s) (of-1 share x 960))
 
   of-second : (hearing : Hearing) (logs : List Float) (model : List ℕ) (out : ℕ)
       → Known (halves.secondHalf share hearing logs model out .reply)
@@ -173,7 +174,7 @@ module _ (share : List Float) where
   of-second hearing logs model out =
       let a = frames.call3 share hearing (forwardBy (hearing .way) (halves.lookedBack share)) logs model 961 in
       let k = of-3 share hearing (forwardBy (hearing .way) (halves.lookedBack share)) logs model 961 in
-      let b = halves.synthesised (a .reply) (a .share) (hearing .way) (halves.buffer a) out in
+      let b = halves.synthesised (a .reply) (a .share) (hearing .way) (halves.firstIn (a .written)) out in
       by-two share 5 5 (wrong ((length share, PART) ∷ (length logs, 22) ∷ (out, 480) ∷ [])) (ltb 7 (hearing .index)) (cond (passed (a .reply)) b a) five five
       (either share (passed (a .reply)) b a k k)
 
@@ -182,7 +183,7 @@ module _ (share : List Float) where
 of-piece : (share : List Float) (way : Way) (waiting : ℕ) (x : List Float) (out sums : ℕ) → Known (pieces.piece share way waiting x out sums .reply)
 unfolding pieces.piece
 of-piece share way waiting x out sums =
-    by-each (λ n. refused (Refused n) share) (pieces.begun share way waiting x) (λ o. Known (o .reply)) (pieces.pieceRows share waiting x out sums)
+    by-each (λ n. refusal (Refused n) share) (pieces.begun share way waiting x) (λ o. Known (o .reply)) (pieces.pieceRows share waiting x out sums)
     (five, (five, (nine, (nine, tt)))) (rw (further-reply Done (waits share []) way (waitingIn waiting share ++ x) nothing) tt)
 
 of-resume : (share : List Float) (hearing : Hearing) (size progress : ℕ) (x logs : List Float) (model : List ℕ) (out sums : ℕ)
@@ -193,12 +194,12 @@ of-resume share hearing size progress x logs model out sums = go (passed reply)
     reply : Reply
     reply = resumeReply share hearing size progress x logs model out sums
 
-    half : Effect
+    half : Effect Reply
     half = halves.secondHalf (get framePart share) hearing logs model 480
 
     go : (t : Bool) → Known (cond t (resumed share hearing progress x logs model) (refused reply share) .reply)
     go true =
-        rw (further-reply (half .reply) (put framePart share (half .share)) (hearing .way) (drop progress x) (from (480 * (frameAt progress - 1)) (halves.buffer half)))
+        rw (further-reply (half .reply) (put framePart share (half .share)) (hearing .way) (drop progress x) (from (480 * (frameAt progress - 1)) (halves.firstIn (half .written))))
         (of-second (get framePart share) hearing logs model 480)
     go false =
         by-each Refused (lastTests hearing model (good x)) Known (pieces.resumeRows share (hearing .index) size progress x (length logs) out sums)
@@ -239,7 +240,7 @@ of-desk n side b store a = go (eqb (gate n side b (length store) (callOf a)) 0) 
     share = get (shareOf side) store
 
     go : (t : Bool) → eqb (gate n side b (length store) (callOf a)) 0 ≡ t
-        → Known (cond t (onShare b share a) (refused (Refused (gate n side b (length store) (callOf a))) share) .reply)
+        → Known (cond t (onShare b share a) (refusal (Refused (gate n side b (length store) (callOf a))) share) .reply)
     go true e = of-share b share a
     go false e = of-gate n side b (length store) (callOf a) e
 

@@ -18,6 +18,8 @@ use Rattle.rules.specs.Place.{get}
 use Rattle.rules.specs.Tab.{tab}
 use Rattle.rules.specs.Written.{Written, all, from, nothing, numbersIn, firstIn}
 use Rattle.logs.specs.Log10.{logsOf}
+use Rattle.desk.specs.declared.Answer.{Answer}
+use Rattle.frame.specs.Effect.{Effect}
 use Rattle.frame.specs.declared.Reply.{Reply}
 use Rattle.frame.specs.declared.Reply.the-variants.{Done, Silent, Heard, Numbered, Refused, Misread}
 use Rattle.frame.specs.Reply.{passed}
@@ -25,7 +27,7 @@ use Rattle.pieces.specs.Pieces.{waitingIn, waits, completes, further}
 use Rattle.pieces.specs.Pieces as pieces
 use Rattle.desk.specs.declared.Record.{Record}
 use Rattle.desk.specs.Gate.{shareOf}
-use Rattle.desk.specs.Desk.{Ask, opening, call1, call2, call2Own, call3, call4, firstHalf, secondHalf, piece, resume, Given, desk}
+use Rattle.desk.specs.Desk.{Ask, opening, call1, call2, call2Own, call3, call4, firstHalf, secondHalf, piece, resume, desk}
 use Rattle.desk.specs.Surface.{numbersOf, recordIn, replyNumber, heardOf, besides, telling, hosted}
 use Rattle.desk.proofs.Buffers.{buffers}
 use Rattle.dictation.specs.Dictation.{Lent}
@@ -46,7 +48,7 @@ abbrev pub column : ℕ → ℕ → ℕ → State → List (On Ask) → List Flo
 column k n s st cs = inBuffer desks (λ _. k) n s st cs
 
 -- what a call of the desk wrote to it, as a host has it
-abbrev pub wrote : ℕ → Ask → Given → List Float
+abbrev pub wrote : ℕ → Ask → Effect Answer → List Float
 wrote k a o = numbersIn (getD (o .written ++ besides a (o .answer .reply)) k nothing)
 
 -- ---- pieces and resumes
@@ -242,7 +244,7 @@ zero-back (Numbered f h) p = refl
 zero-back (Refused k) p = absurd (false≢true p)
 zero-back (Misread k l) p = absurd (false≢true p)
 
--- where this buffer of a take is column k of the desk's calls
+-- where this firstIn (of .written) a take is column k of the desk's calls
 module _ (which : Request → ℕ) (k : ℕ) (asked : (a : Ask) → which (ask a) ≡ k) (n s : ℕ)
     (takes : (side : ℕ) → eqb side s ≡ true → (st : State) (x : List Float) (m : List ℕ) (o a : ℕ)
     → passed (takeReply n side (recordAt side st) (st .store) x m o a) ≡ true
@@ -274,7 +276,7 @@ module _ (which : Request → ℕ) (k : ℕ) (asked : (a : Ask) → which (ask a
             ≡ column k n s st (map (on side) (cond t (firstHalf x 22 ∷ second ∷ []) []))
         go true p h = absurd ((rw (mine, zero-back _ (two-halves n side rec (st .store) x m o p .0)) at h) .0)
         go false p h =
-            ap (λ (g : Given). numbersIn (getD (telling g .written) (which (frame x m o)) nothing)) (refused-is n side rec (st .store) x m o p)
+            ap (λ (g : Effect Answer). numbersIn (getD (telling g .written) (which (frame x m o)) nothing)) (refused-is n side rec (st .store) x m o p)
             ∙ rw p
     told-is (take x m o a) h = go (passed reply) refl
       where

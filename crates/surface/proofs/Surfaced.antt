@@ -19,6 +19,7 @@ use Rattle.rules.specs.Written.{Written, from, nothing, numbersIn, firstIn}
 use Rattle.rules.proofs.Places.{length-get}
 use Rattle.samples.specs.Samples.{good}
 use Rattle.logs.specs.Log10.{logsOf}
+use Rattle.frame.specs.Effect.{Effect}
 use Rattle.frame.specs.declared.Reply.{Reply}
 use Rattle.frame.specs.declared.Reply.the-variants.{Refused}
 use Rattle.frame.specs.Reply.{passed}
@@ -28,7 +29,7 @@ use Rattle.pieces.specs.Pieces.{waitingIn, completes, lastTests}
 use Rattle.desk.specs.declared.Answer.{Answer}
 use Rattle.desk.specs.declared.Record.{Record}
 use Rattle.desk.specs.Gate.{BENCHES, PIECE, gate, shareOf}
-use Rattle.desk.specs.Desk.{opening, firstHalf, secondHalf, piece, resume, closed, Given, desk}
+use Rattle.desk.specs.Desk.{opening, firstHalf, secondHalf, piece, resume, closed, desk}
 use Rattle.desk.specs.Surface.{numbersOf, recordIn, besides, toldBesides, heardOf, telling, hosted}
 use Rattle.desk.proofs.Apart.{its-own, anew}
 use Rattle.whole.specs.Whole.{unchanged, frameReply, frameEnds, takeRows, takeReply, Taking, takeFrames, takeBegins, takeEnds, takenAs}
@@ -40,7 +41,7 @@ use Rattle.isolation.specs.Run.{on}
 use Rattle.surface.specs.Surface.{Request, ask, frame, take, called, surface, OurSurface, Anew}
 use Rattle.isolation.proofs.Isolated.{lone, next, in-any-run, alone-lone, isolated, undisturbed}
 
-abbrev pub cameOf : Given → Came (List Written)
+abbrev pub cameOf : Effect Answer → Came (List Written)
 cameOf o = came (o .answer .reply) (o .written) (o .answer .rec) (o .store)
 
 -- behind the gate: 5 by these rows, then 7 to 9

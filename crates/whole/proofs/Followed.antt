@@ -23,18 +23,20 @@ use Rattle.model.specs.Model.{readOf}
 use Rattle.model.specs.declared.Model.{Model}
 use Rattle.model.specs.declared.Reading.{Reading}
 use Rattle.model.specs.declared.Reading.the-variants.{Good, Refused as Unread}
+use Rattle.desk.specs.declared.Answer.{Answer}
+use Rattle.frame.specs.Effect.{Effect}
 use Rattle.frame.specs.declared.Reply.{Reply}
 use Rattle.frame.specs.declared.Reply.the-variants.{Done, Silent, Heard, Numbered, Refused, Misread}
 use Rattle.frame.specs.Frame.{counted, checked}
 use Rattle.frame.specs.Reply.{passed}
-use Rattle.halves.specs.Halves.{buffer, firstHalf, secondHalf}
+use Rattle.halves.specs.Halves.{firstHalf, secondHalf}
 use Rattle.pieces.specs.Pieces.{framePart, waitingIn, waits, completes, frameAt, further}
 use Rattle.pieces.specs.Pieces as pieces
 use Rattle.pieces.proofs.Accepted.{Piece, piece-taken}
 use Rattle.pieces.proofs.Kept.{further-reply}
 use Rattle.desk.specs.declared.Record.{Record}
 use Rattle.desk.specs.Gate.{PIECE, RESUME, shareOf, isDue, gate}
-use Rattle.desk.specs.Desk.{piece, resume, holding, carried, Given, desk}
+use Rattle.desk.specs.Desk.{piece, resume, holding, carried, desk}
 use Rattle.desk.specs.Surface.{heardOf}
 use Rattle.desk.proofs.Turned.{none, through}
 use Rattle.dictation.specs.Dictation.{Dictated}
@@ -50,10 +52,10 @@ use Rattle.whole.proofs.Accepted.{good-both, logs-length, Take, fits-si
 
 -- ---- what a call writes that goes onward
 
-abbrev Unfinished : Given → Type 0
+abbrev Unfinished : Effect Answer → Type 0
 Unfinished o = o .answer .rec .piece ≡ 0 → ⊥
 
-record Onward (w : Written) (progress : ℕ) (o : Given) : Type 0 where
+record Onward (w : Written) (progress : ℕ) (o : Effect Answer) : Type 0 where
   sums : Written
   writes : o .written ≡ w ∷ sums ∷ []
   pauses : Unfinished o → (sums ≡ all (numbersIn sums)) × (o .answer .rec .progress ≡ progress)
@@ -63,20 +65,20 @@ writes-onward : (side : ℕ) (store : List Float) (rec : Record) (reply : Reply)
 unfolding further carried
 writes-onward side store rec reply share rest size progress w = go (ltb (length rest) 480)
   where
-    given : Bool → Given
+    given : Bool → Effect Answer
     given t =
         let f = cond t (pieces.atEnd reply share rest w) (pieces.paused reply share (rec .hearing .way) rest w) in
         record {
           answer = record { reply = reply; rec = cond t (holding 1 rec (length rest) 0 0) (holding 3 rec 0 size progress) };
-          store = put (shareOf side) store (f .share);
+          kept = put (shareOf side) store (f .share);
           written = f .written;
         }
 
     go : (t : Bool) → Onward w progress (given t)
     go true = record { sums = nothing; writes = refl; pauses = λ h. absurd (h refl) }
-    go false = record { sums = all (buffer (firstHalf (get framePart share) (rec .hearing .way) (take 480 rest) 22)); writes = refl; pauses = λ h. (refl, refl) }
+    go false = record { sums = all (firstIn (firstHalf (get framePart share) (rec .hearing .way) (take 480 rest) 22 .written)); writes = refl; pauses = λ h. (refl, refl) }
 
-module _ {w : Written} {progress : ℕ} {o : Given} (k : Onward w progress o) where
+module _ {w : Written} {progress : ℕ} {o : Effect Answer} (k : Onward w progress o) where
   out-is : (held : List Float) → outputOf o held ≡ over w held
   out-is held = ap (λ (ws : List Written). over (getD ws 0 nothing) held) (k .writes)
 
@@ -118,7 +120,7 @@ module _ (n side : ℕ) (rec : Record) (store samples : List Float) (model : Lis
   mid j = stepsOf j n side samples model (behind (handedIn n side rec store samples held) held (zeros 22) answers)
 
   -- after j frames, where the last call gave o and its output held this before
-  record Alike (j : ℕ) (o : Given) (was : List Float) : Type 0 where
+  record Alike (j : ℕ) (o : Effect Answer) (was : List Float) : Type 0 where
     recs : (at j .rec ≡ o .answer .rec) × (mid j .rec ≡ o .answer .rec)
     stores : (at j .store ≡ o .store) × (mid j .store ≡ o .store)
     sums : at j .sums ≡ sumsIn o
@@ -149,21 +151,21 @@ module _ (n side : ℕ) (rec : Record) (store samples : List Float) (model : Lis
       }
 
   -- a frame more is answered
-  heard-more : (j : ℕ) (next : Given) → desk n side (at j .rec) (at j .store) (resume samples (logsOf (at j .sums)) model (length held) 22) ≡ next
+  heard-more : (j : ℕ) (next : Effect Answer) → desk n side (at j .rec) (at j .store) (resume samples (logsOf (at j .sums)) model (length held) 22) ≡ next
       → at (suc j) .answers ≡ at j .answers ++ heardOf (next .answer .reply)
   unfolding takeFrames loop
-  heard-more j next call = ap (λ (g : Given). at j .answers ++ heardOf (g .answer .reply)) call
+  heard-more j next call = ap (λ (g : Effect Answer). at j .answers ++ heardOf (g .answer .reply)) call
 
-  goes-on : (j : ℕ) (o next : Given) {was : List Float} → Alike j o was
+  goes-on : (j : ℕ) (o next : Effect Answer) {was : List Float} → Alike j o was
       → next ≡ desk n side (o .answer .rec) (o .store) (resume samples (logsOf (at j .sums)) model (length held) 22)
       → passed (next .answer .reply) ≡ true → rec .waiting ≤ 479 → 480 * j + 480 ≤ length held → 3 * j + 3 ≤ length answers → Alike (suc j) next (mid j .out)
   unfolding takeFrames stepsOf loop
   goes-on j o next {was} a q p few room places =
       let b = o .answer .rec in
       let logs = logsOf (at j .sums) in
-      let resumed = resume-passed n side b (o .store) samples logs model (length held) 22 (ap (λ (g : Given). passed (g .answer .reply)) (sym q) ∙ p) in
+      let resumed = resume-passed n side b (o .store) samples logs model (length held) 22 (ap (λ (g : Effect Answer). passed (g .answer .reply)) (sym q) ∙ p) in
       let begun = unfinished n side b (length (o .store)) (resumed .0) in
-      let ys = buffer (secondHalf (get framePart (get (shareOf side) (o .store))) (b .hearing) logs model 480) in
+      let ys = firstIn (secondHalf (get framePart (get (shareOf side) (o .store))) (b .hearing) logs model 480 .written) in
       let long : length ys ≡ 480 = half-passes n side b (o .store) samples logs model (length held) 22 (resumed .1) .fills in
       let place : 480 * (frameAt (b .progress) - 1) ≡ 480 * j = omega (arith, a .progress begun) in
       let k : Onward (from (480 * j) ys) (b .progress + 480) next = rw (q ∙ resumed .2, ← place) (writes-onward side (o .store) _ _ _ _ _ _ _) in
@@ -174,15 +176,15 @@ module _ (n side : ℕ) (rec : Record) (store samples : List Float) (model : Lis
       let call′ : desk n side (mid j .rec) (mid j .store) (resume samples (logsOf (mid j .sums)) model (length (mid j .out)) 22) ≡ next =
       rw (a .recs .1, a .stores .1, a .lent begun, ← a .sums, size) (sym q) in
       let given : firstIn (next .written) ≡ ys = ap firstIn (k .writes) in
-      let more : at (suc j) .out ≡ at j .out ++ ys = ap (λ (g : Given). at j .out ++ firstIn (g .written)) call ∙ ap (λ (x : List Float). at j .out ++ x) given in
+      let more : at (suc j) .out ≡ at j .out ++ ys = ap (λ (g : Effect Answer). at j .out ++ firstIn (g .written)) call ∙ ap (λ (x : List Float). at j .out ++ x) given in
       let stands : mid (suc j) .out ≡ over (from (480 * j) ys) (mid j .out) =
-      ap (λ (g : Given). getD (onto (g .written) (mid j .out ∷ mid j .sums ∷ [])) 0 []) call′ ∙ first-is k (mid j .out) (mid j .sums) in
+      ap (λ (g : Effect Answer). getD (onto (g .written) (mid j .out ∷ mid j .sums ∷ [])) 0 []) call′ ∙ first-is k (mid j .out) (mid j .sums) in
       let heard : at (suc j) .answers ≡ at j .answers ++ heardOf r = heard-more j next call in
       record {
-        recs = (ap (λ (g : Given). g .answer .rec) call, ap (λ (g : Given). g .answer .rec) call′);
-        stores = (ap (λ (g : Given). g .store) call, ap (λ (g : Given). g .store) call′);
+        recs = (ap (λ (g : Effect Answer). g .answer .rec) call, ap (λ (g : Effect Answer). g .answer .rec) call′);
+        stores = (ap (λ (g : Effect Answer). g .store) call, ap (λ (g : Effect Answer). g .store) call′);
         sums = ap sumsIn call;
-        lent = λ h. ap (λ (g : Given). getD (onto (g .written) (mid j .out ∷ mid j .sums ∷ [])) 1 []) call′ ∙ sums-are k h (mid j .out) (mid j .sums);
+        lent = λ h. ap (λ (g : Effect Answer). getD (onto (g .written) (mid j .out ∷ mid j .sums ∷ [])) 1 []) call′ ∙ sums-are k h (mid j .out) (mid j .sums);
         progress = λ h. omega (arith, k .pauses h .1, a .progress begun);
         here = out-is k (mid j .out) ∙ sym stands;
         out =
@@ -192,7 +194,7 @@ module _ (n side : ℕ) (rec : Record) (store samples : List Float) (model : Lis
             ∙ ap (λ (x : List Float). over (from 0 x) held) (sym more);
         filled = ap length more ∙ length-append (at j .out) ys ∙ omega (arith, a .filled, long);
         told =
-            ap (λ (g : Given). put (three j) (mid j .answers) (heardOf (g .answer .reply))) call′
+            ap (λ (g : Effect Answer). put (three j) (mid j .answers) (heardOf (g .answer .reply))) call′
             ∙ ap (λ (x : List Float). put (three j) x (heardOf r)) (a .told)
             ∙ ap (λ (m : ℕ). put (record { at = 3 * j; size = m }) (over (from 0 (at j .answers)) answers) (heardOf r)) (sym (three-long r))
             ∙ further-on (3 * j) (at j .answers) (heardOf r) answers (a .threes)
@@ -216,7 +218,7 @@ module _ (n side : ℕ) (rec : Record) (store samples : List Float) (model : Lis
 
   -- to frame e, from frame j
   record Followed (j e : ℕ) (d : Dictated) : Type 0 where
-    last : Given
+    last : Effect Answer
     was : List Float
     alike : Alike e last was
     recs : last .answer .rec ≡ d .rec
@@ -225,7 +227,7 @@ module _ (n side : ℕ) (rec : Record) (store samples : List Float) (model : Lis
     answered : at e .answers ≡ at j .answers ++ answersOf (d .told)
     done : (i : ℕ) → j ≤ i → i < e → ResumeDone i
 
-  follow : (m : ℕ) {o : Given} {was : List Float} {d : Dictated} → Led n side samples o was (replicate m (ourLent model)) d → (j e : ℕ) → Alike j o was
+  follow : (m : ℕ) {o : Effect Answer} {was : List Float} {d : Dictated} → Led n side samples o was (replicate m (ourLent model)) d → (j e : ℕ) → Alike j o was
       → rec .waiting ≤ 479 → 480 * j + 480 * m ≤ length held → 3 * j + 3 * m ≤ length answers → j + m ≡ e → Followed j e d
   follow zero (ended {o} {held = was} p z) j e a few room places last =
       let same : j ≡ e = omega arith in
@@ -259,7 +261,7 @@ module _ (n side : ℕ) (rec : Record) (store samples : List Float) (model : Lis
             f .answered
             ∙ ap (λ (x : List Float). x ++ answersOf (d .told)) (heard-more j next there)
             ∙ append-assoc (at j .answers) (heardOf (next .answer .reply)) (answersOf (d .told));
-        done = from-first j e (ap (λ (g : Given). passed (g .answer .reply)) there ∙ passes rest) (f .done);
+        done = from-first j e (ap (λ (g : Effect Answer). passed (g .answer .reply)) there ∙ passes rest) (f .done);
       }
 
 -- what the take lends fits each frame
@@ -315,7 +317,7 @@ module _ (n side : ℕ) (rec : Record) (store samples : List Float) (model : Lis
 
   pub piece-done : passed (handedIn n side rec store samples held .answer .reply) ≡ true
   piece-done =
-      ap (λ (o : Given). passed (o .answer .reply)) (let-through n side rec store (piece samples (length held) 22) (k .gated))
+      ap (λ (o : Effect Answer). passed (o .answer .reply)) (let-through n side rec store (piece samples (length held) 22) (k .gated))
       ∙ rw (piece-taken mine (rec .hearing .way) (rec .waiting) samples (length held) 22 fitted, further-reply Done (waits mine []) (rec .hearing .way) (waitingIn (rec .waiting) mine ++ samples) nothing)
 
   pub ends : let m = completes (rec .waiting) (length samples) in

@@ -16,6 +16,7 @@ use Rattle.rules.specs.Place.{get, put}
 use Rattle.rules.specs.Written.{all, firstIn}
 use Rattle.rules.proofs.Places.{length-get}
 use Rattle.logs.specs.Log10.{logsOf}
+use Rattle.frame.specs.Effect.{Effect, Worked}
 use Rattle.frame.specs.declared.Reply.{Reply}
 use Rattle.frame.specs.Share.{SHARE, PART}
 use Rattle.frame.specs.Reply.{passed}
@@ -25,14 +26,14 @@ use Rattle.pieces.proofs.Halved.{Halved, first-passes}
 use Rattle.desk.specs.declared.Record.{Record}
 use Rattle.desk.specs.declared.Answer.{Answer}
 use Rattle.desk.specs.Gate.{gate, shareOf}
-use Rattle.desk.specs.Desk.{Ask, firstHalf, secondHalf, callOf, answered, onShare, Given, desk, Served}
+use Rattle.desk.specs.Desk.{Ask, firstHalf, secondHalf, callOf, answered, onShare, desk}
 use Rattle.desk.proofs.Turned.{through}
 use Rattle.whole.specs.Whole.{frameReply, frame}
 use Rattle.whole.proofs.Accepted.{Frame, frame-accepted}
 
 pub let-in : (n side : ℕ) (rec : Record) (store : List Float) (ask : Ask) → gate n side rec (length store) (callOf ask) ≡ 0
     → let f = onShare rec (get (shareOf side) store) ask in
-    desk n side rec store ask ≡ record { answer = answered rec ask (f .reply); store = put (shareOf side) store (f .share); written = f .written }
+    desk n side rec store ask ≡ record { answer = answered rec ask (f .reply); kept = put (shareOf side) store (f .share); written = f .written }
 unfolding desk
 let-in n side rec store ask e = rw (eq-eqb (gate n side rec (length store) (callOf ask)) 0 e)
 
@@ -54,16 +55,16 @@ module _ (n side : ℕ) (rec : Record) (store samples : List Float) (model : Lis
   pub first-wrote : let one = desk n side rec store (firstHalf samples 22) in one .written ≡ all (firstIn (one .written)) ∷ []
   first-wrote =
       let f = halves.firstHalf (partOf side store) (rec .hearing .way) samples 22 in
-      let e = ap (λ (o : Given). o .written) (let-in n side rec store (firstHalf samples 22) (k .gated)) ∙ ap (map all) (first-halved .writes) in
+      let e = ap (λ (o : Effect Answer). o .written) (let-in n side rec store (firstHalf samples 22) (k .gated)) ∙ ap (map all) (first-halved .writes) in
       rw e
 
 module _ (n side : ℕ) (rec : Record) (store samples : List Float) (model : List ℕ) (held : List Float) where
   pub refused : {r : Reply} → r ≡ frameReply n side rec (length store) samples model (length held) → passed r ≡ false
-      → Served (frame n side rec store samples model (length held)) (record { reply = r; rec = rec }) store (held ∷ []) (held ∷ [])
+      → Worked (frame n side rec store samples model (length held)) (record { reply = r; rec = rec }) store (held ∷ []) (held ∷ [])
   unfolding frame
   refused e p = rw (← e, p) (record { answers = refl; stores = refl; writes = refl })
 
-  abbrev one : Given
+  abbrev one : Effect Answer
   one = desk n side rec store (firstHalf samples 22)
 
   -- what the second half is asked
@@ -72,9 +73,9 @@ module _ (n side : ℕ) (rec : Record) (store samples : List Float) (model : Lis
 
   pub halved : {r : Reply} {z sums logs s₁ s₂ out : List Float} {a₁ a₂ : Answer}
       → r ≡ frameReply n side rec (length store) samples model (length held) → passed r ≡ true
-      → Served (desk n side rec store (firstHalf samples 22)) a₁ s₁ (z ∷ []) (sums ∷ []) → logs ≡ logsOf sums
-      → Served (desk n side (a₁ .rec) s₁ (secondHalf logs model (length held))) a₂ s₂ (held ∷ []) (out ∷ [])
-      → Served (frame n side rec store samples model (length held)) a₂ s₂ (held ∷ []) (out ∷ [])
+      → Worked (desk n side rec store (firstHalf samples 22)) a₁ s₁ (z ∷ []) (sums ∷ []) → logs ≡ logsOf sums
+      → Worked (desk n side (a₁ .rec) s₁ (secondHalf logs model (length held))) a₂ s₂ (held ∷ []) (out ∷ [])
+      → Worked (frame n side rec store samples model (length held)) a₂ s₂ (held ∷ []) (out ∷ [])
   unfolding frame
   halved {r} {z} {sums} {logs} {s₁} {s₂} {out} {a₁} {a₂} e p first lent second =
       let q : passed (frameReply n side rec (length store) samples model (length held)) ≡ true = ap passed (sym e) ∙ p in

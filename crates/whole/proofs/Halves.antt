@@ -13,16 +13,17 @@ use Rattle.rules.specs.Written.{all, firstIn}
 use Rattle.rules.proofs.Places.{length-get, length-put}
 use Rattle.rules.proofs.Tests.{both}
 use Rattle.logs.specs.Log10.{logsOf}
+use Rattle.desk.specs.declared.Answer.{Answer}
+use Rattle.frame.specs.Effect.{Effect}
 use Rattle.frame.specs.declared.Reply.{Reply}
 use Rattle.frame.specs.Share.{SHARE}
-use Rattle.frame.specs.Frame.{Effect}
 use Rattle.frame.specs.Reply.{passed}
 use Rattle.halves.specs.Halves as halves
 use Rattle.pieces.specs.Pieces.{framePart}
 use Rattle.pieces.proofs.Halved.{Halved, second-passes}
 use Rattle.desk.specs.declared.Record.{Record}
 use Rattle.desk.specs.Gate.{idle, inRange, isDue, gate, shareOf}
-use Rattle.desk.specs.Desk.{firstHalf, secondHalf, advanced, Given, desk}
+use Rattle.desk.specs.Desk.{firstHalf, secondHalf, advanced, desk}
 use Rattle.desk.proofs.Ranged.{bounded, range-kept}
 use Rattle.desk.proofs.Turned.{none, through}
 use Rattle.whole.specs.Whole.{unchanged, frameReply, frameBegins, frameEnds, frame, takeReply, takeEnds, takenAs, take}
@@ -37,7 +38,7 @@ unfolding gate isDue idle
 third-due n side rec reply len h l d range = rw (lt-ltb side n h, eq-eqb len (n * SHARE) l, range, d)
 
 module _ (n side : ℕ) (rec : Record) (store samples : List Float) (model : List ℕ) (out : ℕ) (k : Frame n side rec store samples model out) where
-  abbrev half : Effect
+  abbrev half : Effect Reply
   half = halves.firstHalf (partOf side store) (rec .hearing .way) samples 22
 
   abbrev left : List Float
@@ -54,7 +55,7 @@ module _ (n side : ℕ) (rec : Record) (store samples : List Float) (model : Lis
   first-is = let-in n side rec store (firstHalf samples 22) (k .gated) ∙ rw (first-halved n side rec store samples model out k .passes)
 
   first-passes : passed (frameBegins n side rec store samples .answer .reply) ≡ true
-  first-passes = ap (λ (o : Given). passed (o .answer .reply)) first-is ∙ first-halved n side rec store samples model out k .passes
+  first-passes = ap (λ (o : Effect Answer). passed (o .answer .reply)) first-is ∙ first-halved n side rec store samples model out k .passes
 
   sized : length between ≡ n * SHARE
   sized =
@@ -64,7 +65,7 @@ module _ (n side : ℕ) (rec : Record) (store samples : List Float) (model : Lis
       length-put (shareOf side) store left (omega arith) (kept ∙ whole) ∙ t .1
 
   in-range : inRange next ≡ true
-  in-range = ap (λ (o : Given). inRange (o .answer .rec)) (sym first-is) ∙ range-kept n side rec store (firstHalf samples 22) first-passes .1
+  in-range = ap (λ (o : Effect Answer). inRange (o .answer .rec)) (sym first-is) ∙ range-kept n side rec store (firstHalf samples 22) first-passes .1
 
   -- call 1 is due, where it was let through
   due : rec .due ≡ 1
@@ -82,11 +83,11 @@ module _ (n side : ℕ) (rec : Record) (store samples : List Float) (model : Lis
   second-on sums =
       let t = through n side rec (length store) 1 (k .gated) in
       let e = third-due n side rec (half .reply) (length between) (t .0) sized due in-range in
-      ap (λ (o : Given). passed (o .answer .reply)) (let-in n side next between (secondHalf (logsOf sums) model out) e) ∙ rw (k .room) (second-halved sums .passes)
+      ap (λ (o : Effect Answer). passed (o .answer .reply)) (let-in n side next between (secondHalf (logsOf sums) model out) e) ∙ rw (k .room) (second-halved sums .passes)
 
   second-done : passed (frameEnds n side rec store samples model out .answer .reply) ≡ true
   second-done =
-      ap (λ (o : Given). passed (desk n side (o .answer .rec) (o .store) (secondHalf (logsOf (firstIn (o .written))) model out) .answer .reply)) first-is
+      ap (λ (o : Effect Answer). passed (desk n side (o .answer .rec) (o .store) (secondHalf (logsOf (firstIn (o .written))) model out) .answer .reply)) first-is
       ∙ second-on (firstIn (map all (half .written)))
 
 module _ (n side : ℕ) (rec : Record) (store samples : List Float) (model : List ℕ) (out : ℕ) where
@@ -111,16 +112,16 @@ frame-leaves n side rec store samples model out = go (passed reply) refl
     reply : Reply
     reply = frameReply n side rec (length store) samples model out
 
-    o : Given
+    o : Effect Answer
     o = frame n side rec store samples model out
 
     go : (t : Bool) → passed reply ≡ t → passed (o .answer .reply) ≡ false → o ≡ unchanged rec store (o .answer .reply)
     go true p e =
         let h = two-halves n side rec store samples model out p in
-        absurd (true≢false (sym (ap (λ (g : Given). passed (g .answer .reply)) (h .2) ∙ h .1) ∙ e))
+        absurd (true≢false (sym (ap (λ (g : Effect Answer). passed (g .answer .reply)) (h .2) ∙ h .1) ∙ e))
     go false p e =
         let is = refused-is n side rec store samples model out p in
-        is ∙ ap (λ (g : Given). unchanged rec store (g .answer .reply)) (sym is)
+        is ∙ ap (λ (g : Effect Answer). unchanged rec store (g .answer .reply)) (sym is)
 
 pub take-leaves : TakeLeaves
 unfolding take
@@ -129,7 +130,7 @@ take-leaves n side rec store samples model out answers = go (passed reply) refl
     reply : Reply
     reply = takeReply n side rec store samples model out answers
 
-    given : Bool → Given
+    given : Bool → Effect Answer
     given t = cond t (takenAs reply (takeEnds n side rec store samples model out)) (unchanged rec store reply)
 
     go : (t : Bool) → passed reply ≡ t → passed (given t .answer .reply) ≡ false → given t ≡ unchanged rec store (given t .answer .reply)

@@ -22,6 +22,8 @@ use Rattle.rules.proofs.Refusals.{by-rows}
 use Rattle.samples.specs.Samples.{good}
 use Rattle.logs.specs.Log10.{logsOf}
 use Rattle.model.proofs.Bounds.{refused-in}
+use Rattle.desk.specs.declared.Answer.{Answer}
+use Rattle.frame.specs.Effect.{Effect, refusal}
 use Rattle.frame.specs.declared.Reply.{Reply}
 use Rattle.frame.specs.declared.Reply.the-variants.{Refused}
 use Rattle.frame.specs.Reply.{passed}
@@ -29,7 +31,7 @@ use Rattle.pieces.specs.Pieces.{waitingIn, completes, lastTests}
 use Rattle.pieces.proofs.Tested.{last-tests-by}
 use Rattle.desk.specs.declared.Record.{Record}
 use Rattle.desk.specs.Gate.{PIECE, inRange, gate, shareOf}
-use Rattle.desk.specs.Desk.{Ask, secondHalf, piece, resume, Given, desk}
+use Rattle.desk.specs.Desk.{Ask, secondHalf, piece, resume, desk}
 use Rattle.desk.proofs.Buffers.{buffers}
 use Rattle.desk.proofs.Ranged.{range-kept}
 use Rattle.desk.proofs.Replies.{SmallSeven, small}
@@ -67,17 +69,17 @@ module _ (n side : ℕ) (rec : Record) (store samples : List Float) (model : Lis
     abbrev reply : Reply
     reply = frameReply n side rec (length store) samples model out
 
-    abbrev one : Given
+    abbrev one : Effect Answer
     one = frameBegins n side rec store samples
 
     abbrev asked : Ask
     asked = secondHalf (logsOf (firstIn (one .written))) model out
 
-    abbrev two : Given
+    abbrev two : Effect Answer
     two = frameEnds n side rec store samples model out
 
     -- what holds of its second half, where no test refuses it, and of a refusal, holds of a frame
-    frame-by : (P : Given → Type 0) → (passed reply ≡ true → P two) → (passed reply ≡ false → P (unchanged rec store reply))
+    frame-by : (P : Effect Answer → Type 0) → (passed reply ≡ true → P two) → (passed reply ≡ false → P (unchanged rec store reply))
         → P (frame n side rec store samples model out)
     unfolding frame
     frame-by P two-halves refused = go (passed reply) refl
@@ -135,7 +137,7 @@ module _ (n side : ℕ) where
       taken = takeReply n side rec store samples model out answers
 
       -- what holds of its end, where no test refuses it, and of a refusal, holds of a take
-      pub take-by : (P : Given → Type 0)
+      pub take-by : (P : Effect Answer → Type 0)
           → (passed (takeReply n side rec store samples model out answers) ≡ true
           → P (takenAs (takeReply n side rec store samples model out answers) (takeEnds n side rec store samples model out)))
           → (passed (takeReply n side rec store samples model out answers) ≡ false
