@@ -55,6 +55,23 @@ fn dense(output: &mut [f32], table: &[f32; 201], bytes: &[u8], h: Header, input:
     );
 }
 
+// The layer on the n numbers of `states` from `at` on.
+fn dense_on(
+    output: &mut [f32],
+    table: &[f32; 201],
+    bytes: &[u8],
+    h: Header,
+    states: &[f32],
+    at: usize,
+    n: usize,
+)
+    requires { ⌜ (now table ≡ tansig) × (at + n ≤ length (now states)) × LayerFits Dense h (length (now bytes)) (length (now output)) n ⌝ }
+    ensures { λ _. ⌜ now (output .exit) ≡ denseAt (now (bytes .entry)) h (get (record { at = at; size = n }) (now (states .entry))) ⌝ }
+{
+    let end = at + n;
+    dense(output, table, bytes, h, &states[at..end]);
+}
+
 // The layer whose state stands in `states` from `at` on, a place for each neuron.
 fn gru(states: &mut [f32], at: usize, table: &[f32; 201], bytes: &[u8], h: Header, input: &[f32])
     requires { ⌜ (now table ≡ tansig) × (at + h .neurons ≤ length (now states))
@@ -102,7 +119,7 @@ fn voice_of(
     let n = vad_gru.neurons;
     dense(hidden, table, bytes, input_dense, features);
     gru(states, 0, table, bytes, vad_gru, &hidden[..]);
-    dense(voice, table, bytes, vad_output, &states[0..n]);
+    dense_on(voice, table, bytes, vad_output, &states[..], 0, n);
 }
 
 // noise_gru: its inputs are joined before its state is written.
@@ -166,9 +183,9 @@ fn gains_of(
         × (now (gains .exit) ≡ denseAt (now (bytes .entry)) (m .«denoise_output») (get (stateAt 256 (m .«denoise_gru»)) (now (states .exit)))) ⌝ }
 {
     let denoise_output = m.denoise_output;
-    let end = 256 + m.denoise_gru.neurons;
+    let n = m.denoise_gru.neurons;
     denoise_of(states, table, bytes, m, features);
-    dense(gains, table, bytes, denoise_output, &states[256..end]);
+    dense_on(gains, table, bytes, denoise_output, &states[..], 256, n);
 }
 
 // The six layers, over a lent buffer for the first one's output.
