@@ -3,7 +3,8 @@ use mathlib.Core.List.{List}
 use Prim.Native.Nat.{ℕ, _+_, _-_, _*_, _%_}
 use Rattle.rules.specs.Loop.{loop, range}
 use Rattle.rules.specs.Tab.{tab}
-use Rattle.transforms.specs.Transform.{binOf, partOf}
+use Rattle.rules.specs.Spectrum.{binOf}
+use Rattle.transforms.specs.Transform.{partOf}
 use Rattle.fft.specs.Ops.{Ops, numberAt}
 
 module _ {A : Type 0} (o : Ops A) (c : ℕ → A) where

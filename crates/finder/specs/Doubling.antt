@@ -5,7 +5,7 @@ use Prim.Native.Nat.{ℕ, _+_, _-_, _*_, _/_, min, max}
 use lib.Dec.{ltb, leb, eqb}
 use lib.Ieee.{Float, binary32, lt, le}
 use lib.ListN.{drop}
-use Rattle.rules.specs.F32.{_⊕_, _⊖_, _⊗_, _⊘_, at, natAt, f32, one}
+use Rattle.rules.specs.F32.{_⊕_, _⊖_, _⊗_, _⊘_, at, natAt, f32, one, two}
 use Rattle.rules.specs.Loop.{range, walk, Flow, go, stop, value}
 use Rattle.rules.specs.Tab.{tab}
 use Rattle.numbers.specs.Larger.{larger, smaller}
@@ -15,9 +15,6 @@ use Rattle.finder.specs.Search.{apart, leaning}
 use Rattle.finder.specs.declared.Pitch.{Pitch}
 use Rattle.finder.specs.declared.doubling.Asked.{Asked}
 use Rattle.finder.specs.declared.doubling.Chosen.{Chosen}
-
-abbrev two : Float
-two = f32 0x40000000
 
 -- xy / (1.0 + xx * yy).sqrt()
 abbrev pub pitchGain : Float → Float → Float → Float

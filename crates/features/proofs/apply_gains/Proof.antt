@@ -7,7 +7,7 @@ use Rattle.rules.specs.F32.{_⊗_, at}
 use Rattle.rules.specs.Leaf.{done, refused}
 use Rattle.rules.proofs.Leaves.{leaves}
 use Rattle.rules.proofs.Filling.{Filling, fills, filling-more, filling-ahead}
-use Rattle.bands.specs.Spectrum.{binOf}
+use Rattle.rules.specs.Spectrum.{binOf}
 use Rattle.features.specs.Pitch.{applied}
 use Rattle.features.proofs.apply_gains.Statement.{statement}
 use Rattle.features.proofs.apply_gains.Tie as tie
