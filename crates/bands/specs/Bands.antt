@@ -1,8 +1,8 @@
 -- `compute_band_corr` and `interp_band_gain` of lib.rs.
 use Rattle.rules.specs.Common.{ℕ, _+_, _-_, _*_, List, [], _∷_, map, _≡_, set, pos, Float, binary32, ofInt}
 use Rattle.rules.specs.Loop.{loop}
-use Rattle.rules.specs.F32.{_⊕_, _⊖_, _⊗_, _⊘_, at, natAt, f32, one, zeros}
-use Rattle.bands.specs.Spectrum.{re, im}
+use Rattle.rules.specs.F32.{_⊕_, _⊖_, _⊗_, _⊘_, at, natAt, one, two, zeros}
+use Rattle.rules.specs.Spectrum.{re, im}
 
 -- EBAND_5MS, and its entries << FRAME_SIZE_SHIFT: band i's bins start at edge i
 abbrev eband5ms : List ℕ
@@ -24,7 +24,7 @@ added out i a = set out i (at out i ⊕ a)
 
 -- out[i] *= 2.0
 abbrev pub doubled : ℕ → List Float → List Float
-doubled i out = set out i (at out i ⊗ f32 0x40000000)
+doubled i out = set out i (at out i ⊗ two)
 
 -- frac = j as f32 / band_size as f32, and 1.0 - frac: the shares of bin j of band i that bands i + 1 and i have
 unfoldable pub frac : ℕ → ℕ → Float

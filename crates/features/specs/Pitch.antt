@@ -5,7 +5,7 @@ use Rattle.rules.specs.Tab.{tab}
 use Rattle.numbers.specs.Larger.{clamped}
 use Rattle.numbers.specs.Root.{root}
 use Rattle.bands.specs.Bands.{bandCorr, bandGain}
-use Rattle.bands.specs.Spectrum.{binOf}
+use Rattle.rules.specs.Spectrum.{binOf}
 
 -- if exp > gain { 1.0 } else { exp_sq * (1.0 - g_sq) / (0.001 + g_sq * (1.0 - exp_sq)) }
 unfoldable pub strength : Float → Float → Float

@@ -9,8 +9,9 @@ use native.Mathlib.Omega.{arith}
 use borrow.Author.Tests.{eq-eqb, ne-eqb}
 use lib.Dec.{eqb}
 use Rattle.rules.specs.Loop.{loop}
-use Rattle.rules.proofs.Lists.{tab-same}
-use Rattle.transforms.specs.Transform.{binOf, partOf}
+use Rattle.rules.proofs.Tabs.{tab-same}
+use Rattle.rules.specs.Spectrum.{binOf}
+use Rattle.transforms.specs.Transform.{partOf}
 use Rattle.fft.specs.Ops.{Ops, Complex, numberAt}
 use Rattle.fft.specs.Exact.{Ring, Cosines}
 use Rattle.fft.specs.Fast.{complexAt, pair, packed, transformed, split, binOut, numberOut, forwardOver}

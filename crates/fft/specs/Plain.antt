@@ -2,7 +2,8 @@
 use Rattle.rules.specs.Common.{ℕ, _+_, _-_, _*_, _%_, List}
 use Rattle.rules.specs.Loop.{loop, range}
 use Rattle.rules.specs.Tab.{tab}
-use Rattle.transforms.specs.Transform.{binOf, partOf}
+use Rattle.rules.specs.Spectrum.{binOf}
+use Rattle.transforms.specs.Transform.{partOf}
 use Rattle.fft.specs.Ops.{Ops, numberAt}
 
 module _ {A : Type 0} (o : Ops A) (c : ℕ → A) where

@@ -8,12 +8,12 @@ use native.Mathlib.Nat.{add-mul, mul-add, mul-assoc, mul-left-comm, mul-add-mod-
 use native.Mathlib.Omega.{arith}
 use lib.Dec.{T, eqb, ltb, ltb→lt}
 use lib.Ieee.{Float, binary32, fits}
-use Rattle.rules.specs.F32.{_⊕_, _⊖_, _⊗_, at, f32}
+use Rattle.rules.specs.F32.{_⊕_, _⊖_, _⊗_, at, f32, two}
 use Rattle.rules.specs.Loop.{loop, range}
 use Rattle.rules.proofs.Tests.{at-each}
 use Rattle.rules.proofs.Loops.{more, range-more}
 use Rattle.transforms.specs.Cosine.{cosine}
-use Rattle.transforms.specs.Transform.{wave, forwardStep, re, im, two, inverseStep}
+use Rattle.transforms.specs.Transform.{wave, forwardStep, inverseStep}
 use Rattle.transforms.specs.Parts.{fourOf, both, plusTerm, Lane, ahead, back, index, quarters, sumsOf, plusTerms, Reached, places, binLane, binPart, sampleLane, samplePart, wholePart}
 use Rattle.transforms.specs.declared.lanes.Four.{Four}
 use Rattle.transforms.specs.declared.lanes.Places.{Places}
@@ -132,7 +132,7 @@ bin-stepped x k n j small e =
 module _ (x : List Float) (held : T (fits binary32 (at x 0))) (n : ℕ) (small : n < 124) where
   -- the sums before bin k, with its real part, too
   abbrev halfPart : ℕ → ℕ → ℕ → Float
-  halfPart k s i = samplePart x k s i ⊕ two ⊗ re x k ⊗ wave (index (sampleLane s) i) k 0
+  halfPart k s i = samplePart x k s i ⊕ two ⊗ at x (2 * k - 1) ⊗ wave (index (sampleLane s) i) k 0
 
   sound : (k l i : ℕ) → Sound (samplePart x k l i)
   sound k l i = sound-inverse x (index (sampleLane l) i) k held
@@ -142,19 +142,19 @@ module _ (x : List Float) (held : T (fits binary32 (at x 0))) (n : ℕ) (small :
 
   pub sample-stepped : (k j : ℕ) {s h r : Sums} {c d p q t u : Four} → k % 4 ≡ j → s ≡ sumsOf (samplePart x k) n
       → c ≡ fourOf (λ i. wave i k 0) n → d ≡ fourOf (λ i. wave i k 240) n → 0 < k
-      → p ≡ both _⊗_ (fourOf (λ i. two ⊗ re x k) 0) c → q ≡ both _⊗_ (fourOf (λ i. two ⊗ re x k) 0) d → h ≡ plusTerms sampleLane (λ i. 0) j s p q
-      → t ≡ both _⊗_ (fourOf (λ i. two ⊗ im x k) 0) c → u ≡ both _⊗_ (fourOf (λ i. two ⊗ im x k) 0) d → r ≡ plusTerms sampleLane (λ i. 1) j h t u
+      → p ≡ both _⊗_ (fourOf (λ i. two ⊗ at x (2 * k - 1)) 0) c → q ≡ both _⊗_ (fourOf (λ i. two ⊗ at x (2 * k - 1)) 0) d → h ≡ plusTerms sampleLane (λ i. 0) j s p q
+      → t ≡ both _⊗_ (fourOf (λ i. two ⊗ at x (2 * k)) 0) c → u ≡ both _⊗_ (fourOf (λ i. two ⊗ at x (2 * k)) 0) d → r ≡ plusTerms sampleLane (λ i. 1) j h t u
       → r ≡ sumsOf (samplePart x (k + 1)) n
   sample-stepped k j {h = h} e now read-c read-d o times-c times-d first more-c more-d second =
       let half : h ≡ sumsOf (halfPart k) n =
-      stepped sampleLane (λ i. 0) grounds (two ⊗ re x k) n k j small e (samplePart x k) (halfPart k) (λ l i. sound k l i .is-plain) (λ l i. refl) now read-c read-d times-c times-d first in
-      stepped sampleLane (λ i. 1) grounds (two ⊗ im x k) n k j small e (halfPart k) (samplePart x (k + 1))
-      (λ l i. sound-add (samplePart x k l i) (two ⊗ re x k) (wave (index (sampleLane l) i) k 0) (sound k l i) .is-plain)
+      stepped sampleLane (λ i. 0) grounds (two ⊗ at x (2 * k - 1)) n k j small e (samplePart x k) (halfPart k) (λ l i. sound k l i .is-plain) (λ l i. refl) now read-c read-d times-c times-d first in
+      stepped sampleLane (λ i. 1) grounds (two ⊗ at x (2 * k)) n k j small e (halfPart k) (samplePart x (k + 1))
+      (λ l i. sound-add (samplePart x k l i) (two ⊗ at x (2 * k - 1)) (wave (index (sampleLane l) i) k 0) (sound k l i) .is-plain)
       (λ l i. range-more (inverseStep x (index (sampleLane l) i)) (f32 0 ⊕ at x 0) 1 k o refl refl) half read-c read-d more-c more-d second
 
   pub last-stepped : {s r : Sums} {c d p q : Four} → s ≡ sumsOf (samplePart x 480) n → c ≡ fourOf (λ i. wave i 480 0) n → d ≡ fourOf (λ i. wave i 480 240) n
-      → p ≡ both _⊗_ (fourOf (λ i. re x 480) 0) c → q ≡ both _⊗_ (fourOf (λ i. re x 480) 0) d → r ≡ plusTerms sampleLane (λ i. 0) 0 s p q → r ≡ sumsOf (wholePart x) n
-  last-stepped = stepped sampleLane (λ i. 0) grounds (re x 480) n 480 0 small refl (samplePart x 480) (wholePart x) (λ l i. sound 480 l i .is-plain) (λ l i. refl)
+      → p ≡ both _⊗_ (fourOf (λ i. at x 959) 0) c → q ≡ both _⊗_ (fourOf (λ i. at x 959) 0) d → r ≡ plusTerms sampleLane (λ i. 0) 0 s p q → r ≡ sumsOf (wholePart x) n
+  last-stepped = stepped sampleLane (λ i. 0) grounds (at x 959) n 480 0 small refl (samplePart x 480) (wholePart x) (λ l i. sound 480 l i .is-plain) (λ l i. refl)
 
 -- ---- where a run begins, and further on
 pub forward-start : (x : List Float) (k : ℕ) → sumsOf (λ s i. f32 0) 0 ≡ sumsOf (binPart x 0) k
