@@ -18,7 +18,7 @@ use Rattle.model.specs.declared.Reading.the-variants.{Good, Refused}
 use Rattle.model.specs.Layer.{lengths, sizeOf, Layer, faultsOf, restOf}
 use Rattle.model.specs.Model.{kinds, headersAt, modelOf, countsIn, matchFaults, matchedWith, readLayers, refusingLayers, readOf}
 use Rattle.model.specs.Array.{foundIn, lineIn}
-use Rattle.model.specs.Laws.{LiesIn, Shaped, Largest, RefusedIn}
+use Rattle.model.specs.Laws.{layersRead, LiesIn, Shaped, Largest, RefusedIn}
 use Rattle.model.proofs.Layer.{product}
 use Rattle.model.specs.Writer.{fileOf}
 use Rattle.model.proofs.Inverse.{length-joined, number-small, FitAll}
@@ -70,10 +70,9 @@ largest-file size (l0 ∷ l1 ∷ l2 ∷ l3 ∷ l4 ∷ l5 ∷ l6 ∷ ls) f q = ab
 
 -- no longer file reads
 pub largest : Largest
-largest s m e = of m (rw (← e) at (writes-back s))
-  where
-    of : (m : Model) → Written s m → length s ≤ 157285
-    of m w = rw (w .holds .file) (largest-file (length s) (w .contents) (w .holds .fit) (subst (Shaped (length s)) (sym (w .model)) (shape s m w)))
+largest s m e =
+    let w : Written s m = rw (← e) at (writes-back s) in
+    rw (w .holds .file) (largest-file (length s) (layersRead s) (w .holds .fit) (subst (Shaped (length s)) (sym (w .model)) (shape s m w)))
 
 -- a layer that is found is within 157,285 bytes
 found-small : (s : List ℕ) (j : ℕ) {k : Kind} {h : Header} → At k h ≡ foundIn (readOf s) j → LiesIn 157285 k h

@@ -43,9 +43,8 @@ same-layers ls ls′ h h′ e = sym (layers-read ls h) ∙ ap layersRead e ∙ l
 
 -- what reads is written back
 pub record Written (s : List ℕ) (m : Model) : Type 0 where
-  pub contents : List Layer
-  pub model : modelOf (headersAt 0 contents) ≡ m
-  pub holds : Holds contents s
+  pub model : modelOf (headersAt 0 (layersRead s)) ≡ m
+  pub holds : Holds (layersRead s) s
 
 abbrev pub WrittenIf : List ℕ → Reading → Type 0
 WrittenIf s (Good m) = Written s m
@@ -63,4 +62,4 @@ writes-back s =
     by-layers _ (WrittenIf s) 0 kinds s (λ n i. tt) (λ all.
     by-rows (λ n. Refused n 6) (Good m) (WrittenIf s) (matchFaults (countsIn m) (length (r .1))) (λ n. tt) (λ c.
     let f = row-fits kinds s all in
-    record { contents = r .0; model = refl; holds = record { fit = f .0; match = (refl, c .1); file = f .1 ∙ rw (none-left (r .1) (c .0)) (append-nil (fileOf (r .0))) } }))
+    record { model = refl; holds = record { fit = f .0; match = (refl, c .1); file = f .1 ∙ rw (none-left (r .1) (c .0)) (append-nil (fileOf (r .0))) } }))

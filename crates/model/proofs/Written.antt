@@ -17,7 +17,6 @@ use Rattle.rules.proofs.Refusals.{Clear, clear, none-held}
 use Rattle.rules.proofs.Tests.{neither}
 use Rattle.model.specs.declared.Kind.{Kind}
 use Rattle.model.specs.declared.Kind.the-variants.{Dense, Gru}
-use Rattle.model.specs.declared.Model.{Model}
 use Rattle.model.specs.Layer.{lengths, Layer}
 use Rattle.model.specs.Model.{_≠_, kinds, headersAt, modelOf, countsIn, matchFaults, readOf}
 use Rattle.model.specs.Writer.{layersGiven, fileOf, differ, inLayer, rowFaults, countsGiven, writerFaults, writeModel}
@@ -169,21 +168,11 @@ writes-layers ls out fit match enough =
     (5 when (length s ≠ 18) ∷ writerFaults s ns (length file) (length out)) (none, c)
     ∙ ap (λ (ls : List Layer). 0 leaving fileOf ls ++ drop (length (fileOf ls)) out) back)
 
-contents-are-read : (s : List ℕ) {m : Model} (w : Written s m) → w .contents ≡ layersRead s
-contents-are-read s w = sym (ap layersRead (w .holds .file) ∙ layers-read (w .contents) (w .holds .fit))
-
 pub read-writes : WritesBack
-read-writes s out m e enough = of (rw (← e) at (writes-back s))
-  where
-    of : Written s m → (0 leaving s ++ drop (length s) out) ≡ writeModel (shapesOf (layersRead s)) (arraysIn (layersRead s)) out
-    of w =
-        let ls = w .contents in
-        let fit = w .holds .fit in
-        let read = contents-are-read s w in
-        let long : length (fileOf ls) ≤ length out = rw (← w .holds .file) enough in
-        rw (← w .holds .file, read) at (writes-layers ls out fit (w .holds .match) long)
+read-writes s out m e enough =
+    let w : Written s m = rw (← e) at (writes-back s) in
+    let long : length (fileOf (layersRead s)) ≤ length out = rw (← w .holds .file) enough in
+    rw (← w .holds .file) at (writes-layers (layersRead s) out (w .holds .fit) (w .holds .match) long)
 
 pub arrays-are-read : ArraysAreRead
-arrays-are-read s m e j h which =
-    let w : Written s m = rw (← e) at (writes-back s) in
-    rw (← e, ← contents-are-read s w) (array-is s w j h which)
+arrays-are-read s m e j h which = rw (← e) (array-is s (rw (← e) at (writes-back s)) j h which)
