@@ -9,7 +9,7 @@ use native.Mathlib.Omega.{arith}
 use borrow.Author.Tests.{eq-eqb, ne-eqb}
 use lib.Dec.{eqb}
 use Rattle.rules.specs.Loop.{loop}
-use Rattle.rules.proofs.Tabs.{tab-same}
+use Rattle.rules.proofs.Lists.{tab-same}
 use Rattle.rules.specs.Spectrum.{binOf}
 use Rattle.transforms.specs.Transform.{partOf}
 use Rattle.fft.specs.Ops.{Ops, Complex, numberAt}

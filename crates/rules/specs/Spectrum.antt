@@ -1,9 +1,5 @@
 -- A spectrum is 961 numbers: bin 0, which is real, then the real and the imaginary part of bins 1 to 480.
-use mathlib.Core.List.{List}
-use mathlib.Core.Bool.{cond}
-use Prim.Native.Nat.{ℕ, _+_, _-_, _*_, _/_}
-use lib.Dec.{eqb}
-use lib.Ieee.{Float}
+use Rattle.rules.specs.Common.{ℕ, _+_, _-_, _*_, _/_, cond, List, eqb, Float}
 use Rattle.rules.specs.F32.{at, f32}
 
 abbrev pub re : List Float → ℕ → Float

@@ -5,8 +5,8 @@ use native.Mathlib.Omega.{arith}
 use lib.Ieee.{nan}
 use Rattle.rules.specs.F32.{_⊗_, at}
 use Rattle.rules.specs.Leaf.{done, refused}
-use Rattle.rules.proofs.Leaves.{leaves}
-use Rattle.rules.proofs.Filling.{Filling, fills, filling-more, filling-ahead}
+use Rattle.rules.proofs.Refusals.{leaves}
+use Rattle.rules.proofs.Lists.{Filling, fills, filling-more, filling-ahead}
 use Rattle.rules.specs.Spectrum.{binOf}
 use Rattle.features.specs.Pitch.{applied}
 use Rattle.features.proofs.apply_gains.Statement.{statement}

@@ -6,7 +6,7 @@ use native.Mathlib.Omega.{arith}
 use lib.Ieee.{Float}
 use lib.ListN.{length, length-set}
 use Rattle.rules.specs.Spectrum.{binOf}
-use Rattle.rules.proofs.Filling.{Filling, fills, filling-begin, filling-more, filling-ended}
+use Rattle.rules.proofs.Lists.{Filling, fills, filling-begin, filling-more, filling-ended}
 use Rattle.transforms.specs.Transform.{bin, partOf, forwardOf}
 use Rattle.transforms.specs.Parts.{Keeps, binPart}
 use Rattle.transforms.proofs.Stored.{kept-at}
