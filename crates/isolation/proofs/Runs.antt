@@ -17,7 +17,7 @@ use Rattle.desk.specs.declared.Record.{Record}
 use Rattle.desk.specs.Desk.{Ask, desk}
 use Rattle.desk.specs.Gate.{wayNumber}
 use Rattle.desk.specs.Surface.{numbersOf, wayIn, recordIn, handedBack, hosted}
-use Rattle.desk.proofs.Settled.{refused-keeps}
+use Rattle.desk.proofs.Kept.{refused-keeps}
 use Rattle.isolation.specs.Run.{Kind, On, on, State, recordAt, after, ended, desks, Made, expand, Expands}
 
 pub joined : {C O : Type 0} (serve : Kind C O) (n : ℕ) (first rest : List (On C)) (st : State)

@@ -32,7 +32,7 @@ use Rattle.desk.specs.Desk.{Ask, piece, resume, desk}
 use Rattle.desk.specs.Surface.{heardOf, besides, hosted}
 use Rattle.desk.proofs.Apart.{placed, its-own, own-share, other-share, same-length}
 use Rattle.desk.proofs.Ranged.{open-range}
-use Rattle.desk.proofs.Settled.{refused-keeps}
+use Rattle.desk.proofs.Kept.{refused-keeps}
 use Rattle.desk.proofs.Turned.{none}
 use Rattle.dictation.specs.Dictation.{Lent, Told, Dictated, dictate, dictatedOn}
 use Rattle.dictation.proofs.Joins.{first, second, shareAfter, recAfter, dictate-more, dictate-none, after-length, share-size, washed, then, again, rejoin}

@@ -35,7 +35,7 @@ use Rattle.desk.specs.Desk.{Ask, secondHalf, piece, resume, desk}
 use Rattle.desk.proofs.Buffers.{buffers}
 use Rattle.desk.proofs.Ranged.{range-kept}
 use Rattle.desk.proofs.Replies.{SmallSeven, small}
-use Rattle.desk.proofs.Settled.{refused-keeps}
+use Rattle.desk.proofs.Kept.{refused-keeps}
 use Rattle.desk.proofs.Turned.{none}
 use Rattle.whole.specs.Whole.{unchanged, tested, frameReply, frameBegins, frameEnds, frame, takeRows, takeReply, Taking, takeStep, takeFrames, takeBegins, takeEnds, takenAs, take}
 use Rattle.whole.proofs.Accepted.{frame-accepted, take-accepted}
