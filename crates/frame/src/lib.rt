@@ -130,7 +130,7 @@ pub fn call2(
     let back = lag.0;
     let from = 768 - back;
     bands::apply_window(window, &share[from..from + 960]);
-    lagged::note(share, spectrum, back, sums);
+    lagged::note(share, spectrum, Lag(back), sums);
     Reply::Done
 }
 

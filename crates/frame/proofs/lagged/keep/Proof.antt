@@ -20,7 +20,7 @@ returns c =
     let k = c .before .before .before in
     let a = k .before .before .before .before .args in
     let share = now (a .share) in
-    let lag = ofInt binary32 (pos (a .lag)) ∷ [] in
+    let lag = ofInt binary32 (pos (a .lag .0)) ∷ [] in
     let same = length-get keptEx share (omega arith) in
     let ex = fitted (k .copy .ensures) (omega arith) in
     put-sets (put keptEx share (k .copy .last .0)) lag 3191 (omega (arith, length-put keptEx share (k .copy .last .0) (omega arith) (k .copy .kept .0 ∙ same)))
