@@ -2,7 +2,7 @@
 ghost use mathlib.Core.Path.{_≡_};
 ghost use mathlib.Core.List.{_++_};
 ghost use Prim.Native.Nat.{_+_, _≤_};
-ghost use lib.ListN.{length, take, drop};
+ghost use lib.ListN.{length, take};
 ghost use Rattle.numbers.specs.Tansig.{tansig};
 ghost use Rattle.model.specs.declared.Kind.the-variants.{Dense, Gru};
 ghost use Rattle.model.specs.declared.Reading.the-variants.{Good};

@@ -1,6 +1,5 @@
 -- `network::six::frame` meets its contract. Assumes nothing.
 use borrow.Author.Needs.{needs}
-use mathlib.Core.Path.{_≡_}
 use native.Mathlib.Omega.{arith}
 use lib.ListN.{length-take}
 use Rattle.network.proofs.Fitting.{few}
