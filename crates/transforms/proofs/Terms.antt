@@ -63,7 +63,6 @@ module _ (v : Float) (k n : ℕ) where
   -- w quarters on is where g's term is
   term-right : (w : ℕ) (f g : ℕ → Float) (place : ℕ → ℕ) → ((i : ℕ) → T (plain (f i))) → ((i : ℕ) → i ≤ k + 3 → (i * n + 240 * w) % 960 ≡ place i % 960)
       → ((i : ℕ) → i ≤ k + 3 → f i ⊕ v ⊗ at cosine (place i % 960) ≡ g i) → plusTerm w (fourOf f k) (products 0) (products 240) ≡ fourOf g k
-  unfolding both
   term-right w f g place plains there terms = go (w % 4) refl
     where
       go : (t : ℕ) → w % 4 ≡ t → plusTerm w (fourOf f k) (products 0) (products 240) ≡ fourOf g k
