@@ -23,7 +23,6 @@ unfolding places
 small m k n e = rw e (record { sa = omega arith; sb = omega arith; sc = omega arith; sd = omega arith })
 
 reading : (table : List Float) (k n quarter : ℕ) → table ≡ extended cosine → quarter ≤ 240 → at table ((k * n) % 960 + quarter) ≡ wave k n quarter
-unfolding extended
 reading table k n quarter e h =
     let place : ((k * n) % 960 + quarter) % 960 ≡ (k * n + quarter) % 960 = omega arith in
     rw e (getD-tab 1200 (λ i. at cosine (i % 960)) ((k * n) % 960 + quarter) nan (omega arith) ∙ ap (at cosine) place)

@@ -1,12 +1,12 @@
 -- One law over the lane: what the code adds to a sum or takes from it is the sum's own next term. A lane of i quarters is i * n quarters on at term n, so that only the
 -- remainder by 4 counts. Then a step of the eight sums, forward and inverse. Assumes nothing.
-use mathlib.Core.Path.{_≡_, refl, _∙_}
-use mathlib.Core.Bool.{Bool, true, cond}
+use mathlib.Core.Path.{_≡_, refl, sym, _∙_}
+use mathlib.Core.Bool.{Bool, true}
 use mathlib.Core.List.{List}
 use Prim.Native.Nat.{ℕ, zero, suc, _+_, _-_, _*_, _/_, _%_, _≤_, _<_}
 use native.Mathlib.Nat.{add-mul, mul-add, mul-assoc, mul-left-comm, mul-add-mod-self-left}
 use native.Mathlib.Omega.{arith}
-use lib.Dec.{T, eqb, ltb, ltb→lt}
+use lib.Dec.{T, ltb, ltb→lt}
 use lib.Ieee.{Float, binary32, fits}
 use Rattle.rules.specs.F32.{_⊕_, _⊖_, _⊗_, at, f32, two}
 use Rattle.rules.specs.Loop.{loop, range}
@@ -63,17 +63,13 @@ module _ (v : Float) (k n : ℕ) where
   -- w quarters on is where g's term is
   term-right : (w : ℕ) (f g : ℕ → Float) (place : ℕ → ℕ) → ((i : ℕ) → T (plain (f i))) → ((i : ℕ) → i ≤ k + 3 → (i * n + 240 * w) % 960 ≡ place i % 960)
       → ((i : ℕ) → i ≤ k + 3 → f i ⊕ v ⊗ at cosine (place i % 960) ≡ g i) → plusTerm w (fourOf f k) (products 0) (products 240) ≡ fourOf g k
-  unfolding both plusTerm
   term-right w f g place plains there terms = go (w % 4) refl
     where
-      go : (t : ℕ) → w % 4 ≡ t
-          → cond (eqb t 0) (both _⊕_ (fourOf f k) (products 0))
-          (cond (eqb t 1) (both _⊕_ (fourOf f k) (products 240)) (cond (eqb t 2) (both _⊖_ (fourOf f k) (products 0)) (both _⊖_ (fourOf f k) (products 240))))
-          ≡ fourOf g k
-      go zero e = four-same _ g k (λ i b. same (f i) v (i * n + 0) (place i) (omega (arith, there i b)) ∙ terms i b)
-      go (suc zero) e = four-same _ g k (λ i b. same (f i) v (i * n + 240) (place i) (omega (arith, there i b)) ∙ terms i b)
-      go (suc (suc zero)) e = four-same _ g k (λ i b. half (f i) v (i * n + 0) (place i) (plains i) (omega (arith, there i b)) ∙ terms i b)
-      go (suc (suc (suc zero))) e = four-same _ g k (λ i b. half (f i) v (i * n + 240) (place i) (plains i) (omega (arith, there i b)) ∙ terms i b)
+      go : (t : ℕ) → w % 4 ≡ t → plusTerm w (fourOf f k) (products 0) (products 240) ≡ fourOf g k
+      go zero e = sym (none-on w _ _ _ e) ∙ four-same _ g k (λ i b. same (f i) v (i * n + 0) (place i) (omega (arith, there i b)) ∙ terms i b)
+      go (suc zero) e = sym (one-on w _ _ _ e) ∙ four-same _ g k (λ i b. same (f i) v (i * n + 240) (place i) (omega (arith, there i b)) ∙ terms i b)
+      go (suc (suc zero)) e = sym (two-on w _ _ _ e) ∙ four-same _ g k (λ i b. half (f i) v (i * n + 0) (place i) (plains i) (omega (arith, there i b)) ∙ terms i b)
+      go (suc (suc (suc zero))) e = sym (three-on w _ _ _ e) ∙ four-same _ g k (λ i b. half (f i) v (i * n + 240) (place i) (plains i) (omega (arith, there i b)) ∙ terms i b)
       go (suc (suc (suc (suc t)))) e = absurd (omega arith)
 
 -- ---- lanes that don't begin before index 0

@@ -15,7 +15,7 @@ abbrev pub fourOf : (ℕ → Float) → ℕ → Four
 fourOf f k = record { a = f k; b = f (k + 1); c = f (k + 2); d = f (k + 3) }
 
 -- an operation on each
-unfoldable pub both : (Float → Float → Float) → Four → Four → Four
+abbrev pub both : (Float → Float → Float) → Four → Four → Four
 both op x y = record { a = op (x .a) (y .a); b = op (x .b) (y .b); c = op (x .c) (y .c); d = op (x .d) (y .d) }
 
 -- the places of k * n to (k + 3) * n in the turn
@@ -23,7 +23,7 @@ unfoldable pub places : ℕ → ℕ → Places
 places k n = record { a = (k * n) % 960; b = ((k + 1) * n) % 960; c = ((k + 2) * n) % 960; d = ((k + 3) * n) % 960 }
 
 -- the cosines of a turn and a quarter, so that the place a quarter on needs no remainder
-unfoldable pub extended : List Float → List Float
+abbrev pub extended : List Float → List Float
 extended c = tab 1200 (λ i. at c (i % 960))
 
 -- the next term of the sums s, w quarters on: by p, the products at the place itself, and q, those a quarter on

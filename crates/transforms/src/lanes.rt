@@ -180,10 +180,11 @@ pub(crate) fn extend(table: &mut [f32], cosine: &[f32; 960])
     }
 }
 
-// The next four of any numbers f.
+// Behind the first numbers of any list, its next four.
 fn put_four(parts: &mut [f32], at: usize, v: Four)
     requires { ⌜ (length (now parts) ≡ 992) × (at + 4 ≤ 992) ⌝ }
-    ensures { λ _. ⌜ ((f : ℕ → Float) → v ≡ fourOf f at → take at (now (parts .entry)) ≡ tab at f → take (at + 4) (now (parts .exit)) ≡ tab (at + 4) f) ⌝ }
+    ensures { λ _. ⌜ ((f : ℕ → Float) → v ≡ fourOf f at
+        → take at (now (parts .entry)) ≡ tab at f → take (at + 4) (now (parts .exit)) ≡ tab (at + 4) f) ⌝ }
 {
     parts[at] = v.a;
     parts[at + 1] = v.b;
@@ -191,10 +192,11 @@ fn put_four(parts: &mut [f32], at: usize, v: Four)
     parts[at + 3] = v.d;
 }
 
-// The next eight sums of four neighbours, of any sums f.
+// Behind the sums of the neighbours before them, those of the next four.
 pub(crate) fn put(parts: &mut [f32], at: usize, s: Sums)
     requires { ⌜ (length (now parts) ≡ 992) × (at + 32 ≤ 992) ⌝ }
-    ensures { λ _. ⌜ ((f : ℕ → ℕ → Float) (g : ℕ) → at ≡ 32 * g → s ≡ sumsOf f (4 * g) → Keeps f at (now (parts .entry)) → Keeps f (at + 32) (now (parts .exit))) ⌝ }
+    ensures { λ _. ⌜ ((f : ℕ → ℕ → Float) (g : ℕ) → at ≡ 32 * g → s ≡ sumsOf f (4 * g)
+        → Keeps f at (now (parts .entry)) → Keeps f (at + 32) (now (parts .exit))) ⌝ }
 {
     let b = at + 4;
     let c = b + 4;

@@ -4,8 +4,7 @@ use Prim.Native.Nat.{_≤_, _-_, _%_}
 use native.Mathlib.Omega.{arith}
 use lib.Ieee.{nan}
 use lib.ListN.{length, getD}
-use Rattle.rules.proofs.Lists.{Filling, fills, filling-begin, filling-more, filling-ended}
-use Rattle.transforms.specs.Parts.{extended}
+use Rattle.rules.proofs.Filling.{Filling, fills, filling-begin, filling-more, filling-ended}
 use Rattle.transforms.proofs.lanes.extend.Statement.{statement}
 use Rattle.transforms.proofs.lanes.extend.Tie as tie
 
@@ -14,10 +13,6 @@ Inv-loop table₀ cosine i₀ table i = (i ≤ 1200) × (length table₀ ≡ 120
 
 abbrev μ-loop : tie.MeasureT-loop
 μ-loop table₀ cosine i₀ table i = 1200 - i
-
-returns : tie.Need-returns Inv-loop μ-loop
-unfolding extended
-returns c = filling-ended _ _ _ 1200 (omega arith) (omega arith) (c .before .loop .inv .1) (c .before .loop .inv .2)
 
 pub extend-spec : {M : Type 1} → statement M
 extend-spec =
@@ -34,4 +29,4 @@ extend-spec =
     (λ c. search fills)  -- loop-less
     (λ c. let l = c .before .before .loop in (omega arith, l .inv .1, filling-more _ _ _ (l .inv .2) (omega arith) refl))  -- loop-again
     (λ c. search fills)  -- same-length
-    returns)
+    (λ c. filling-ended _ _ _ 1200 (omega arith) (omega arith) (c .before .loop .inv .1) (c .before .loop .inv .2)))  -- returns
