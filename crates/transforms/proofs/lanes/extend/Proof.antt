@@ -4,7 +4,7 @@ use Prim.Native.Nat.{_≤_, _-_, _%_}
 use native.Mathlib.Omega.{arith}
 use lib.Ieee.{nan}
 use lib.ListN.{length, getD}
-use Rattle.rules.proofs.Filling.{Filling, fills, filling-begin, filling-more, filling-ended}
+use Rattle.rules.proofs.Lists.{Filling, fills, filling-begin, filling-more, filling-ended}
 use Rattle.transforms.proofs.lanes.extend.Statement.{statement}
 use Rattle.transforms.proofs.lanes.extend.Tie as tie
 
