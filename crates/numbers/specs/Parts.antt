@@ -1,6 +1,6 @@
 -- What the private functions promise and ask for.
-use Rattle.rules.specs.Common.{ℕ, _+_, _*_, _≤_, Bool, true, false, cond, List, _≡_, pos, Float, binary32, binary64, nan, inf, fin, ofInt, ofBits, lt}
-use Rattle.rules.specs.Common.{neg, isNan, up, down}
+use Rattle.rules.specs.Common.{ℕ, _+_, _*_, _≤_, Bool, true, false, cond, List, _≡_, pos, Float, binary32, binary64, nan, inf, fin, ofInt, lt, neg}
+use Rattle.rules.specs.Common.{isNan, up, down, ofBits}
 use lib.Ieee.{Format, hid, ones, top}
 use Rattle.rules.specs.F32.{f32, one, at, _⊖_, _⊗_}
 use Rattle.numbers.specs.Activations.{eight, magnitude, signOf, place, curve}
