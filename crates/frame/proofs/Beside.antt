@@ -15,7 +15,7 @@ use Rattle.bands.proofs.Results.{length-corr}
 use Rattle.model.specs.Model.{readOf}
 use Rattle.model.specs.declared.Model.{Model}
 use Rattle.model.specs.declared.Reading.the-variants.{Good}
-use Rattle.network.specs.Compute.{Computing, layersInPlace}
+use Rattle.network.specs.Compute.{Outcome, layersInPlace}
 use Rattle.network.specs.Parts.{Lengths}
 use Rattle.network.proofs.Callers.{computed-done, kept}
 use Rattle.features.specs.Features.{withCepstrum}
@@ -92,9 +92,9 @@ module _ (q : Place) where
       let done = computed-done g a v n d bytes features fit {m = m} {left = layersInPlace bytes m v n d features} good refl in
       let k = kept g a v n d bytes features in
       states-beside share _ _ _ apart whole
-      (ap (λ (o : Computing). length (o .left .vad)) done ∙ k .first ∙ lv)
-      (ap (λ (o : Computing). length (o .left .noise)) done ∙ k .second ∙ ln)
-      (ap (λ (o : Computing). length (o .left .denoise)) done ∙ k .third ∙ ld)
+      (ap (λ (o : Outcome). length (o .layers .vad)) done ∙ k .first ∙ lv)
+      (ap (λ (o : Outcome). length (o .layers .noise)) done ∙ k .second ∙ ln)
+      (ap (λ (o : Outcome). length (o .layers .denoise)) done ∙ k .third ∙ ld)
 
   -- before the gains are remembered
   pub sensed-beside : (share : List Float) (index : ℕ) (p ep logs : List Float) (bytes : List ℕ) (m : Model)

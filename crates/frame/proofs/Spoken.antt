@@ -10,7 +10,7 @@ use Rattle.rules.specs.Place.{Place, get, put}
 use Rattle.rules.proofs.Places.{length-get, get-get, put-next}
 use Rattle.bands.specs.Bands.{bandGain}
 use Rattle.model.specs.declared.Model.{Model}
-use Rattle.network.specs.Compute.{layersInPlace, vadIn, noiseIn, denoiseIn, leftOn}
+use Rattle.network.specs.Compute.{layersInPlace, vadIn, noiseIn, denoiseIn, layeredOn}
 use Rattle.network.proofs.States.{fit-on, side-by-side, vadPlace, noisePlace, denoisePlace, vad-in, noise-in, denoise-in}
 use Rattle.features.specs.Pitch.{pitchFiltered, applied}
 use Rattle.frame.specs.Share.{PART, keptX, keptEx, lastg, vadState, noiseState, denoiseState}
@@ -29,7 +29,7 @@ next a k j xs ys zs ly lz h = rw (← ly, ← lz, ← length-append ys zs) (put-
 module _ (share : List Float) (bytes : List ℕ) (m : Model) where
   -- the states were lent as one, and came back as s
   pub thought : (features s : List Float) {gains voice : List Float} → length share ≡ PART → length s ≡ 384
-      → leftOn gains voice s ≡ layersInPlace bytes m (vadIn (get states share)) (noiseIn (get states share)) (denoiseIn (get states share)) features
+      → layeredOn gains voice s ≡ layersInPlace bytes m (vadIn (get states share)) (noiseIn (get states share)) (denoiseIn (get states share)) features
       → rnnAs (put states share s) gains (at voice 0) ≡ rnnOf share features bytes m
   unfolding rnnOf
   thought features s whole size left =

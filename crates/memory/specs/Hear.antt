@@ -34,7 +34,7 @@ nextPlace index = cond (ltb index 7) (index + 1) 0
 unfoldable pub hear : Recalled → HeardFrame → Recalled
 hear m f =
     let features = featuresOf (f .correlations) (f .lag) (f .logs) (m .cepstra) (m .index) in
-    let rnn = computed (zeros 22) (zeros 1) (m .vad) (m .noise) (m .denoise) (f .model) features .left in
+    let rnn = computed (zeros 22) (zeros 1) (m .vad) (m .noise) (m .denoise) (f .model) features .layers in
     record {
       gains = gained (rnn .gains) (m .gains);
       cepstra = withCepstrum (f .logs) (m .cepstra) (m .index);

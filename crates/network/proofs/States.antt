@@ -17,7 +17,7 @@ use Rattle.rules.specs.Place.{Place, get, put}
 use Rattle.rules.proofs.Places.{Apart, length-get, length-put, get-put, get-put-apart, put-in}
 use Rattle.model.specs.declared.Model.{Model}
 use Rattle.network.specs.declared.Computed.{Computed}
-use Rattle.network.specs.Compute.{denseAt, gruAt, sixLayers, layersInPlace, vadIn, noiseIn, denoiseIn, leftOn, Computing, computing, computingOn}
+use Rattle.network.specs.Compute.{denseAt, gruAt, sixLayers, layersInPlace, vadIn, noiseIn, denoiseIn, layeredOn, Outcome, outcomeOf, outcomeOn}
 use Rattle.network.specs.Parts.{stateAt, Lengths}
 use Rattle.network.proofs.Lengths.{length-gruAt}
 
@@ -62,8 +62,8 @@ joined-in vad noise denoise s lv ln ld whole e =
       ap (drop 256) all ∙ drop-at (vad ++ noise) denoise 256 two,
     )
 
-pub parted : (s : List Float) {answer : Computed} {gains voice vad noise denoise : List Float} {o : Computing} → length s ≡ 384
-    → vad ≡ part 0 128 s → noise ≡ part 128 256 s → denoise ≡ part 256 384 s → computingOn answer gains voice s ≡ o → computing answer gains voice vad noise denoise ≡ o
+pub parted : (s : List Float) {answer : Computed} {gains voice vad noise denoise : List Float} {o : Outcome} → length s ≡ 384
+    → vad ≡ part 0 128 s → noise ≡ part 128 256 s → denoise ≡ part 256 384 s → outcomeOn answer gains voice s ≡ o → outcomeOf answer gains voice vad noise denoise ≡ o
 unfolding vadIn noiseIn denoiseIn
 parted s whole ev en ed e = rw (ev, en, ed, take-all 128 (drop 256 s) (simp length-drop (omega arith))) e
 
@@ -190,7 +190,7 @@ module _ (bytes : List ℕ) (m : Model) (s features : List Float) (whole : lengt
       → s₂ ≡ put noise s₁ (gruAt bytes (m .«noise_gru») (hidden ++ get vad s₁ ++ features) (get noise s₁))
       → s₃ ≡ put denoise s₂ (gruAt bytes (m .«denoise_gru») (get vad s₂ ++ get noise s₂ ++ features) (get denoise s₂))
       → gains ≡ denseAt bytes (m .«denoise_output») (get denoise s₃)
-      → leftOn gains voice s₃ ≡ layersInPlace bytes m (vadIn s) (noiseIn s) (denoiseIn s) features
+      → layeredOn gains voice s₃ ≡ layersInPlace bytes m (vadIn s) (noiseIn s) (denoiseIn s) features
   unfolding layersInPlace sixLayers
   six-joined {hidden} {voice} {gains} {s₁} {s₂} {s₃} eh e1 ev e2 e3 eg =
       let v = gruAt bytes (m .«vad_gru») hidden (get vad s) in

@@ -3,7 +3,7 @@
 ghost use mathlib.Core.Path.{_≡_};
 ghost use lib.ListN.{length};
 ghost use Rattle.rules.specs.Leaf.{Leaf, _leaving_};
-ghost use Rattle.network.specs.Compute.{computing, computingOn, computed, vadIn, noiseIn, denoiseIn};
+ghost use Rattle.network.specs.Compute.{outcomeOf, outcomeOn, computed, vadIn, noiseIn, denoiseIn};
 ghost use Rattle.network.specs.Layers.{denseOf, DenseFits, gruOf, GruFits};
 
 mod layers;
@@ -112,7 +112,7 @@ pub fn compute_on(
     model: &[u8],
     features: &[f32],
 ) -> Computed
-    ensures { λ r. ⌜ computingOn r (now (gains .exit)) (now (voice .exit)) (now (states .exit))
+    ensures { λ r. ⌜ outcomeOn r (now (gains .exit)) (now (voice .exit)) (now (states .exit))
         ≡ computed (now (gains .entry)) (now (voice .entry)) (vadIn (now (states .entry))) (noiseIn (now (states .entry)))
         (denoiseIn (now (states .entry))) (now (model .entry)) (now (features .entry)) ⌝ }
 {
@@ -147,7 +147,7 @@ pub fn compute(
     model: &[u8],
     features: &[f32],
 ) -> Computed
-    ensures { λ r. ⌜ computing r (now (gains .exit)) (now (voice .exit)) (now (vad .exit)) (now (noise .exit)) (now (denoise .exit))
+    ensures { λ r. ⌜ outcomeOf r (now (gains .exit)) (now (voice .exit)) (now (vad .exit)) (now (noise .exit)) (now (denoise .exit))
         ≡ computed (now (gains .entry)) (now (voice .entry)) (now (vad .entry)) (now (noise .entry)) (now (denoise .entry))
         (now (model .entry)) (now (features .entry)) ⌝ }
 {

@@ -8,7 +8,7 @@ ghost use Rattle.model.specs.declared.Kind.the-variants.{Dense, Gru};
 ghost use Rattle.model.specs.declared.Reading.the-variants.{Good};
 ghost use Rattle.model.specs.Model.{readOf};
 ghost use Rattle.rules.specs.Place.{get, put};
-ghost use Rattle.network.specs.Compute.{denseAt, gruAt, leftOn, layersInPlace, vadIn, noiseIn, denoiseIn};
+ghost use Rattle.network.specs.Compute.{denseAt, gruAt, layeredOn, layersInPlace, vadIn, noiseIn, denoiseIn};
 ghost use Rattle.network.specs.Parts.{stateAt, LayerFits, VoiceFits, DenoiseFits};
 use crate::layers;
 use model::Header;
@@ -200,7 +200,7 @@ fn frame_in(
 )
     requires { ⌜ (readOf (now bytes) ≡ Good m) × (length (now hidden) ≡ m .«input_dense» .neurons)
         × (length (now gains) ≡ 22) × (length (now voice) ≡ 1) × (length (now states) ≡ 384) × (length (now features) ≡ 42) ⌝ }
-    ensures { λ _. ⌜ leftOn (now (gains .exit)) (now (voice .exit)) (now (states .exit))
+    ensures { λ _. ⌜ layeredOn (now (gains .exit)) (now (voice .exit)) (now (states .exit))
         ≡ layersInPlace (now (bytes .entry)) m (vadIn (now (states .entry))) (noiseIn (now (states .entry)))
         (denoiseIn (now (states .entry))) (now (features .entry)) ⌝ }
 {
@@ -221,7 +221,7 @@ pub(crate) fn frame(
 )
     requires { ⌜ (readOf (now bytes) ≡ Good m)
         × (length (now gains) ≡ 22) × (length (now voice) ≡ 1) × (length (now states) ≡ 384) × (length (now features) ≡ 42) ⌝ }
-    ensures { λ _. ⌜ leftOn (now (gains .exit)) (now (voice .exit)) (now (states .exit))
+    ensures { λ _. ⌜ layeredOn (now (gains .exit)) (now (voice .exit)) (now (states .exit))
         ≡ layersInPlace (now (bytes .entry)) m (vadIn (now (states .entry))) (noiseIn (now (states .entry)))
         (denoiseIn (now (states .entry))) (now (features .entry)) ⌝ }
 {

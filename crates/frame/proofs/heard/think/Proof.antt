@@ -5,7 +5,7 @@ use borrow.Author.Needs.{needs}
 use denote.Ref.{now}
 use Rattle.rules.specs.Place.{get, put}
 use Rattle.rules.proofs.Places.{length-get}
-use Rattle.network.specs.Compute.{Computing}
+use Rattle.network.specs.Compute.{Outcome}
 use Rattle.network.proofs.Callers.{computed-done}
 use Rattle.network.proofs.States.{fit-on}
 use Rattle.frame.proofs.Spoken.{states, thought}
@@ -22,7 +22,7 @@ returns c m good =
     let pre = start .pre in
     let lent = length-get states share (omega (arith, pre .0)) in
     let done = n .compute-on .ensures ∙ sym (computed-done _ _ _ _ _ _ _ (fit-on (get states share) (pre .1) refl lent (pre .2)) good refl) in
-    thought share (now (a .model)) m (now (a .features)) (n .compute-on .last .1 .1 .0) (pre .0) (n .compute-on .kept .1 .1 .0 ∙ lent) (ap (λ (o : Computing). o .left) done)
+    thought share (now (a .model)) m (now (a .features)) (n .compute-on .last .1 .1 .0) (pre .0) (n .compute-on .kept .1 .1 .0 ∙ lent) (ap (λ (o : Outcome). o .layers) done)
 
 pub think-spec : {M : Type 1} → statement M
 think-spec =
