@@ -18,10 +18,10 @@ use Rattle.rules.specs.F32.{at, part}
 use Rattle.rules.specs.Place.{put}
 use Rattle.rules.specs.Refusals.{_when_, refusing}
 use Rattle.rules.specs.Tab.{tab}
-use Rattle.rules.specs.Written.{from, over, firstIn}
+use Rattle.rules.specs.Written.{from, over}
 use Rattle.rules.proofs.Lists.{tab-same}
 use Rattle.rules.proofs.Tests.{answered-no, answered-yes, both}
-use Rattle.frame.specs.Effect.{refusal, Worked}
+use Rattle.frame.specs.Effect.{Worked}
 use Rattle.frame.specs.declared.Reply.the-variants.{Refused}
 use Rattle.frame.specs.Reply.{passed}
 use Rattle.pieces.specs.Pieces.{completes, pieceFits}
@@ -39,7 +39,7 @@ use Rattle.feed.proofs.Blocks.{block-fits}
 
 -- ---- a take
 
--- what stands at the front of a firstIn (to .written) which these were written
+-- what stands at the front of a buffer to which these were written
 module _ (k frame : ℕ) (xs held : List Float) {held′ : List Float} (o : held′ ≡ over (from 0 xs) held) where
   front-bytes : length xs ≡ 480 * k → packed (part 0 (480 * k) held′) ≡ packed xs
   unfolding put
@@ -70,7 +70,7 @@ module _ (n side : ℕ) (rec : Record) (store samples : List Float) (model : Lis
         let l : told′ ≡ over (from 0 (t .answers)) told = ap (λ (xs : List (List Float)). getD xs 1 []) (v .writes) in
         record {
           answered = v .answers;
-          stores = v .stores;
+          stores = v .keeps;
           cleans = h .0 ∙ ap (λ (x : List ℕ). atFront x cleaned) (front-bytes k (rec .frame) (t .out) out o (f .0 ∙ ap (λ (m : ℕ). 480 * m) (sym count)));
           notes = h .1 ∙ ap (λ (x : List ℕ). atFront x entries) (front-entries k (rec .frame) (t .answers) told l (f .1 ∙ ap (λ (m : ℕ). 3 * m) (sym count)));
           tells = front-answers k (rec .frame) (t .answers) told l;
@@ -84,7 +84,7 @@ module _ (n side : ℕ) (rec : Record) (store samples : List Float) (model : Lis
         take-by n side samples model rec store (length out) (length told)
         (λ o. Worked o a s (out ∷ told ∷ []) (out′ ∷ told′ ∷ []) → FedTo (fedBy (rec .frame) o) a s cleaned cleaned entries entries told told′)
         (λ q v. absurd (false≢true (sym p ∙ e ∙ ap (λ (x : Answer). passed (x .reply)) (v .answers) ∙ q)))
-        (λ q v. record { answered = v .answers; stores = v .stores; cleans = refl; notes = refl; tells = ap (λ (xs : List (List Float)). getD xs 1 []) (v .writes) })
+        (λ q v. record { answered = v .answers; stores = v .keeps; cleans = refl; notes = refl; tells = ap (λ (xs : List (List Float)). getD xs 1 []) (v .writes) })
         w
 
 -- ---- the numbers

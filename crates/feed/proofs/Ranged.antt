@@ -13,7 +13,6 @@ use lib.Ieee.{Float, eq}
 use Rattle.rules.specs.F32.{f32}
 use Rattle.rules.specs.Tab.{tab}
 use Rattle.rules.proofs.Refusals.{by-rows}
-use Rattle.frame.specs.Effect.{refusal}
 use Rattle.frame.specs.declared.Reply.the-variants.{Refused}
 use Rattle.frame.specs.Reply.{passed}
 use Rattle.desk.specs.declared.Answer.{Answer}
@@ -24,7 +23,7 @@ use Rattle.whole.specs.Whole.{take}
 use Rattle.whole.proofs.Ranged.{take-small, take-range, take-by}
 use Rattle.pcm.specs.Pcm.{packed}
 use Rattle.feed.specs.Feed.{Block, ROOM, sizeOf, samplesOf, feedRows, Fed, unfed, fedBy, feed, FedTo}
-use Rattle.feed.specs.Laws.{FeedLeaves, EntrySmall}
+use Rattle.feed.specs.Laws.{FeedLeaves, EntrySmall, FeedSettled}
 
 module _ (n side : ℕ) (rec : Record) (store : List Float) (b : Block) (model : List ℕ) (cleaned entries answers : ℕ) where
   -- what holds of a refusal, and of what comes of the take, holds of a feed
@@ -59,7 +58,6 @@ entry-small frame j heard = go (eq heard (f32 0))
     go true = omega arith
     go false = omega arith
 
-pub feed-settled : {o : Fed} {a a′ : Answer} {s s′ : List Float} {c c₁ c₂ d d₁ d₂ : List ℕ} {t t₁ t₂ : List Float}
-    → FedTo o a s c c₁ d d₁ t t₁ → FedTo o a′ s′ c c₂ d d₂ t t₂ → (a ≡ a′) × (s ≡ s′) × (c₁ ≡ c₂) × (d₁ ≡ d₂) × (t₁ ≡ t₂)
-feed-settled f g =
+pub feed-settled : FeedSettled
+feed-settled o answer answer′ store store′ cleaned cleaned₁ cleaned₂ entries entries₁ entries₂ answers answers₁ answers₂ f g =
     (f .answered ∙ sym (g .answered), f .stores ∙ sym (g .stores), f .cleans ∙ sym (g .cleans), f .notes ∙ sym (g .notes), f .tells ∙ sym (g .tells))
