@@ -18,7 +18,7 @@ use Rattle.numbers.proofs.Held.{fits-says, place}
 use Rattle.numbers.proofs.Pattern.{pattern-value}
 use Rattle.rules.specs.F64.{f64, _*₆₄_}
 use Rattle.logs.specs.Tables.{rowAt, twoHigh}
-use Rattle.logs.specs.Log10.{exponentOf, mantissaOf, rowOf, restOf, highOf}
+use Rattle.logs.specs.Log10.{exponentOf, mantissaOf, rowOf, offCentre, highOf}
 use Rattle.logs.specs.Exact.{Exactly, wholes, digitsOf, RestExact, HighExact, Exact, Claim}
 use Rattle.logs.proofs.Rule.{rule, two-rule}
 use Rattle.logs.proofs.Wholes.{product-exact, sum-exact, difference-exact, abs-sum, abs-difference, abs-product}
@@ -59,7 +59,7 @@ module _ (bits : ℕ) (short : bits % 2 ^ 29 ≡ 0) where
       (pattern-value binary64 false (2 ^ 52 + d) 1022 (omega arith, λ K. omega arith) (lt-of-lt-of-le (shl-lt 53 1022 (omega arith)) (pow-mono {i = 53 + 1022} {j = 2098} (lit≤ tt)))))
 
   pub rest-exact : RestExact bits
-  unfolding restOf
+  unfolding offCentre
   rest-exact =
       let i = rowOf bits in
       let c = rule i (placed bits) .centre in

@@ -6,7 +6,7 @@ use lib.Ieee.{fits, toBits}
 use lib.Ieee.Exact.{HasValue}
 use lib.Ieee.Positive.{positive}
 use Rattle.logs.specs.Tables.{rowAt, twoHigh}
-use Rattle.logs.specs.Log10.{rowOf, restOf, highOf}
+use Rattle.logs.specs.Log10.{rowOf, offCentre, highOf}
 
 abbrev pub Exactly : Float → ℤ → ℕ → Type 0
 Exactly x (pos n) c = HasValue x false n c
@@ -35,7 +35,7 @@ digitsOf bits = 2 ^ 23 + bits % 2 ^ 52 / 2 ^ 29
 
 -- m * centre - 1 is exact where m has 24 digits
 abbrev pub RestExact : ℕ → Type 0
-RestExact bits = Exactly (restOf bits) (pos (digitsOf bits * wholes 20 (rowAt (rowOf bits) .centre)) -ℤ pos (2 ^ 43)) (2 ^ 43)
+RestExact bits = Exactly (offCentre bits) (pos (digitsOf bits * wholes 20 (rowAt (rowOf bits) .centre)) -ℤ pos (2 ^ 43)) (2 ^ 43)
 
 -- e * two_high + high is exact
 abbrev pub HighExact : ℕ → Type 0

@@ -26,8 +26,8 @@ abbrev pub rowOf : ℕ → ℕ
 rowOf bits = (bits % 2 ^ 52 + 2 ^ 46) / 2 ^ 47
 
 -- m * centre - 1, which is exact
-unfoldable pub restOf : ℕ → Float
-restOf bits = mantissaOf bits *₆₄ rowAt (rowOf bits) .centre -₆₄ f64 0x3FF0000000000000
+unfoldable pub offCentre : ℕ → Float
+offCentre bits = mantissaOf bits *₆₄ rowAt (rowOf bits) .centre -₆₄ f64 0x3FF0000000000000
 
 -- e * log10(2) - log10(centre), in two parts, of which the high one is exact
 unfoldable pub highOf : ℕ → Float
@@ -62,7 +62,7 @@ summed hi lo r =
     nudged t (w -₆₄ (t -₆₄ s))
 
 unfoldable pub logOfBits : ℕ → Float
-logOfBits bits = summed (highOf bits) (lowOf bits) (restOf bits)
+logOfBits bits = summed (highOf bits) (lowOf bits) (offCentre bits)
 
 -- ---- of any f32, as IEEE 754 has it: minus infinity for both zeros, and a NaN below zero
 unfoldable pub log10Of : Float → Float

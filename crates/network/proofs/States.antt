@@ -17,6 +17,7 @@ use Rattle.rules.specs.Place.{Place, get, put}
 use Rattle.rules.proofs.Places.{Apart, length-get, length-put, get-put, get-put-apart, put-in}
 use Rattle.model.specs.declared.Model.{Model}
 use Rattle.network.specs.declared.Computed.{Computed}
+use Rattle.network.specs.Laws.{SideBySide}
 use Rattle.network.specs.Compute.{denseAt, gruAt, sixLayers, layersInPlace, vadIn, noiseIn, denoiseIn, layeredOn, Outcome, outcomeOf, outcomeOn}
 use Rattle.network.specs.Parts.{stateAt, Lengths}
 use Rattle.network.proofs.Lengths.{length-gruAt}
@@ -41,13 +42,13 @@ module _ (s : List Float) where
   unfolding denoiseIn
   whole-of fit = let third = sym (length-drop 256 s) ∙ fit .third in omega arith
 
-  pub side-by-side : vadIn s ++ noiseIn s ++ denoiseIn s ≡ s
-  unfolding vadIn noiseIn denoiseIn
-  side-by-side =
-      append-assoc (take 128 s) (take 128 (drop 128 s)) (drop 256 s)
-      ∙ ap (λ (t : List Float). take 128 s ++ (take 128 (drop 128 s) ++ t)) (sym (drop-drop 128 128 s))
-      ∙ ap (λ (t : List Float). take 128 s ++ t) (take-append-drop 128 (drop 128 s))
-      ∙ take-append-drop 128 s
+pub side-by-side : SideBySide
+unfolding vadIn noiseIn denoiseIn
+side-by-side s =
+    append-assoc (take 128 s) (take 128 (drop 128 s)) (drop 256 s)
+    ∙ ap (λ (t : List Float). take 128 s ++ (take 128 (drop 128 s) ++ t)) (sym (drop-drop 128 128 s))
+    ∙ ap (λ (t : List Float). take 128 s ++ t) (take-append-drop 128 (drop 128 s))
+    ∙ take-append-drop 128 s
 
 pub joined-in : (vad noise denoise s : List Float) → length vad ≡ 128 → length noise ≡ 128 → length denoise ≡ 128 → length s ≡ 384
     → take (length vad + length noise + length denoise) s ≡ vad ++ noise ++ denoise → (vadIn s ≡ vad) × (noiseIn s ≡ noise) × (denoiseIn s ≡ denoise)
