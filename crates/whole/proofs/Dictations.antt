@@ -93,6 +93,6 @@ as-dictated n side rec store samples model out answers p =
     ∙ filled (480 * m) (d .out) (h .0) size in
     let reply = takeReply n side rec store samples model out answers in
     let same : takenAs reply t
-    ≡ record { answer = record { reply = reply; rec = d .rec }; store = d .kept; written = from 0 (d .out) ∷ from 0 (answersOf (d .told)) ∷ [] } =
+    ≡ record { answer = record { reply = reply; rec = d .rec }; kept = d .kept; written = from 0 (d .out) ∷ from 0 (answersOf (d .told)) ∷ [] } =
     rw (e .same .0, e .same .1, outs, e .same .3, front .2) in
     (size, taken-is n side rec store samples model out answers p ∙ ap (λ (k : ℕ). takenAs reply (takeEnds n side rec store samples model k)) (sym (h .1)) ∙ same)

@@ -38,13 +38,14 @@ use Rattle.desk.specs.declared.Record.{Record}
 use Rattle.desk.specs.Gate.{PIECE, RESUME, shareOf, isDue, gate}
 use Rattle.desk.specs.Desk.{piece, resume, holding, carried, desk}
 use Rattle.desk.specs.Surface.{heardOf}
+use Rattle.desk.proofs.Answered.{let-in}
 use Rattle.desk.proofs.Turned.{none, through}
 use Rattle.dictation.specs.Dictation.{Dictated}
 use Rattle.dictation.specs.Cutting.{handedIn, outputOf, sumsIn, Led, ended, paused}
 use Rattle.dictation.specs.Resuming.{Fitting}
 use Rattle.dictation.proofs.Cuts.{passes}
 use Rattle.dictation.proofs.Resumes.{comes-to-its-end}
-use Rattle.dictation.proofs.Taken.{let-through, onward, half-passes, piece-passed, resume-passed}
+use Rattle.dictation.proofs.Taken.{onward, half-passes, piece-passed, resume-passed}
 use Rattle.whole.specs.Whole.{Taking, takeFrames, takeBegins}
 use Rattle.whole.specs.Parts.{Midway, behind, three, stepsOf}
 use Rattle.whole.specs.Taking.{ourLent, lentToEach, answersOf}
@@ -70,7 +71,7 @@ writes-onward side store rec reply share rest size progress w = go (ltb (length 
         let f = cond t (pieces.atEnd reply share rest w) (pieces.paused reply share (rec .hearing .way) rest w) in
         record {
           answer = record { reply = reply; rec = cond t (holding 1 rec (length rest) 0 0) (holding 3 rec 0 size progress) };
-          kept = put (shareOf side) store (f .share);
+          kept = put (shareOf side) store (f .kept);
           written = f .written;
         }
 
@@ -122,7 +123,7 @@ module _ (n side : ℕ) (rec : Record) (store samples : List Float) (model : Lis
   -- after j frames, where the last call gave o and its output held this before
   record Alike (j : ℕ) (o : Effect Answer) (was : List Float) : Type 0 where
     recs : (at j .rec ≡ o .answer .rec) × (mid j .rec ≡ o .answer .rec)
-    stores : (at j .store ≡ o .store) × (mid j .store ≡ o .store)
+    stores : (at j .store ≡ o .kept) × (mid j .store ≡ o .kept)
     sums : at j .sums ≡ sumsIn o
     lent : Unfinished o → mid j .sums ≡ sumsIn o
     progress : Unfinished o → o .answer .rec .progress + rec .waiting ≡ 480 * j + 480
@@ -157,18 +158,18 @@ module _ (n side : ℕ) (rec : Record) (store samples : List Float) (model : Lis
   heard-more j next call = ap (λ (g : Effect Answer). at j .answers ++ heardOf (g .answer .reply)) call
 
   goes-on : (j : ℕ) (o next : Effect Answer) {was : List Float} → Alike j o was
-      → next ≡ desk n side (o .answer .rec) (o .store) (resume samples (logsOf (at j .sums)) model (length held) 22)
+      → next ≡ desk n side (o .answer .rec) (o .kept) (resume samples (logsOf (at j .sums)) model (length held) 22)
       → passed (next .answer .reply) ≡ true → rec .waiting ≤ 479 → 480 * j + 480 ≤ length held → 3 * j + 3 ≤ length answers → Alike (suc j) next (mid j .out)
   unfolding takeFrames stepsOf loop
   goes-on j o next {was} a q p few room places =
       let b = o .answer .rec in
       let logs = logsOf (at j .sums) in
-      let resumed = resume-passed n side b (o .store) samples logs model (length held) 22 (ap (λ (g : Effect Answer). passed (g .answer .reply)) (sym q) ∙ p) in
-      let begun = unfinished n side b (length (o .store)) (resumed .0) in
-      let ys = firstIn (secondHalf (get framePart (get (shareOf side) (o .store))) (b .hearing) logs model 480 .written) in
-      let long : length ys ≡ 480 = half-passes n side b (o .store) samples logs model (length held) 22 (resumed .1) .fills in
+      let resumed = resume-passed n side b (o .kept) samples logs model (length held) 22 (ap (λ (g : Effect Answer). passed (g .answer .reply)) (sym q) ∙ p) in
+      let begun = unfinished n side b (length (o .kept)) (resumed .0) in
+      let ys = firstIn (secondHalf (get framePart (get (shareOf side) (o .kept))) (b .hearing) logs model 480 .written) in
+      let long : length ys ≡ 480 = half-passes n side b (o .kept) samples logs model (length held) 22 (resumed .1) .fills in
       let place : 480 * (frameAt (b .progress) - 1) ≡ 480 * j = omega (arith, a .progress begun) in
-      let k : Onward (from (480 * j) ys) (b .progress + 480) next = rw (q ∙ resumed .2, ← place) (writes-onward side (o .store) _ _ _ _ _ _ _) in
+      let k : Onward (from (480 * j) ys) (b .progress + 480) next = rw (q ∙ resumed .2, ← place) (writes-onward side (o .kept) _ _ _ _ _ _ _) in
       let r = next .answer .reply in
       let size : length (mid j .out) ≡ length held =
       ap length (a .out) ∙ length-put (record { at = 0; size = length (at j .out) }) held (at j .out) (omega (arith, a .filled)) refl in
@@ -182,7 +183,7 @@ module _ (n side : ℕ) (rec : Record) (store samples : List Float) (model : Lis
       let heard : at (suc j) .answers ≡ at j .answers ++ heardOf r = heard-more j next call in
       record {
         recs = (ap (λ (g : Effect Answer). g .answer .rec) call, ap (λ (g : Effect Answer). g .answer .rec) call′);
-        stores = (ap (λ (g : Effect Answer). g .store) call, ap (λ (g : Effect Answer). g .store) call′);
+        stores = (ap (λ (g : Effect Answer). g .kept) call, ap (λ (g : Effect Answer). g .kept) call′);
         sums = ap sumsIn call;
         lent = λ h. ap (λ (g : Effect Answer). getD (onto (g .written) (mid j .out ∷ mid j .sums ∷ [])) 1 []) call′ ∙ sums-are k h (mid j .out) (mid j .sums);
         progress = λ h. omega (arith, k .pauses h .1, a .progress begun);
@@ -222,7 +223,7 @@ module _ (n side : ℕ) (rec : Record) (store samples : List Float) (model : Lis
     was : List Float
     alike : Alike e last was
     recs : last .answer .rec ≡ d .rec
-    stores : last .store ≡ d .kept
+    stores : last .kept ≡ d .kept
     outs : mid e .out ≡ d .out
     answered : at e .answers ≡ at j .answers ++ answersOf (d .told)
     done : (i : ℕ) → j ≤ i → i < e → ResumeDone i
@@ -246,7 +247,7 @@ module _ (n side : ℕ) (rec : Record) (store samples : List Float) (model : Lis
       let to = outputOf o was in
       let size : length to ≡ length held =
       ap length (a .here ∙ a .out) ∙ length-put (record { at = 0; size = length (at j .out) }) held (at j .out) (omega (arith, a .filled)) refl in
-      let call : next ≡ desk n side (o .answer .rec) (o .store) (resume samples (logsOf (at j .sums)) model (length held) 22) = rw (← a .sums, size) at q in
+      let call : next ≡ desk n side (o .answer .rec) (o .kept) (resume samples (logsOf (at j .sums)) model (length held) 22) = rw (← a .sums, size) at q in
       let there : desk n side (at j .rec) (at j .store) (resume samples (logsOf (at j .sums)) model (length held) 22) ≡ next = rw (a .recs .0, a .stores .0) (sym call) in
       let b : Alike (suc j) next to = rw (a .here) (goes-on j o next a call (passes rest) few (omega arith) (omega arith)) in
       let f = follow m rest (suc j) e b few (omega arith) (omega arith) (omega arith) in
@@ -317,7 +318,7 @@ module _ (n side : ℕ) (rec : Record) (store samples : List Float) (model : Lis
 
   pub piece-done : passed (handedIn n side rec store samples held .answer .reply) ≡ true
   piece-done =
-      ap (λ (o : Effect Answer). passed (o .answer .reply)) (let-through n side rec store (piece samples (length held) 22) (k .gated))
+      ap (λ (o : Effect Answer). passed (o .answer .reply)) (let-in rec (piece samples (length held) 22) n side store (k .gated))
       ∙ rw (piece-taken mine (rec .hearing .way) (rec .waiting) samples (length held) 22 fitted, further-reply Done (waits mine []) (rec .hearing .way) (waitingIn (rec .waiting) mine ++ samples) nothing)
 
   pub ends : let m = completes (rec .waiting) (length samples) in

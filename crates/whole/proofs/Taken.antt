@@ -32,7 +32,7 @@ called : {o : Effect Answer} {a : Answer} {s out sums out′ sums′ : List Floa
 called {o} {a} {s} {out} {sums} {out′} {sums′} w answers =
     let first : out′ ≡ getD (onto (o .written) (out ∷ sums ∷ [])) 0 [] = ap (λ (l : List (List Float)). getD l 0 []) (w .writes) in
     let second : sums′ ≡ getD (onto (o .written) (out ∷ sums ∷ [])) 1 [] = ap (λ (l : List (List Float)). getD l 1 []) (w .writes) in
-    rw (w .answers, w .stores, first, second)
+    rw (w .answers, w .keeps, first, second)
 
 module _ (n side : ℕ) (samples : List Float) (model : List ℕ) where
   pub stepped : (j : ℕ) (rec : Record) (store answers : List Float) {out sums logs s out′ sums′ answers′ : List Float} {a : Answer} → length sums ≡ 22 → logs ≡ logsOf sums
@@ -50,7 +50,7 @@ module _ (n side : ℕ) (samples : List Float) (model : List ℕ) where
         → Worked (take n side rec store samples model (length out) (length answers)) (record { reply = r; rec = rec }) store
         (out ∷ answers ∷ []) (out ∷ answers ∷ [])
     unfolding take
-    refused e p = rw (← e, p) (record { answers = refl; stores = refl; writes = refl })
+    refused e p = rw (← e, p) (record { answers = refl; keeps = refl; writes = refl })
 
     pub took : {r : Reply} {s out′ sums′ s₂ out₂ sums₂ answers₂ : List Float} {a : Answer} {last : Record}
         → r ≡ takeReply n side rec store samples model (length out) (length answers) → passed r ≡ true
@@ -66,7 +66,7 @@ module _ (n side : ℕ) (samples : List Float) (model : List ℕ) where
         rw (← e, p)
         (record {
           answers = ap (λ (b : Record). record { reply = r; rec = b }) (ap (λ (x : Midway). x .rec) t′ ∙ k .recs);
-          stores = ap (λ (x : Midway). x .store) t′ ∙ k .stores;
+          keeps = ap (λ (x : Midway). x .store) t′ ∙ k .stores;
           writes =
               ap₂ (λ (x y : List Float). x ∷ y ∷ []) (ap (λ (x : Midway). x .out) t′ ∙ k .out) (ap (λ (x : Midway). x .answers) t′ ∙ k .told);
         })
