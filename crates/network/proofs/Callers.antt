@@ -123,7 +123,7 @@ module _ (gains voice vad noise denoise : List Float) (model : List ℕ) (featur
   kept = by-rows refuse past (λ o. Kept (o .layers)) rows (λ n. as-held) (λ c. of (fits (right lengths (c .0))) (readOf model) refl)
     where
       of : Fit → (r : Reading) → readOf model ≡ r
-          → Kept (byReading r (λ m. record { answer = Done; layers = layersInPlace model m vad noise denoise features }) (λ number layer. outcomeOf (Misread number layer) gains voice vad noise denoise) .left)
+          → Kept (byReading r (λ m. record { answer = Done; layers = layersInPlace model m vad noise denoise features }) (λ number layer. outcomeOf (Misread number layer) gains voice vad noise denoise) .layers)
       of fit (read.Good m) e = done-kept fit m e
       of fit (read.Refused number layer) e = as-held
 
