@@ -15,14 +15,13 @@ use Rattle.rules.specs.Tab.{tab}
 use Rattle.rules.proofs.Refusals.{by-rows}
 use Rattle.frame.specs.declared.Reply.the-variants.{Refused}
 use Rattle.frame.specs.Reply.{passed}
-use Rattle.desk.specs.declared.Answer.{Answer}
 use Rattle.desk.specs.declared.Record.{Record}
 use Rattle.desk.specs.Gate.{PIECE, inRange, gate}
 use Rattle.desk.proofs.Replies.{SmallSeven}
 use Rattle.whole.specs.Whole.{take}
 use Rattle.whole.proofs.Ranged.{take-small, take-range, take-by}
 use Rattle.pcm.specs.Pcm.{packed}
-use Rattle.feed.specs.Feed.{Block, ROOM, sizeOf, samplesOf, feedRows, Fed, unfed, fedBy, feed, FedTo}
+use Rattle.feed.specs.Feed.{Block, ROOM, sizeOf, samplesOf, feedRows, Fed, unfed, fedBy, feed}
 use Rattle.feed.specs.Laws.{FeedLeaves, EntrySmall, FeedSettled}
 
 module _ (n side : ℕ) (rec : Record) (store : List Float) (b : Block) (model : List ℕ) (cleaned entries answers : ℕ) where
