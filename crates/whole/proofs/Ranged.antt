@@ -5,16 +5,20 @@
 --     frame-no-out                 a frame with no place for its samples is refused
 --     take-by                      what holds of a take, by its tests
 -- Assumes nothing.
-use Prim.Native.Nat.{ℕ, zero, suc}
+use Prim.Native.Nat.{ℕ, zero, suc, _*_}
 use native.Mathlib.Omega.{arith}
-use mathlib.Core.Bool.{Bool, true, false, cond, false≢true}
-use mathlib.Core.List.{List}
+use mathlib.Core.Bool.{Bool, true, false, cond, not, false≢true}
+use mathlib.Core.List.{List, [], _∷_, _++_}
 use mathlib.Core.Path.{_≡_, refl, sym, _∙_}
 use borrow.Author.Tests.{not-false}
+use lib.Dec.{eqb, leb}
 use lib.ListN.{length}
 use lib.Ieee.{Float}
 use Rattle.rules.specs.Loop.{loop}
+use Rattle.rules.specs.Place.{get}
+use Rattle.rules.specs.Refusals.{wrong}
 use Rattle.rules.specs.Written.{firstIn}
+use Rattle.samples.specs.Samples.{good}
 use Rattle.logs.specs.Log10.{logsOf}
 use Rattle.model.specs.Model.{readOf}
 use Rattle.model.proofs.Bounds.{refused-in}
@@ -24,10 +28,10 @@ use Rattle.frame.specs.declared.Reply.{Reply}
 use Rattle.frame.specs.Reply.{passed, _when_}
 use Rattle.frame.specs.Frame.{counted, checked}
 use Rattle.frame.proofs.Tables.{by-number, by-each}
-use Rattle.pieces.specs.Pieces.{completes}
+use Rattle.pieces.specs.Pieces.{waitingIn, completes, pieceFits}
 use Rattle.pieces.proofs.Tested.{by-model}
 use Rattle.desk.specs.declared.Record.{Record}
-use Rattle.desk.specs.Gate.{PIECE, inRange, gate}
+use Rattle.desk.specs.Gate.{PIECE, inRange, gate, shareOf}
 use Rattle.desk.specs.Desk.{Ask, secondHalf, piece, resume, desk}
 use Rattle.desk.proofs.Buffers.{buffers}
 use Rattle.desk.proofs.Ranged.{range-kept}
@@ -79,7 +83,10 @@ module _ (n side : ℕ) (rec : Record) (store samples : List Float) (model : Lis
     reply-small : SmallSeven reply
     unfolding frameReply
     reply-small =
-        by-each SmallSeven (frameRows n side rec (length store) samples model out) (numbered _ _, (numbered 5 _, (modelled rec model, (numbered 9 _, tt)))) (λ _. tt)
+        let number = gate n side rec (length store) 1 in
+        let lengths : List (ℕ × ℕ) = (length samples, 480) ∷ (out, 480) ∷ [] in
+        by-each SmallSeven (frameRows n side rec (length store) samples model out)
+        (numbered number (not (eqb number 0)), (numbered 5 (wrong lengths), (modelled rec model, (numbered 9 (not (good samples)), tt)))) (λ _. tt)
 
     pub frame-small : SmallSeven (frame n side rec store samples model out .answer .reply)
     frame-small = frame-by (λ o. SmallSeven (o .answer .reply)) (λ _. small n side (one .answer .rec) (one .kept) asked) (λ _. reply-small)
@@ -142,8 +149,13 @@ module _ (n side : ℕ) where
       taken-small : SmallSeven taken
       unfolding takeReply
       taken-small =
+          let number = gate n side rec (length store) PIECE in
+          let room = leb (3 * completes (rec .waiting) (length samples)) answers in
+          let all = waitingIn (rec .waiting) (get (shareOf side) store) ++ samples in
           by-each SmallSeven (takeRows n side rec store samples model out answers)
-          (numbered _ _, (numbered 5 _, (numbered 5 _, (modelled rec model, (numbered 9 _, tt))))) (λ _. tt)
+          (numbered number (not (eqb number 0)),
+          (numbered 5 (not (pieceFits (rec .waiting) (length samples) out 22)), (numbered 5 (not room), (modelled rec model, (numbered 9 (not (good all)), tt)))))
+          (λ _. tt)
 
       pub take-small : SmallSeven (take n side rec store samples model out answers .answer .reply)
       take-small = take-by (λ o. SmallSeven (o .answer .reply)) (λ _. taken-small) (λ _. taken-small)
