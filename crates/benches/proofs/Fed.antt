@@ -39,7 +39,7 @@ module _ {A B : Type 0} (f : A → B) where
   maps : (p : Plan A) (n side : ℕ) (b : Record) (store : List Float) → as-told (perform n side b store p) ≡ perform n side b store (mapped p)
   unfolding perform mapped
   maps (answers r t) n side b store = refl
-  maps (asks a more) n side b store = let o = desk n side b store a in maps (more (o .answer) (o .written)) n side (o .answer .rec) (o .store)
+  maps (asks a more) n side b store = let o = desk n side b store a in maps (more (o .answer) (o .written)) n side (o .answer .rec) (o .kept)
   maps (enters i turned more) n side b store =
       go (eqb (gate n side b (length store) (suc i)) 0) (maps (more b (get (shareOf side) store)) n side b store)
     where

@@ -19,11 +19,9 @@ use Rattle.rules.specs.F32.{f32, at, natAt}
 use Rattle.rules.specs.Tab.{tab}
 use Rattle.rules.proofs.Lists.{length-tab, tab-same}
 use Rattle.frame.specs.Reply.{oneMore}
-use Rattle.halves.proofs.Cases.{second-half-by}
 use Rattle.desk.specs.declared.Record.{Record}
-use Rattle.desk.specs.Desk.{nextFrame}
 use Rattle.dictation.specs.Dictation.{Lent, dictate}
-use Rattle.dictation.proofs.Joins.{first, itsLogs, second, recAfter, shareAfter}
+use Rattle.dictation.proofs.Joins.{recAfter, shareAfter}
 use Rattle.pcm.specs.Pcm.{width, numberAt, placeOf, unpacked, byteOf, nearest16, packed, UnpackFits}
 use Rattle.pcm.proofs.Channels.{own-channel}
 use Rattle.pcm.proofs.Patterns.{room}
@@ -125,12 +123,6 @@ samples-both xs ys format channels channel p q =
 
 -- ---- behind a dictation
 
--- a second half is no numbering
-unnumbered : (frame : ℕ) (rec : Record) (share xs : List Float) (l : Lent) → nextFrame frame (second rec share xs l .reply) ≡ frame
-unnumbered frame rec share xs l =
-    second-half-by (first rec share xs l .share) (λ f. nextFrame frame (f .reply) ≡ frame) (λ _. refl) (rec .hearing) (itsLogs rec share xs l) (l .model) 480
-    (λ _ _ _. refl) (λ _. refl) (λ _ _ _ _ _. refl)
-
 one-more : (n : ℕ) → n < 4294967296 → oneMore n ≡ (n + 1) % 4294967296
 one-more n h = go (ltb n 4294967295) refl
   where
@@ -143,7 +135,7 @@ pub frame-after : (ls : List Lent) (rec : Record) (share xs : List Float) → re
 unfolding dictate
 frame-after [] rec share xs h = omega arith
 frame-after (l ∷ ls) rec share xs h =
-    let here : recAfter rec share xs l .frame ≡ (rec .frame + 1) % 4294967296 = ap oneMore (unnumbered (rec .frame) rec share xs l) ∙ one-more (rec .frame) h in
+    let here : recAfter rec share xs l .frame ≡ (rec .frame + 1) % 4294967296 = one-more (rec .frame) h in
     omega (arith, here, frame-after ls (recAfter rec share xs l) (shareAfter rec share xs l) (drop 480 xs) (omega (arith, here)))
 
 pub waiting-after : (ls : List Lent) (rec : Record) (share xs : List Float) → 480 * length ls ≤ length xs

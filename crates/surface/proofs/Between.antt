@@ -58,16 +58,16 @@ record Left : Type 0 where
 
 left : Record → List Float → List Ask → Left
 left b xs [] = record { rec = b; share = xs }
-left b xs (a ∷ more) = let o = desk 1 0 b xs a in left (o .answer .rec) (o .store) more
+left b xs (a ∷ more) = let o = desk 1 0 b xs a in left (o .answer .rec) (o .kept) more
 
 AllDone : Record → List Float → List Ask → Type 0
 AllDone b xs [] = Unit
-AllDone b xs (a ∷ more) = let o = desk 1 0 b xs a in (passed (o .answer .reply) ≡ true) × AllDone (o .answer .rec) (o .store) more
+AllDone b xs (a ∷ more) = let o = desk 1 0 b xs a in (passed (o .answer .reply) ≡ true) × AllDone (o .answer .rec) (o .kept) more
 
--- what they write to firstIn (k .written)
+-- what they write to buffer k
 written : ℕ → Record → List Float → List Ask → List Float
 written k b xs [] = []
-written k b xs (a ∷ more) = let o = desk 1 0 b xs a in wrote k a o ++ written k (o .answer .rec) (o .store) more
+written k b xs (a ∷ more) = let o = desk 1 0 b xs a in wrote k a o ++ written k (o .answer .rec) (o .kept) more
 
 -- a row of calls and then another
 record Splits (first rest : List Ask) (b : Record) (xs : List Float) : Type 0 where
@@ -81,15 +81,15 @@ unfolding left AllDone written
 split [] rest b xs all = record { before = tt; behind = all; leads = refl; writes = λ k. refl }
 split (a ∷ first) rest b xs all =
     let o = desk 1 0 b xs a in
-    let l = left (o .answer .rec) (o .store) first in
-    let s = split first rest (o .answer .rec) (o .store) (all .1) in
+    let l = left (o .answer .rec) (o .kept) first in
+    let s = split first rest (o .answer .rec) (o .kept) (all .1) in
     record {
       before = (all .0, s .before);
       behind = s .behind;
       leads = s .leads;
       writes =
           λ k. ap (λ (x : List Float). wrote k a o ++ x) (s .writes k)
-          ∙ sym (append-assoc (wrote k a o) (written k (o .answer .rec) (o .store) first) (written k (l .rec) (l .share) rest));
+          ∙ sym (append-assoc (wrote k a o) (written k (o .answer .rec) (o .kept) first) (written k (l .rec) (l .share) rest));
     }
 
 -- ---- any run, for one side
@@ -124,7 +124,7 @@ module _ (n s : ℕ) (h : s < n) where
       here : c .side ≡ s → was ≡ placed s (st .store) o
       here same = rw (same, its-own n s (recordAt s st) (st .store) (c .call) l h, e, f)
 
-      back : c .side ≡ s → get (shareOf s) (next .store) ≡ o .store
+      back : c .side ≡ s → get (shareOf s) (next .store) ≡ o .kept
       back same = rw (store-after n st c, same, own-share n s (recordAt s st) (st .store) (c .call) l h, e, f)
 
       -- it passed where 0 is returned
@@ -144,7 +144,7 @@ module _ (n s : ℕ) (h : s < n) where
           (λ k. cond t (numbersIn (getD (given desks n st c .returned .told) k nothing)) [] ++ column k n s next cs)
       go true t true p ih =
           let k = here (eqb-true (c .side) s t) in
-          let r = ih (o .answer .rec) (o .store) (noted true t ∙ ap (λ (g : Effect Answer). g .answer .rec) k) (back (eqb-true (c .side) s t)) in
+          let r = ih (o .answer .rec) (o .kept) (noted true t ∙ ap (λ (g : Effect Answer). g .answer .rec) k) (back (eqb-true (c .side) s t)) in
           record {
             all = (ap (λ (g : Effect Answer). passed (g .answer .reply)) (sym k) ∙ is-done ∙ p, r .all);
             rec = r .rec;
@@ -174,17 +174,17 @@ module _ (n s : ℕ) (h : s < n) where
 module _ (store : List Float) (size : length store ≡ 1 * SHARE) (samples : List Float) (some : 1 ≤ length samples) (room : ℕ) where
   -- a row of calls is this dictation, with its share in a store; the sums of its first frame stand in what was given before, with what is told besides
   record Dictates (o : Effect Answer) (us : List Written) (gs : List (List Float × List ℕ)) (rest : List Float) (d : Dictated) : Type 0 where
-    rec : left (o .answer .rec) (o .store) (resumes samples room gs) .rec ≡ d .rec
-    share : left (o .answer .rec) (o .store) (resumes samples room gs) .share ≡ put (shareOf 0) store (d .kept)
-    out : written 0 (o .answer .rec) (o .store) (resumes samples room gs) ≡ d .out
-    sums : numbersIn (getD (o .written ++ us) 1 nothing) ++ written 1 (o .answer .rec) (o .store) (resumes samples room gs) ≡ sumsTold (d .told)
-    heard : written 2 (o .answer .rec) (o .store) (resumes samples room gs) ≡ answersOf (d .told)
+    rec : left (o .answer .rec) (o .kept) (resumes samples room gs) .rec ≡ d .rec
+    share : left (o .answer .rec) (o .kept) (resumes samples room gs) .share ≡ put (shareOf 0) store (d .kept)
+    out : written 0 (o .answer .rec) (o .kept) (resumes samples room gs) ≡ d .out
+    sums : numbersIn (getD (o .written ++ us) 1 nothing) ++ written 1 (o .answer .rec) (o .kept) (resumes samples room gs) ≡ sumsTold (d .told)
+    heard : written 2 (o .answer .rec) (o .kept) (resumes samples room gs) ≡ answersOf (d .told)
     count : length gs ≡ length rest / 480
 
   resumed : (gs : List (List Float × List ℕ)) (o : Effect Answer) (us : List Written) (rec : Record) (reply : Reply) (share rest : List Float) (progress k : ℕ) (ys : List Float)
       → o ≡ onward 0 store rec reply share rest (length samples) progress (from k ys)
-      → length share ≡ SHARE → drop progress samples ≡ drop 480 rest → 1 ≤ progress → AllDone (o .answer .rec) (o .store) (resumes samples room gs)
-      → left (o .answer .rec) (o .store) (resumes samples room gs) .rec .piece ≡ 0
+      → length share ≡ SHARE → drop progress samples ≡ drop 480 rest → 1 ≤ progress → AllDone (o .answer .rec) (o .kept) (resumes samples room gs)
+      → left (o .answer .rec) (o .kept) (resumes samples room gs) .rec .piece ≡ 0
       → Dictates o us gs rest (dictate rec share rest (map asGiven gs))
   unfolding left AllDone written
   resumed [] o us rec reply share rest progress k ys e full same begun all z =
@@ -194,7 +194,7 @@ module _ (store : List Float) (size : length store ≡ 1 * SHARE) (samples : Lis
       let none = dictate-none rec share rest in
       record {
         rec = ap (λ (g : Effect Answer). g .answer .rec) q ∙ sym (ap (λ (x : Dictated). x .rec) none);
-        share = ap (λ (g : Effect Answer). g .store) q ∙ sym (ap (λ (x : Dictated). put (shareOf 0) store (x .kept)) none);
+        share = ap (λ (g : Effect Answer). g .kept) q ∙ sym (ap (λ (x : Dictated). put (shareOf 0) store (x .kept)) none);
         out = sym (ap (λ (x : Dictated). x .out) none);
         sums = ap (λ (g : Effect Answer). numbersIn (getD (g .written ++ us) 1 nothing) ++ []) q ∙ sym (ap (λ (x : Dictated). sumsTold (x .told)) none);
         heard = sym (ap (λ (x : Dictated). answersOf (x .told)) none);
@@ -206,9 +206,9 @@ module _ (store : List Float) (size : length store ≡ 1 * SHARE) (samples : Lis
       let enough = long 1 0 store samples some o rec reply share rest progress w e (g .0) (g .1) room (all .0) in
       let q = e ∙ pauses 0 store rec reply share rest (length samples) progress w enough in
       let a = resume samples (g .0) (g .1) room 22 in
-      let there = desk 1 0 (o .answer .rec) (o .store) a in
+      let there = desk 1 0 (o .answer .rec) (o .kept) a in
       let here : there ≡ following 1 0 (omega arith) store size samples rec share rest l progress room full same =
-      ap (λ (x : Effect Answer). desk 1 0 (x .answer .rec) (x .store) a) q in
+      ap (λ (x : Effect Answer). desk 1 0 (x .answer .rec) (x .kept) a) q in
       let f = follows 1 0 (omega arith) store size samples rec share rest l progress room full same (ap (λ (x : Effect Answer). passed (x .answer .reply)) (sym here) ∙ all .0) in
       let y = second rec share rest l in
       let rec′ = recAfter rec share rest l in
@@ -216,11 +216,11 @@ module _ (store : List Float) (size : length store ≡ 1 * SHARE) (samples : Lis
       let nx = here ∙ f .1 in
       let samples-out : wrote 0 a there ≡ firstIn (y .written) =
       ap (wrote 0 a) nx
-      ∙ first-written 0 store rec′ (y .reply) share′ (drop 480 rest) (length samples) (progress + 480) (place progress) (firstIn (y .written)) (besides a (y .reply)) in
-      let answered : wrote 2 a there ≡ heardOf (y .reply) =
-      resume-heard 1 0 (o .answer .rec) (o .store) samples room (g .0) (g .1) (all .0) ∙ ap (λ (x : Effect Answer). heardOf (x .answer .reply)) nx in
+      ∙ first-written 0 store rec′ (y .answer) share′ (drop 480 rest) (length samples) (progress + 480) (place progress) (firstIn (y .written)) (besides a (y .answer)) in
+      let answered : wrote 2 a there ≡ heardOf (y .answer) =
+      resume-heard 1 0 (o .answer .rec) (o .kept) samples room (g .0) (g .1) (all .0) ∙ ap (λ (x : Effect Answer). heardOf (x .answer .reply)) nx in
       let ih =
-      resumed more there (besides a (there .answer .reply)) rec′ (y .reply) share′ (drop 480 rest) (progress + 480) (place progress) (firstIn (y .written)) nx
+      resumed more there (besides a (there .answer .reply)) rec′ (y .answer) share′ (drop 480 rest) (progress + 480) (place progress) (firstIn (y .written)) nx
       (after-length rec share rest l full) (sym (drop-drop 480 progress samples) ∙ ap (drop 480) same) (omega arith) (all .1) z in
       let d = dictate-more rec share rest l (map asGiven more) in
       record {
@@ -278,7 +278,7 @@ module _ (x : List Float) (room : ℕ) (gs : List (List Float × List ℕ)) (b :
       (t .2) (waits-length share (k .size) []) same (omega (arith, k .waits)) (all .1) z in
       let clean =
       washed b share [] (ws ++ x) (map asGiven gs) (k .size) ∙ ap (λ (t : List Float). dictatedOn b t x (map asGiven gs)) its in
-      let behind : ℕ → List Float = λ i. written i (o .answer .rec) (o .store) (resumes x room gs) in (
+      let behind : ℕ → List Float = λ i. written i (o .answer .rec) (o .kept) (resumes x room gs) in (
         record {
           rec = r .rec ∙ ap (λ (d : Dictated). d .rec) clean;
           share = r .share ∙ put-whole xs SHARE full _ ∙ ap (λ (d : Dictated). d .kept) clean;

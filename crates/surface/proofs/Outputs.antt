@@ -19,7 +19,7 @@ use Rattle.rules.specs.Tab.{tab}
 use Rattle.rules.specs.Written.{Written, all, from, nothing, numbersIn, firstIn}
 use Rattle.logs.specs.Log10.{logsOf}
 use Rattle.desk.specs.declared.Answer.{Answer}
-use Rattle.frame.specs.Effect.{Effect}
+use Rattle.frame.specs.Effect.{Effect, refusal}
 use Rattle.frame.specs.declared.Reply.{Reply}
 use Rattle.frame.specs.declared.Reply.the-variants.{Done, Silent, Heard, Numbered, Refused, Misread}
 use Rattle.frame.specs.Reply.{passed}
@@ -32,7 +32,7 @@ use Rattle.desk.specs.Surface.{numbersOf, recordIn, replyNumber, heardOf, besid
 use Rattle.desk.proofs.Buffers.{buffers}
 use Rattle.dictation.specs.Dictation.{Lent}
 use Rattle.dictation.proofs.Taken.{onward, piece-passed}
-use Rattle.whole.specs.Whole.{unchanged, frameReply, frameBegins, takeReply, Taking, takeFrames, takeEnds, takenAs}
+use Rattle.whole.specs.Whole.{frameReply, frameBegins, takeReply, Taking, takeFrames, takeEnds, takenAs}
 use Rattle.whole.specs.Whole as whole
 use Rattle.whole.specs.Surface.{hostedFrame, hostedTake}
 use Rattle.whole.proofs.Dictations.{take-done}
@@ -244,7 +244,7 @@ zero-back (Numbered f h) p = refl
 zero-back (Refused k) p = absurd (false≢true p)
 zero-back (Misread k l) p = absurd (false≢true p)
 
--- where this firstIn (of .written) a take is column k of the desk's calls
+-- where this buffer of a take is column k of the desk's calls
 module _ (which : Request → ℕ) (k : ℕ) (asked : (a : Ask) → which (ask a) ≡ k) (n s : ℕ)
     (takes : (side : ℕ) → eqb side s ≡ true → (st : State) (x : List Float) (m : List ℕ) (o a : ℕ)
     → passed (takeReply n side (recordAt side st) (st .store) x m o a) ≡ true
@@ -284,7 +284,7 @@ module _ (which : Request → ℕ) (k : ℕ) (asked : (a : Ask) → which (ask a
         reply = takeReply n side rec (st .store) x m o a
 
         go : (t : Bool) → passed reply ≡ t
-            → numbersIn (getD (cond t (takenAs reply (takeEnds n side rec (st .store) x m o)) (unchanged rec (st .store) reply) .written) (which (take x m o a)) nothing)
+            → numbersIn (getD (cond t (takenAs reply (takeEnds n side rec (st .store) x m o)) (refusal (record { reply = reply; rec = rec }) (st .store)) .written) (which (take x m o a)) nothing)
             ≡ column k n s st (map (on side) (cond t (piece x o 22 ∷ tab (completes (rec .waiting) (length x)) (resumed n side st x m o)) []))
         go true p = takes side mine st x m o a p
         go false p = refl

@@ -50,8 +50,8 @@ refused-leaves n side ns store (ask a) e =
 refused-leaves n side ns store (frame x m out) e =
     let o = whole.frame n side (recordIn ns) store x m out in
     let same = frame-leaves n side (recordIn ns) store x m out e in
-    (handed (o .answer) ns e, ap (λ (g : Effect Answer). g .store) same, neither (ap (λ (g : Effect Answer). g .written) same) (untold (o .answer .reply) e))
+    (handed (o .answer) ns e, ap (λ (g : Effect Answer). g .kept) same, neither (ap (λ (g : Effect Answer). g .written) same) (untold (o .answer .reply) e))
 refused-leaves n side ns store (take x m out answers) e =
     let o = whole.take n side (recordIn ns) store x m out answers in
     let same = take-leaves n side (recordIn ns) store x m out answers e in
-    (handed (o .answer) ns e, ap (λ (g : Effect Answer). g .store) same, ap (λ (g : Effect Answer). g .written) same)
+    (handed (o .answer) ns e, ap (λ (g : Effect Answer). g .kept) same, ap (λ (g : Effect Answer). g .written) same)
