@@ -152,9 +152,10 @@ module _ (n side : ℕ) where
           let number = gate n side rec (length store) PIECE in
           let room = leb (3 * completes (rec .waiting) (length samples)) answers in
           let all = waitingIn (rec .waiting) (get (shareOf side) store) ++ samples in
-          by-each SmallSeven (takeRows n side rec store samples model out answers)
-          (numbered number (not (eqb number 0)),
-          (numbered 5 (not (pieceFits (rec .waiting) (length samples) out 22)), (numbered 5 (not room), (modelled rec model, (numbered 9 (not (good all)), tt)))))
+          by-each SmallSeven (takeRows n side rec store samples model out answers) (
+            numbered number (not (eqb number 0)),
+            (numbered 5 (not (pieceFits (rec .waiting) (length samples) out 22)), (numbered 5 (not room), (modelled rec model, (numbered 9 (not (good all)), tt)))),
+          )
           (λ _. tt)
 
       pub take-small : SmallSeven (take n side rec store samples model out answers .answer .reply)
