@@ -197,8 +197,10 @@ module _ (share : List Float) where
 of-piece : (share : List Float) (way : Way) (waiting : ℕ) (x : List Float) (out sums : ℕ) → Known (pieces.piece share way waiting x out sums .answer)
 unfolding pieces.piece
 of-piece share way waiting x out sums =
-    by-rows share (pieces.begun share way waiting x) (λ o. Known (o .answer)) (pieces.pieceRows share waiting x out sums)
-    (row 5 five (not (eqb (length share) SHARE)), (row 5 five (not (pieces.pieceFits waiting (length x) out sums)), (row 9 nine (not (good (waitingIn waiting share))), (row 9 nine (not (good x)), tt))))
+    by-rows share (pieces.begun share way waiting x) (λ o. Known (o .answer)) (pieces.pieceRows share waiting x out sums) (
+      row 5 five (not (eqb (length share) SHARE)),
+      (row 5 five (not (pieces.pieceFits waiting (length x) out sums)), (row 9 nine (not (good (waitingIn waiting share))), (row 9 nine (not (good x)), tt))),
+    )
     (λ _. rw (further-reply Done (waits share []) way (waitingIn waiting share ++ x) nothing) tt)
 
 of-resume : (share : List Float) (hearing : Hearing) (size progress : ℕ) (x logs : List Float) (model : List ℕ) (out sums : ℕ)
@@ -265,8 +267,10 @@ of-frame n side b store x model out = go (passed reply)
     go true =
         let a = frameBegins n side b store x in of-desk n side (a .answer .rec) (a .kept) (secondHalf (logsOf (firstIn (a .written))) model out)
     go false =
-        by-each Known rows
-        ((λ _. gated n side b (length store) 1), (row 5 five (wrong ((length x, 480) ∷ (out, 480) ∷ [])), ((λ _. checks (counted (b .hearing)) model), (row 9 nine (not (good x)), tt))))
+        by-each Known rows (
+          (λ _. gated n side b (length store) 1),
+          (row 5 five (wrong ((length x, 480) ∷ (out, 480) ∷ [])), ((λ _. checks (counted (b .hearing)) model), (row 9 nine (not (good x)), tt))),
+        )
         (λ _. tt)
 
 of-take : (n side : ℕ) (b : Record) (store x : List Float) (model : List ℕ) (out answers : ℕ)
@@ -285,8 +289,10 @@ of-take n side b store x model out answers = go (passed reply)
         let fits = pieces.pieceFits (b .waiting) (length x) out 22 in
         let room = leb (3 * pieces.completes (b .waiting) (length x)) answers in
         let all = waitingIn (b .waiting) (get (shareOf side) store) ++ x in
-        by-each Known rows
-        ((λ _. gated n side b (length store) PIECE), (row 5 five (not fits), (row 5 five (not room), ((λ _. checks (counted (b .hearing)) model), (row 9 nine (not (good all)), tt)))))
+        by-each Known rows (
+          (λ _. gated n side b (length store) PIECE),
+          (row 5 five (not fits), (row 5 five (not room), ((λ _. checks (counted (b .hearing)) model), (row 9 nine (not (good all)), tt)))),
+        )
         (λ _. tt)
 
     go : (t : Bool) → Known (cond t (takenAs reply (takeEnds n side b store x model out)) (refusal (record { reply = reply; rec = b }) store) .answer .reply)

@@ -116,15 +116,16 @@ module _ (samples : List Float) (model : List ℕ) (out : ℕ) where
 
   module _ (answered : ℕ) where
     -- the rows behind the gate's, by the share
+    abbrev rowsBehind : Record → List Float → List Reply
+    rowsBehind b share =
+        5 when not (pieceFits (b .waiting) (length samples) out 22)
+        ∷ 5 when not (leb (3 * completes (b .waiting) (length samples)) answered)
+        ∷ checked (counted (b .hearing)) (readOf model)
+        ∷ 9 when not (good (waitingIn (b .waiting) share ++ samples))
+        ∷ []
+
     abbrev takeRight : Record → List Float → Reply
-    takeRight b share =
-        firstRefusal (
-          5 when not (pieceFits (b .waiting) (length samples) out 22)
-          ∷ 5 when not (leb (3 * completes (b .waiting) (length samples)) answered)
-          ∷ checked (counted (b .hearing)) (readOf model)
-          ∷ 9 when not (good (waitingIn (b .waiting) share ++ samples))
-          ∷ []
-        )
+    takeRight b share = firstRefusal (rowsBehind b share)
 
     abbrev steps : Record → Reply → Plan (List Written)
     steps b r =
@@ -156,7 +157,7 @@ module _ (samples : List Float) (model : List ℕ) (out : ℕ) where
 
         go : (t : Bool)
             → let row = number when not t in
-          let reply = cond (passed row) r row in
+            let reply = cond (passed row) r row in
             cameOf (cond (passed reply) (takenAs reply (takeEnds n side b store samples model out)) (refusal (record { reply = reply; rec = b }) store))
             ≡ cond t (perform n side b store (cond (passed r) (steps b r) (answers r []))) (came (Refused number) [] b store)
         go true = inner (passed r)
