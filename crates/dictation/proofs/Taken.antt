@@ -5,19 +5,18 @@
 --     ends, pauses       onward, the rest is too short for a frame, or begins one
 -- Assumes nothing.
 use Prim.Native.Nat.{ℕ, _+_, _-_, _*_, _≤_, _<_}
-use mathlib.Core.Bool.{Bool, true, false, cond, false≢true}
+use mathlib.Core.Bool.{true, false≢true}
 use mathlib.Core.List.{List, [], _∷_, _++_}
-use mathlib.Core.Path.{_≡_, refl, sym, ap, _∙_}
-use borrow.Author.Tests.{eqb-true, lt-ltb, le-ltb}
-use lib.Dec.{eqb}
+use mathlib.Core.Path.{_≡_, sym, ap, _∙_}
+use borrow.Author.Tests.{lt-ltb, le-ltb}
 use lib.ListN.{length, take, drop, length-append, length-drop}
 use lib.Ieee.{Float}
 use Rattle.rules.specs.Place.{get, put}
 use Rattle.rules.specs.Written.{Written, all, from, nothing, firstIn}
 use Rattle.desk.specs.declared.Answer.{Answer}
-use Rattle.frame.specs.Effect.{Effect, refusal}
+use Rattle.frame.specs.Effect.{Effect}
 use Rattle.frame.specs.declared.Reply.{Reply}
-use Rattle.frame.specs.declared.Reply.the-variants.{Done, Refused}
+use Rattle.frame.specs.declared.Reply.the-variants.{Done}
 use Rattle.frame.specs.Reply.{passed}
 use Rattle.halves.specs.Halves.{firstHalf, secondHalf}
 use Rattle.pieces.specs.Pieces.{framePart, waitingIn, waits, frameAt, further}
@@ -30,6 +29,7 @@ use Rattle.pieces.proofs.Shares.{part-length, waiting-length}
 use Rattle.desk.specs.declared.Record.{Record}
 use Rattle.desk.specs.Gate.{shareOf, gate}
 use Rattle.desk.specs.Desk.{Ask, piece, resume, callOf, holding, advanced, numbered, carried, answered, onShare, desk}
+use Rattle.desk.proofs.Answered as past
 
 -- ---- the gate
 
@@ -38,28 +38,12 @@ abbrev pub on : ℕ → List Float → Record → Ask → Effect Reply → Effec
 on side store rec ask f = record { answer = answered rec ask (f .answer); kept = put (shareOf side) store (f .kept); written = f .written }
 
 module _ (n side : ℕ) (rec : Record) (store : List Float) (ask : Ask) where
-  abbrev share : List Float
-  share = get (shareOf side) store
-
-  abbrev number : ℕ
-  number = gate n side rec (length store) (callOf ask)
+  pub let-through : gate n side rec (length store) (callOf ask) ≡ 0 → desk n side rec store ask ≡ on side store rec ask (onShare rec (get (shareOf side) store) ask)
+  let-through e = past.let-in rec ask n side store e
 
   pub let-in : passed (desk n side rec store ask .answer .reply) ≡ true
       → (gate n side rec (length store) (callOf ask) ≡ 0) × (desk n side rec store ask ≡ on side store rec ask (onShare rec (get (shareOf side) store) ask))
-  unfolding desk
-  let-in = go (eqb number 0) refl
-    where
-      given : Bool → Effect Reply
-      given t = cond t (onShare rec share ask) (refusal (Refused number) share)
-
-      go : (t : Bool) → eqb number 0 ≡ t → passed (given t .answer) ≡ true
-          → (number ≡ 0) × (on side store rec ask (given t) ≡ on side store rec ask (onShare rec share ask))
-      go true e p = (eqb-true number 0 e, refl)
-      go false e p = absurd (false≢true p)
-
-  pub let-through : gate n side rec (length store) (callOf ask) ≡ 0 → desk n side rec store ask ≡ on side store rec ask (onShare rec (get (shareOf side) store) ask)
-  unfolding desk
-  let-through e = rw e
+  let-in p = let e = past.was-let-in rec ask n side store p in (e, let-through e)
 
 -- ---- onward with the rest of a piece
 

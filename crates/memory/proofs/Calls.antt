@@ -226,7 +226,7 @@ module _ (b : Record) (share : List Float) (whole : length share ≡ SHARE) wher
   -- a refusal leaves all alone
   unmoved : (ask : Ask) (n : ℕ) → Leaves ask (Refused n) part
   unfolding kept brought
-  unmoved ask n = rw (refused b ask n) (record { keeps = refl; counts = λ _. refl })
+  unmoved ask n = record { keeps = rw (refused b ask n) refl; counts = λ _. rw (refused b ask n) refl }
 
   second-half-leaves : (l : List Float) (m : List ℕ) (o : ℕ) → LeavesOf (secondHalf l m o) (halves.secondHalf part (b .hearing) l m o)
   unfolding kept brought
