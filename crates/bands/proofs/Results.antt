@@ -1,11 +1,8 @@
 -- What callers need of the results: their lengths; and that the gains of bins 400 to 480 are 0. Assumes nothing.
-use mathlib.Core.Path.{_≡_, _∙_}
-use mathlib.Core.List.{List}
-use Prim.Native.Nat.{ℕ, _+_, _-_, _≤_, _<_}
+use Rattle.rules.proofs.Common.{ℕ, _+_, _-_, _≤_, _<_, List, _≡_, _∙_, length, length-set, Float, nan}
 use native.Mathlib.Omega.{arith}
-use lib.ListN.{length, length-set, length-replicate, getD-replicate}
+use lib.ListN.{length-replicate, getD-replicate}
 use lib.Seq.{getD-set-other}
-use lib.Ieee.{Float, nan}
 use Rattle.rules.specs.F32.{at, f32, zeros}
 use Rattle.rules.proofs.Loops.{kept}
 use Rattle.rules.proofs.Lists.{length-tab}

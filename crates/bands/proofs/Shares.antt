@@ -1,13 +1,9 @@
 -- Bins are added to a band and the next. The code holds the two sums in locals, and the definition in their places: a turn of the one is a turn of the other.
 -- Assumes nothing.
-use mathlib.Core.Path.{_≡_, refl, sym, _∙_}
-use mathlib.Core.List.{List}
-use Prim.Native.Nat.{ℕ, _+_, _-_, _<_}
+use Rattle.rules.proofs.Common.{ℕ, _+_, _-_, _<_, List, _≡_, refl, sym, _∙_, length, set, length-set, pos, Float, binary32, nan}
 use native.Mathlib.Omega.{arith}
-use lib.IntN.{pos}
-use lib.ListN.{length, set, length-set}
 use lib.Seq.{getD-set-same, getD-set-other, set-getD, set-set, set-comm}
-use lib.Ieee.{Float, nan, binary32, ofInt, ofBits}
+use lib.Ieee.{ofInt, ofBits}
 use Rattle.rules.specs.Loop.{loop, range}
 use Rattle.rules.specs.F32.{_⊕_, _⊖_, _⊗_, _⊘_, at, f32, zeros}
 use Rattle.rules.proofs.Loops.{range-after}

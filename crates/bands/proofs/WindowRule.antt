@@ -1,9 +1,7 @@
 -- The window's rule: six tests, each of which antt computes once over the whole table, and what they say at each entry.
 -- Assumes nothing.
-use mathlib.Core.Path.{refl}
-use mathlib.Core.Bool.{Bool, true, false}
-use Prim.Native.Nat.{ℕ, _+_, _-_, _^_, _<_}
-use lib.Dec.{T, leb, ltb, eqb, leb→le, ltb→lt, eqb→eq, lt→ltb}
+use Rattle.rules.proofs.Common.{ℕ, _+_, _-_, _^_, _<_, Bool, true, false, refl, eqb, leb, ltb, T}
+use lib.Dec.{leb→le, ltb→lt, eqb→eq, lt→ltb}
 use lib.Ieee.{ofBits, round}
 use Rattle.bands.specs.Window.{window, windowBits}
 use Rattle.bands.specs.WindowRule.{count, counts, entry, squares, Rule, Claim}

@@ -1,10 +1,8 @@
 -- Blocks in a row are one dictation (`rows`, `bytes-in-a-row`), however a stream is cut into them (`however-cut`). Assumes nothing.
-use Prim.Native.Nat.{ℕ, _+_, _/_, _≤_, _<_}
+use Rattle.rules.proofs.Common.{ℕ, _+_, _/_, _≤_, _<_, List, _++_, _≡_, refl, sym, ap, ap₂, _∙_, length, replicate, length-append, Float}
 use native.Mathlib.Omega.{arith}
-use mathlib.Core.List.{List, _++_, append-assoc, append-nil}
-use mathlib.Core.Path.{_≡_, refl, sym, ap, ap₂, _∙_}
-use lib.ListN.{length, replicate, length-append, length-replicate, replicate-append-replicate}
-use lib.Ieee.{Float}
+use mathlib.Core.List.{append-assoc, append-nil}
+use lib.ListN.{length-replicate, replicate-append-replicate}
 use Rattle.rules.specs.Place.{get}
 use Rattle.rules.proofs.Places.{length-get}
 use Rattle.frame.specs.Share.{SHARE}

@@ -1,11 +1,5 @@
 -- A feed does what a plan does, as every call does (`planned`); and so the benches are apart (`benches-apart`). Assumes nothing.
-use Prim.Native.Nat.{ℕ, suc}
-use mathlib.Core.Bool.{Bool, true, false, cond, not}
-use mathlib.Core.List.{List, [], _∷_}
-use mathlib.Core.Path.{_≡_, refl, sym, ap, _∙_}
-use lib.Dec.{eqb}
-use lib.ListN.{length, getD}
-use lib.Ieee.{Float}
+use Rattle.rules.proofs.Common.{ℕ, suc, Bool, true, false, cond, not, List, [], _∷_, _≡_, refl, sym, ap, _∙_, eqb, length, getD, Float}
 use Rattle.rules.specs.Place.{get}
 use Rattle.rules.specs.Refusals.{Row, refusing}
 use Rattle.rules.specs.Written.{Written, from, nothing, numbersIn, firstIn}

@@ -4,17 +4,15 @@
 --     frame-after, waiting-after    the frame number behind a dictation, and how many samples wait
 --     told-each                     something is told of each frame
 -- Assumes nothing.
-use Prim.Native.Nat.{ℕ, zero, suc, _+_, _-_, _*_, _/_, _%_, _≤_, _<_}
+use Rattle.rules.proofs.Common.{ℕ, zero, suc, _+_, _-_, _*_, _/_, _%_, _≤_, _<_, Bool, true, false, cond, List, [], _∷_, _++_, _≡_, refl, sym, ap}
+use Rattle.rules.proofs.Common.{ap₂, _∙_, ltb, length, drop, length-drop, length-append, Float, nan}
 use native.Mathlib.Nat.{add-zero, add-suc, add-assoc, add-mul, mul-assoc, mul-pos, mul-mod-left, mul-div-cancel}
 use native.Mathlib.Omega.{arith}
-use mathlib.Core.Bool.{Bool, true, false, cond}
-use mathlib.Core.List.{List, [], _∷_, _++_, append-assoc, append-nil}
-use mathlib.Core.Path.{_≡_, refl, sym, ap, ap₂, _∙_}
+use mathlib.Core.List.{append-assoc, append-nil}
 use borrow.Author.Tests.{ltb-true, ltb-false}
-use lib.Dec.{ltb}
-use lib.ListN.{length, drop, length-append, length-drop, List·getD-append}
+use lib.ListN.{List·getD-append}
 use lib.Seq.{getD-append-add}
-use lib.Ieee.{Float, nan, eq}
+use lib.Ieee.{eq}
 use Rattle.rules.specs.F32.{f32, at, natAt}
 use Rattle.rules.specs.Tab.{tab}
 use Rattle.rules.proofs.Lists.{length-tab, tab-same}

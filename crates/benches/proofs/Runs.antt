@@ -2,15 +2,10 @@
 --     gave-nothing, gave-said     a refused call, and a feed that is done
 --     Comes, lone-run             a bench's calls that are done, one after the other, and that any run comes to these
 -- Assumes nothing.
-use Prim.Native.Nat.{ℕ, _*_, _≤_, _<_}
+use Rattle.rules.proofs.Common.{ℕ, _*_, _≤_, _<_, Bool, true, false, cond, not, false≢true, List, [], _∷_, _++_, _≡_, refl, sym, ap, ap₂, subst, _∙_}
+use Rattle.rules.proofs.Common.{eqb, length, getD, drop, Float}
 use native.Mathlib.Omega.{arith}
-use mathlib.Core.Bool.{Bool, true, false, cond, not, false≢true}
-use mathlib.Core.List.{List, [], _∷_, _++_}
-use mathlib.Core.Path.{_≡_, refl, sym, ap, ap₂, subst, _∙_}
 use borrow.Author.Tests.{eqb-true, eqb-false, eq-eqb}
-use lib.Dec.{eqb}
-use lib.ListN.{length, getD, drop}
-use lib.Ieee.{Float}
 use Rattle.rules.specs.Place.{get, put}
 use Rattle.rules.specs.Refusals.{_when_, refusing}
 use Rattle.rules.specs.Written.{firstIn}

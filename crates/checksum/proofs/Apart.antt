@@ -1,14 +1,10 @@
 -- A register that goes through the same bytes as another stays apart from it. Assumes nothing.
 --     small        a register, and a checksum, has 32 bits
 --     same-end     of bytes that end alike, the checksums are equal only where those of what stands in front are
-use mathlib.Core.Path.{_≡_, sym, ap, _∙_}
-use mathlib.Core.Bool.{Bool}
-use mathlib.Core.List.{List, [], _∷_, _++_}
-use Prim.Native.Nat.{ℕ, _+_, _*_, _/_, _%_, _≤_, _<_, _^_}
+use Rattle.rules.proofs.Common.{ℕ, _+_, _*_, _/_, _%_, _^_, _≤_, _<_, Bool, List, [], _∷_, _++_, _≡_, sym, ap, _∙_, eqb, ltb, T, getD}
 use native.Mathlib.Omega.{arith}
 use lib.Bits.{bitXor, xor-lt, xor-shr, xor-mod, xor-comm, xor-zero-r}
-use lib.Dec.{T, eqb, ltb, eqb→eq, ltb→lt}
-use lib.ListN.{getD}
+use lib.Dec.{eqb→eq, ltb→lt}
 use Rattle.rules.specs.Loop.{loop}
 use Rattle.rules.specs.Tab.{tab}
 use Rattle.rules.proofs.Tests.{at-each}

@@ -5,14 +5,8 @@
 --     let-in                  where the gate gives 0, the call's effect on the share is the desk's
 --     was-let-in, on-share    a call that is done was let through, and is done on the share
 -- Assumes nothing.
-use Prim.Native.Nat.{ℕ}
-use mathlib.Core.Bool.{Bool, true, false, cond, _&&_, false≢true}
-use mathlib.Core.List.{List}
-use mathlib.Core.Path.{_≡_, refl, sym, _∙_}
+use Rattle.rules.proofs.Common.{ℕ, Bool, true, false, cond, _&&_, false≢true, List, _≡_, refl, sym, _∙_, eqb, length, Float}
 use borrow.Author.Tests.{eq-eqb, eqb-true}
-use lib.Dec.{eqb}
-use lib.ListN.{length}
-use lib.Ieee.{Float}
 use Rattle.rules.specs.Place.{get}
 use Rattle.frame.specs.Effect.{Effect, refusal}
 use Rattle.frame.specs.Reply.{passed, oneMore}

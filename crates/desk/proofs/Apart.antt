@@ -5,16 +5,10 @@
 --     closed-alike    what the share of a closed side held is never told
 --     anew            an opening that is done forgets the record and the share that it found
 -- Assumes nothing.
-use Prim.Native.Nat.{ℕ, _*_, _<_, _≤_}
+use Rattle.rules.proofs.Common.{ℕ, _*_, _≤_, _<_, Bool, true, false, cond, false≢true, List, _≡_, refl, sym, ap, _∙_, eqb, ltb, length, Float}
 use native.Mathlib.Omega.{arith}
-use mathlib.Core.Bool.{Bool, true, false, cond, false≢true}
-use mathlib.Core.List.{List}
 use mathlib.Core.Logic.{_⊎_, inl, inr, ⊎-elim}
-use mathlib.Core.Path.{_≡_, refl, sym, ap, _∙_}
 use borrow.Author.Tests.{ltb-true, ltb-false, eqb-true, ne-eqb}
-use lib.Dec.{eqb, ltb}
-use lib.ListN.{length}
-use lib.Ieee.{Float}
 use Rattle.rules.specs.Place.{get, put}
 use Rattle.rules.proofs.Places.{Within, length-get, length-put, get-put, get-put-apart, put-get, get-whole, put-whole}
 use Rattle.model.specs.Model.{readOf}

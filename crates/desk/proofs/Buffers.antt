@@ -1,11 +1,5 @@
 -- A call writes to each answer buffer that it is lent, or is refused and writes to none (`buffers`). Assumes nothing.
-use Prim.Native.Nat.{ℕ, _*_, _-_}
-use mathlib.Core.Bool.{Bool, true, false, cond}
-use mathlib.Core.List.{List, [], _++_}
-use mathlib.Core.Path.{_≡_, refl}
-use lib.Dec.{ltb}
-use lib.ListN.{length, drop}
-use lib.Ieee.{Float}
+use Rattle.rules.proofs.Common.{ℕ, _-_, _*_, Bool, true, false, cond, List, [], _++_, _≡_, refl, ltb, length, drop, Float}
 use Rattle.rules.specs.Place.{get, put}
 use Rattle.rules.specs.Written.{Written, from, nothing, firstIn}
 use Rattle.model.specs.Model.{readOf}

@@ -1,14 +1,8 @@
 -- The law of request 08 over the desk: accepted, a half is its two calls in turn, the second handed the record and the store as the first left them. Assumes
 -- nothing.
-use Prim.Native.Nat.{ℕ, _+_, _*_, _≤_, _<_}
+use Rattle.rules.proofs.Common.{ℕ, _+_, _*_, _≤_, _<_, true, false, false≢true, List, _≡_, refl, sym, ap, _∙_, eqb, length, Float}
 use native.Mathlib.Omega.{arith}
-use mathlib.Core.Bool.{true, false, false≢true}
-use mathlib.Core.List.{List}
-use mathlib.Core.Path.{_≡_, refl, sym, ap, _∙_}
 use borrow.Author.Tests.{lt-ltb, eq-eqb, ne-eqb, eqb-true, eqb-false, not-false}
-use lib.Dec.{eqb}
-use lib.ListN.{length}
-use lib.Ieee.{Float}
 use Rattle.rules.specs.Place.{get, put}
 use Rattle.rules.specs.Written.{firstIn}
 use Rattle.rules.proofs.Places.{Within, length-get, length-put, get-put, put-put}

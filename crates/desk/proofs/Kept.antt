@@ -2,13 +2,8 @@
 --     admitted-kept    a share's length; and, refused, the share
 --     refused-keeps    refused, the record and the store
 -- Assumes nothing.
-use Prim.Native.Nat.{ℕ}
-use mathlib.Core.Bool.{false, true≢false}
-use mathlib.Core.List.{List}
-use mathlib.Core.Path.{_≡_, refl, sym, ap, _∙_}
+use Rattle.rules.proofs.Common.{ℕ, false, true≢false, List, _≡_, refl, sym, ap, _∙_, length, Float}
 use native.Mathlib.Omega.{arith}
-use lib.ListN.{length}
-use lib.Ieee.{Float}
 use Rattle.rules.specs.Place.{get, put}
 use Rattle.rules.proofs.Places.{put-get, length-get, length-put}
 use Rattle.model.specs.Model.{readOf}

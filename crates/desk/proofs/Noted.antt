@@ -1,7 +1,5 @@
 -- What an opening noted stays until the next (`noted-stays`). Assumes nothing.
-use mathlib.Core.Bool.{Bool, true, false, cond}
-use mathlib.Core.Path.{_≡_, refl}
-use lib.ListN.{length}
+use Rattle.rules.proofs.Common.{Bool, true, false, cond, _≡_, refl, length}
 use Rattle.rules.specs.Place.{get}
 use Rattle.frame.specs.Reply.{passed}
 use Rattle.frame.specs.declared.Reply.{Reply}

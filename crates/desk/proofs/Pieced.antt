@@ -2,13 +2,8 @@
 --     piece-fitted, resume-fitted    they passed every test
 --     piece-told, resume-told        so that their numbers can be reckoned with
 --     resume-no-out                  a resume with no place for its samples is refused
-use Prim.Native.Nat.{ℕ, _≤_}
+use Rattle.rules.proofs.Common.{ℕ, _≤_, true, false, false≢true, List, _≡_, refl, sym, ap, _∙_, length, Float}
 use native.Mathlib.Omega.{arith}
-use mathlib.Core.Bool.{true, false, false≢true}
-use mathlib.Core.List.{List}
-use mathlib.Core.Path.{_≡_, refl, sym, ap, _∙_}
-use lib.ListN.{length}
-use lib.Ieee.{Float}
 use Rattle.frame.specs.Reply.{passed}
 use Rattle.frame.specs.declared.Hearing.{Hearing}
 use Rattle.frame.specs.declared.Reply.{Reply}

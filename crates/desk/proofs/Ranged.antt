@@ -3,15 +3,10 @@
 --     bounded       what in range says, in numbers
 --     opens         with a record in range an opening is done, where side, store and model are right
 -- Assumes nothing.
-use Prim.Native.Nat.{ℕ, _+_, _-_, _*_, _≤_, _<_}
+use Rattle.rules.proofs.Common.{ℕ, _+_, _-_, _*_, _≤_, _<_, Bool, true, false, cond, _&&_, false≢true, List, _≡_, refl, sym, eqb, leb, ltb, length}
+use Rattle.rules.proofs.Common.{Float}
 use native.Mathlib.Omega.{arith}
-use mathlib.Core.Bool.{Bool, true, false, cond, _&&_, false≢true}
-use mathlib.Core.List.{List}
-use mathlib.Core.Path.{_≡_, refl, sym}
 use borrow.Author.Tests.{lt-ltb, eq-eqb, ne-eqb, eqb-true, eqb-false, le-leb, leb-true, ltb-true, ltb-false, not-false}
-use lib.Dec.{eqb, leb, ltb}
-use lib.ListN.{length}
-use lib.Ieee.{Float}
 use Rattle.rules.specs.Place.{get}
 use Rattle.rules.proofs.Tests.{both}
 use Rattle.model.specs.Model.{readOf}

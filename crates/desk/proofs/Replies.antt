@@ -3,12 +3,7 @@
 --     no-out, no-half-out, no-resume-out    call 3 with no place for its spectrum, and a second half and a resume with none for their samples,
 --                                           are refused
 -- Assumes nothing.
-use Prim.Native.Nat.{ℕ, _*_, _-_}
-use mathlib.Core.Bool.{false}
-use mathlib.Core.List.{List, [], _++_}
-use mathlib.Core.Path.{_≡_, refl, ap, _∙_}
-use lib.ListN.{length, drop}
-use lib.Ieee.{Float}
+use Rattle.rules.proofs.Common.{ℕ, _-_, _*_, false, List, [], _++_, _≡_, refl, ap, _∙_, length, drop, Float}
 use Rattle.rules.specs.Place.{get, put}
 use Rattle.rules.specs.Written.{from, nothing, firstIn}
 use Rattle.model.specs.Model.{readOf}

@@ -4,15 +4,11 @@
 --     framed          a call of a frame gets through, and was lent the frame's part alone
 --     misread, wiped  an opening that gets through, whose model is refused or reads
 -- Assumes nothing.
-use Prim.Native.Nat.{ℕ, _+_, _-_}
+use Rattle.rules.proofs.Common.{ℕ, _+_, _-_, Bool, true, false, cond, not, true≢false, false≢true, List, [], _≡_, refl, sym, ap, _∙_, length}
+use Rattle.rules.proofs.Common.{replicate, Float}
 use native.Mathlib.Nat.{add-sub-cancel-left, add-zero}
-use mathlib.Core.Bool.{Bool, true, false, cond, not, true≢false, false≢true}
-use mathlib.Core.List.{List, []}
-use mathlib.Core.Path.{_≡_, refl, sym, ap, _∙_}
 use native.Mathlib.Omega.{arith}
 use borrow.Author.Tests.{eq-eqb, ne-eqb, not-true, not-false}
-use lib.ListN.{length, replicate}
-use lib.Ieee.{Float}
 use Rattle.rules.specs.F32.{f32, zeros}
 use Rattle.rules.specs.Place.{Place, get, put}
 use Rattle.rules.specs.Written.{onto}

@@ -1,7 +1,5 @@
 -- A record that a half moves on: twice. Assumes nothing.
-use Prim.Native.Nat.{ℕ, _+_, _-_}
-use mathlib.Core.Bool.{Bool, true, false}
-use mathlib.Core.Path.{_≡_, refl, ap, _∙_}
+use Rattle.rules.proofs.Common.{ℕ, _+_, _-_, Bool, true, false, _≡_, refl, ap, _∙_}
 use Rattle.frame.specs.Reply.{passed}
 use Rattle.frame.specs.declared.Reply.{Reply}
 use Rattle.desk.specs.declared.Record.{Record}

@@ -1,16 +1,12 @@
 -- Of the places for samples that wait, the unused ones are zero, in every state since an opening (`unused-zero`): an opening wipes them, a call of a
 -- frame leaves them alone, and what a piece leaves waiting has zeros behind it. Assumes nothing.
-use Prim.Native.Nat.{ℕ, _+_, _-_, _*_, _≤_, _<_}
+use Rattle.rules.proofs.Common.{ℕ, _+_, _-_, _*_, _≤_, _<_, Bool, true, false, cond, _&&_, false≢true, List, [], _++_, _≡_, refl, sym, ap, _∙_, eqb}
+use Rattle.rules.proofs.Common.{leb, ltb, length, take, drop, replicate, length-drop, length-append, Float}
 use native.Mathlib.Omega.{arith}
-use mathlib.Core.Bool.{Bool, true, false, cond, false≢true, _&&_}
-use mathlib.Core.List.{List, [], _++_}
 use mathlib.Core.Logic.{inl}
-use mathlib.Core.Path.{_≡_, refl, sym, ap, _∙_}
 use borrow.Author.Tests.{eqb-true, eqb-false, ne-eqb, ltb-true, not-false, not-true}
-use lib.Dec.{eqb, leb, ltb}
-use lib.ListN.{length, take, drop, replicate, length-append, length-drop, length-replicate, replicate-append-replicate}
+use lib.ListN.{length-replicate, replicate-append-replicate}
 use lib.Seq.{take-at, drop-at}
-use lib.Ieee.{Float}
 use Rattle.rules.specs.F32.{f32, zeros}
 use Rattle.rules.specs.Place.{Place, get, put}
 use Rattle.rules.specs.Written.{Written, from, nothing, firstIn}

@@ -1,15 +1,11 @@
 -- The law of cutting. A piece that is resumed to its end is the dictation of its samples, by induction over its frames; a row of pieces is the
 -- dictation of all samples, by the law that a dictation can be broken off and gone on with. Assumes nothing.
-use Prim.Native.Nat.{ℕ, _+_, _-_, _*_, _/_, _≤_, _<_}
+use Rattle.rules.proofs.Common.{ℕ, _+_, _-_, _*_, _/_, _≤_, _<_, Bool, true, false, cond, List, [], _∷_, _++_, _≡_, refl, sym, ap, ap₂, _∙_, ltb}
+use Rattle.rules.proofs.Common.{length, take, drop, length-drop, length-append, Float}
 use native.Mathlib.Omega.{arith}
-use mathlib.Core.Bool.{Bool, true, false, cond}
-use mathlib.Core.List.{List, [], _∷_, _++_, append-assoc}
-use mathlib.Core.Path.{_≡_, refl, sym, ap, ap₂, _∙_}
+use mathlib.Core.List.{append-assoc}
 use borrow.Author.Tests.{ltb-true, ltb-false}
-use lib.Dec.{ltb}
-use lib.ListN.{length, take, drop, length-append, length-drop}
 use lib.Seq.{take-at, drop-drop, drop-append-add}
-use lib.Ieee.{Float}
 use Rattle.rules.specs.Place.{get, put}
 use Rattle.rules.specs.Written.{Written, from, nothing, over, firstIn}
 use Rattle.rules.proofs.Places.{over-none, over-next}

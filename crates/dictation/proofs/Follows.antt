@@ -3,13 +3,8 @@
 --     follows               a resume that is not refused
 --     admits                one that no test turns away
 -- Assumes nothing.
-use Prim.Native.Nat.{ℕ, _+_, _-_, _*_, _≤_, _<_}
+use Rattle.rules.proofs.Common.{ℕ, _+_, _-_, _*_, _≤_, _<_, true, List, _≡_, _∙_, length, drop, Float}
 use native.Mathlib.Omega.{arith}
-use mathlib.Core.Bool.{true}
-use mathlib.Core.List.{List}
-use mathlib.Core.Path.{_≡_, _∙_}
-use lib.ListN.{length, drop}
-use lib.Ieee.{Float}
 use Rattle.rules.specs.Place.{get, put}
 use Rattle.rules.specs.Written.{from, firstIn}
 use Rattle.rules.proofs.Places.{get-put, put-put}

@@ -1,11 +1,8 @@
 -- Laws of a dictation: that it is blind to what waited in the share before, and that it can be broken off and gone on with. Assumes nothing.
-use Prim.Native.Nat.{ℕ, _+_, _*_, _≤_, _<_}
+use Rattle.rules.proofs.Common.{ℕ, _+_, _*_, _≤_, _<_, List, [], _∷_, _++_, _≡_, refl, length, take, drop, length-drop, Float}
 use native.Mathlib.Omega.{arith}
-use mathlib.Core.List.{List, [], _∷_, _++_, append-assoc}
-use mathlib.Core.Path.{_≡_, refl}
-use lib.ListN.{length, take, drop, length-drop}
+use mathlib.Core.List.{append-assoc}
 use lib.Seq.{take-append-le, drop-append-le}
-use lib.Ieee.{Float}
 use Rattle.rules.specs.Place.{get, put}
 use Rattle.rules.specs.Written.{firstIn}
 use Rattle.frame.specs.declared.Reply.{Reply}

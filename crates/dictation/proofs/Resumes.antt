@@ -1,14 +1,9 @@
 -- Laws of a record and of one piece: its numbers, where it is accepted, and that an accepted piece comes to its end. Assumes nothing.
-use Prim.Native.Nat.{ℕ, _+_, _-_, _*_, _/_, _≤_, _<_}
+use Rattle.rules.proofs.Common.{ℕ, _+_, _-_, _*_, _/_, _≤_, _<_, Bool, true, false, List, [], _∷_, _++_, _≡_, refl, sym, ap, _∙_, eqb, leb, length}
+use Rattle.rules.proofs.Common.{drop, length-drop, length-append, Float}
 use native.Mathlib.Omega.{arith}
-use mathlib.Core.Bool.{Bool, true, false}
-use mathlib.Core.List.{List, [], _∷_, _++_}
-use mathlib.Core.Path.{_≡_, refl, sym, ap, _∙_}
 use borrow.Author.Tests.{eqb-true, eqb-false, leb-true, eq-eqb, ne-eqb, le-leb, lt-ltb, not-false}
-use lib.Dec.{eqb, leb}
-use lib.ListN.{length, drop, length-append, length-drop}
 use lib.Seq.{drop-drop, drop-append-add}
-use lib.Ieee.{Float}
 use Rattle.rules.specs.Place.{get, put}
 use Rattle.rules.specs.Written.{Written, from, nothing, over, firstIn}
 use Rattle.rules.proofs.Places.{length-get, length-put, over-none}

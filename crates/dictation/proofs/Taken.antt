@@ -4,13 +4,9 @@
 --     resume-passed      a resume, with what is left of its samples
 --     ends, pauses       onward, the rest is too short for a frame, or begins one
 -- Assumes nothing.
-use Prim.Native.Nat.{ℕ, _+_, _-_, _*_, _≤_, _<_}
-use mathlib.Core.Bool.{true, false≢true}
-use mathlib.Core.List.{List, [], _∷_, _++_}
-use mathlib.Core.Path.{_≡_, sym, ap, _∙_}
+use Rattle.rules.proofs.Common.{ℕ, _+_, _-_, _*_, _≤_, _<_, true, false≢true, List, [], _∷_, _++_, _≡_, sym, ap, _∙_, length, take, drop, length-drop}
+use Rattle.rules.proofs.Common.{length-append, Float}
 use borrow.Author.Tests.{lt-ltb, le-ltb}
-use lib.ListN.{length, take, drop, length-append, length-drop}
-use lib.Ieee.{Float}
 use Rattle.rules.specs.Place.{get, put}
 use Rattle.rules.specs.Written.{Written, all, from, nothing, firstIn}
 use Rattle.desk.specs.declared.Answer.{Answer}

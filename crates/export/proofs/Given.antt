@@ -3,16 +3,13 @@
 --     Telling                what is known of a call with three numbers besides, by the places of `out` that it is lent
 --     three, told-three      it is lent `out`, or no place of it where `answer` has another length than three
 -- Assumes nothing.
-use Prim.Native.Nat.{ℕ, suc, _-_, _≤_}
+use Rattle.rules.proofs.Common.{ℕ, suc, _-_, _≤_, Bool, true, false, cond, false≢true, List, [], _∷_, _++_, _≡_, refl, sym, ap, ap₂, _∙_, eqb, length}
+use Rattle.rules.proofs.Common.{drop, Float}
 use native.Mathlib.Omega.{arith}
-use mathlib.Core.Bool.{Bool, true, false, cond, false≢true}
-use mathlib.Core.List.{List, [], _∷_, _++_, append-nil}
-use mathlib.Core.Path.{_≡_, refl, sym, ap, ap₂, _∙_}
+use mathlib.Core.List.{append-nil}
 use borrow.Author.Tests.{eqb-true}
-use lib.Dec.{eqb}
-use lib.ListN.{length, drop, drop-of-length-le}
+use lib.ListN.{drop-of-length-le}
 use lib.Seq.{take-all}
-use lib.Ieee.{Float}
 use Rattle.rules.specs.Place.{Place, get, put}
 use Rattle.rules.specs.Written.{Written, all, onto}
 use Rattle.rules.proofs.Places.{onto-more, to-none}

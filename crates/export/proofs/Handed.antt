@@ -3,12 +3,8 @@
 --     handed                   it is, and the call is what the desk gives
 --     three, handed-three      a call with three numbers besides
 -- Assumes nothing.
-use Prim.Native.Nat.{ℕ, suc}
-use mathlib.Core.Bool.{true, false, cond}
-use mathlib.Core.List.{List, [], _∷_, _++_, append-nil}
-use mathlib.Core.Path.{_≡_, ap₂}
-use lib.ListN.{length}
-use lib.Ieee.{Float}
+use Rattle.rules.proofs.Common.{ℕ, suc, true, false, cond, List, [], _∷_, _++_, _≡_, ap₂, length, Float}
+use mathlib.Core.List.{append-nil}
 use Rattle.rules.specs.Place.{get, put}
 use Rattle.frame.specs.Effect.{Effect, Worked}
 use Rattle.frame.specs.Reply.{passed}

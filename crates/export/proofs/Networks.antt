@@ -1,9 +1,6 @@
 -- What the proofs of the network's functions cite. Assumes nothing.
-use mathlib.Core.Path.{_≡_}
-use mathlib.Core.List.{List}
-use Prim.Native.Nat.{ℕ, _≤_}
+use Rattle.rules.proofs.Common.{ℕ, _≤_, List, _≡_, Float}
 use Rattle.rules.specs.Leaf.{Leaf, done, refused}
-use lib.Ieee.{Float}
 use Rattle.network.specs.Compute.{Outcome, computed}
 use Rattle.network.proofs.Callers.{Answered, answered}
 use Rattle.export.specs.OfNetwork.{Known}

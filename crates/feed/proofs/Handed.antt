@@ -3,17 +3,13 @@
 --     sized, part-length, ready   the numbers of a feed that no row refuses
 --     turned, shut, fed           a feed that the gate turns away, one that a row refuses, and one that is neither
 -- Assumes nothing.
-use Prim.Native.Nat.{ℕ, _-_, _*_, _/_, _≤_, _<_}
+use Rattle.rules.proofs.Common.{ℕ, _-_, _*_, _/_, _≤_, _<_, Bool, true, false, cond, not, _&&_, true≢false, false≢true, List, [], _∷_, _≡_, refl, sym}
+use Rattle.rules.proofs.Common.{ap, _∙_, leb, length, getD, drop, length-take, Float, nan}
 use native.Mathlib.Nat.{sub-zero}
 use native.Mathlib.Omega.{arith}
-use mathlib.Core.Bool.{Bool, true, false, cond, not, _&&_, true≢false, false≢true}
-use mathlib.Core.List.{List, [], _∷_}
-use mathlib.Core.Path.{_≡_, refl, sym, ap, _∙_}
 use borrow.Author.Tests.{ne-eqb, leb-true}
-use lib.Dec.{leb}
-use lib.ListN.{length, getD, drop, length-take, List·getD-append, take as list-take}
+use lib.ListN.{List·getD-append, take as list-take}
 use lib.Seq.{take-at}
-use lib.Ieee.{Float, nan}
 use Rattle.rules.specs.F32.{at, part}
 use Rattle.rules.specs.Place.{put}
 use Rattle.rules.specs.Refusals.{_when_, refusing}

@@ -3,13 +3,9 @@
 --     feed-leaves, entry-small  what specs/Laws.antt claims
 --     feed-settled              a contract is met by one outcome alone
 -- Assumes nothing.
-use Prim.Native.Nat.{ℕ, _+_, _%_, _<_}
+use Rattle.rules.proofs.Common.{ℕ, _+_, _%_, _<_, Bool, true, false, cond, true≢false, false≢true, List, _≡_, refl, sym, _∙_, length, Float}
 use native.Mathlib.Omega.{arith}
-use mathlib.Core.Bool.{Bool, true, false, cond, true≢false, false≢true}
-use mathlib.Core.List.{List}
-use mathlib.Core.Path.{_≡_, refl, sym, _∙_}
-use lib.ListN.{length}
-use lib.Ieee.{Float, eq}
+use lib.Ieee.{eq}
 use Rattle.rules.specs.F32.{f32}
 use Rattle.rules.specs.Tab.{tab}
 use Rattle.rules.proofs.Refusals.{by-rows}

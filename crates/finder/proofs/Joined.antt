@@ -1,11 +1,6 @@
 -- What the calls ensure, in a row. Assumes nothing.
-use mathlib.Core.Path.{_≡_, refl, ap, _∙_}
-use mathlib.Core.Bool.{Bool, cond}
-use mathlib.Core.List.{List, [], _∷_}
-use Prim.Native.Nat.{ℕ, _-_, _≤_, _<_}
+use Rattle.rules.proofs.Common.{ℕ, _-_, _≤_, _<_, Bool, cond, List, [], _∷_, _≡_, refl, ap, _∙_, length, take, drop, set, length-drop, Float, lt}
 use native.Mathlib.Omega.{arith}
-use lib.Ieee.{Float, lt}
-use lib.ListN.{length, set, take, drop, length-drop}
 use lib.Seq.{take-all}
 use Rattle.rules.specs.F32.{_⊕_, _⊘_, at, f32}
 use Rattle.rules.specs.Leaf.{Leaf, _leaving_}

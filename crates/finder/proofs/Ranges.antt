@@ -1,14 +1,10 @@
 -- How far the places reach: no index leaves its list, and the period is 60 to 767. Assumes nothing.
-use mathlib.Core.Path.{_≡_, refl}
-use mathlib.Core.Bool.{Bool, true, false, cond, _&&_}
-use mathlib.Core.List.{List}
-use Prim.Native.Nat.{ℕ, zero, suc, _+_, _-_, _*_, _/_, _≤_, _<_}
+use Rattle.rules.proofs.Common.{ℕ, zero, suc, _+_, _-_, _*_, _/_, _≤_, _<_, Bool, true, false, cond, _&&_, List, _≡_, refl, eqb, leb, ltb, T, length}
+use Rattle.rules.proofs.Common.{drop, Float, lt}
 use native.Mathlib.Nat.{div-lt-iff-lt-mul, mul-le-mul}
 use native.Mathlib.Omega.{arith}
 use borrow.Author.Tests.{ltb-true, ltb-false, eqb-true, eqb-false, ne-eqb}
-use lib.Dec.{T, leb, ltb, eqb, leb→le}
-use lib.Ieee.{Float, lt}
-use lib.ListN.{length, drop}
+use lib.Dec.{leb→le}
 use Rattle.rules.specs.F32.{at, natAt, _⊕_, _⊖_, _⊗_, _⊘_, f32}
 use Rattle.rules.specs.Loop.{walk, Flow, go, stop, value, andThen}
 use Rattle.rules.proofs.Lists.{length-tab}

@@ -1,13 +1,11 @@
 -- What is rounded is an infinity or a finite value, of the sign that it was given (`rounded`). So it is no NaN (`round-no-nan`), and a number times a factor above zero is
 -- none (`mul-no-nan`). Nothing is rounded to a zero (`zero-rounds`). Assumes nothing.
-use mathlib.Core.Path.{_≡_, refl, sym, _∙_}
-use mathlib.Core.Bool.{Bool, true, false, cond}
-use Prim.Native.Nat.{ℕ, zero, suc, _+_, _*_, _^_, _<_}
+use Rattle.rules.proofs.Common.{ℕ, zero, suc, _+_, _*_, _^_, _<_, Bool, true, false, cond, _≡_, refl, sym, _∙_, ltb, Float, nan, inf, fin, up, down}
 use native.Mathlib.Nat.{zero-mul}
-use lib.Dec.{ltb, eqb·suc-zero}
+use lib.Dec.{eqb·suc-zero}
 use lib.IntN.{ℤ}
 use lib.Pow.{pow-pos}
-use lib.Ieee.{Float, nan, inf, fin, Format, prec, emax, low, up, down, unlike, odd, units, round, mul, isNan}
+use lib.Ieee.{Format, prec, emax, low, unlike, odd, units, round, mul, isNan}
 use lib.Ieee.Exact.{HasValue, round-exact}
 
 module _ (f : Format) (s : Bool) (P : Float → Type 0) (infinite : P (inf s)) (finite : (m : ℕ) (e : ℤ) → P (fin s m e)) where

@@ -1,9 +1,7 @@
 -- A test of two floats that antt computes, and that it means that they are equal (`floats`). Assumes nothing.
-use mathlib.Core.Path.{_≡_, refl, ap}
-use mathlib.Core.Bool.{Bool, true, false, _&&_}
-use lib.Dec.{T, eqb, eqb→eq}
-use lib.IntN.{ℤ, pos, negsuc}
-use lib.Ieee.{Float, nan, inf, fin}
+use Rattle.rules.proofs.Common.{Bool, true, false, _&&_, _≡_, refl, ap, eqb, T, pos, Float, nan, inf, fin}
+use lib.Dec.{eqb→eq}
+use lib.IntN.{ℤ, negsuc}
 use lib.Ieee.Fits.{and-l, and-r}
 
 abbrev same-sign : Bool → Bool → Bool

@@ -1,10 +1,6 @@
 -- What the calls leave alone: a share keeps its length, and a place that lies apart from the written ones keeps its numbers. Assumes nothing.
-use Prim.Native.Nat.{ℕ, _+_, _≤_}
+use Rattle.rules.proofs.Common.{ℕ, _+_, _≤_, List, [], _∷_, _≡_, refl, ap, _∙_, length, replicate, length-append, Float}
 use native.Mathlib.Omega.{arith}
-use mathlib.Core.List.{List, [], _∷_}
-use mathlib.Core.Path.{_≡_, refl, ap, _∙_}
-use lib.ListN.{length, length-append, replicate}
-use lib.Ieee.{Float}
 use Rattle.rules.specs.F32.{f32}
 use Rattle.rules.specs.Place.{Place, get, put}
 use Rattle.rules.proofs.Places.{Apart, length-get, length-put, get-put-apart}

@@ -1,12 +1,6 @@
 -- What a call can give: what holds of every refusal, and of what is right where nothing is refused, holds of the call. Assumes nothing.
-use Prim.Native.Nat.{ℕ, _≤_}
-use mathlib.Core.Bool.{Bool, true, false, cond, not}
-use mathlib.Core.List.{List, [], _∷_}
-use mathlib.Core.Path.{_≡_, refl, sym}
+use Rattle.rules.proofs.Common.{ℕ, _≤_, Bool, true, false, cond, not, List, [], _∷_, _≡_, refl, sym, ltb, length, Float}
 use borrow.Author.Tests.{ltb-false}
-use lib.Dec.{ltb}
-use lib.ListN.{length}
-use lib.Ieee.{Float}
 use Rattle.rules.specs.Place.{get}
 use Rattle.rules.proofs.Refusals.{Right, right}
 use Rattle.samples.specs.Samples.{good}

@@ -1,11 +1,6 @@
 -- What a call gives where it is refused nothing; and call 3, where `out` has no place. Assumes nothing.
-use Prim.Native.Nat.{ℕ, _≤_}
-use mathlib.Core.Bool.{Bool, true, false, cond, _||_, true≢false, false≢true}
-use mathlib.Core.List.{List}
-use mathlib.Core.Path.{_≡_, refl, sym, ap, _∙_}
+use Rattle.rules.proofs.Common.{ℕ, _≤_, Bool, true, false, cond, _||_, true≢false, false≢true, List, _≡_, refl, sym, ap, _∙_, length, Float}
 use borrow.Author.Tests.{eq-eqb, le-ltb}
-use lib.ListN.{length}
-use lib.Ieee.{Float}
 use Rattle.samples.specs.Samples.{good}
 use Rattle.model.specs.Model.{readOf}
 use Rattle.model.specs.declared.Model.{Model}

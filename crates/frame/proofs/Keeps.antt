@@ -1,12 +1,7 @@
 -- What every call keeps, whatever it is given: the share's length; and, refused, the share. Assumes nothing.
-use Prim.Native.Nat.{ℕ}
+use Rattle.rules.proofs.Common.{ℕ, true, false, true≢false, List, [], _≡_, refl, sym, _∙_, length, Float}
 use native.Mathlib.Omega.{arith}
-use mathlib.Core.Bool.{true, false, true≢false}
-use mathlib.Core.List.{List, []}
 use mathlib.Core.Logic.{inl}
-use mathlib.Core.Path.{_≡_, refl, sym, _∙_}
-use lib.ListN.{length}
-use lib.Ieee.{Float}
 use Rattle.rules.specs.Place.{Place}
 use Rattle.frame.specs.declared.Hearing.{Hearing}
 use Rattle.frame.specs.declared.Reply.{Reply}

@@ -1,12 +1,8 @@
 -- The fields of a whole share have their sizes. Said here, where no function's facts are in reach, they cost nothing. Assumes nothing.
-use Prim.Native.Nat.{ℕ, _+_, _-_, _≤_, _<_}
+use Rattle.rules.proofs.Common.{ℕ, _+_, _-_, _≤_, _<_, List, _≡_, sym, ap, _∙_, length, take, drop, Float}
 use native.Mathlib.Nat.{zero-add}
 use native.Mathlib.Omega.{arith}
-use mathlib.Core.List.{List}
-use mathlib.Core.Path.{_≡_, sym, ap, _∙_}
-use lib.ListN.{length, take, drop}
 use lib.Seq.{getD-take, getD-drop}
-use lib.Ieee.{Float}
 use Rattle.rules.specs.F32.{at}
 use Rattle.rules.specs.Place.{Place, get}
 use Rattle.rules.proofs.Places.{length-get, get-get}

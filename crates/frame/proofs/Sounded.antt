@@ -1,9 +1,5 @@
 -- A frame is silent or heard, as its sound says. Assumes nothing.
-use Prim.Native.Nat.{ℕ}
-use mathlib.Core.Bool.{Bool, true, false, cond, true≢false, false≢true}
-use mathlib.Core.List.{List, [], _∷_}
-use mathlib.Core.Path.{_≡_, refl, sym, ap, _∙_}
-use lib.Ieee.{Float}
+use Rattle.rules.proofs.Common.{ℕ, Bool, true, false, cond, true≢false, false≢true, List, [], _∷_, _≡_, refl, sym, ap, _∙_, Float}
 use Rattle.rules.specs.Place.{get}
 use Rattle.features.specs.Silence.{energy, isSilent, soundOf}
 use Rattle.features.specs.declared.Sound.{Sound}

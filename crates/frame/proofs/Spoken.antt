@@ -1,10 +1,6 @@
 -- A heard frame's stages, put together: from what each call leaves to the definition. Assumes nothing.
-use Prim.Native.Nat.{ℕ, _+_, _≤_}
+use Rattle.rules.proofs.Common.{ℕ, _+_, _≤_, List, _++_, _≡_, refl, ap, _∙_, length, length-append, Float}
 use native.Mathlib.Omega.{arith}
-use mathlib.Core.Path.{_≡_, refl, ap, _∙_}
-use mathlib.Core.List.{List, _++_}
-use lib.ListN.{length, length-append}
-use lib.Ieee.{Float}
 use Rattle.rules.specs.F32.{at}
 use Rattle.rules.specs.Place.{Place, get, put}
 use Rattle.rules.proofs.Places.{length-get, get-get, put-next}

@@ -1,12 +1,7 @@
 -- What a half can give: what holds of every refusal, and of what its two calls give one after the other, holds of the half. Assumes nothing.
-use Prim.Native.Nat.{ℕ, _≤_}
+use Rattle.rules.proofs.Common.{ℕ, _≤_, List, [], _∷_, _≡_, refl, sym, subst, ltb, length, drop, Float}
 use native.Mathlib.Omega.{arith}
-use mathlib.Core.List.{List, [], _∷_}
 use mathlib.Core.Logic.{inl}
-use mathlib.Core.Path.{_≡_, refl, sym, subst}
-use lib.Dec.{ltb}
-use lib.ListN.{length, drop}
-use lib.Ieee.{Float}
 use Rattle.rules.specs.Place.{get}
 use Rattle.rules.specs.Written.{firstIn}
 use Rattle.model.specs.Model.{readOf}

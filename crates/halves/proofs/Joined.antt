@@ -1,12 +1,6 @@
 -- The law of request 08 over one share: accepted, a half is its two calls, one after the other, with the spectra and the lag of its way lent.
 -- Assumes nothing.
-use Prim.Native.Nat.{ℕ}
-use mathlib.Core.Bool.{Bool, true, false, cond, false≢true}
-use mathlib.Core.List.{List, [], _∷_}
-use mathlib.Core.Path.{_≡_, refl, sym, ap, _∙_}
-use lib.Dec.{ltb}
-use lib.ListN.{length, drop}
-use lib.Ieee.{Float}
+use Rattle.rules.proofs.Common.{ℕ, Bool, true, false, cond, false≢true, List, [], _∷_, _≡_, refl, sym, ap, _∙_, ltb, length, drop, Float}
 use Rattle.rules.specs.Refusals.{wrong}
 use Rattle.rules.specs.Written.{firstIn}
 use Rattle.rules.proofs.Refusals.{Right, right}

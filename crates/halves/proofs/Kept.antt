@@ -1,12 +1,8 @@
 -- What the halves keep, as the calls do: a share's length, and refused all of it; and every place that lies apart from the written ones.
 -- Assumes nothing.
-use Prim.Native.Nat.{ℕ}
+use Rattle.rules.proofs.Common.{ℕ, List, [], _∷_, _≡_, refl, length, Float}
 use native.Mathlib.Omega.{arith}
-use mathlib.Core.List.{List, [], _∷_}
 use mathlib.Core.Logic.{inl}
-use mathlib.Core.Path.{_≡_, refl}
-use lib.ListN.{length}
-use lib.Ieee.{Float}
 use Rattle.rules.specs.Place.{Place, get}
 use Rattle.frame.specs.declared.Hearing.{Hearing}
 use Rattle.frame.specs.declared.Reply.{Reply}

@@ -1,14 +1,8 @@
 -- The window of the lag that stands in a share: behind a call 2, whoever made it, the second half looks at that call's window. Assumes nothing.
-use Prim.Native.Nat.{ℕ, _+_, _-_, _≤_}
+use Rattle.rules.proofs.Common.{ℕ, _+_, _-_, _≤_, List, [], _∷_, _≡_, refl, _∙_, ltb, length, take, drop, pos, Float, binary32, ofInt}
 use native.Mathlib.Omega.{arith}
-use mathlib.Core.List.{List, [], _∷_}
 use mathlib.Core.Logic.{inr}
-use mathlib.Core.Path.{_≡_, refl, _∙_}
 use borrow.Author.Tests.{ltb-false}
-use lib.Dec.{ltb}
-use lib.IntN.{pos}
-use lib.ListN.{length, take, drop}
-use lib.Ieee.{Float, binary32, ofInt}
 use Rattle.rules.specs.F32.{at}
 use Rattle.rules.specs.Place.{get, put}
 use Rattle.rules.specs.Refusals.{wrong}

@@ -1,11 +1,6 @@
 -- A second call behind a first: what the code knows of both is what the half gives. Assumes nothing.
-use Prim.Native.Nat.{ℕ, _≤_}
-use mathlib.Core.Bool.{true, false, true≢false, false≢true}
-use mathlib.Core.List.{List, [], _∷_}
-use mathlib.Core.Path.{_≡_, refl, sym, ap, _∙_}
+use Rattle.rules.proofs.Common.{ℕ, _≤_, true, false, true≢false, false≢true, List, [], _∷_, _≡_, refl, sym, ap, _∙_, length, getD, drop, Float}
 use borrow.Author.Tests.{eq-eqb, le-ltb}
-use lib.ListN.{length, getD, drop}
-use lib.Ieee.{Float}
 use Rattle.frame.specs.declared.Hearing.{Hearing}
 use Rattle.frame.specs.declared.Reply.{Reply}
 use Rattle.frame.specs.declared.Reply.the-variants.{Refused, Misread}

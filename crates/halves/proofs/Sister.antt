@@ -1,11 +1,7 @@
 -- The sister of call 2 is call 2 with the lag that is found: what holds of call 2 with any lag holds of it. Assumes nothing.
-use Prim.Native.Nat.{ℕ}
-use mathlib.Core.List.{List, [], _∷_}
-use mathlib.Core.Path.{_≡_, ap, _∙_}
+use Rattle.rules.proofs.Common.{ℕ, List, [], _∷_, _≡_, ap, _∙_, length, Float}
 use native.Mathlib.Omega.{arith}
 use borrow.Author.Tests.{le-ltb}
-use lib.Ieee.{Float}
-use lib.ListN.{length}
 use Rattle.rules.specs.Leaf.{Leaf}
 use Rattle.rules.specs.Place.{get}
 use Rattle.rules.proofs.Refusals.{fitting}

@@ -1,14 +1,10 @@
 -- What a bench remembers, over any run: what specs/Memory.antt claims. Assumes nothing.
-use Prim.Native.Nat.{ℕ, _<_}
+use Rattle.rules.proofs.Common.{ℕ, _<_, Bool, true, false, cond, false≢true, List, [], _∷_, _≡_, refl, sym, ap, _∙_, eqb, length, Float, nan}
 use native.Mathlib.Omega.{arith}
-use mathlib.Core.Bool.{Bool, true, false, cond, false≢true}
-use mathlib.Core.List.{List, [], _∷_}
 use mathlib.Core.Logic.{⊎-elim}
-use mathlib.Core.Path.{_≡_, refl, sym, ap, _∙_}
 use borrow.Author.Tests.{eqb-true}
-use lib.Dec.{eqb}
-use lib.ListN.{length, getD-replicate}
-use lib.Ieee.{Float, nan, isNan, ofBits}
+use lib.ListN.{getD-replicate}
+use lib.Ieee.{isNan, ofBits}
 use Rattle.rules.specs.F32.{at, f32}
 use Rattle.frame.specs.Reply.{isHeard}
 use Rattle.frame.specs.declared.Reply.{Reply}

@@ -3,15 +3,9 @@
 --     run      so does a run
 --     fresh    an opening that is done leaves nothing of it
 -- Assumes nothing.
-use Prim.Native.Nat.{ℕ, _*_, _<_}
+use Rattle.rules.proofs.Common.{ℕ, _*_, _<_, Bool, true, false, cond, List, [], _∷_, _≡_, refl, sym, ap, ap₂, _∙_, eqb, length, Float}
 use native.Mathlib.Omega.{arith}
-use mathlib.Core.Bool.{Bool, true, false, cond}
-use mathlib.Core.List.{List, [], _∷_}
-use mathlib.Core.Path.{_≡_, refl, sym, ap, ap₂, _∙_}
 use borrow.Author.Tests.{eq-eqb, eqb-true, eqb-false}
-use lib.Dec.{eqb}
-use lib.ListN.{length}
-use lib.Ieee.{Float}
 use Rattle.rules.specs.Place.{get}
 use Rattle.rules.proofs.Places.{length-get}
 use Rattle.frame.specs.Effect.{Effect}

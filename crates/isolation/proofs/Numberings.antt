@@ -1,15 +1,10 @@
 -- Numbered frames: what specs/Numbering.antt claims.
 --     kept-frame, kept-heard     calls move the numbers on by the frames that they end, and hear
 -- Assumes nothing.
-use Prim.Native.Nat.{ℕ, _+_, _%_}
+use Rattle.rules.proofs.Common.{ℕ, _+_, _%_, Bool, true, false, cond, List, [], _∷_, _≡_, refl, ap, _∙_, ltb, length}
 use native.Mathlib.Nat.{zero-add}
 use native.Mathlib.Omega.{arith}
-use mathlib.Core.Bool.{Bool, true, false, cond}
-use mathlib.Core.List.{List, [], _∷_}
-use mathlib.Core.Path.{_≡_, refl, ap, _∙_}
 use borrow.Author.Tests.{ltb-true, ltb-false}
-use lib.Dec.{ltb}
-use lib.ListN.{length}
 use Rattle.frame.specs.Reply.{oneMore}
 use Rattle.memory.specs.Calls.{FrameCall, one, two, three, four}
 use Rattle.memory.specs.Brought.{Noted, noting, unnoted, brought}

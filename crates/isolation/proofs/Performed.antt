@@ -4,16 +4,10 @@
 --     sized      the share keeps its length
 --     unseen     what the share of a closed side held is never told
 -- Assumes nothing.
-use Prim.Native.Nat.{ℕ, suc, _+_, _*_, _<_, _≤_}
+use Rattle.rules.proofs.Common.{ℕ, suc, _+_, _*_, _≤_, _<_, Bool, true, false, cond, List, _≡_, refl, sym, ap, _∙_, eqb, length, Float}
 use native.Mathlib.Omega.{arith}
-use mathlib.Core.Bool.{Bool, true, false, cond}
-use mathlib.Core.List.{List}
 use mathlib.Core.Logic.{_⊎_, inl, inr, ⊎-elim}
-use mathlib.Core.Path.{_≡_, refl, sym, ap, _∙_}
 use borrow.Author.Tests.{ne-eqb}
-use lib.Dec.{eqb}
-use lib.ListN.{length}
-use lib.Ieee.{Float}
 use Rattle.rules.specs.Place.{get, put}
 use Rattle.rules.proofs.Places.{length-get, length-put, get-put, put-get, put-put, get-whole}
 use Rattle.desk.specs.declared.Answer.{Answer}

@@ -4,11 +4,7 @@
 --     record-after     a side's record behind a call of the desk; store-after, the store
 --     expanding        where each call is made of the desk's calls, any run is
 -- Assumes nothing.
-use Prim.Native.Nat.{ℕ}
-use mathlib.Core.Bool.{Bool, true, false, cond}
-use mathlib.Core.List.{List, [], _∷_, _++_, map}
-use mathlib.Core.Path.{_≡_, refl, sym, ap, _∙_}
-use lib.Dec.{eqb, leb}
+use Rattle.rules.proofs.Common.{ℕ, Bool, true, false, cond, List, [], _∷_, _++_, map, _≡_, refl, sym, ap, _∙_, eqb, leb}
 use Rattle.frame.specs.Reply.{passed}
 use Rattle.frame.specs.declared.Way.{Way}
 use Rattle.frame.specs.declared.Way.the-variants.{Asked, Crate}

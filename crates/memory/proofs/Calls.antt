@@ -6,18 +6,12 @@
 --     opens        an opening that is done does the one
 --     remembers    every other call, and an opening that is refused, the other
 -- Assumes nothing.
-use Prim.Native.Nat.{ℕ, _+_, _-_, _*_, _≤_}
+use Rattle.rules.proofs.Common.{ℕ, _+_, _-_, _*_, _≤_, Bool, true, false, cond, false≢true, List, [], _∷_, _++_, _≡_, refl, sym, ap, ap₂, subst, _∙_}
+use Rattle.rules.proofs.Common.{eqb, ltb, length, take, drop, replicate, length-take, pos, Float, binary32, ofInt}
 use native.Mathlib.Nat.{zero-add}
 use native.Mathlib.Omega.{arith}
-use mathlib.Core.Bool.{Bool, true, false, cond, false≢true}
-use mathlib.Core.List.{List, [], _∷_, _++_}
 use mathlib.Core.Logic.{_⊎_, inl, inr, ⊎-elim}
-use mathlib.Core.Path.{_≡_, refl, sym, ap, ap₂, subst, _∙_}
 use borrow.Author.Tests.{ltb-false}
-use lib.Dec.{eqb, ltb}
-use lib.ListN.{length, take, drop, length-take, replicate}
-use lib.IntN.{pos}
-use lib.Ieee.{Float, binary32, ofInt}
 use Rattle.rules.specs.F32.{at, f32}
 use Rattle.rules.specs.Place.{Place, get, put}
 use Rattle.rules.specs.Written.{Written, from, nothing, firstIn}

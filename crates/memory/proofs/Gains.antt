@@ -1,10 +1,5 @@
 -- The remembered gains over heard frames: what specs/Laws.antt claims. Assumes nothing.
-use Prim.Native.Nat.{ℕ, zero, suc}
-use mathlib.Core.Bool.{true}
-use mathlib.Core.List.{[], _∷_}
-use mathlib.Core.Path.{_≡_}
-use lib.ListN.{length}
-use lib.Ieee.{Float, le}
+use Rattle.rules.proofs.Common.{ℕ, zero, suc, true, [], _∷_, _≡_, length, Float, le}
 use Rattle.rules.specs.F32.{at}
 use Rattle.features.specs.Gains.{sixTenths}
 use Rattle.features.proofs.Remembered.{never-nan, at-least-held}

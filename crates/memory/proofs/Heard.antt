@@ -1,11 +1,7 @@
 -- A heard frame on a share: what is remembered then is what `hear` makes of what was remembered before. Assumes nothing.
-use Prim.Native.Nat.{ℕ, _+_, _≤_}
+use Rattle.rules.proofs.Common.{ℕ, _+_, _≤_, List, _≡_, refl, ap, _∙_, length, Float}
 use native.Mathlib.Omega.{arith}
-use mathlib.Core.List.{List}
 use mathlib.Core.Logic.{inl, inr}
-use mathlib.Core.Path.{_≡_, refl, ap, _∙_}
-use lib.ListN.{length}
-use lib.Ieee.{Float}
 use Rattle.rules.specs.F32.{at, zeros}
 use Rattle.rules.specs.Place.{Place, get, put}
 use Rattle.rules.proofs.Places.{Apart, length-get, length-put, get-put, get-put-apart}

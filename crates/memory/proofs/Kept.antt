@@ -3,12 +3,7 @@
 --     kept-recalled   of what is remembered: what `hear` makes of the frames that they bring
 --     same-count      how many frames they bring does not depend on what was noted before
 -- Assumes nothing.
-use Prim.Native.Nat.{ℕ, suc}
-use mathlib.Core.Bool.{true, false, cond}
-use mathlib.Core.List.{List, [], _∷_, _++_}
-use mathlib.Core.Path.{_≡_, refl, ap}
-use lib.ListN.{length}
-use lib.Ieee.{Float}
+use Rattle.rules.proofs.Common.{ℕ, suc, true, false, cond, List, [], _∷_, _++_, _≡_, refl, ap, length, Float}
 use Rattle.rules.specs.F32.{at}
 use Rattle.rules.specs.Place.{get}
 use Rattle.frame.specs.Reply.{oneMore}

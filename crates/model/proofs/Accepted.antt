@@ -1,15 +1,12 @@
 -- What holds of layers that the writer accepts. Assumes nothing.
 --     accepted     no refusal: each layer's table is clear, the layers go together, and the buffer is long enough
 --     fit          they are layers that a file can hold
-use mathlib.Core.Path.{_≡_, sym, ap, _∙_}
-use mathlib.Core.Bool.{false}
-use mathlib.Core.List.{List, [], _∷_, _++_, map, append-nil, append-assoc}
-use Prim.Native.Nat.{ℕ, zero, suc, _+_, _*_, _≤_}
+use Rattle.rules.proofs.Common.{ℕ, zero, suc, _+_, _*_, _≤_, false, List, [], _∷_, _++_, map, _≡_, sym, ap, _∙_, ltb, length, getD, take, drop}
+use Rattle.rules.proofs.Common.{length-drop, length-append}
+use mathlib.Core.List.{append-nil, append-assoc}
 use native.Mathlib.Nat.{zero-add}
 use native.Mathlib.Omega.{arith}
 use borrow.Author.Tests.{ltb-false, eq-eqb}
-use lib.Dec.{ltb}
-use lib.ListN.{length, getD, take, drop, length-append, length-drop}
 use lib.Seq.{getD-drop}
 use Rattle.rules.specs.Lists.{Bytes, sum}
 use Rattle.rules.specs.Refusals.{Row, _when_}

@@ -1,11 +1,8 @@
 -- What readings stay within: no longer file reads than the largest model's, and a refusal is a number of the table. Assumes nothing.
-use mathlib.Core.Path.{_≡_, refl, sym, subst}
-use mathlib.Core.List.{List, [], _∷_}
-use Prim.Native.Nat.{ℕ, zero, suc, _+_, _*_, _≤_, _<_, _^_}
+use Rattle.rules.proofs.Common.{ℕ, zero, suc, _+_, _*_, _^_, _≤_, _<_, List, [], _∷_, _≡_, refl, sym, subst, length, getD, length-append}
 use native.Mathlib.Nat.{add-mul}
 use native.Mathlib.Numerals.{add-one}
 use native.Mathlib.Omega.{arith}
-use lib.ListN.{length, getD, length-append}
 use Rattle.rules.proofs.Refusals.{by-each}
 use Rattle.model.specs.declared.Kind.{Kind}
 use Rattle.model.specs.declared.Kind.the-variants.{Dense, Gru}

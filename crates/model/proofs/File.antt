@@ -2,14 +2,10 @@
 --     reads-back      six layers that fit and go together are read back from their file
 --     writes-back     a file that reads is the bytes of its layers
 --     same-layers     layers that share a file are the same
-use mathlib.Core.Path.{_≡_, refl, sym, ap, _∙_}
-use mathlib.Core.List.{List, [], _∷_, _++_, append-nil}
-use Prim.Native.Nat.{ℕ}
+use Rattle.rules.proofs.Common.{ℕ, false, not, List, [], _∷_, _++_, _≡_, refl, sym, ap, _∙_, eqb, length}
+use mathlib.Core.List.{append-nil}
 use native.Mathlib.Omega.{arith}
 use borrow.Author.Tests.{eqb-true, not-false}
-use mathlib.Core.Bool.{false, not}
-use lib.Dec.{eqb}
-use lib.ListN.{length}
 use Rattle.model.specs.declared.Model.{Model}
 use Rattle.model.specs.declared.Reading.{Reading}
 use Rattle.model.specs.declared.Reading.the-variants.{Good, Refused}

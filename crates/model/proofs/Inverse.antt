@@ -1,13 +1,12 @@
 -- Reading and writing are each the other's inverse, for one layer and for layers in a row. Assumes nothing.
 --     layer-reads, row-reads     the bytes of layers that fit read as these layers, and nothing refuses them
 --     layer-fits, row-fits       what nothing refuses is the bytes of its layers, and they fit
-use mathlib.Core.Path.{_≡_, refl, sym, ap, subst, _∙_}
-use mathlib.Core.Bool.{true≢false}
-use mathlib.Core.List.{List, [], _∷_, _++_, append-assoc}
-use Prim.Native.Nat.{ℕ, zero, suc, _≤_}
+use Rattle.rules.proofs.Common.{ℕ, zero, suc, _≤_, true≢false, List, [], _∷_, _++_, _≡_, refl, sym, ap, subst, _∙_, length, drop, length-take}
+use Rattle.rules.proofs.Common.{length-drop, length-append}
+use mathlib.Core.List.{append-assoc}
 use native.Mathlib.Omega.{arith}
 use borrow.Author.Tests.{le-ltb, ne-eqb, ltb-false, eqb-false}
-use lib.ListN.{length, drop, length-append, length-take, length-drop, take-append-drop}
+use lib.ListN.{take-append-drop}
 use lib.Seq.{take-append-seam, drop-append-seam}
 use Rattle.rules.specs.Lists.{sum}
 use Rattle.model.specs.declared.Activation.{Activation}

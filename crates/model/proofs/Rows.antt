@@ -1,8 +1,5 @@
 -- The number that a table of refusals gives, and tables one behind the other. Assumes nothing.
-use mathlib.Core.Path.{_≡_, ap}
-use mathlib.Core.Bool.{true, false}
-use mathlib.Core.List.{List, [], _∷_, _++_}
-use Prim.Native.Nat.{ℕ, _+_, _*_}
+use Rattle.rules.proofs.Common.{ℕ, _+_, _*_, true, false, List, [], _∷_, _++_, _≡_, ap}
 use Rattle.rules.specs.Refusals.{Row, _when_}
 use Rattle.rules.proofs.Refusals.{Clear}
 use Rattle.model.specs.Writer.{inLayer}

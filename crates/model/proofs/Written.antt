@@ -2,14 +2,12 @@
 --     written-reads     what is written reads back as the same layers
 --     read-writes       what reads is written back byte for byte
 --     none-shared       two models that differ never share a file
-use mathlib.Core.Path.{_≡_, refl, sym, ap, subst, _∙_}
-use mathlib.Core.Bool.{false, not, true≢false}
-use mathlib.Core.List.{List, [], _∷_, _++_, map, map-append}
-use Prim.Native.Nat.{ℕ, zero, suc, _*_, _≤_}
+use Rattle.rules.proofs.Common.{ℕ, zero, suc, _*_, _≤_, false, not, true≢false, List, [], _∷_, _++_, map, _≡_, refl, sym, ap, subst, _∙_, eqb, ltb}
+use Rattle.rules.proofs.Common.{length, getD, take, drop, length-drop}
+use mathlib.Core.List.{map-append}
 use native.Mathlib.Omega.{arith}
 use borrow.Author.Tests.{ltb-false, eqb-false, le-ltb, ne-eqb, eq-eqb}
-use lib.Dec.{eqb, ltb}
-use lib.ListN.{length, getD, take, drop, length-drop, length-map, take-append-drop}
+use lib.ListN.{length-map, take-append-drop}
 use lib.Seq.{take-append-seam, take-at, drop-at}
 use Rattle.rules.specs.Leaf.{_leaving_}
 use Rattle.rules.specs.Refusals.{_when_}

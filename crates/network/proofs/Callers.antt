@@ -5,13 +5,9 @@
 --     kept                 every buffer keeps its length
 --     answered             a refusal is 5, and a model's refusal one of its table
 -- Assumes nothing.
-use mathlib.Core.Path.{_≡_, refl, sym, ap, _∙_}
-use mathlib.Core.Bool.{false}
-use mathlib.Core.List.{List, [], _∷_, _++_}
-use Prim.Native.Nat.{ℕ, _≤_}
+use Rattle.rules.proofs.Common.{ℕ, _≤_, false, List, [], _∷_, _++_, _≡_, refl, sym, ap, _∙_, length, take, drop, length-take, length-drop}
+use Rattle.rules.proofs.Common.{length-append, Float}
 use native.Mathlib.Omega.{arith}
-use lib.ListN.{length, take, drop, length-append, length-take, length-drop}
-use lib.Ieee.{Float}
 use Rattle.rules.specs.Refusals.{Row, _when_, wrong}
 use Rattle.rules.proofs.Refusals.{clear, by-rows, Right, right, none-wrong, one-wrong, by-each}
 use Rattle.model.specs.Model.{readOf}

@@ -1,9 +1,6 @@
 -- The layers of a model that reads, on lengths that are theirs. Assumes nothing.
-use mathlib.Core.Path.{_≡_, refl, sym, _∙_}
-use mathlib.Core.List.{List}
-use Prim.Native.Nat.{ℕ, _+_, _≤_}
+use Rattle.rules.proofs.Common.{ℕ, _+_, _≤_, List, _≡_, refl, sym, _∙_, length}
 use native.Mathlib.Omega.{arith}
-use lib.ListN.{length}
 use Rattle.model.specs.Model.{readOf}
 use Rattle.model.specs.declared.Kind.the-variants.{Gru}
 use Rattle.model.specs.declared.Model.{Model}

@@ -1,10 +1,6 @@
 -- The parts of a layer, put together: from what each call leaves to the layer's definition. Assumes nothing.
-use mathlib.Core.Path.{_≡_, _∙_}
-use mathlib.Core.List.{List, map}
-use Prim.Native.Nat.{ℕ, _+_, _*_, _≤_}
+use Rattle.rules.proofs.Common.{ℕ, _+_, _*_, _≤_, List, map, _≡_, _∙_, length, Float}
 use native.Mathlib.Omega.{arith}
-use lib.ListN.{length}
-use lib.Ieee.{Float}
 use Rattle.rules.specs.Loop.{loop}
 use Rattle.rules.specs.F32.{part, _⊗_}
 use Rattle.rules.proofs.Refusals.{left}

@@ -1,12 +1,8 @@
 -- The arrays of a layer, as the code cuts them from the bytes: each is the array that the definition names, and has its length.
 -- Assumes nothing.
-use mathlib.Core.Path.{_≡_, refl, sym, ap, _∙_}
-use mathlib.Core.List.{List, _++_}
-use Prim.Native.Nat.{ℕ, _+_, _-_, _*_, _≤_}
+use Rattle.rules.proofs.Common.{ℕ, _+_, _-_, _*_, _≤_, List, _++_, _≡_, refl, sym, ap, _∙_, length, take, drop, length-take, length-drop, Float}
 use native.Mathlib.Nat.{mul-comm, mul-assoc}
 use native.Mathlib.Omega.{arith}
-use lib.ListN.{length, take, drop, length-take, length-drop}
-use lib.Ieee.{Float}
 use Rattle.rules.specs.F32.{part}
 use Rattle.rules.specs.Place.{Place, get, put}
 use Rattle.model.specs.Array.{placeOf}

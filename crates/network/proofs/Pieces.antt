@@ -1,11 +1,8 @@
 -- Slices that are put into a buffer one after the other. Assumes nothing.
-use mathlib.Core.Path.{_≡_}
-use mathlib.Core.List.{List, _++_}
-use Prim.Native.Nat.{ℕ, _+_, _≤_, _<_}
+use Rattle.rules.proofs.Common.{ℕ, _+_, _≤_, _<_, List, _++_, _≡_, length, getD, take, set}
 use native.Mathlib.Nat.{zero-add}
 use native.Mathlib.Numerals.{add-one}
 use native.Mathlib.Omega.{arith}
-use lib.ListN.{length, getD, set, take}
 use lib.Seq.{paste, paste-suc, take-paste, take-length}
 
 module _ {A : Type 0} where

@@ -4,14 +4,12 @@
 --     joined-in, parted    three slices that are joined in one, and taken out of it again
 --     six-joined           what the layers leave, one after the other, is what the definition says
 -- Assumes nothing.
-use mathlib.Core.Path.{_≡_, refl, sym, ap, _∙_}
-use mathlib.Core.List.{List, _++_, append-assoc}
+use Rattle.rules.proofs.Common.{ℕ, _+_, _≤_, List, _++_, _≡_, refl, sym, ap, _∙_, length, take, drop, length-take, length-drop, length-append, Float}
+use mathlib.Core.List.{append-assoc}
 use mathlib.Core.Logic.{inl, inr}
-use Prim.Native.Nat.{ℕ, _+_, _≤_}
 use native.Mathlib.Omega.{arith}
-use lib.ListN.{length, take, drop, length-take, length-drop, length-append, take-append-drop}
+use lib.ListN.{take-append-drop}
 use lib.Seq.{take-all, take-take, take-at, drop-at, take-append-le, drop-append-le, drop-drop}
-use lib.Ieee.{Float}
 use Rattle.rules.specs.F32.{part}
 use Rattle.rules.specs.Place.{Place, get, put}
 use Rattle.rules.proofs.Places.{Apart, length-get, length-put, get-put, get-put-apart, put-in}

@@ -2,10 +2,8 @@
 --     narrowings         ties and the ends of the range, f64 pattern to f32 pattern
 --     filtered           three samples of the high-pass filter
 --     picks              which of two numbers `max`, `min` and `clamp` give
-use mathlib.Core.Path.{_≡_, refl}
-use mathlib.Core.List.{List, [], _∷_, map}
-use Prim.Native.Nat.{ℕ}
-use lib.Ieee.{Float, nan, binary32, binary64, isNan, lt, toBits, ofBits, add, sub, mul}
+use Rattle.rules.proofs.Common.{ℕ, List, [], _∷_, map, _≡_, refl, Float, binary32, binary64, nan}
+use lib.Ieee.{isNan, lt, toBits, ofBits, add, sub, mul}
 use Rattle.rules.specs.F32.{f32}
 use Rattle.rules.specs.Loop.{loop}
 use Rattle.numbers.specs.declared.filter.Memory.{Memory}

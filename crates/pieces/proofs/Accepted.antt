@@ -2,15 +2,9 @@
 --     Piece, piece-cleared, piece-accepted, piece-taken         a piece
 --     Resume, resume-cleared, resume-accepted, resume-taken     a resume
 -- Assumes nothing.
-use Prim.Native.Nat.{ℕ, _+_, _-_, _*_, _≤_}
+use Rattle.rules.proofs.Common.{ℕ, _+_, _-_, _*_, _≤_, true, List, _≡_, eqb, leb, length, Float}
 use native.Mathlib.Omega.{arith}
-use mathlib.Core.Bool.{true}
-use mathlib.Core.List.{List}
-use mathlib.Core.Path.{_≡_}
 use borrow.Author.Tests.{eqb-true, leb-true, eq-eqb, le-leb}
-use lib.Dec.{eqb, leb}
-use lib.ListN.{length}
-use lib.Ieee.{Float}
 use Rattle.rules.proofs.Tests.{both}
 use Rattle.samples.specs.Samples.{good}
 use Rattle.model.specs.Model.{readOf}

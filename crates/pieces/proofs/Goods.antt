@@ -1,10 +1,6 @@
 -- Good samples stay good: together, in part, and with zeros behind them. Assumes nothing.
-use Prim.Native.Nat.{ℕ, zero, suc}
-use mathlib.Core.Bool.{true}
-use mathlib.Core.List.{List, [], _∷_, _++_}
-use mathlib.Core.Path.{_≡_, refl}
-use lib.ListN.{getD, take, drop}
-use lib.Ieee.{Float, le, ofBits}
+use Rattle.rules.proofs.Common.{ℕ, zero, suc, true, List, [], _∷_, _++_, _≡_, refl, getD, take, drop, Float}
+use lib.Ieee.{le, ofBits}
 use Rattle.rules.specs.F32.{f32}
 use Rattle.rules.specs.Tab.{tab}
 use Rattle.rules.proofs.Tests.{both}

@@ -2,12 +2,7 @@
 --     first-length, second-length     a half keeps the length of its part
 --     first-passes, second-passes     a half, refused nothing
 -- Assumes nothing.
-use Prim.Native.Nat.{ℕ, _≤_}
-use mathlib.Core.Bool.{Bool, true, false, cond, false≢true}
-use mathlib.Core.List.{List, [], _∷_}
-use mathlib.Core.Path.{_≡_, refl, sym, ap, _∙_}
-use lib.ListN.{length}
-use lib.Ieee.{Float}
+use Rattle.rules.proofs.Common.{ℕ, _≤_, Bool, true, false, cond, false≢true, List, [], _∷_, _≡_, refl, sym, ap, _∙_, length, Float}
 use Rattle.rules.specs.Place.{get}
 use Rattle.rules.specs.Written.{all, firstIn}
 use Rattle.rules.proofs.Lists.{length-tab}

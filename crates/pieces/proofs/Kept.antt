@@ -1,11 +1,5 @@
 -- What a call keeps, whatever it is given: a share's length; and, refused, the share and the answer buffers. Assumes nothing.
-use Prim.Native.Nat.{ℕ}
-use mathlib.Core.Bool.{Bool, true, false, cond, true≢false}
-use mathlib.Core.List.{List, []}
-use mathlib.Core.Path.{_≡_, refl, sym, ap, _∙_}
-use lib.Dec.{ltb}
-use lib.ListN.{length, take, drop}
-use lib.Ieee.{Float}
+use Rattle.rules.proofs.Common.{ℕ, Bool, true, false, cond, true≢false, List, [], _≡_, refl, sym, ap, _∙_, ltb, length, take, drop, Float}
 use Rattle.rules.specs.Place.{get, put}
 use Rattle.rules.specs.Written.{Written, nothing}
 use Rattle.frame.specs.declared.Hearing.{Hearing}

@@ -4,16 +4,11 @@
 --     piece-refused, piece-ends, piece-pauses     the ways that a piece ends
 --     resume-refused, resume-goes                 the ways that a resume ends
 -- Assumes nothing.
-use Prim.Native.Nat.{ℕ, _+_, _-_, _*_, _≤_, _<_}
+use Rattle.rules.proofs.Common.{ℕ, _+_, _-_, _*_, _≤_, _<_, Bool, true, false, cond, List, [], _∷_, _++_, _≡_, refl, sym, ap, ap₂, _∙_, ltb, length}
+use Rattle.rules.proofs.Common.{getD, take, drop, length-drop, length-append, Float}
 use native.Mathlib.Nat.{add-sub-cancel-left}
 use native.Mathlib.Omega.{arith}
-use mathlib.Core.Bool.{Bool, true, false, cond}
-use mathlib.Core.List.{List, [], _∷_, _++_}
-use mathlib.Core.Path.{_≡_, refl, sym, ap, ap₂, _∙_}
 use borrow.Author.Tests.{lt-ltb, le-ltb}
-use lib.Dec.{ltb}
-use lib.ListN.{length, getD, take, drop, length-append, length-drop}
-use lib.Ieee.{Float}
 use Rattle.rules.specs.Place.{Place, get, put}
 use Rattle.rules.specs.Written.{Written, from, nothing, over, onto, firstIn}
 use Rattle.rules.proofs.Places.{length-get, over-none, lent-over}

@@ -4,10 +4,7 @@
 --     last-tests-by    what holds of every refusal of theirs, and of Done where the model is right and the samples are fine, holds of them
 --     last-passed      they passed
 -- Assumes nothing.
-use Prim.Native.Nat.{ℕ}
-use mathlib.Core.Bool.{Bool, true, false, cond, not, true≢false}
-use mathlib.Core.List.{List, [], _∷_}
-use mathlib.Core.Path.{_≡_, refl}
+use Rattle.rules.proofs.Common.{ℕ, Bool, true, false, cond, not, true≢false, List, [], _∷_, _≡_, refl}
 use borrow.Author.Tests.{not-false}
 use Rattle.model.specs.Model.{readOf}
 use Rattle.model.specs.declared.Reading.{Reading}

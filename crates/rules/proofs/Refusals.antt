@@ -6,12 +6,9 @@
 --     by-rows, by-each, along         what holds of a table's answer, row by row; two tables of the same rows
 --     right, none-wrong, one-wrong    lengths that are what stands beside them
 -- Assumes nothing.
-use mathlib.Core.Path.{_≡_, refl, sym, ap, _∙_}
-use mathlib.Core.Bool.{Bool, true, false, not, _&&_}
-use mathlib.Core.List.{List, [], _∷_}
-use Prim.Native.Nat.{ℕ}
+use Rattle.rules.proofs.Common.{ℕ, Bool, true, false, not, _&&_, List, [], _∷_, _≡_, refl, sym, ap, _∙_, eqb, ltb, T}
 use native.Mathlib.Omega.{arith}
-use lib.Dec.{T, eqb, ltb, ltb→lt}
+use lib.Dec.{ltb→lt}
 use lib.Ieee.Fits.{and-l, and-r}
 use borrow.Author.Tests.{eq-eqb, eqb-true, not-false}
 use Rattle.rules.specs.Leaf.{Leaf, done, refused, _leaving_}

@@ -4,16 +4,13 @@
 --     rows         a row of pieces
 --     between      what specs/Between.antt claims
 -- Assumes nothing.
-use Prim.Native.Nat.{ℕ, _+_, _-_, _*_, _/_, _≤_, _<_}
+use Rattle.rules.proofs.Common.{ℕ, _+_, _-_, _*_, _/_, _≤_, _<_, Bool, true, false, cond, _&&_, List, [], _∷_, _++_, map, _≡_, refl, sym, ap, ap₂}
+use Rattle.rules.proofs.Common.{_∙_, eqb, leb, length, getD, drop, length-drop, Float}
 use native.Mathlib.Omega.{arith}
-use mathlib.Core.Bool.{Bool, true, false, cond, _&&_}
-use mathlib.Core.List.{List, [], _∷_, _++_, map, append-assoc}
-use mathlib.Core.Path.{_≡_, refl, sym, ap, ap₂, _∙_}
+use mathlib.Core.List.{append-assoc}
 use borrow.Author.Tests.{eqb-true, eqb-false, not-false}
-use lib.Dec.{eqb, leb}
-use lib.ListN.{length, getD, drop, length-drop, length-map}
+use lib.ListN.{length-map}
 use lib.Seq.{drop-drop, drop-append-add}
-use lib.Ieee.{Float}
 use Rattle.rules.specs.Place.{get, put}
 use Rattle.rules.specs.Written.{Written, from, nothing, numbersIn, firstIn}
 use Rattle.rules.proofs.Places.{length-get, get-whole, put-whole}

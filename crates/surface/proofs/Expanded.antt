@@ -3,14 +3,9 @@
 --     frame-runs, take-runs, one-call     each of the calls
 --     expands, our-calls        any run of them, and what is claimed over it
 -- Assumes nothing.
-use Prim.Native.Nat.{ℕ, zero, suc}
-use mathlib.Core.Bool.{Bool, true, false, cond}
-use mathlib.Core.List.{List, [], _∷_, _++_, map}
-use mathlib.Core.Path.{_≡_, refl, sym, ap, fun-ext, _∙_}
+use Rattle.rules.proofs.Common.{ℕ, zero, suc, Bool, true, false, cond, List, [], _∷_, _++_, map, _≡_, refl, sym, ap, _∙_, eqb, length, Float}
+use mathlib.Core.Path.{fun-ext}
 use borrow.Author.Tests.{eqb-true, eq-eqb}
-use lib.Dec.{eqb}
-use lib.ListN.{length}
-use lib.Ieee.{Float}
 use Rattle.rules.specs.Loop.{loop}
 use Rattle.rules.specs.Tab.{tab}
 use Rattle.rules.specs.Written.{firstIn}

@@ -1,13 +1,8 @@
 -- What a call returns is a number of the table, and 0 exactly where it is done. Assumes nothing.
-use Prim.Native.Nat.{ℕ, _*_, _-_, _≤_}
+use Rattle.rules.proofs.Common.{ℕ, _-_, _*_, _≤_, Bool, true, false, cond, not, true≢false, List, [], _∷_, _++_, _≡_, refl, sym, subst, eqb, leb, ltb}
+use Rattle.rules.proofs.Common.{length, drop, Float}
 use native.Mathlib.Omega.{arith}
-use mathlib.Core.Bool.{Bool, true, false, cond, not, true≢false}
-use mathlib.Core.List.{List, [], _∷_, _++_}
-use mathlib.Core.Path.{_≡_, refl, sym, subst}
 use borrow.Author.Tests.{ne-eqb}
-use lib.Dec.{eqb, leb, ltb}
-use lib.ListN.{length, drop}
-use lib.Ieee.{Float}
 use Rattle.rules.specs.Place.{get, put}
 use Rattle.rules.specs.Refusals.{wrong}
 use Rattle.rules.specs.Written.{from, nothing, firstIn}

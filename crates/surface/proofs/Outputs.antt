@@ -4,15 +4,11 @@
 --     told-is, received-is         one call, where what it is made of are pieces and resumes, and any run
 --     own-asks                     any run in which a side makes no whole calls
 -- Assumes nothing.
-use Prim.Native.Nat.{ℕ, zero, suc, _-_, _≤_, _<_}
+use Rattle.rules.proofs.Common.{ℕ, zero, suc, _-_, _≤_, _<_, Bool, true, false, cond, _&&_, false≢true, List, [], _∷_, _++_, map, _≡_, refl, sym, ap}
+use Rattle.rules.proofs.Common.{ap₂, subst, _∙_, eqb, ltb, length, getD, drop, Float}
 use native.Mathlib.Omega.{arith}
-use mathlib.Core.Bool.{Bool, true, false, cond, _&&_, false≢true}
-use mathlib.Core.List.{List, [], _∷_, _++_, map, append-assoc, append-nil}
-use mathlib.Core.Path.{_≡_, refl, sym, ap, ap₂, subst, _∙_}
+use mathlib.Core.List.{append-assoc, append-nil}
 use borrow.Author.Tests.{eq-eqb}
-use lib.Dec.{eqb, ltb}
-use lib.ListN.{length, getD, drop}
-use lib.Ieee.{Float}
 use Rattle.rules.specs.Loop.{loop}
 use Rattle.rules.specs.Place.{get}
 use Rattle.rules.specs.Tab.{tab}

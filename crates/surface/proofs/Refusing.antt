@@ -1,8 +1,5 @@
 -- A refusal changes nothing, whichever call it is. Assumes nothing.
-use Prim.Native.Nat.{ℕ}
-use mathlib.Core.Bool.{Bool, false, cond}
-use mathlib.Core.List.{List, [], _++_}
-use mathlib.Core.Path.{_≡_, refl, ap, _∙_}
+use Rattle.rules.proofs.Common.{ℕ, Bool, false, cond, List, [], _++_, _≡_, refl, ap, _∙_}
 use Rattle.rules.specs.Written.{Written}
 use Rattle.rules.proofs.Places.{to-none}
 use Rattle.frame.specs.Effect.{Effect}

@@ -1,10 +1,7 @@
 -- The places of products in the turn. Assumes nothing.
-use mathlib.Core.Path.{_≡_, ap, _∙_}
-use mathlib.Core.List.{List}
-use Prim.Native.Nat.{ℕ, _+_, _*_, _%_, _≤_, _<_}
+use Rattle.rules.proofs.Common.{ℕ, _+_, _*_, _%_, _≤_, _<_, List, _≡_, ap, _∙_, Float, nan}
 use native.Mathlib.Nat.{mul-add, mul-one, mul-zero}
 use native.Mathlib.Omega.{arith}
-use lib.Ieee.{Float, nan}
 use Rattle.rules.specs.F32.{at}
 use Rattle.rules.proofs.Lists.{getD-tab}
 use Rattle.transforms.specs.Cosine.{cosine}

@@ -1,13 +1,10 @@
 -- One law over the lane: what the code adds to a sum or takes from it is the sum's own next term. A lane of i quarters is i * n quarters on at term n, so that only the
 -- remainder by 4 counts. Then a step of the eight sums, forward and inverse. Assumes nothing.
-use mathlib.Core.Path.{_≡_, refl, sym, _∙_}
-use mathlib.Core.Bool.{Bool, true}
-use mathlib.Core.List.{List}
-use Prim.Native.Nat.{ℕ, zero, suc, _+_, _-_, _*_, _/_, _%_, _≤_, _<_}
+use Rattle.rules.proofs.Common.{ℕ, zero, suc, _+_, _-_, _*_, _/_, _%_, _≤_, _<_, Bool, true, List, _≡_, refl, sym, _∙_, ltb, T, Float, binary32}
 use native.Mathlib.Nat.{add-mul, mul-add, mul-assoc, mul-left-comm, mul-add-mod-self-left}
 use native.Mathlib.Omega.{arith}
-use lib.Dec.{T, ltb, ltb→lt}
-use lib.Ieee.{Float, binary32, fits}
+use lib.Dec.{ltb→lt}
+use lib.Ieee.{fits}
 use Rattle.rules.specs.F32.{_⊕_, _⊖_, _⊗_, at, f32, two}
 use Rattle.rules.specs.Loop.{loop, range}
 use Rattle.rules.proofs.Tests.{at-each}

@@ -3,14 +3,9 @@
 --     Take, take-accepted, take-known  a take; fits-sizes, its numbers
 --     good-bad, good-rest, good-both   samples behind others: whether all are good; logs-length, of our logarithms
 -- Assumes nothing.
-use Prim.Native.Nat.{ℕ, _*_, _≤_}
-use mathlib.Core.Bool.{Bool, true, false, _&&_, true≢false, false≢true}
-use mathlib.Core.List.{List, [], _∷_, _++_}
-use mathlib.Core.Path.{_≡_, refl, sym, ap, _∙_}
+use Rattle.rules.proofs.Common.{ℕ, _*_, _≤_, Bool, true, false, _&&_, true≢false, false≢true, List, [], _∷_, _++_, _≡_, refl, sym, ap, _∙_, leb}
+use Rattle.rules.proofs.Common.{length, Float}
 use borrow.Author.Tests.{eqb-true, leb-true}
-use lib.Dec.{leb}
-use lib.ListN.{length}
-use lib.Ieee.{Float}
 use Rattle.rules.specs.Place.{get}
 use Rattle.rules.proofs.Refusals.{right}
 use Rattle.rules.proofs.Lists.{length-tab}

@@ -1,12 +1,9 @@
 -- A take that is accepted is the dictation of its samples, by the law of cutting (`dictates`, `as-dictated`); how much it hands out (`take-fills`), and
 -- that every call of it is done (`take-done`); and the answers of frames in a row (`answers-length`, `answers-both`). Assumes nothing.
-use Prim.Native.Nat.{ℕ, _*_, _<_}
+use Rattle.rules.proofs.Common.{ℕ, _*_, _<_, true, List, [], _∷_, _++_, _≡_, refl, sym, ap, _∙_, length, take, length-append, Float}
 use native.Mathlib.Omega.{arith}
-use mathlib.Core.Bool.{true}
-use mathlib.Core.List.{List, [], _∷_, _++_, append-assoc}
-use mathlib.Core.Path.{_≡_, refl, sym, ap, _∙_}
-use lib.ListN.{length, take, length-append, length-replicate}
-use lib.Ieee.{Float}
+use mathlib.Core.List.{append-assoc}
+use lib.ListN.{length-replicate}
 use Rattle.rules.specs.F32.{zeros}
 use Rattle.rules.specs.Written.{from}
 use Rattle.logs.specs.Log10.{logsOf}

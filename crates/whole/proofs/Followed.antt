@@ -4,15 +4,12 @@
 --     follow                    along the resumes of a piece that comes to its end
 --     Ends, ends                at the end of an accepted take
 -- Assumes nothing.
-use Prim.Native.Nat.{ℕ, zero, suc, _+_, _-_, _*_, _≤_, _<_}
+use Rattle.rules.proofs.Common.{ℕ, zero, suc, _+_, _-_, _*_, _≤_, _<_, Bool, true, false, cond, false≢true, List, [], _∷_, _++_, _≡_, refl, sym, ap}
+use Rattle.rules.proofs.Common.{_∙_, eqb, ltb, length, getD, take, replicate, length-append, Float}
 use native.Mathlib.Omega.{arith}
-use mathlib.Core.Bool.{Bool, true, false, cond, false≢true}
-use mathlib.Core.List.{List, [], _∷_, _++_, append-assoc, append-nil}
-use mathlib.Core.Path.{_≡_, refl, sym, ap, _∙_}
+use mathlib.Core.List.{append-assoc, append-nil}
 use borrow.Author.Tests.{eqb-true, eqb-false, not-false, not-true}
-use lib.Dec.{eqb, ltb}
-use lib.ListN.{length, replicate, getD, take, length-append, length-replicate}
-use lib.Ieee.{Float}
+use lib.ListN.{length-replicate}
 use Rattle.rules.specs.F32.{zeros}
 use Rattle.rules.specs.Loop.{loop}
 use Rattle.rules.specs.Place.{get, put}

@@ -3,13 +3,8 @@
 --     refused         a refused frame leaves everything
 --     halved          the two halves, as the code calls them
 -- Assumes nothing.
-use Prim.Native.Nat.{ℕ, _*_, _<_}
+use Rattle.rules.proofs.Common.{ℕ, _*_, _<_, true, false, List, [], _∷_, _≡_, refl, sym, ap, _∙_, length, Float}
 use native.Mathlib.Omega.{arith}
-use mathlib.Core.Bool.{true, false}
-use mathlib.Core.List.{List, [], _∷_}
-use mathlib.Core.Path.{_≡_, refl, sym, ap, _∙_}
-use lib.ListN.{length}
-use lib.Ieee.{Float}
 use Rattle.rules.specs.Place.{get}
 use Rattle.rules.specs.Written.{all, firstIn}
 use Rattle.rules.proofs.Places.{length-get}

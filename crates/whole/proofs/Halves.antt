@@ -1,13 +1,7 @@
 -- A frame that is accepted is its two halves (`two-halves`); what is refused changes nothing (`refused-is`, `frame-leaves`, `take-leaves`). Assumes nothing.
-use Prim.Native.Nat.{ℕ, _*_, _<_}
+use Rattle.rules.proofs.Common.{ℕ, _*_, _<_, Bool, true, false, cond, true≢false, List, _≡_, refl, sym, ap, _∙_, eqb, length, Float}
 use native.Mathlib.Omega.{arith}
-use mathlib.Core.Bool.{Bool, true, false, cond, true≢false}
-use mathlib.Core.List.{List}
-use mathlib.Core.Path.{_≡_, refl, sym, ap, _∙_}
 use borrow.Author.Tests.{eqb-true, lt-ltb, eq-eqb, not-false}
-use lib.Dec.{eqb}
-use lib.ListN.{length}
-use lib.Ieee.{Float}
 use Rattle.rules.specs.Place.{get, put}
 use Rattle.rules.specs.Written.{firstIn}
 use Rattle.rules.proofs.Places.{length-get, length-put}

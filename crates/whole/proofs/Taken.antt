@@ -3,12 +3,7 @@
 --     refused     a refused take leaves everything
 --     took        a piece, and a step for each frame that it completes
 -- Assumes nothing.
-use Prim.Native.Nat.{ℕ}
-use mathlib.Core.Bool.{true, false}
-use mathlib.Core.List.{List, [], _∷_}
-use mathlib.Core.Path.{_≡_, refl, ap, ap₂, _∙_}
-use lib.ListN.{length, getD}
-use lib.Ieee.{Float}
+use Rattle.rules.proofs.Common.{ℕ, true, false, List, [], _∷_, _≡_, refl, ap, ap₂, _∙_, length, getD, Float}
 use Rattle.rules.specs.F32.{zeros}
 use Rattle.rules.specs.Place.{put}
 use Rattle.rules.specs.Written.{onto}

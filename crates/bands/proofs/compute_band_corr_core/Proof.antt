@@ -1,8 +1,6 @@
 -- `bands::compute_band_corr_core` meets its contract. The loop begins at band 1, after band 0. Assumes nothing.
-use mathlib.Core.Path.{_≡_, _∙_}
-use Prim.Native.Nat.{_≤_, _-_}
+use Rattle.rules.proofs.Common.{_-_, _≤_, _≡_, _∙_, length, length-set}
 use native.Mathlib.Omega.{arith}
-use lib.ListN.{length, length-set}
 use Rattle.rules.specs.Loop.{loop}
 use Rattle.rules.proofs.Loops.{turns, more, ended}
 use Rattle.rules.specs.F32.{zeros}

@@ -1,9 +1,6 @@
 -- `bands::dct_core` meets its contract. Assumes nothing.
-use mathlib.Core.Path.{_≡_, ap, _∙_}
-use mathlib.Core.List.{_++_}
-use Prim.Native.Nat.{_≤_, _-_}
+use Rattle.rules.proofs.Common.{_-_, _≤_, _++_, _≡_, ap, _∙_, length, drop, length-set}
 use native.Mathlib.Omega.{arith}
-use lib.ListN.{length, drop, length-set}
 use Rattle.rules.specs.Tab.{tab}
 use Rattle.rules.proofs.Loops.{turns}
 use Rattle.rules.proofs.Lists.{tab-none, tab-more, tab-done}

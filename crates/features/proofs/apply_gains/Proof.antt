@@ -1,8 +1,6 @@
 -- `features::apply_gains` meets its contract. Assumes nothing.
-use Prim.Native.Nat.{_≤_, _-_}
-use mathlib.Core.Path.{refl}
+use Rattle.rules.proofs.Common.{_-_, _≤_, refl, nan}
 use native.Mathlib.Omega.{arith}
-use lib.Ieee.{nan}
 use Rattle.rules.specs.F32.{_⊗_, at}
 use Rattle.rules.specs.Leaf.{done, refused}
 use Rattle.rules.proofs.Refusals.{leaves}

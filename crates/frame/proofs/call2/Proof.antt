@@ -1,11 +1,8 @@
 -- `frame::call2` meets its contract. Assumes nothing.
-use mathlib.Core.List.{List, [], _∷_}
-use mathlib.Core.Path.{refl, ap, ap₂, _∙_}
+use Rattle.rules.proofs.Common.{List, [], _∷_, refl, ap, ap₂, _∙_, length, length-take, length-drop, Float}
 use native.Mathlib.Omega.{arith}
 use borrow.Author.Needs.{needs}
 use denote.Ref.{now}
-use lib.ListN.{length, length-take, length-drop}
-use lib.Ieee.{Float}
 use Rattle.rules.proofs.Refusals.{left as fitted}
 use Rattle.rules.proofs.Tests.{tests}
 use Rattle.bands.specs.Windowed.{windowed}

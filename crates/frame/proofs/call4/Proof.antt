@@ -1,11 +1,8 @@
 -- `frame::call4` meets its contract. Assumes nothing.
-use mathlib.Core.List.{List, [], _∷_}
-use mathlib.Core.Path.{refl, ap}
+use Rattle.rules.proofs.Common.{List, [], _∷_, refl, ap, length, Float}
 use native.Mathlib.Omega.{arith}
 use borrow.Author.Needs.{needs}
 use denote.Ref.{now}
-use lib.ListN.{length}
-use lib.Ieee.{Float}
 use Rattle.rules.specs.Place.{get, put}
 use Rattle.rules.proofs.Tests.{tests}
 use Rattle.frame.specs.Share.{synthesisMem}

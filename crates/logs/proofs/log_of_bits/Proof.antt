@@ -1,11 +1,9 @@
 -- `logs::log_of_bits` meets its contract. Assumes nothing.
 use borrow.Author.Needs.{needs}
-use mathlib.Core.Path.{ap, _∙_}
+use Rattle.rules.proofs.Common.{ℕ, _^_, _≤_, ap, _∙_, T, pos, Float, binary64}
 use native.Mathlib.Omega.{arith}
-use Prim.Native.Nat.{ℕ, _≤_, _^_}
-use lib.Dec.{T, le→leb}
-use lib.IntN.{pos}
-use lib.Ieee.{Float, binary64, inFloat}
+use lib.Dec.{le→leb}
+use lib.Ieee.{inFloat}
 use Rattle.numbers.proofs.NoNan.{real-pattern}
 use Rattle.rules.specs.F64.{f64, _+₆₄_, _-₆₄_, _*₆₄_}
 use Rattle.logs.specs.Tables.{twoHigh, twoLow}

@@ -1,9 +1,7 @@
 -- `network::compute` meets its contract. Assumes nothing.
-use mathlib.Core.Path.{_≡_, refl, sym, _∙_}
-use Prim.Native.Nat.{ℕ, _+_, _≤_}
+use Rattle.rules.proofs.Common.{ℕ, _+_, _≤_, _≡_, refl, sym, _∙_, length}
 use native.Mathlib.Omega.{arith}
 use borrow.Author.Needs.{needs}
-use lib.ListN.{length}
 use Rattle.rules.specs.F32.{part}
 use Rattle.rules.proofs.Refusals.{left as fitted}
 use Rattle.network.proofs.Parts.{cut-length}

@@ -1,9 +1,6 @@
 -- `pitch::pitch_xcorr` meets its contract. Assumes nothing.
-use mathlib.Core.Path.{_≡_, refl}
-use mathlib.Core.List.{List, [], _∷_}
+use Rattle.rules.proofs.Common.{List, [], _∷_, _≡_, refl, length, Float}
 use native.Mathlib.Omega.{arith}
-use lib.Ieee.{Float}
-use lib.ListN.{length}
 use borrow.Author.Needs.{needs}
 use Rattle.rules.specs.Tab.{tab}
 use Rattle.rules.specs.Leaf.{done, refused}

@@ -1,9 +1,7 @@
 -- `pitch::xcorr_fours_left` meets its contract. Assumes nothing.
-use mathlib.Core.Path.{_≡_, refl}
-use Prim.Native.Nat.{_≤_, _+_, _-_, _*_, _/_}
+use Rattle.rules.proofs.Common.{_+_, _-_, _*_, _/_, _≤_, _≡_, refl, length}
 use native.Mathlib.Omega.{arith}
 use denote.Ref.{now}
-use lib.ListN.{length}
 use Rattle.rules.proofs.Loops.{turns}
 use Rattle.rules.proofs.Lists.{Filling, tab-front, front-tab}
 use Rattle.pitch.specs.Xcorr.{lagOf, wholeFours}

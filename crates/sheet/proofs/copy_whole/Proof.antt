@@ -1,10 +1,8 @@
-use mathlib.Core.Path.{refl}
-use mathlib.Core.List.{[], _∷_}
+use Rattle.rules.proofs.Common.{[], _∷_, refl, length, length-take}
 use native.Mathlib.Omega.{arith}
 use borrow.Author.Needs.{needs}
 use borrow.Author.Tests.{lt-ltb, le-ltb}
 use denote.Ref.{now}
-use lib.ListN.{length, length-take}
 use Rattle.rules.proofs.Refusals.{leave-both}
 use Rattle.rules.proofs.Places.{all-stored}
 use Rattle.sheet.proofs.copy_whole.Statement.{statement}

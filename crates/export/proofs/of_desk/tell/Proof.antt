@@ -1,11 +1,8 @@
 -- `tell` meets its contract. Assumes nothing.
 use borrow.Author.Needs.{needs}
-use mathlib.Core.Bool.{true}
-use mathlib.Core.List.{[], _∷_}
-use mathlib.Core.Path.{_≡_, _∙_}
+use Rattle.rules.proofs.Common.{true, [], _∷_, _≡_, _∙_, length, length-set}
 use native.Mathlib.Omega.{arith}
 use denote.Ref.{now}
-use lib.ListN.{length, length-set}
 use Rattle.frame.specs.Reply.{passed}
 use Rattle.rules.proofs.Tests.{answered-no, answered-yes}
 use Rattle.rules.proofs.Places.{all-stored}

@@ -1,12 +1,7 @@
 -- `tuppence_take` meets its contract: it is a take of `whole`, and its answer is handed back as numbers. Assumes nothing.
-use Prim.Native.Nat.{ℕ}
-use mathlib.Core.Bool.{cond}
-use mathlib.Core.List.{List, [], _∷_}
-use mathlib.Core.Path.{_≡_, ap₂}
+use Rattle.rules.proofs.Common.{ℕ, cond, List, [], _∷_, _≡_, ap₂, length, Float}
 use borrow.Author.Needs.{needs}
 use denote.Ref.{now}
-use lib.ListN.{length}
-use lib.Ieee.{Float}
 use Rattle.frame.specs.Effect.{Worked}
 use Rattle.frame.specs.Reply.{passed}
 use Rattle.desk.specs.declared.Answer.{Answer}

@@ -1,6 +1,5 @@
 -- `features::cepstra::follow_logs` meets its contract. Assumes nothing.
-use Prim.Native.Nat.{_≤_, _-_}
-use mathlib.Core.Path.{_≡_}
+use Rattle.rules.proofs.Common.{_-_, _≤_, _≡_}
 use native.Mathlib.Omega.{arith}
 use Rattle.rules.specs.F32.{at}
 use Rattle.rules.specs.Loop.{loop}

@@ -1,6 +1,5 @@
 -- `frame::heard::listen` meets its contract. Assumes nothing.
-use mathlib.Core.Path.{sym, _∙_}
-use mathlib.Core.List.{[], _∷_}
+use Rattle.rules.proofs.Common.{[], _∷_, sym, _∙_}
 use borrow.Author.Needs.{needs}
 use denote.Ref.{now}
 use Rattle.rules.specs.Place.{get}

@@ -1,11 +1,8 @@
 -- `frame::lagged::keep` meets its contract: what each call leaves, in a row. Assumes nothing.
-use mathlib.Core.Path.{ap, _∙_}
-use mathlib.Core.List.{List, [], _∷_}
+use Rattle.rules.proofs.Common.{List, [], _∷_, ap, _∙_, pos, Float, binary32, ofInt}
 use native.Mathlib.Omega.{arith}
 use borrow.Author.Needs.{needs}
 use denote.Ref.{now}
-use lib.IntN.{pos}
-use lib.Ieee.{Float, binary32, ofInt}
 use Rattle.rules.specs.Place.{get, put}
 use Rattle.rules.proofs.Refusals.{left as fitted}
 use Rattle.rules.proofs.Numbers.{casts}

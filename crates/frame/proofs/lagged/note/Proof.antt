@@ -1,9 +1,6 @@
 -- `frame::lagged::note` meets its contract: what each call leaves, in a row. Assumes nothing.
-use mathlib.Core.Path.{ap, ap₂, _∙_}
-use mathlib.Core.List.{List, [], _∷_}
+use Rattle.rules.proofs.Common.{List, [], _∷_, ap, ap₂, _∙_, pos, Float, binary32, ofInt}
 use borrow.Author.Needs.{needs}
-use lib.IntN.{pos}
-use lib.Ieee.{Float, binary32, ofInt}
 use Rattle.rules.specs.Place.{put}
 use Rattle.frame.specs.Share.{keptEx, keptLag}
 use Rattle.frame.specs.Frame.{plusHundredth, putKept}

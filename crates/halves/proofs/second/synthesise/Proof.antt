@@ -1,10 +1,7 @@
 -- `halves::second::synthesise` meets its contract. Assumes nothing.
-use mathlib.Core.List.{List}
-use mathlib.Core.Path.{sym, ap}
+use Rattle.rules.proofs.Common.{List, sym, ap, length, Float}
 use borrow.Author.Needs.{needs}
 use denote.Ref.{now}
-use lib.ListN.{length}
-use lib.Ieee.{Float}
 use Rattle.frame.specs.Frame.{call4}
 use Rattle.halves.proofs.Onward.{as-is}
 use Rattle.halves.proofs.second.synthesise.Statement.{statement}

@@ -1,10 +1,7 @@
 -- `network::six::denoise_of` meets its contract. Assumes nothing.
 use borrow.Author.Needs.{needs}
-use mathlib.Core.Path.{refl, ap, _∙_}
-use mathlib.Core.List.{List}
+use Rattle.rules.proofs.Common.{_+_, _-_, List, refl, ap, _∙_, Float}
 use native.Mathlib.Omega.{arith}
-use Prim.Native.Nat.{_+_, _-_}
-use lib.Ieee.{Float}
 use Rattle.rules.specs.F32.{part}
 use Rattle.rules.specs.Place.{get, put}
 use Rattle.network.specs.Compute.{gruAt}

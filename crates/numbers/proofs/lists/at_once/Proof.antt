@@ -1,10 +1,6 @@
 -- `numbers::lists::at_once` meets its contract: what is followed from the entry at a number's place is its `tansigIn`. Assumes nothing.
-use mathlib.Core.Path.{_≡_, ap, _∙_}
-use mathlib.Core.List.{List, map}
-use Prim.Native.Nat.{ℕ}
+use Rattle.rules.proofs.Common.{ℕ, List, map, _≡_, ap, _∙_, length, Float, nan}
 use borrow.Author.Needs.{needs}
-use lib.ListN.{length}
-use lib.Ieee.{Float, nan}
 use Rattle.rules.specs.F32.{at}
 use Rattle.rules.specs.Tab.{tab}
 use Rattle.rules.proofs.Lists.{tab-map, getD-tab, tab-same}

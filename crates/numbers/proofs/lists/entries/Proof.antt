@@ -1,10 +1,6 @@
 -- `numbers::lists::entries` meets its contract. Assumes nothing.
-use mathlib.Core.Path.{_≡_, refl, ap, _∙_}
-use Prim.Native.Nat.{_≤_, _-_}
-use mathlib.Core.List.{List}
+use Rattle.rules.proofs.Common.{_-_, _≤_, List, _≡_, refl, ap, _∙_, length, Float, nan}
 use native.Mathlib.Omega.{arith}
-use lib.ListN.{length}
-use lib.Ieee.{Float, nan}
 use Rattle.rules.specs.F32.{at}
 use Rattle.rules.proofs.Lists.{Filling, filling-begin, filling-ahead, fills, length-tab, getD-tab}
 use Rattle.numbers.specs.Parts.{entryIn}

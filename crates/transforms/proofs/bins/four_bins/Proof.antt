@@ -1,6 +1,5 @@
 -- `transforms::bins::four_bins` meets its contract. Assumes nothing.
-use mathlib.Core.Path.{_≡_, _∙_}
-use Prim.Native.Nat.{_+_, _*_, _≤_, _-_}
+use Rattle.rules.proofs.Common.{_+_, _-_, _*_, _≤_, _≡_, _∙_}
 use native.Mathlib.Omega.{arith}
 use borrow.Author.Needs.{needs}
 use Rattle.transforms.specs.Parts.{Reached, binPart}

@@ -1,9 +1,6 @@
 -- `transforms::lanes::extend` meets its contract. Assumes nothing.
-use mathlib.Core.Path.{_≡_, refl}
-use Prim.Native.Nat.{_≤_, _-_, _%_}
+use Rattle.rules.proofs.Common.{_-_, _%_, _≤_, _≡_, refl, length, getD, nan}
 use native.Mathlib.Omega.{arith}
-use lib.Ieee.{nan}
-use lib.ListN.{length, getD}
 use Rattle.rules.proofs.Lists.{Filling, fills, filling-begin, filling-more, filling-ended}
 use Rattle.transforms.proofs.lanes.extend.Statement.{statement}
 use Rattle.transforms.proofs.lanes.extend.Tie as tie
