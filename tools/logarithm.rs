@@ -165,9 +165,7 @@ pub(crate) fn row_at(i: u64) -> Row
     let named: String = constants.iter().map(|(_, name, x)| format!("\nabbrev pub {name} : Float\n{name} = f64 {}\n", bits(*x))).collect();
     let text = format!(
         "-- The constants of `log10`, made by tools/make_tables.sh: by their bit patterns.
-use mathlib.Core.List.{{List, [], _∷_, map}}
-use Prim.Native.Nat.{{ℕ, _+_, _*_}}
-use lib.Ieee.{{Float, ofBits}}
+use Rattle.rules.specs.Common.{{ℕ, _+_, _*_, List, [], _∷_, map, Float, ofBits}}
 use Rattle.rules.specs.F32.{{at}}
 use Rattle.rules.specs.F64.{{f64}}
 use Rattle.logs.specs.declared.table.Row.{{Row}}

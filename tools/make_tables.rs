@@ -92,9 +92,7 @@ pub fn all() -> [f32; {count}]
     };
     let text = format!(
         "-- {what}: by their bit patterns.
-use mathlib.Core.List.{{List, [], _∷_{}, map}}
-use Prim.Native.Nat.{{ℕ}}
-use lib.Ieee.{{Float, ofBits}}
+use Rattle.rules.specs.Common.{{ℕ, List, [], _∷_{}, map, Float, ofBits}}
 use Rattle.rules.specs.F32.{{f32}}
 
 {half_row}unfoldable pub {name}Bits : List ℕ

@@ -1,10 +1,7 @@
 -- What the proofs need of the band edges: they rise, band i's is at least i, the last is 400, and no band has more than 88 bins. Assumes nothing.
-use mathlib.Core.Path.{_≡_}
-use mathlib.Core.List.{List}
-use Prim.Native.Nat.{ℕ, _+_, _-_, _≤_, _<_}
-use lib.Dec.{leb, ltb, leb→le, ltb→lt}
-use lib.ListN.{getD}
-use Rattle.rules.proofs.Below.{at-each}
+use Rattle.rules.proofs.Common.{ℕ, _+_, _-_, _≤_, _<_, List, _≡_, leb, ltb, getD}
+use lib.Dec.{leb→le, ltb→lt}
+use Rattle.rules.proofs.Tests.{at-each}
 use Rattle.bands.specs.Bands.{edges, edge}
 
 pub record Edge (i : ℕ) : Type 0 where

@@ -1,15 +1,12 @@
 -- What callers need of the results: their lengths; and that the gains of bins 400 to 480 are 0. Assumes nothing.
-use mathlib.Core.Path.{_≡_, _∙_}
-use mathlib.Core.List.{List}
-use Prim.Native.Nat.{ℕ, _+_, _-_, _≤_, _<_}
+use Rattle.rules.proofs.Common.{ℕ, _+_, _-_, _≤_, _<_, List, _≡_, _∙_, length, length-set, Float, nan}
 use native.Mathlib.Omega.{arith}
-use lib.ListN.{length, length-set, length-replicate, getD-replicate}
+use lib.ListN.{length-replicate, getD-replicate}
 use lib.Seq.{getD-set-other}
-use lib.Ieee.{Float, nan}
 use Rattle.rules.specs.F32.{at, f32, zeros}
-use Rattle.rules.proofs.Runs.{kept}
-use Rattle.rules.proofs.Tabs.{length-tab}
-use Rattle.bands.specs.Bands.{edge, corrStep, corrBand, bandCorr, gainStep, gainBand, bandGain}
+use Rattle.rules.proofs.Loops.{kept}
+use Rattle.rules.proofs.Lists.{length-tab}
+use Rattle.bands.specs.Bands.{edge, inBand, corrStep, bandCorr, gainStep, bandGain}
 use Rattle.bands.specs.Dct.{dctIn, dctOf}
 use Rattle.bands.specs.Laws.{Lengths, GainEnds}
 use Rattle.bands.specs.Windowed.{windowedBy, windowed}
@@ -25,7 +22,7 @@ pub length-corr : (x p : List Float) → length (bandCorr x p) ≡ 22
 unfolding bandCorr corrStep
 length-corr x p =
     simp length-set
-    (kept (corrBand x p) (Long 22) 21 (zeros 22)
+    (kept (inBand (corrStep x p)) (Long 22) 21 (zeros 22)
     (λ i out h. kept (corrStep x p i) (Long 22) (edge (i + 1) - edge i) out (λ j t b e. simp length-set e))
     (zeros-long 22))
 
@@ -39,7 +36,7 @@ zeros-end = (zeros-long 481, λ k low high. getD-replicate 481 k (f32 0) nan hig
 gain-ends : (bands : List Float) → Ends (bandGain bands)
 unfolding bandGain gainStep
 gain-ends bands =
-    kept (gainBand bands) Ends 21 (zeros 481)
+    kept (inBand (gainStep bands)) Ends 21 (zeros 481)
     (λ i out h.
     kept (gainStep bands i) Ends (edge (i + 1) - edge i) out
     (λ j t b e.

@@ -3,7 +3,7 @@ use mathlib.Core.Path.{refl}
 use lib.Ieee.{ofBits, div}
 use Rattle.numbers.specs.Root.{root}
 use Rattle.bands.specs.Laws.{ScaleIs}
-use Rattle.bands.specs.Scale.{dctScale}
+use Rattle.bands.specs.Dct.{dctScale}
 
 pub scale-is : ScaleIs
 unfolding dctScale root ofBits div

@@ -1,17 +1,13 @@
 -- Bins are added to a band and the next. The code holds the two sums in locals, and the definition in their places: a turn of the one is a turn of the other.
 -- Assumes nothing.
-use mathlib.Core.Path.{_≡_, refl, sym, _∙_}
-use mathlib.Core.List.{List}
-use Prim.Native.Nat.{ℕ, _+_, _-_, _<_}
+use Rattle.rules.proofs.Common.{ℕ, _+_, _-_, _<_, List, _≡_, refl, sym, _∙_, length, set, length-set, pos, Float, binary32, nan}
 use native.Mathlib.Omega.{arith}
-use lib.IntN.{pos}
-use lib.ListN.{length, set, length-set}
 use lib.Seq.{getD-set-same, getD-set-other, set-getD, set-set, set-comm}
-use lib.Ieee.{Float, nan, binary32, ofInt, ofBits}
+use lib.Ieee.{ofInt, ofBits}
 use Rattle.rules.specs.Loop.{loop, range}
 use Rattle.rules.specs.F32.{_⊕_, _⊖_, _⊗_, _⊘_, at, f32, zeros}
-use Rattle.rules.proofs.Runs.{range-after}
-use Rattle.bands.specs.Bands.{edges, edge, added, frac, rest, binCorr, corrStep, corrBand}
+use Rattle.rules.proofs.Loops.{range-after}
+use Rattle.bands.specs.Bands.{edges, edge, added, frac, rest, binCorr, corrStep, inBand}
 use Rattle.bands.proofs.Edges.{edges-rule}
 
 module _ (out : List Float) (i : ℕ) where
@@ -55,11 +51,11 @@ edge-0 = refl
 
 -- band 0 is its bin 0 and then the others, and any other band has all its bins in turn
 module _ (x p out : List Float) where
-  pub first-band : range 1 (edge (0 + 1) - edge 0) (corrStep x p 0) (corrStep x p 0 0 out) ≡ loop 1 (corrBand x p) out
+  pub first-band : range 1 (edge (0 + 1) - edge 0) (corrStep x p 0) (corrStep x p 0 0 out) ≡ loop 1 (inBand (corrStep x p)) out
   unfolding loop
   first-band = range-after (corrStep x p 0) 1 (edge (0 + 1) - edge 0) out (omega (arith, edges-rule 0 (omega arith)))
 
-  pub any-band : (i : ℕ) → range 0 (edge (i + 1) - edge i) (corrStep x p i) out ≡ corrBand x p i out
+  pub any-band : (i : ℕ) → range 0 (edge (i + 1) - edge i) (corrStep x p i) out ≡ inBand (corrStep x p) i out
   unfolding loop
   any-band i = range-after (corrStep x p i) 0 (edge (i + 1) - edge i) out (omega arith)
 

@@ -1,18 +1,20 @@
 -- `dct` of lib.rs.
-use mathlib.Core.Path.{_≡_}
-use mathlib.Core.List.{List}
-use Prim.Native.Nat.{ℕ, _+_, _*_}
-use lib.Ieee.{Float, binary64, mul}
+use Rattle.rules.specs.Common.{ℕ, _+_, _*_, List, _≡_, Float, binary64, ofBits}
+use lib.Ieee.{mul, div}
 use Rattle.rules.specs.Loop.{loop}
 use Rattle.rules.specs.Tab.{tab}
 use Rattle.rules.specs.F32.{_⊕_, _⊗_, at, f32}
 use Rattle.numbers.specs.Narrowed.{narrowed}
+use Rattle.numbers.specs.Root.{root}
 use Rattle.bands.specs.DctTable.{dctTable}
-use Rattle.bands.specs.Scale.{dctScale}
 
 -- sum += x[j] * table[j * NB_BANDS + i]
 abbrev pub dctStep : List Float → List Float → ℕ → ℕ → Float → Float
 dctStep table x i j sum = sum ⊕ at x j ⊗ at table (j * 22 + i)
+
+-- (2.0 / NB_BANDS as f64).sqrt(), an f64
+unfoldable pub dctScale : Float
+dctScale = root binary64 (div binary64 (ofBits binary64 0x4000000000000000) (ofBits binary64 0x4036000000000000))
 
 -- (sum as f64 * scale) as f32; an f32 as an f64 is the same number
 unfoldable pub dctScaled : Float → Float

@@ -1,7 +1,5 @@
 -- The DCT's 22 rows of 22 numbers, `dct_table` in `common()` of lib.rs: by their bit patterns.
-use mathlib.Core.List.{List, [], _∷_, _++_, map}
-use Prim.Native.Nat.{ℕ}
-use lib.Ieee.{Float, ofBits}
+use Rattle.rules.specs.Common.{ℕ, List, [], _∷_, _++_, map, Float, ofBits}
 use Rattle.rules.specs.F32.{f32}
 
 abbrev halfRow : ℕ → ℕ → ℕ → ℕ → ℕ → ℕ → ℕ → ℕ → ℕ → ℕ → ℕ → List ℕ

@@ -1,14 +1,9 @@
 -- What is claimed of the bands' results. The proofs are in proofs/Results, proofs/Norm and proofs/Scale; the window's rule stands in WindowRule.
-use mathlib.Core.Path.{_≡_}
-use mathlib.Core.List.{List}
-use Prim.Native.Nat.{ℕ, _≤_, _<_}
-use lib.ListN.{length}
-use lib.Ieee.{Float, binary64, ofBits}
+use Rattle.rules.specs.Common.{ℕ, _≤_, _<_, List, _≡_, length, Float, binary64, ofBits}
 use Rattle.rules.specs.F32.{at, f32}
 use Rattle.bands.specs.Bands.{bandCorr, bandGain}
-use Rattle.bands.specs.Dct.{dctOf}
+use Rattle.bands.specs.Dct.{dctScale, dctOf}
 use Rattle.bands.specs.Norm.{wnorm}
-use Rattle.bands.specs.Scale.{dctScale}
 use Rattle.bands.specs.Windowed.{windowed}
 
 pub record Lengths : Type 0 where

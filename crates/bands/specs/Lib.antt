@@ -3,8 +3,6 @@ pub mod Dct
 pub mod DctTable
 pub mod Laws
 pub mod Norm
-pub mod Scale
-pub mod Spectrum
 pub mod Window
 pub mod WindowRule
 pub mod Windowed

@@ -1,6 +1,5 @@
 -- `wnorm` of lib.rs, `common`: 1_f32 / window.iter().map(|x| x * x).sum::<f32>(). Rust's f32 sum starts from -0.0.
-use mathlib.Core.List.{List, [], _∷_}
-use lib.Ieee.{Float, neg}
+use Rattle.rules.specs.Common.{List, [], _∷_, Float, neg}
 use Rattle.rules.specs.F32.{_⊕_, _⊗_, _⊘_, f32, one}
 use Rattle.bands.specs.Window.{window}
 

@@ -1,9 +1,5 @@
 -- The window's rule, over whole numbers: entry i counts 2^-41, the unit of its smallest entry. `proofs/WindowRule.antt` shows the claim.
-use mathlib.Core.Path.{_≡_}
-use mathlib.Core.Bool.{true, false}
-use mathlib.Core.List.{List, map}
-use Prim.Native.Nat.{ℕ, _+_, _-_, _*_, _/_, _^_, _≤_, _<_}
-use lib.Ieee.{Float, nan, inf, fin, binary32, up, down, round}
+use Rattle.rules.specs.Common.{ℕ, _+_, _-_, _*_, _/_, _^_, _≤_, _<_, true, false, List, map, _≡_, Float, binary32, nan, inf, fin, up, down, round}
 use Rattle.rules.specs.F32.{natAt}
 use Rattle.bands.specs.Window.{window}
 

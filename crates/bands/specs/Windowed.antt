@@ -1,8 +1,5 @@
 -- `apply_window` and `apply_window_in_place` of lib.rs.
-use mathlib.Core.Path.{_≡_}
-use mathlib.Core.List.{List}
-use Prim.Native.Nat.{ℕ}
-use lib.Ieee.{Float}
+use Rattle.rules.specs.Common.{ℕ, List, _≡_, Float}
 use Rattle.rules.specs.Tab.{tab}
 use Rattle.rules.specs.F32.{_⊗_, at}
 use Rattle.bands.specs.Window.{window}

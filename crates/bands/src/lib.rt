@@ -7,7 +7,7 @@ ghost use lib.ListN.{length};
 ghost use Rattle.rules.specs.F32.{zeros};
 ghost use Rattle.rules.specs.Leaf.{Leaf, _leaving_};
 ghost use Rattle.rules.specs.Loop.{loop, range};
-ghost use Rattle.bands.specs.Bands.{edges, edge, binCorr, corrStep, corrBand, bandCorr, BandFits, gainBand, bandGain, GainFits};
+ghost use Rattle.bands.specs.Bands.{edges, edge, binCorr, inBand, corrStep, bandCorr, BandFits, gainStep, bandGain, GainFits};
 ghost use Rattle.bands.specs.Dct.{dctSum, dctScaled, dctIn, dctOf, DctFits};
 ghost use Rattle.bands.specs.Norm.{wnorm};
 ghost use Rattle.bands.specs.Windowed.{windowedBy, windowed, WindowFits};
@@ -102,7 +102,7 @@ fn add_bins(out: &mut [f32], table: &[usize; 22], x: &[f32], p: &[f32], i: usize
 fn band_0(out: &mut [f32], table: &[usize; 22], x: &[f32], p: &[f32])
     requires { ⌜ BandFits (length (now out)) (length (now x)) (length (now p)) ⌝ }
     requires { ⌜ now table ≡ edges ⌝ }
-    ensures { λ _. ⌜ now (out .exit) ≡ loop 1 (corrBand (now (x .entry)) (now (p .entry))) (zeros 22) ⌝ }
+    ensures { λ _. ⌜ now (out .exit) ≡ loop 1 (inBand (corrStep (now (x .entry)) (now (p .entry)))) (zeros 22) ⌝ }
 {
     rules::clear(out);
     add_bin_0(out, x, p);
@@ -146,7 +146,7 @@ pub fn compute_band_corr(out: &mut [f32], x: &[f32], p: &[f32]) -> u32
 fn fill_band(out: &mut [f32], table: &[usize; 22], bands: &[f32], i: usize)
     requires { ⌜ GainFits (length (now out)) (length (now bands)) ⌝ }
     requires { ⌜ (now table ≡ edges) × (i < 21) ⌝ }
-    ensures { λ _. ⌜ now (out .exit) ≡ gainBand (now (bands .entry)) i (now (out .entry)) ⌝ }
+    ensures { λ _. ⌜ now (out .exit) ≡ inBand (gainStep (now (bands .entry))) i (now (out .entry)) ⌝ }
 {
     let start = table[i];
     let size = table[i + 1] - start;

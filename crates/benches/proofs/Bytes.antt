@@ -1,12 +1,6 @@
 -- What a bench receives is made of its own channel's bytes (`bytes-to-bytes`, `our-benches`). Assumes nothing.
-use Prim.Native.Nat.{ℕ, zero, suc}
+use Rattle.rules.proofs.Common.{ℕ, zero, suc, cond, List, [], _∷_, map, _≡_, refl, sym, ap, ap₂, _∙_, eqb, length, Float}
 use native.Mathlib.Nat.{zero-lt-suc}
-use mathlib.Core.Bool.{cond}
-use mathlib.Core.List.{List, [], _∷_, map}
-use mathlib.Core.Path.{_≡_, refl, sym, ap, ap₂, _∙_}
-use lib.Dec.{eqb}
-use lib.ListN.{length}
-use lib.Ieee.{Float}
 use Rattle.rules.specs.F32.{zeros}
 use Rattle.rules.specs.Refusals.{refusing}
 use Rattle.rules.specs.Tab.{tab}

@@ -1,15 +1,9 @@
 -- A feed does what a plan does, as every call does (`planned`); and so the benches are apart (`benches-apart`). Assumes nothing.
-use Prim.Native.Nat.{ℕ, suc}
-use mathlib.Core.Bool.{Bool, true, false, cond, not}
-use mathlib.Core.List.{List, [], _∷_}
-use mathlib.Core.Path.{_≡_, refl, sym, ap, _∙_}
-use lib.Dec.{eqb}
-use lib.ListN.{length, getD}
-use lib.Ieee.{Float}
+use Rattle.rules.proofs.Common.{ℕ, suc, Bool, true, false, cond, not, List, [], _∷_, _≡_, refl, sym, ap, _∙_, eqb, length, getD, Float}
 use Rattle.rules.specs.Place.{get}
 use Rattle.rules.specs.Refusals.{Row, refusing}
 use Rattle.rules.specs.Written.{Written, from, nothing, numbersIn, firstIn}
-use Rattle.rules.proofs.Rows.{along}
+use Rattle.rules.proofs.Refusals.{along}
 use Rattle.frame.specs.declared.Reply.the-variants.{Refused}
 use Rattle.desk.specs.declared.Record.{Record}
 use Rattle.desk.specs.Gate.{PIECE, gate, shareOf}
@@ -39,7 +33,7 @@ module _ {A B : Type 0} (f : A → B) where
   maps : (p : Plan A) (n side : ℕ) (b : Record) (store : List Float) → as-told (perform n side b store p) ≡ perform n side b store (mapped p)
   unfolding perform mapped
   maps (answers r t) n side b store = refl
-  maps (asks a more) n side b store = let o = desk n side b store a in maps (more (o .answer) (o .written)) n side (o .answer .rec) (o .store)
+  maps (asks a more) n side b store = let o = desk n side b store a in maps (more (o .answer) (o .written)) n side (o .answer .rec) (o .kept)
   maps (enters i turned more) n side b store =
       go (eqb (gate n side b (length store) (suc i)) 0) (maps (more b (get (shareOf side) store)) n side b store)
     where

@@ -2,11 +2,8 @@
 --     made, expands     one call, and any run
 --     our-feeds         what specs/Cutting.antt claims of them
 -- Assumes nothing.
-use Prim.Native.Nat.{ℕ}
-use mathlib.Core.List.{List, [], map}
-use mathlib.Core.Path.{_≡_, refl, sym, _∙_}
-use lib.ListN.{length}
-use Rattle.rules.proofs.Rows.{along}
+use Rattle.rules.proofs.Common.{ℕ, List, [], map, _≡_, refl, sym, _∙_, length}
+use Rattle.rules.proofs.Refusals.{along}
 use Rattle.frame.specs.declared.Reply.the-variants.{Refused}
 use Rattle.desk.specs.Gate.{BENCHES, PIECE, gate}
 use Rattle.desk.specs.Desk.{Ask}

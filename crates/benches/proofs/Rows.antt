@@ -2,33 +2,24 @@
 --     packed-both, entries-both     samples, and answers, in a row: their bytes, and their entries
 --     samples-both                  bytes in a row: their samples
 --     frame-after, waiting-after    the frame number behind a dictation, and how many samples wait
---     settled                       what is told of a dictation's frames is told by itself
+--     told-each                     something is told of each frame
 -- Assumes nothing.
-use Prim.Native.Nat.{ℕ, zero, suc, _+_, _-_, _*_, _/_, _%_, _≤_, _<_}
+use Rattle.rules.proofs.Common.{ℕ, zero, suc, _+_, _-_, _*_, _/_, _%_, _≤_, _<_, Bool, true, false, cond, List, [], _∷_, _++_, _≡_, refl, sym, ap}
+use Rattle.rules.proofs.Common.{ap₂, _∙_, ltb, length, drop, length-drop, length-append, Float, nan}
 use native.Mathlib.Nat.{add-zero, add-suc, add-assoc, add-mul, mul-assoc, mul-pos, mul-mod-left, mul-div-cancel}
 use native.Mathlib.Omega.{arith}
-use mathlib.Core.Bool.{Bool, true, false, cond}
-use mathlib.Core.List.{List, [], _∷_, _++_, map, append-assoc, append-nil}
-use mathlib.Core.Path.{_≡_, refl, sym, ap, ap₂, _∙_}
+use mathlib.Core.List.{append-assoc, append-nil}
 use borrow.Author.Tests.{ltb-true, ltb-false}
-use lib.Dec.{ltb}
-use lib.ListN.{length, getD, drop, length-append, length-drop, List·getD-append}
+use lib.ListN.{List·getD-append}
 use lib.Seq.{getD-append-add}
-use lib.Ieee.{Float, nan, eq}
+use lib.Ieee.{eq}
 use Rattle.rules.specs.F32.{f32, at, natAt}
 use Rattle.rules.specs.Tab.{tab}
-use Rattle.rules.proofs.Tabs.{length-tab, tab-same}
-use Rattle.logs.specs.Log10.{logsOf}
-use Rattle.frame.specs.declared.Reply.{Reply}
-use Rattle.frame.specs.declared.Reply.the-variants.{Done, Silent, Heard, Numbered, Refused, Misread}
+use Rattle.rules.proofs.Lists.{length-tab, tab-same}
 use Rattle.frame.specs.Reply.{oneMore}
-use Rattle.halves.proofs.Cases.{second-half-by}
 use Rattle.desk.specs.declared.Record.{Record}
-use Rattle.desk.specs.Desk.{nextFrame}
-use Rattle.desk.specs.Surface.{heardOf}
-use Rattle.dictation.specs.Dictation.{Lent, Dictated, dictate}
-use Rattle.dictation.proofs.Joins.{first, second, recAfter, shareAfter, toldThere, dictate-more}
-use Rattle.whole.specs.Taking.{Told, lentTo, answersOf}
+use Rattle.dictation.specs.Dictation.{Lent, dictate}
+use Rattle.dictation.proofs.Joins.{recAfter, shareAfter}
 use Rattle.pcm.specs.Pcm.{width, numberAt, placeOf, unpacked, byteOf, nearest16, packed, UnpackFits}
 use Rattle.pcm.proofs.Channels.{own-channel}
 use Rattle.pcm.proofs.Patterns.{room}
@@ -80,18 +71,6 @@ entries-both frame next p q xs ys l k number =
         let place : 3 * (p + j) ≡ length xs + 3 * j = omega (arith, l) in
         ap₂ (λ (n : ℕ) (x : Float). n + cond (eq x (f32 0)) 0 4294967296) (number j) (ap (at (xs ++ ys)) place ∙ getD-append-add xs ys (3 * j) nan)
 
-three : (r : Reply) → length (heardOf r) ≡ 3
-three Done = refl
-three Silent = refl
-three (Heard v e) = refl
-three (Numbered f h) = refl
-three (Refused n) = refl
-three (Misread n l) = refl
-
-pub answers-length : (told : List Told) → length (answersOf told) ≡ 3 * length told
-answers-length [] = refl
-answers-length (f ∷ fs) = omega (arith, length-append (heardOf (f .1)) (answersOf fs), three (f .1), answers-length fs)
-
 -- ---- bytes in a row, as samples
 
 pub size-is : (b : Block) → length (samplesOf b) ≡ sizeOf b
@@ -142,12 +121,6 @@ samples-both xs ys format channels channel p q =
 
 -- ---- behind a dictation
 
--- a second half is no numbering
-unnumbered : (frame : ℕ) (rec : Record) (share xs : List Float) (l : Lent) → nextFrame frame (second rec share xs l .reply) ≡ frame
-unnumbered frame rec share xs l =
-    second-half-by (first rec share xs l .share) (λ f. nextFrame frame (f .reply) ≡ frame) (λ _. refl) (rec .hearing) (l .logs) (l .model) 480
-    (λ _ _ _. refl) (λ _. refl) (λ _ _ _ _ _. refl)
-
 one-more : (n : ℕ) → n < 4294967296 → oneMore n ≡ (n + 1) % 4294967296
 one-more n h = go (ltb n 4294967295) refl
   where
@@ -160,7 +133,7 @@ pub frame-after : (ls : List Lent) (rec : Record) (share xs : List Float) → re
 unfolding dictate
 frame-after [] rec share xs h = omega arith
 frame-after (l ∷ ls) rec share xs h =
-    let here : recAfter rec share xs l .frame ≡ (rec .frame + 1) % 4294967296 = ap oneMore (unnumbered (rec .frame) rec share xs l) ∙ one-more (rec .frame) h in
+    let here : recAfter rec share xs l .frame ≡ (rec .frame + 1) % 4294967296 = one-more (rec .frame) h in
     omega (arith, here, frame-after ls (recAfter rec share xs l) (shareAfter rec share xs l) (drop 480 xs) (omega (arith, here)))
 
 pub waiting-after : (ls : List Lent) (rec : Record) (share xs : List Float) → 480 * length ls ≤ length xs
@@ -171,23 +144,7 @@ waiting-after (l ∷ ls) rec share xs h =
     let rest = length-drop 480 xs in
     waiting-after ls (recAfter rec share xs l) (shareAfter rec share xs l) (drop 480 xs) (omega arith) ∙ omega arith
 
--- ---- what is told of its frames
-
--- where our logarithms of their sums are lent, there is one such list of each length
-pub settled : (model : List ℕ) (fs gs : List Told) (rec : Record) (share xs : List Float) → length fs ≡ length gs
-    → dictate rec share xs (map (lentTo model) fs) .told ≡ fs → dictate rec share xs (map (lentTo model) gs) .told ≡ gs → fs ≡ gs
-settled model [] [] rec share xs l e d = refl
-settled model [] (g ∷ gs) rec share xs l e d = absurd (omega arith)
-settled model (f ∷ fs) [] rec share xs l e d = absurd (omega arith)
-settled model (f ∷ fs) (g ∷ gs) rec share xs l e d =
-    let there : Told → Told = λ x. toldThere rec share xs (lentTo model x) in
-    let rest : Lent → List Told → Dictated = λ a ts. dictate (recAfter rec share xs a) (shareAfter rec share xs a) (drop 480 xs) (map (lentTo model) ts) in
-    let e′ : there f ∷ rest (lentTo model f) fs .told ≡ f ∷ fs = ap (λ (x : Dictated). x .told) (sym (dictate-more rec share xs (lentTo model f) (map (lentTo model) fs))) ∙ e in
-    let d′ : there g ∷ rest (lentTo model g) gs .told ≡ g ∷ gs = ap (λ (x : Dictated). x .told) (sym (dictate-more rec share xs (lentTo model g) (map (lentTo model) gs))) ∙ d in
-    let one : there f ≡ f = ap (λ (ts : List Told). getD ts 0 f) e′ in
-    let other : there g ≡ g = ap (λ (ts : List Told). getD ts 0 g) d′ in
-    let lent : lentTo model f ≡ lentTo model g = ap (λ (sums : List Float). record { logs = logsOf sums; model = model }) (ap (λ (x : Told). x .0) (sym one) ∙ ap (λ (x : Told). x .0) other) in
-    let more : fs ≡ gs =
-    settled model fs gs (recAfter rec share xs (lentTo model f)) (shareAfter rec share xs (lentTo model f)) (drop 480 xs) (omega arith) (ap (drop 1) e′)
-    (ap (λ (a : Lent). rest a gs .told) lent ∙ ap (drop 1) d′) in
-    ap₂ {C = List Told} (λ (x : Told) (ts : List Told). x ∷ ts) (sym one ∙ ap (toldThere rec share xs) lent ∙ other) more
+pub told-each : (ls : List Lent) (rec : Record) (share xs : List Float) → length (dictate rec share xs ls .told) ≡ length ls
+unfolding dictate
+told-each [] rec share xs = refl
+told-each (l ∷ ls) rec share xs = ap suc (told-each ls (recAfter rec share xs l) (shareAfter rec share xs l) (drop 480 xs))

@@ -2,36 +2,30 @@
 --     gave-nothing, gave-said     a refused call, and a feed that is done
 --     Comes, lone-run             a bench's calls that are done, one after the other, and that any run comes to these
 -- Assumes nothing.
-use Prim.Native.Nat.{ℕ, _*_, _≤_, _<_}
+use Rattle.rules.proofs.Common.{ℕ, _*_, _≤_, _<_, Bool, true, false, cond, not, false≢true, List, [], _∷_, _++_, _≡_, refl, sym, ap, ap₂, subst, _∙_}
+use Rattle.rules.proofs.Common.{eqb, length, getD, drop, Float}
 use native.Mathlib.Omega.{arith}
-use mathlib.Core.Bool.{Bool, true, false, cond, not, false≢true}
-use mathlib.Core.List.{List, [], _∷_, _++_, map}
-use mathlib.Core.Path.{_≡_, refl, sym, ap, ap₂, subst, _∙_}
 use borrow.Author.Tests.{eqb-true, eqb-false, eq-eqb}
-use lib.Dec.{eqb}
-use lib.ListN.{length, getD, drop}
-use lib.Ieee.{Float}
 use Rattle.rules.specs.Place.{get, put}
 use Rattle.rules.specs.Refusals.{_when_, refusing}
 use Rattle.rules.specs.Written.{firstIn}
 use Rattle.rules.proofs.Places.{length-get, get-put}
-use Rattle.rules.proofs.Refused.{by-rows}
-use Rattle.rules.proofs.Rows.{by-each}
+use Rattle.rules.proofs.Refusals.{by-rows, by-each}
+use Rattle.desk.specs.declared.Answer.{Answer}
+use Rattle.frame.specs.Effect.{Effect}
 use Rattle.frame.specs.declared.Reply.{Reply}
 use Rattle.frame.specs.declared.Reply.the-variants.{Refused}
 use Rattle.frame.specs.Reply.{passed}
 use Rattle.frame.specs.Share.{SHARE}
-use Rattle.pieces.specs.Pieces.{waitingIn, completes}
+use Rattle.pieces.specs.Pieces.{waitingIn}
 use Rattle.desk.specs.declared.Record.{Record}
 use Rattle.desk.specs.Gate.{PIECE, gate, shareOf}
-use Rattle.desk.specs.Desk.{Given}
 use Rattle.desk.specs.Surface.{recordIn, replyNumber}
 use Rattle.dictation.proofs.Joins.{share-size}
 use Rattle.whole.specs.Whole.{takeReply}
 use Rattle.whole.specs.Whole as whole
 use Rattle.whole.specs.Surface.{hostedTake}
-use Rattle.whole.specs.Taking.{lentTo}
-use Rattle.whole.specs.Taking as frames
+use Rattle.whole.specs.Taking.{lentToEach}
 use Rattle.whole.proofs.Accepted.{take-accepted, fits-sizes}
 use Rattle.whole.proofs.Dictations.{as-dictated}
 use Rattle.whole.proofs.Ranged.{take-by}
@@ -102,9 +96,7 @@ module _ (n s : ℕ) (ns : List ℕ) (store : List Float) where
       ap (λ (o : Fed). gaveOf s (ofBytes ns o)) k ∙ rw p
 
 -- samples that a bench's feed says, behind those that wait
-pub record Says (b : Record) (xs samples : List Float) (model : List ℕ) (told : List frames.Told) : Type 0 where
-  pub same : said b xs samples model told .told ≡ told
-  pub count : length told ≡ completes (b .waiting) (length samples)
+pub record Says (b : Record) (samples : List Float) : Type 0 where
   pub waits : b .waiting ≤ 479
   pub some : 1 ≤ length samples
 
@@ -115,7 +107,7 @@ module _ (n s : ℕ) (inside : s < n) (ns : List ℕ) (store : List Float) (l : 
   abbrev share : List Float
   share = get (shareOf s) store
 
-  abbrev taken : Given
+  abbrev taken : Effect Answer
   taken = whole.take n s rec store (samplesOf b) model ROOM answers
 
   -- where it is done, it is what comes of its take
@@ -130,25 +122,22 @@ module _ (n s : ℕ) (inside : s < n) (ns : List ℕ) (store : List Float) (l : 
       (λ _ p. (
         refl,
         take-by n s (samplesOf b) model rec store ROOM answers
-            (λ (o : Given). passed (o .answer .reply) ≡ true → passed (takeReply n s rec store (samplesOf b) model ROOM answers) ≡ true) (λ q _. q) (λ _ q. q) p,
+            (λ (o : Effect Answer). passed (o .answer .reply) ≡ true → passed (takeReply n s rec store (samplesOf b) model ROOM answers) ≡ true) (λ q _. q) (λ _ q. q) p,
       ))
 
   gave-said : passed (feeding.feed n s rec store b model cleaned entries answers .answer .reply) ≡ true
-      → (told : List frames.Told) × Says rec share (samplesOf b) model told
-      × (gaveOf s (every n s ns store (feed b model cleaned entries answers)) ≡ hasSaid rec share (samplesOf b) model told)
+      → Says rec (samplesOf b) × (gaveOf s (every n s ns store (feed b model cleaned entries answers)) ≡ hasSaid rec share (samplesOf b) model)
   gave-said p =
       let f = fed-is p in
       let t = as-dictated n s rec store (samplesOf b) model ROOM answers (f .1) in
-      let told = t .0 in
-      let d = said rec share (samplesOf b) model told in
+      let d = said rec share (samplesOf b) model in
       let sizes = fits-sizes (rec .waiting) (length (samplesOf b)) ROOM 22 (take-accepted n s rec store (samplesOf b) model ROOM answers (f .1) .fits) in
       let full : length share ≡ SHARE = length-get (shareOf s) store (omega arith) in
-      let back : get (shareOf s) (put (shareOf s) store (d .store)) ≡ d .store =
-      get-put (shareOf s) store (d .store) (omega arith)
-      (share-size rec share (waitingIn (rec .waiting) share ++ samplesOf b) (map (lentTo model) told) full) in (
-        told,
-        record { same = t .1 .2; count = t .1 .0; waits = sizes .0; some = sizes .1 },
-        ap (λ (o : Fed). gaveOf s (ofBytes ns o)) (f .0) ∙ ap (λ (g : Given). gaveOf s (ofBytes ns (fedBy (rec .frame) g))) (t .1 .3) ∙ rw (f .1, back, reads (d .rec)),
+      let back : get (shareOf s) (put (shareOf s) store (d .kept)) ≡ d .kept =
+      get-put (shareOf s) store (d .kept) (omega arith)
+      (share-size rec share (waitingIn (rec .waiting) share ++ samplesOf b) (lentToEach rec (samplesOf b) model) full) in (
+        record { waits = sizes .0; some = sizes .1 },
+        ap (λ (o : Fed). gaveOf s (ofBytes ns o)) (f .0) ∙ ap (λ (g : Effect Answer). gaveOf s (ofBytes ns (fedBy (rec .frame) g))) (t .1) ∙ rw (f .1, back, reads (d .rec)),
       )
 
 -- ---- calls that are done, one after the other
@@ -169,8 +158,8 @@ unfoldable pub Comes : List Call → Record → List Float → Has → Type 0
 Comes [] b xs h = h ≡ bare b xs
 Comes (one r ∷ more) b xs h = Unit
 Comes (feed k model c e a ∷ more) b xs h =
-    (told : List frames.Told) × (rest : Has) × Says b xs (samplesOf k) model told
-    × (let d = said b xs (samplesOf k) model told in Comes more (d .rec) (d .store) rest) × (h ≡ ahead (hasSaid b xs (samplesOf k) model told) rest)
+    (rest : Has) × Says b (samplesOf k)
+    × (let d = said b xs (samplesOf k) model in Comes more (d .rec) (d .kept) rest) × (h ≡ ahead (hasSaid b xs (samplesOf k) model) rest)
 
 module _ (n s : ℕ) (inside : s < n) where
   abbrev Runs : List (On Call) → State → Type 0
@@ -205,7 +194,7 @@ module _ (n s : ℕ) (inside : s < n) where
   own-done (one r) rest h ns store l p ih = tt
   own-done (feed k model cleaned entries answers) rest h ns store l p ih =
       let t = gave-said n s inside ns store l k model cleaned entries answers p in
-      (t .0, h, t .1, ih _ _ (ap (λ (x : Has). x .rec) (t .2)) (ap (λ (x : Has). x .share) (t .2)), ap (λ (x : Has). ahead x h) (t .2))
+      (h, t .0, ih _ _ (ap (λ (x : Has). x .rec) (t .1)) (ap (λ (x : Has). x .share) (t .1)), ap (λ (x : Has). ahead x h) (t .1))
 
   own-call : (c : Call) (cs : List (On Call)) (st : State) → length (st .store) ≡ n * SHARE → Runs cs (after every n st (on s c)) → Runs (on s c ∷ cs) st
   own-call c cs st l ih b xs e f = rw (← e, ← f, done-are c cs st, has-are c cs st) (go (passed (reply c cs st)) refl)

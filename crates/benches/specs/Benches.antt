@@ -3,11 +3,7 @@
 -- Calls come on any benches in any order: those of the C surface, and feeds, in which a bench has a channel of a block of recorded bytes. What a bench
 -- receives, its cleaned bytes, entries and answers among it, is what its own calls alone would give it; and of a block it is made of the bench's own
 -- channel. So no byte of another channel, and nothing that another bench does, is ever heard in it.
-use Prim.Native.Nat.{ℕ, _*_, _<_}
-use mathlib.Core.List.{List, [], _∷_}
-use mathlib.Core.Path.{_≡_}
-use lib.ListN.{length}
-use lib.Ieee.{Float}
+use Rattle.rules.specs.Common.{ℕ, _*_, _<_, List, [], _∷_, _≡_, length, Float}
 use Rattle.rules.specs.Written.{Written, from}
 use Rattle.frame.specs.Share.{SHARE}
 use Rattle.desk.specs.Gate.{BENCHES}

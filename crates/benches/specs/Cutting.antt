@@ -3,21 +3,15 @@
 -- A feed is a take of its channel's samples. So it is made of calls of the desk, as every other call is, and what holds over any run of these holds with feeds
 -- among them. And where a bench's stream is cut makes no difference: its cleaned bytes, entries and answers in a row, and its record and share at the end, are
 -- those of one dictation of its channel, whatever other benches do in between, and however often a call of its own is refused.
-use Prim.Native.Nat.{ℕ, _*_, _<_}
-use mathlib.Core.List.{List, [], _∷_, _++_, map}
-use mathlib.Core.Path.{_≡_}
-use lib.ListN.{length, getD}
-use lib.Ieee.{Float}
+use Rattle.rules.specs.Common.{ℕ, _*_, _<_, List, [], _∷_, _++_, _≡_, length, getD, Float}
 use Rattle.rules.specs.Place.{get}
 use Rattle.rules.specs.Refusals.{refusing}
 use Rattle.rules.specs.Written.{firstIn}
 use Rattle.frame.specs.Share.{SHARE}
-use Rattle.pieces.specs.Pieces.{waitingIn, completes}
 use Rattle.desk.specs.declared.Record.{Record}
 use Rattle.desk.specs.Gate.{BENCHES, PIECE, gate, shareOf}
-use Rattle.whole.specs.Taking.{lentTo, answersOf}
-use Rattle.whole.specs.Taking as frames
-use Rattle.dictation.specs.Dictation.{Dictated, dictate}
+use Rattle.whole.specs.Taking.{lentToEach, answersOf}
+use Rattle.dictation.specs.Dictation.{Dictated, dictatedOn}
 use Rattle.isolation.specs.Run.{Returned, On, State, recordAt, ended, received, done, Made, Expands}
 use Rattle.isolation.specs.Memory.{Counts}
 use Rattle.surface.specs.Surface.{take, madeOf}
@@ -75,19 +69,19 @@ hasOf n s st calls =
 
 -- ---- and what a dictation gives
 
--- the samples stand behind those that wait, and each frame is lent our logarithms of its sums, and the one model; `told` has what is told of each
-abbrev pub said : Record → List Float → List Float → List ℕ → List frames.Told → Dictated
-said rec share samples model told = dictate rec share (waitingIn (rec .waiting) share ++ samples) (map (lentTo model) told)
+-- each frame is lent our logarithms of its sums, and the one model
+abbrev pub said : Record → List Float → List Float → List ℕ → Dictated
+said rec share samples model = dictatedOn rec share samples (lentToEach rec samples model)
 
-abbrev pub hasSaid : Record → List Float → List Float → List ℕ → List frames.Told → Has
-hasSaid rec share samples model told =
-    let d = said rec share samples model told in
+abbrev pub hasSaid : Record → List Float → List Float → List ℕ → Has
+hasSaid rec share samples model =
+    let d = said rec share samples model in
     record {
       rec = d .rec;
-      share = d .store;
+      share = d .kept;
       cleaned = packed (d .out);
-      entries = entriesOf (rec .frame) (answersOf told);
-      answers = answersOf told;
+      entries = entriesOf (rec .frame) (answersOf (d .told));
+      answers = answersOf (d .told);
     }
 
 -- ---- the law of cutting, for bytes
@@ -110,11 +104,7 @@ abbrev pub BytesInARow : Type 0
 BytesInARow =
     (n s : ℕ) (st : State) (calls : List (On Call)) (format channels channel : ℕ) (model bytes : List ℕ)
     → Streams n s st calls format channels channel model bytes
-    → let b = recordAt s st in
-    let share = get (shareOf s) (st .store) in
-    let samples = samplesOf (blockOf bytes format channels channel) in
-    (told : List frames.Told) × (said b share samples model told .told ≡ told) × (length told ≡ completes (b .waiting) (length samples))
-    × (hasOf n s st calls ≡ hasSaid b share samples model told)
+    → hasOf n s st calls ≡ hasSaid (recordAt s st) (get (shareOf s) (st .store)) (samplesOf (blockOf bytes format channels channel)) model
 
 -- so two runs in which a bench begins with the same record and share, and is fed streams that agree in its channel, each cut in its own way, give it the same
 abbrev pub HoweverCut : Type 0

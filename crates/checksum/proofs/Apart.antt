@@ -1,17 +1,13 @@
 -- A register that goes through the same bytes as another stays apart from it. Assumes nothing.
 --     small        a register, and a checksum, has 32 bits
 --     same-end     of bytes that end alike, the checksums are equal only where those of what stands in front are
-use mathlib.Core.Path.{_≡_, refl, sym, ap, _∙_}
-use mathlib.Core.Bool.{Bool}
-use mathlib.Core.List.{List, [], _∷_, _++_}
-use Prim.Native.Nat.{ℕ, _+_, _*_, _/_, _%_, _≤_, _<_, _^_}
+use Rattle.rules.proofs.Common.{ℕ, _+_, _*_, _/_, _%_, _^_, _≤_, _<_, Bool, List, [], _∷_, _++_, _≡_, sym, ap, _∙_, eqb, ltb, T, getD}
 use native.Mathlib.Omega.{arith}
 use lib.Bits.{bitXor, xor-lt, xor-shr, xor-mod, xor-comm, xor-zero-r}
-use lib.Dec.{T, eqb, ltb, eqb→eq, ltb→lt}
-use lib.ListN.{length, getD}
+use lib.Dec.{eqb→eq, ltb→lt}
 use Rattle.rules.specs.Loop.{loop}
 use Rattle.rules.specs.Tab.{tab}
-use Rattle.rules.proofs.Table.{at}
+use Rattle.rules.proofs.Tests.{at-each}
 use Rattle.checksum.specs.Checksum.{table, crc, inverted, crc32}
 use Rattle.checksum.specs.Laws.{Small, SameEnd}
 use Rattle.checksum.proofs.Parts.{xor-twice, crc-append}
@@ -38,28 +34,25 @@ tops =
     10 ∷ 75 ∷ 201 ∷ 136 ∷ 140 ∷ 205 ∷ 79 ∷ 14 ∷ 71 ∷ 6 ∷ 132 ∷ 197 ∷ 193 ∷ 128 ∷ 2 ∷ 67 ∷
     144 ∷ 209 ∷ 83 ∷ 18 ∷ 22 ∷ 87 ∷ 213 ∷ 148 ∷ 221 ∷ 156 ∷ 30 ∷ 95 ∷ 91 ∷ 26 ∷ 152 ∷ 217 ∷ []
 
-count : length table ≡ 256
-unfolding table tab
-count = refl
-
 -- two rules of each entry, computed over the whole table: it has 32 bits, and its first eight tell it from the others
-low : ℕ → ℕ → Bool
-low k entry = ltb entry (2 ^ 32)
+low : ℕ → Bool
+unfolding table tab loop
+low k = ltb (getD table k 0) (2 ^ 32)
 
-told : ℕ → ℕ → Bool
-unfolding tops
-told k entry = eqb (getD tops (entry / 2 ^ 24) 0) k
+told : ℕ → Bool
+unfolding table tab loop tops
+told k = eqb (getD tops (getD table k 0 / 2 ^ 24) 0) k
 
 abbrev entry : ℕ → ℕ
 entry k = getD table (k % 256) 0
 
 entry-low : (k : ℕ) → entry k < 2 ^ 32
 unfolding table tab loop low
-entry-low k = ltb→lt _ _ (at low table tt (k % 256) (omega (arith, count)))
+entry-low k = ltb→lt _ _ (at-each 256 low tt (k % 256) (omega arith))
 
 entry-told : (k : ℕ) → getD tops (entry k / 2 ^ 24) 0 ≡ k % 256
 unfolding table tab loop told tops
-entry-told k = eqb→eq _ _ (at told table tt (k % 256) (omega (arith, count)))
+entry-told k = eqb→eq _ _ (at-each 256 told tt (k % 256) (omega arith))
 
 -- ---- a byte
 

@@ -1,7 +1,5 @@
 -- Checksums by the definition, as computed lists. Assumes nothing.
-use mathlib.Core.Path.{_≡_, refl}
-use mathlib.Core.List.{List, [], _∷_, map}
-use Prim.Native.Nat.{ℕ}
+use Rattle.rules.proofs.Common.{ℕ, List, [], _∷_, map, _≡_, refl}
 use Rattle.rules.specs.Loop.{loop}
 use Rattle.rules.specs.Tab.{tab}
 use Rattle.checksum.specs.Checksum.{table, crc, crc32}

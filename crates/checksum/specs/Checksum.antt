@@ -1,10 +1,6 @@
 -- CRC-32 as zip (APPNOTE 4.4.7) and PNG (annex D) have it: reflected, the polynomial EDB88320, inverted at the start and at the end.
-use Prim.Native.Nat.{ℕ, _/_, _%_}
-use mathlib.Core.Bool.{cond}
-use mathlib.Core.List.{List, [], _∷_}
+use Rattle.rules.specs.Common.{ℕ, _/_, _%_, cond, List, [], _∷_, eqb, getD}
 use lib.Bits.{bitXor}
-use lib.Dec.{eqb}
-use lib.ListN.{getD}
 use Rattle.rules.specs.Loop.{loop}
 use Rattle.rules.specs.Tab.{tab}
 

@@ -1,7 +1,5 @@
 -- What is claimed of checksums. The proofs are in proofs/Parts.antt and proofs/Apart.antt.
-use Prim.Native.Nat.{ℕ, _<_, _^_}
-use mathlib.Core.List.{List, _++_}
-use mathlib.Core.Path.{_≡_}
+use Rattle.rules.specs.Common.{ℕ, _^_, _<_, List, _++_, _≡_}
 use Rattle.checksum.specs.Checksum.{crc32}
 
 -- a checksum over some bytes and then over more is that over both

@@ -5,33 +5,28 @@
 --     closed-alike    what the share of a closed side held is never told
 --     anew            an opening that is done forgets the record and the share that it found
 -- Assumes nothing.
-use Prim.Native.Nat.{ℕ, _*_, _<_, _≤_}
+use Rattle.rules.proofs.Common.{ℕ, _*_, _≤_, _<_, Bool, true, false, cond, false≢true, List, _≡_, refl, sym, ap, _∙_, eqb, ltb, length, Float}
 use native.Mathlib.Omega.{arith}
-use mathlib.Core.Bool.{Bool, true, false, cond}
-use mathlib.Core.List.{List}
 use mathlib.Core.Logic.{_⊎_, inl, inr, ⊎-elim}
-use mathlib.Core.Path.{_≡_, refl, sym, ap, _∙_}
 use borrow.Author.Tests.{ltb-true, ltb-false, eqb-true, ne-eqb}
-use lib.Dec.{eqb, ltb}
-use lib.ListN.{length}
-use lib.Ieee.{Float}
 use Rattle.rules.specs.Place.{get, put}
-use Rattle.rules.proofs.Places.{Within, length-get, length-put, get-put, get-put-apart, put-get}
-use Rattle.rules.proofs.Wholes.{get-whole, put-whole}
+use Rattle.rules.proofs.Places.{Within, length-get, length-put, get-put, get-put-apart, put-get, get-whole, put-whole}
 use Rattle.model.specs.Model.{readOf}
 use Rattle.model.specs.declared.Reading.{Reading}
 use Rattle.model.specs.declared.Reading.the-variants.{Good, Refused as Unread}
 use Rattle.frame.specs.Share.{SHARE}
+use Rattle.frame.specs.Effect.{Effect, refusal}
 use Rattle.frame.specs.Reply.{passed}
 use Rattle.frame.specs.declared.Reply.the-variants.{Refused}
 use Rattle.frame.specs.declared.Way.{Way}
-use Rattle.pieces.specs.Pieces.{Outcome, refused}
+use Rattle.desk.specs.declared.Answer.{Answer}
 use Rattle.desk.specs.declared.Record.{Record}
 use Rattle.desk.specs.Gate.{shareOf, gate, inRange, allZero, idle}
-use Rattle.desk.specs.Desk.{Ask, opening, call1, call2, call2Own, call3, call4, firstHalf, secondHalf, piece, resume, callOf, closed, answered, opened, onShare, admitted, Given, desk}
+use Rattle.desk.specs.Desk.{Ask, opening, call1, call2, call2Own, call3, call4, firstHalf, secondHalf, piece, resume, callOf, closed, opened, onShare, admitted, desk}
 pub use Rattle.desk.specs.Laws.{placed}
 use Rattle.desk.specs.Laws.{SharesApart, ItsOwn, SameLength, OtherShare, AnsweredAlike, ClosedAlike, OpensAnew}
-use Rattle.desk.proofs.Settled.{admitted-kept}
+pub use Rattle.desk.proofs.Answered.{givenOf}
+use Rattle.desk.proofs.Kept.{admitted-kept}
 use Rattle.desk.proofs.Turned.{through, gate-own, closed-opens}
 
 -- ---- shares of two sides are apart
@@ -48,16 +43,12 @@ apart a b ne = ⊎-elim (λ h. inl (omega arith)) (λ h. inr (omega arith)) (lt-
 
 -- ---- a desk of one bench, whose store is the share
 
--- what comes of a share, as an outcome
-abbrev pub givenOf : Record → Ask → Outcome → Given
-givenOf b ask f = record { answer = answered b ask (f .reply); store = f .share; written = f .written }
-
 module _ (b : Record) (xs : List Float) (ask : Ask) (l : length xs ≡ SHARE) where
   pub one-bench : desk 1 0 b xs ask ≡ givenOf b ask (admitted b xs ask (gate 1 0 b SHARE (callOf ask)))
   unfolding desk
   one-bench = rw (l, get-whole xs SHARE l, put-whole xs SHARE l)
 
-  pub one-length : length (desk 1 0 b xs ask .store) ≡ SHARE
+  pub one-length : length (desk 1 0 b xs ask .kept) ≡ SHARE
   one-length = rw one-bench (admitted-kept b xs ask (gate 1 0 b SHARE (callOf ask)) .size l)
 
 module _ (n side : ℕ) (b : Record) (store : List Float) (ask : Ask) (l : length store ≡ n * SHARE) where
@@ -65,7 +56,7 @@ module _ (n side : ℕ) (b : Record) (store : List Float) (ask : Ask) (l : lengt
   share = get (shareOf side) store
 
   abbrev after : List Float
-  after = desk n side b store ask .store
+  after = desk n side b store ask .kept
 
   module _ (h : side < n) where
     within : Within (shareOf side) store
@@ -81,14 +72,14 @@ module _ (n side : ℕ) (b : Record) (store : List Float) (ask : Ask) (l : lengt
     its : desk n side b store ask ≡ placed side store (desk 1 0 b share ask)
     its = asked ∙ ap (placed side store) (sym (one-bench b share ask fits))
 
-    stored : after ≡ put (shareOf side) store (desk 1 0 b share ask .store)
-    stored = ap (λ (o : Given). o .store) its
+    stored : after ≡ put (shareOf side) store (desk 1 0 b share ask .kept)
+    stored = ap (λ (o : Effect Answer). o .kept) its
 
-    whole : length (desk 1 0 b share ask .store) ≡ SHARE
+    whole : length (desk 1 0 b share ask .kept) ≡ SHARE
     whole = one-length b share ask fits
 
-    pub own-share : get (shareOf side) after ≡ desk 1 0 b share ask .store
-    own-share = ap (get (shareOf side)) stored ∙ get-put (shareOf side) store (desk 1 0 b share ask .store) within whole
+    pub own-share : get (shareOf side) after ≡ desk 1 0 b share ask .kept
+    own-share = ap (get (shareOf side)) stored ∙ get-put (shareOf side) store (desk 1 0 b share ask .kept) within whole
 
   -- no side of the desk
   pub no-side : n ≤ side → after ≡ store
@@ -100,14 +91,14 @@ module _ (n side : ℕ) (b : Record) (store : List Float) (ask : Ask) (l : lengt
   long : length after ≡ length store
   long =
       ⊎-elim
-      (λ h. ap length (stored h) ∙ length-put (shareOf side) store (desk 1 0 b share ask .store) (within h) (whole h))
+      (λ h. ap length (stored h) ∙ length-put (shareOf side) store (desk 1 0 b share ask .kept) (within h) (whole h))
       (λ h. ap length (no-side h))
       (lt-or-ge side n)
 
   elsewhere : (s : ℕ) → (side ≡ s → ⊥) → get (shareOf s) after ≡ get (shareOf s) store
   elsewhere s ne =
       ⊎-elim
-      (λ h. ap (get (shareOf s)) (stored h) ∙ get-put-apart (shareOf side) (shareOf s) store (desk 1 0 b share ask .store) (within h) (whole h) (apart side s ne))
+      (λ h. ap (get (shareOf s)) (stored h) ∙ get-put-apart (shareOf side) (shareOf s) store (desk 1 0 b share ask .kept) (within h) (whole h) (apart side s ne))
       (λ h. ap (get (shareOf s)) (no-side h))
       (lt-or-ge side n)
 
@@ -157,12 +148,12 @@ anew b xs ys l k w m = rw (one-bench b xs (opening w m) l, one-bench closed ys (
     number : ℕ
     number = gate 1 0 b SHARE 0
 
-    opens : (read : Reading) → readOf m ≡ read → passed (opened xs read .reply) ≡ true
+    opens : (read : Reading) → readOf m ≡ read → passed (opened xs read .answer) ≡ true
         → givenOf b (opening w m) (opened xs read) ≡ givenOf closed (opening w m) (opened ys read)
     opens (Good m) e h = rw e
-    opens (Unread n l) e h = let one : _≡_ {A = ℕ} 0 1 = cc in absurd (omega arith)
+    opens (Unread n l) e h = absurd (false≢true h)
 
-    go : (t : Bool) → passed (cond t (opened xs (readOf m)) (refused (Refused number) xs) .reply) ≡ true
-        → givenOf b (opening w m) (cond t (opened xs (readOf m)) (refused (Refused number) xs)) ≡ givenOf closed (opening w m) (admitted closed ys (opening w m) (gate 1 0 closed SHARE 0))
+    go : (t : Bool) → passed (cond t (opened xs (readOf m)) (refusal (Refused number) xs) .answer) ≡ true
+        → givenOf b (opening w m) (cond t (opened xs (readOf m)) (refusal (Refused number) xs)) ≡ givenOf closed (opening w m) (admitted closed ys (opening w m) (gate 1 0 closed SHARE 0))
     go true h = opens (readOf m) refl h
-    go false h = let one : _≡_ {A = ℕ} 0 1 = cc in absurd (omega arith)
+    go false h = absurd (false≢true h)

@@ -1,8 +1,5 @@
 -- A piece leaves of the record all but the call that is due, the samples that wait and the piece under way: one law over the field. Assumes nothing.
-use Prim.Native.Nat.{ℕ}
-use mathlib.Core.Bool.{Bool, true, false, cond}
-use mathlib.Core.Path.{_≡_}
-use lib.Dec.{ltb}
+use Rattle.rules.proofs.Common.{ℕ, Bool, true, false, cond, _≡_, ltb}
 use Rattle.desk.specs.declared.Record.{Record}
 use Rattle.desk.specs.Desk.{holding, carried}
 

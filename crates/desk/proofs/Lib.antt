@@ -1,13 +1,14 @@
+pub mod Answered
 pub mod Apart
 pub mod Buffers
-mod Fills
 pub mod Halved
+pub mod Kept
 pub mod Leaves
+pub mod Noted
 mod Pieced
 pub mod Ranged
 pub mod Replies
 mod Serve
-pub mod Settled
 pub mod Turned
 mod Twice
 pub mod Zeros

@@ -3,32 +3,27 @@
 --     bounded       what in range says, in numbers
 --     opens         with a record in range an opening is done, where side, store and model are right
 -- Assumes nothing.
-use Prim.Native.Nat.{ℕ, _+_, _-_, _*_, _≤_, _<_}
+use Rattle.rules.proofs.Common.{ℕ, _+_, _-_, _*_, _≤_, _<_, Bool, true, false, cond, _&&_, false≢true, List, _≡_, refl, sym, eqb, leb, ltb, length}
+use Rattle.rules.proofs.Common.{Float}
 use native.Mathlib.Omega.{arith}
-use mathlib.Core.Bool.{Bool, true, false, cond, _&&_}
-use mathlib.Core.List.{List}
-use mathlib.Core.Path.{_≡_, refl, sym}
 use borrow.Author.Tests.{lt-ltb, eq-eqb, ne-eqb, eqb-true, eqb-false, le-leb, leb-true, ltb-true, ltb-false, not-false}
-use lib.Dec.{eqb, leb, ltb}
-use lib.ListN.{length}
-use lib.Ieee.{Float}
 use Rattle.rules.specs.Place.{get}
-use Rattle.rules.proofs.Truth.{both}
+use Rattle.rules.proofs.Tests.{both}
 use Rattle.model.specs.Model.{readOf}
 use Rattle.model.specs.declared.Model.{Model}
 use Rattle.model.specs.declared.Reading.{Reading}
 use Rattle.model.specs.declared.Reading.the-variants.{Good, Refused as Unread}
 use Rattle.model.proofs.Shapes.{shaped}
 use Rattle.frame.specs.Share.{SHARE}
-use Rattle.frame.specs.Reply.{passed, isHeard, oneMore}
+use Rattle.frame.specs.Reply.{passed, isHeard}
 use Rattle.frame.specs.declared.Reply.{Reply}
-use Rattle.frame.specs.declared.Reply.the-variants.{Done, Numbered, Refused}
+use Rattle.frame.specs.declared.Reply.the-variants.{Done}
 use Rattle.frame.specs.declared.Way.{Way}
-use Rattle.pieces.specs.Pieces.{refused}
 use Rattle.desk.specs.declared.Record.{Record}
 use Rattle.desk.specs.Gate.{idle, wayNumber, allZero, inCounts, resting, underWay, inPieces, inRange, notOpening, gate, shareOf}
-use Rattle.desk.specs.Desk.{Ask, opening, call1, call2, call2Own, call3, call4, firstHalf, secondHalf, piece, resume, callOf, closed, holding, nextDue, nextIndex, advanced, numbered, carried, started, answered, onShare, opened, desk}
+use Rattle.desk.specs.Desk.{Ask, opening, call1, call2, call2Own, call3, call4, firstHalf, secondHalf, piece, resume, callOf, closed, recordOf, holding, nextDue, nextIndex, advanced, numbered, carried, started, recorded, onShare, opened, desk}
 use Rattle.desk.specs.Laws.{RangeKept, Opens}
+use Rattle.desk.proofs.Answered.{let-in, was-let-in, on-share}
 use Rattle.desk.proofs.Pieced.{piece-fitted, resume-fitted}
 use Rattle.desk.proofs.Turned.{none}
 
@@ -149,23 +144,23 @@ open-range b ne e =
     let last = both (inCounts b) (inPieces b) (rest .1) in
     (leb-true (b .hearing .index) 7 (rest .0), last .0, last .1)
 
-module _ (b : Record) (reply : Reply) where
-  pub advanced-range : (b .due ≡ 0 → ⊥) → inRange b ≡ true → inRange (advanced b reply) ≡ true
+module _ (b : Record) (ajar : b .due ≡ 0 → ⊥) (e : inRange b ≡ true) where
+  -- moved on, with an index in range
+  moved-range : (index frame heard : ℕ) → index ≤ 7 → let h = b .hearing in
+      inRange (recordOf (nextDue (b .due)) (record { index = index; vad = h .vad; noise = h .noise; denoise = h .denoise; way = h .way }) frame heard) ≡ true
   unfolding inRange inCounts inPieces resting
-  advanced-range ne e =
-      let rest = open-range b ne e in
+  moved-range index frame heard i =
       let due = next-due (b .due) in
-      let i = next-index (b .hearing .index) reply (rest .0) in
-      rw (ne-eqb (nextDue (b .due)) 0 (λ z. omega arith), le-leb (nextDue (b .due)) 4 (due .1), le-leb (nextIndex (b .hearing .index) reply) 7 i, rest .1)
+      rw (ne-eqb (nextDue (b .due)) 0 (λ z. omega arith), le-leb (nextDue (b .due)) 4 (due .1), le-leb index 7 i, open-range b ajar e .1)
 
--- what call 4 answers with this record
-abbrev lastly : Record → Reply
-lastly b = Numbered (oneMore (b .frame)) (b .heard)
+  numbered-range : inRange (numbered b) ≡ true
+  numbered-range = moved-range _ _ _ (open-range b ajar e .0)
 
--- a half moves it on twice
-twice-range : (b : Record) (reply last : Reply) → (b .due ≡ 0 → ⊥) → inRange b ≡ true → inRange (advanced (advanced b reply) last) ≡ true
-twice-range b reply last ne e =
-    advanced-range (advanced b reply) last (λ z. let due = next-due (b .due) in omega arith) (advanced-range b reply ne e)
+pub advanced-range : (b : Record) (reply : Reply) → (b .due ≡ 0 → ⊥) → inRange b ≡ true → inRange (advanced b reply) ≡ true
+advanced-range b reply ajar e = moved-range b ajar e _ _ _ (next-index (b .hearing .index) reply (open-range b ajar e .0))
+
+stays-open : (d : ℕ) → nextDue d ≡ 0 → ⊥
+stays-open d z = let due = next-due d in omega arith
 
 -- samples of a piece that are in no frame yet wait, or a frame is under way
 carried-range : (b : Record) (rest size progress : ℕ) → b .hearing .index ≤ 7 → inCounts b ≡ true → size ≤ 4096 → 1 ≤ progress → (480 ≤ rest → progress ≤ size)
@@ -185,10 +180,10 @@ carried-range b rest size progress i c few some within = go (ltb rest 480) refl
         let more = within (ltb-false rest 480 h) in
         rw (le-leb (b .hearing .index) 7 i, c, ne-eqb size 0 (λ z. omega arith), le-leb size 4096 few, le-leb 1 progress some, le-leb progress size more)
 
-started-range : (w : Way) (s : List ℕ) (read : Reading) (b : Record) (share : List Float) → readOf s ≡ read → passed (opened share read .reply) ≡ true
+started-range : (w : Way) (s : List ℕ) (read : Reading) (b : Record) (share : List Float) → readOf s ≡ read → passed (opened share read .answer) ≡ true
     → inRange (started b w read) ≡ true
 unfolding inRange inCounts inPieces resting
-started-range w s (Unread n l) b share e p = absurd (let z : _≡_ {A = ℕ} 0 1 = cc in omega arith)
+started-range w s (Unread n l) b share e p = absurd (false≢true p)
 started-range w s (Good m) b share e p =
     let l = shaped s (sym e) in
     rw (
@@ -197,45 +192,35 @@ started-range w s (Good m) b share e p =
       counted _ (l .layer3 .some) (omega (arith, l .layer3 .neurons)),
     )
 
-done-range : (b : Record) (share : List Float) (ask : Ask) → inRange b ≡ true → (notOpening (callOf ask) && eqb (b .due) 0) ≡ false
-    → passed (onShare b share ask .reply) ≡ true → inRange (answered b ask (onShare b share ask .reply) .rec) ≡ true
-done-range b share (opening w m) r o p = rw p (started-range w m (readOf m) b share refl p)
-done-range b share (call1 x w) r o p = rw p (advanced-range b (onShare b share (call1 x w) .reply) (eqb-false (b .due) 0 o) r)
-done-range b share (call2 x l w s) r o p = rw p (advanced-range b (onShare b share (call2 x l w s) .reply) (eqb-false (b .due) 0 o) r)
-done-range b share (call2Own x w s) r o p = rw p (advanced-range b (onShare b share (call2Own x w s) .reply) (eqb-false (b .due) 0 o) r)
-done-range b share (call3 x l m k) r o p = rw p (advanced-range b (onShare b share (call3 x l m k) .reply) (eqb-false (b .due) 0 o) r)
-done-range b share (call4 x k) r o p = rw p (advanced-range b (onShare b share (call4 x k) .reply) (eqb-false (b .due) 0 o) r)
-done-range b share (firstHalf x s) r o p = rw p (twice-range b (onShare b share (firstHalf x s) .reply) (onShare b share (firstHalf x s) .reply) (eqb-false (b .due) 0 o) r)
-done-range b share (secondHalf l m k) r o p = rw p (twice-range b (onShare b share (secondHalf l m k) .reply) (lastly (advanced b (onShare b share (secondHalf l m k) .reply))) (eqb-false (b .due) 0 o) r)
-done-range b share (piece x k s) r o p =
-    let ajar = open-range b (eqb-false (b .due) 0 o) r in
-    let f = piece-fitted share (b .hearing .way) (b .waiting) x k s p in
-    rw p (carried-range b (b .waiting + length x) (length x) (480 - b .waiting) (ajar .0) (ajar .1) (f .few) (omega (arith, f .waits)) (λ h. omega (arith, f .waits)))
-done-range b share (resume x l m k s) r o p =
-    let reply = onShare b share (resume x l m k s) .reply in
-    let next = numbered (advanced b reply) in
-    let ne = eqb-false (b .due) 0 o in
-    let ajar = open-range next (λ z. let due = next-due (advanced b reply .due) in omega arith) (twice-range b reply (lastly (advanced b reply)) ne r) in
-    let f = resume-fitted share (b .hearing) (b .piece) (b .progress) x l m k s p in
-    rw p (carried-range next (length x - b .progress) (length x) (b .progress + 480) (ajar .0) (ajar .1) (omega (arith, f .same, f .few)) (omega arith) (λ h. omega (arith, f .same, f .within)))
+module _ (b : Record) (share : List Float) where
+  recorded-range : (ask : Ask) (reply : Reply) → inRange b ≡ true → (notOpening (callOf ask) && eqb (b .due) 0) ≡ false
+      → passed (onShare b share ask .answer) ≡ true → inRange (recorded b ask reply) ≡ true
+  recorded-range (opening w m) reply r o p = started-range w m (readOf m) b share refl p
+  recorded-range (call1 x w) reply r o p = advanced-range b reply (eqb-false (b .due) 0 o) r
+  recorded-range (call2 x l w s) reply r o p = advanced-range b reply (eqb-false (b .due) 0 o) r
+  recorded-range (call2Own x w s) reply r o p = advanced-range b reply (eqb-false (b .due) 0 o) r
+  recorded-range (call3 x l m k) reply r o p = advanced-range b reply (eqb-false (b .due) 0 o) r
+  recorded-range (call4 x k) reply r o p = numbered-range b (eqb-false (b .due) 0 o) r
+  recorded-range (firstHalf x s) reply r o p = advanced-range (advanced b reply) reply (stays-open (b .due)) (advanced-range b reply (eqb-false (b .due) 0 o) r)
+  recorded-range (secondHalf l m k) reply r o p = numbered-range (advanced b reply) (stays-open (b .due)) (advanced-range b reply (eqb-false (b .due) 0 o) r)
+  recorded-range (piece x k s) reply r o p =
+      let ajar = open-range b (eqb-false (b .due) 0 o) r in
+      let f = piece-fitted share (b .hearing .way) (b .waiting) x k s p in
+      carried-range b (b .waiting + length x) (length x) (480 - b .waiting) (ajar .0) (ajar .1) (f .few) (omega (arith, f .waits)) (λ h. omega (arith, f .waits))
+  recorded-range (resume x l m k s) reply r o p =
+      let first = advanced-range b reply (eqb-false (b .due) 0 o) r in
+      let ajar = open-range (numbered (advanced b reply)) (stays-open (nextDue (b .due))) (numbered-range (advanced b reply) (stays-open (b .due)) first) in
+      let f = resume-fitted share (b .hearing) (b .piece) (b .progress) x l m k s p in
+      carried-range (numbered (advanced b reply)) (length x - b .progress) (length x) (b .progress + 480) (ajar .0) (ajar .1) (omega (arith, f .same, f .few)) (omega arith) (λ h. omega (arith, f .same, f .within))
 
 pub range-kept : RangeKept
-unfolding desk
-range-kept n side b store ask = go (eqb number 0) refl
-  where
-    number : ℕ
-    number = gate n side b (length store) (callOf ask)
-
-    share : List Float
-    share = get (shareOf side) store
-
-    go : (t : Bool) → eqb number 0 ≡ t → passed (cond t (onShare b share ask) (refused (Refused number) share) .reply) ≡ true
-        → (inRange b ≡ true) × (inRange (answered b ask (cond t (onShare b share ask) (refused (Refused number) share) .reply) .rec) ≡ true)
-    go false h p = absurd (let z : _≡_ {A = ℕ} 0 1 = cc in omega arith)
-    go true h p =
-        let clear = none n side b (length store) (callOf ask) (eqb-true number 0 h) in
-        let r = not-false (inRange b) (clear .1 .1 .0) in
-        (r, done-range b share ask r (clear .1 .1 .1 .0) p)
+range-kept n side b store ask p =
+    let e = was-let-in b ask n side store p in
+    let clear = none n side b (length store) (callOf ask) e in
+    let r = not-false (inRange b) (clear .1 .1 .0) in
+    let share = get (shareOf side) store in
+    let q = on-share b ask n side store p in
+    (r, rw (let-in b ask n side store e, q) (recorded-range b share ask (onShare b share ask .answer) r (clear .1 .1 .1 .0) q))
 
 -- ---- an opening gets through
 

@@ -4,13 +4,9 @@
 --     gate-own      of a side and a store that are right, the side's own record decides alone
 --     closed-opens  a closed side lets nothing through but an opening
 -- Assumes nothing.
-use Prim.Native.Nat.{ℕ, _*_, _<_}
-use mathlib.Core.Bool.{Bool, true, false, true≢false}
-use mathlib.Core.Path.{_≡_, refl}
+use Rattle.rules.proofs.Common.{ℕ, _*_, _<_, Bool, true, false, true≢false, _≡_, refl, eqb, ltb}
 use borrow.Author.Tests.{lt-ltb, eq-eqb, ltb-true, eqb-true, not-false}
-use lib.Dec.{eqb, ltb}
-use Rattle.rules.proofs.Cleared.{cleared}
-use Rattle.rules.proofs.Refused.{Clear}
+use Rattle.rules.proofs.Refusals.{cleared, Clear}
 use Rattle.frame.specs.Share.{SHARE}
 use Rattle.desk.specs.declared.Record.{Record}
 use Rattle.desk.specs.Gate.{refusals, gate}

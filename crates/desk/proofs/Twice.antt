@@ -1,13 +1,10 @@
 -- A record that a half moves on: twice. Assumes nothing.
-use Prim.Native.Nat.{ℕ, _+_, _-_}
-use mathlib.Core.Bool.{Bool, true, false}
-use mathlib.Core.Path.{_≡_, refl, ap, _∙_}
-use Rattle.frame.specs.Reply.{passed, oneMore}
+use Rattle.rules.proofs.Common.{ℕ, _+_, _-_, Bool, true, false, _≡_, refl, ap, _∙_}
+use Rattle.frame.specs.Reply.{passed}
 use Rattle.frame.specs.declared.Reply.{Reply}
-use Rattle.frame.specs.declared.Reply.the-variants.{Numbered}
 use Rattle.desk.specs.declared.Record.{Record}
 use Rattle.desk.specs.declared.Answer.{Answer}
-use Rattle.desk.specs.Desk.{carried}
+use Rattle.desk.specs.Desk.{numbered, carried}
 use Rattle.desk.specs.Parts.{toldOf, toldFirst, toldSecond, toldResume}
 
 pub twice : (rec : Record) (reply : Reply) {first last : Answer} → first ≡ toldOf rec reply → last ≡ toldOf (first .rec) reply → last ≡ toldFirst rec reply
@@ -17,9 +14,9 @@ twice rec reply e d = d ∙ ap (λ (a : Answer). toldOf (a .rec) reply) e ∙ go
     go r true p = rw p
     go r false p = rw p
 
-pub lastly : (rec : Record) (reply : Reply) {first last : Answer} {n : ℕ} → passed reply ≡ true → first ≡ toldOf rec reply → n ≡ oneMore (first .rec .frame)
-    → last ≡ toldOf (first .rec) (Numbered n (first .rec .heard)) → record { reply = reply; rec = last .rec } ≡ toldSecond rec reply
-lastly rec reply {first} p e c d = rw (d, c, e, p)
+pub lastly : (rec : Record) (reply : Reply) {first : Answer} {last : Record} → passed reply ≡ true → first ≡ toldOf rec reply → last ≡ numbered (first .rec)
+    → record { reply = reply; rec = last } ≡ toldSecond rec reply
+lastly rec reply p e d = rw (d, e, p)
 
 pub further : (rec : Record) (size : ℕ) (reply : Reply) {done : Answer} {last : Record} → passed reply ≡ true → done ≡ toldSecond rec reply
     → last ≡ carried (done .rec) (size - rec .progress) size (rec .progress + 480) → record { reply = reply; rec = last } ≡ toldResume rec size reply

@@ -1,26 +1,22 @@
 -- Of the places for samples that wait, the unused ones are zero, in every state since an opening (`unused-zero`): an opening wipes them, a call of a
 -- frame leaves them alone, and what a piece leaves waiting has zeros behind it. Assumes nothing.
-use Prim.Native.Nat.{ℕ, _+_, _-_, _*_, _≤_, _<_}
+use Rattle.rules.proofs.Common.{ℕ, _+_, _-_, _*_, _≤_, _<_, Bool, true, false, cond, _&&_, false≢true, List, [], _++_, _≡_, refl, sym, ap, _∙_, eqb}
+use Rattle.rules.proofs.Common.{leb, ltb, length, take, drop, replicate, length-drop, length-append, Float}
 use native.Mathlib.Omega.{arith}
-use mathlib.Core.Bool.{Bool, true, false, cond, false≢true, _&&_}
-use mathlib.Core.List.{List, [], _++_}
 use mathlib.Core.Logic.{inl}
-use mathlib.Core.Path.{_≡_, refl, sym, ap, _∙_}
 use borrow.Author.Tests.{eqb-true, eqb-false, ne-eqb, ltb-true, not-false, not-true}
-use lib.Dec.{eqb, leb, ltb}
-use lib.ListN.{length, take, drop, replicate, length-append, length-drop, length-replicate, replicate-append-replicate}
+use lib.ListN.{length-replicate, replicate-append-replicate}
 use lib.Seq.{take-at, drop-at}
-use lib.Ieee.{Float}
 use Rattle.rules.specs.F32.{f32, zeros}
 use Rattle.rules.specs.Place.{Place, get, put}
-use Rattle.rules.specs.Written.{Written, from, nothing}
+use Rattle.rules.specs.Written.{Written, from, nothing, firstIn}
 use Rattle.rules.proofs.Places.{Within, length-get, get-put, get-put-apart}
-use Rattle.rules.proofs.Truth.{both}
+use Rattle.rules.proofs.Tests.{both}
 use Rattle.model.specs.Model.{readOf}
 use Rattle.model.specs.declared.Reading.{Reading}
 use Rattle.model.specs.declared.Reading.the-variants.{Good, Refused as Unread}
 use Rattle.frame.specs.Share.{SHARE, PART}
-use Rattle.frame.specs.Frame.{Effect}
+use Rattle.frame.specs.Effect.{Effect}
 use Rattle.frame.specs.Reply.{passed}
 use Rattle.frame.specs.declared.Reply.{Reply}
 use Rattle.frame.specs.declared.Reply.the-variants.{Done}
@@ -34,16 +30,17 @@ use Rattle.pieces.proofs.Accepted.{piece-taken, resume-taken}
 use Rattle.pieces.proofs.Halved.{first-length}
 use Rattle.pieces.proofs.Padding.{padded-none}
 use Rattle.pieces.proofs.Shares.{length-padded, part-length, waiting-length, waits-length, waiting-back, frame-length}
+use Rattle.desk.specs.declared.Answer.{Answer}
 use Rattle.desk.specs.declared.Record.{Record}
 use Rattle.desk.specs.Gate.{idle, underWay, inPieces, inRange, isDue, gate, shareOf}
-use Rattle.desk.specs.Desk.{Ask, opening, call1, call2, call2Own, call3, call4, firstHalf, secondHalf, piece, resume, callOf, holding, carried, answered, opened, onShare, Given, desk}
+use Rattle.desk.specs.Desk.{Ask, opening, call1, call2, call2Own, call3, call4, firstHalf, secondHalf, piece, resume, callOf, holding, carried, recorded, opened, onShare, desk}
 use Rattle.desk.specs.Laws.{ZerosBehind, Reached, UnusedZero}
 use Rattle.desk.specs.Laws as laws
+use Rattle.desk.proofs.Answered.{let-in, was-let-in, on-share}
 use Rattle.desk.proofs.Apart.{same-length, other-share}
-use Rattle.desk.proofs.Halved.{let-in, was-let-in}
 use Rattle.desk.proofs.Pieced.{piece-fitted, resume-fitted}
 use Rattle.desk.proofs.Ranged.{open-range}
-use Rattle.desk.proofs.Settled.{refused-keeps, admitted-kept}
+use Rattle.desk.proofs.Kept.{refused-keeps, admitted-kept}
 use Rattle.desk.proofs.Turned.{none, through}
 
 -- a place of a list of one number
@@ -84,17 +81,17 @@ module _ (share : List Float) (l : length share ≡ SHARE) where
       let none = get-put-apart framePart (waitingPlace 0) share p (omega arith) k (inl (omega arith)) in
       all ∙ c ∙ ap (paddedTo 479) (sym none)
 
-  framed : {f : Effect} → Keeps (get framePart share) f → Clean 0 share → Clean 0 (put framePart share (f .share))
-  framed {f} k = part-clean (f .share) (k .size ∙ part-length share l)
+  framed : {f : Effect Reply} → Keeps (get framePart share) f → Clean 0 share → Clean 0 (put framePart share (f .kept))
+  framed {f} k = part-clean (f .kept) (k .size ∙ part-length share l)
 
   -- the rest of a piece waits, or a frame is begun with it
   further-clean : (reply : Reply) (way : Way) (rest : List Float) (w : Written) → Clean 0 share
-      → Clean (cond (ltb (length rest) 480) (length rest) 0) (further reply share way rest w .share)
+      → Clean (cond (ltb (length rest) 480) (length rest) 0) (further reply share way rest w .kept)
   unfolding further
   further-clean reply way rest w c = go (ltb (length rest) 480) refl
     where
       go : (t : Bool) → ltb (length rest) 480 ≡ t
-          → Clean (cond t (length rest) 0) (cond t (atEnd reply share rest w) (paused reply share way rest w) .share)
+          → Clean (cond t (length rest) 0) (cond t (atEnd reply share rest w) (paused reply share way rest w) .kept)
       go true e = let less = ltb-true (length rest) 480 e in waits-clean rest (omega arith)
       go false e = part-clean _ (first-length (get framePart share) way (take 480 rest) 22 (part-length share l)) c
 
@@ -131,13 +128,13 @@ module _ (b : Record) (share : List Float) (l : length share ≡ SHARE) where
   part = get framePart share
 
   abbrev After : Ask → Type 0
-  After ask = Clean (answered b ask (onShare b share ask .reply) .rec .waiting) (onShare b share ask .share)
+  After ask = Clean (recorded b ask (onShare b share ask .answer) .waiting) (onShare b share ask .kept)
 
-  open-clean : (w : Way) (m : List ℕ) → passed (onShare b share (opening w m) .reply) ≡ true → After (opening w m)
+  open-clean : (w : Way) (m : List ℕ) → passed (onShare b share (opening w m) .answer) ≡ true → After (opening w m)
   open-clean w m = go (readOf m) refl
     where
-      go : (read : Reading) → readOf m ≡ read → passed (opened share read .reply) ≡ true
-          → Clean (answered b (opening w m) (opened share read .reply) .rec .waiting) (opened share read .share)
+      go : (read : Reading) → readOf m ≡ read → passed (opened share read .answer) ≡ true
+          → Clean (recorded b (opening w m) (opened share read .answer) .waiting) (opened share read .kept)
       go (Good k) e p = rw e (wiped SHARE (omega arith))
       go (Unread n j) e p = absurd (false≢true p)
 
@@ -146,47 +143,47 @@ module _ (b : Record) (share : List Float) (l : length share ≡ SHARE) where
     still : Clean 0 share
     still = rw z at c
 
-    frame-clean : {f : Effect} → Keeps part f → Clean 0 (put framePart share (f .share))
+    frame-clean : {f : Effect Reply} → Keeps part f → Clean 0 (put framePart share (f .kept))
     frame-clean k = framed share l k still
 
-    resume-clean : (x g : List Float) (m : List ℕ) (o s : ℕ) → passed (onShare b share (resume x g m o s) .reply) ≡ true → After (resume x g m o s)
+    resume-clean : (x g : List Float) (m : List ℕ) (o s : ℕ) → passed (onShare b share (resume x g m o s) .answer) ≡ true → After (resume x g m o s)
     resume-clean x g m o s p =
         let k = resume-fitted share (b .hearing) (b .piece) (b .progress) x g m o s p in
         let h = halves.secondHalf part (b .hearing) g m 480 in
         let keeps = second-half-keeps part (b .hearing) g m 480 in
         let rest = drop (b .progress) x in
-        let w : Written = from (480 * (frameAt (b .progress) - 1)) (halves.buffer h) in
-        let next = further-clean (put framePart share (h .share)) (frame-length share l (h .share) (keeps .size ∙ part-length share l)) (h .reply) (b .hearing .way) rest w (frame-clean keeps) in
-        rw (p, carried-waits _ (length x - b .progress) (length x) (b .progress + 480), resume-taken share (b .hearing) (b .piece) (b .progress) x g m o s k)
+        let w : Written = from (480 * (frameAt (b .progress) - 1)) (firstIn (h .written)) in
+        let next = further-clean (put framePart share (h .kept)) (frame-length share l (h .kept) (keeps .size ∙ part-length share l)) (h .answer) (b .hearing .way) rest w (frame-clean keeps) in
+        rw (carried-waits _ (length x - b .progress) (length x) (b .progress + 480), resume-taken share (b .hearing) (b .piece) (b .progress) x g m o s k)
         (rw (length-drop (b .progress) x) at next)
 
-  piece-clean : (x : List Float) (o s : ℕ) → passed (onShare b share (piece x o s) .reply) ≡ true → After (piece x o s)
+  piece-clean : (x : List Float) (o s : ℕ) → passed (onShare b share (piece x o s) .answer) ≡ true → After (piece x o s)
   piece-clean x o s p =
       let k = piece-fitted share (b .hearing .way) (b .waiting) x o s p in
       let rest = waitingIn (b .waiting) share ++ x in
       let long : length rest ≡ b .waiting + length x =
       length-append (waitingIn (b .waiting) share) x ∙ ap (λ (m : ℕ). m + length x) (waiting-length share l (b .waiting) (k .waits)) in
       let next = further-clean (waits share []) (waits-length share l []) Done (b .hearing .way) rest nothing (waits-clean share l [] (omega arith)) in
-      rw (p, carried-waits b (b .waiting + length x) (length x) (480 - b .waiting), piece-taken share (b .hearing .way) (b .waiting) x o s k)
+      rw (carried-waits b (b .waiting + length x) (length x) (480 - b .waiting), piece-taken share (b .hearing .way) (b .waiting) x o s k)
       (rw long at next)
 
   done-clean : (ask : Ask) → inRange b ≡ true → ((callOf ask ≡ 0 → ⊥) → (b .due ≡ 0 → ⊥) × (isDue b (callOf ask) ≡ true))
-      → passed (onShare b share ask .reply) ≡ true → Clean (b .waiting) share → After ask
+      → passed (onShare b share ask .answer) ≡ true → Clean (b .waiting) share → After ask
   done-clean (opening w m) r d p c = open-clean w m p
   done-clean (call1 x w) r d p c =
-      let z = none-due b 1 (omega arith) (d (λ e. omega arith) .1) in rw p (frame-clean z c (call1-keeps part x w))
+      let z = none-due b 1 (omega arith) (d (λ e. omega arith) .1) in frame-clean z c (call1-keeps part x w)
   done-clean (call2 x g w s) r d p c =
-      let z = none-due b 2 (omega arith) (d (λ e. omega arith) .1) in rw p (frame-clean z c (call2-keeps part x g w s))
+      let z = none-due b 2 (omega arith) (d (λ e. omega arith) .1) in frame-clean z c (call2-keeps part x g w s)
   done-clean (call2Own x w s) r d p c =
-      let z = none-due b 2 (omega arith) (d (λ e. omega arith) .1) in rw p (frame-clean z c (call2-own-keeps part x w s))
+      let z = none-due b 2 (omega arith) (d (λ e. omega arith) .1) in frame-clean z c (call2-own-keeps part x w s)
   done-clean (call3 x g m o) r d p c =
-      let z = none-due b 3 (omega arith) (d (λ e. omega arith) .1) in rw p (frame-clean z c (call3-keeps part (b .hearing) x g m o))
+      let z = none-due b 3 (omega arith) (d (λ e. omega arith) .1) in frame-clean z c (call3-keeps part (b .hearing) x g m o)
   done-clean (call4 x o) r d p c =
-      let z = none-due b 4 (omega arith) (d (λ e. omega arith) .1) in rw p (frame-clean z c (call4-keeps part (b .frame) (b .heard) x o))
+      let z = none-due b 4 (omega arith) (d (λ e. omega arith) .1) in frame-clean z c (call4-keeps part x o)
   done-clean (firstHalf x s) r d p c =
-      let z = none-due b 1 (omega arith) (d (λ e. omega arith) .1) in rw p (frame-clean z c (first-half-keeps part (b .hearing .way) x s))
+      let z = none-due b 1 (omega arith) (d (λ e. omega arith) .1) in frame-clean z c (first-half-keeps part (b .hearing .way) x s)
   done-clean (secondHalf g m o) r d p c =
-      let z = none-due b 3 (omega arith) (d (λ e. omega arith) .1) in rw p (frame-clean z c (second-half-keeps part (b .hearing) g m o))
+      let z = none-due b 3 (omega arith) (d (λ e. omega arith) .1) in frame-clean z c (second-half-keeps part (b .hearing) g m o)
   done-clean (piece x o s) r d p c = piece-clean x o s p
   done-clean (resume x g m o s) r d p c =
       let due = d (λ e. omega arith) in resume-clean (none-unfinished b (open-range b (due .0) r .2) (due .1)) c x g m o s p
@@ -197,12 +194,12 @@ module _ (n side : ℕ) (b : Record) (store : List Float) (ask : Ask) where
   abbrev share : List Float
   share = get (shareOf side) store
 
-  abbrev o : Given
+  abbrev o : Effect Answer
   o = desk n side b store ask
 
   module _ (p : passed (o .answer .reply) ≡ true) where
     let-through : gate n side b (length store) (callOf ask) ≡ 0
-    let-through = was-let-in n side b store ask p
+    let-through = was-let-in b ask n side store p
 
     right : (side < n) × (length store ≡ n * SHARE)
     right = through n side b (length store) (callOf ask) let-through
@@ -210,14 +207,11 @@ module _ (n side : ℕ) (b : Record) (store : List Float) (ask : Ask) where
     fits : length share ≡ SHARE
     fits = length-get (shareOf side) store (omega (arith, right .0, right .1))
 
-    on-share : passed (onShare b share ask .reply) ≡ true
-    on-share = sym (ap (λ (g : Given). passed (g .answer .reply)) (let-in n side b store ask let-through)) ∙ p
-
     -- what holds of the share holds of the side
-    lifted : After b share fits ask → ZerosBehind side (o .answer .rec) (o .store)
+    lifted : After b share fits ask → ZerosBehind side (o .answer .rec) (o .kept)
     lifted c =
         let inside : Within (shareOf side) store = omega (arith, right .0, right .1) in
-        rw (let-in n side b store ask let-through, get-put (shareOf side) store (onShare b share ask .share) inside (admitted-kept b share ask 0 .size fits)) c
+        rw (let-in b ask n side store let-through, on-share b ask n side store p, get-put (shareOf side) store (onShare b share ask .kept) inside (admitted-kept b share ask 0 .size fits)) c
 
     due : (callOf ask ≡ 0 → ⊥) → (b .due ≡ 0 → ⊥) × (isDue b (callOf ask) ≡ true)
     due ne =
@@ -225,15 +219,15 @@ module _ (n side : ℕ) (b : Record) (store : List Float) (ask : Ask) where
         let clear = none n side b (length store) (callOf ask) let-through in
         (eqb-false (b .due) 0 (rw is at (clear .1 .1 .1 .0)), not-false (isDue b (callOf ask)) (rw is at (clear .1 .1 .1 .1 .0)))
 
-    done : ZerosBehind side b store → ZerosBehind side (o .answer .rec) (o .store)
+    done : ZerosBehind side b store → ZerosBehind side (o .answer .rec) (o .kept)
     done c =
         let clear = none n side b (length store) (callOf ask) let-through in
-        lifted (done-clean b share fits ask (not-false (inRange b) (clear .1 .1 .0)) due on-share c)
+        lifted (done-clean b share fits ask (not-false (inRange b) (clear .1 .1 .0)) due (on-share b ask n side store p) c)
 
-  kept : ZerosBehind side b store → ZerosBehind side (o .answer .rec) (o .store)
+  kept : ZerosBehind side b store → ZerosBehind side (o .answer .rec) (o .kept)
   kept c = go (passed (o .answer .reply)) refl
     where
-      go : (t : Bool) → passed (o .answer .reply) ≡ t → ZerosBehind side (o .answer .rec) (o .store)
+      go : (t : Bool) → passed (o .answer .reply) ≡ t → ZerosBehind side (o .answer .rec) (o .kept)
       go true p = done p c
       go false p = let k = refused-keeps n side b store ask p in rw (k .0, k .1) c
 
@@ -248,7 +242,7 @@ long {n = n} {side = side} (laws.beside {rec = rec} {store = store} r other ne i
 zero-behind : {n side : ℕ} {rec : Record} {store : List Float} → Reached n side rec store → ZerosBehind side rec store
 zero-behind {n = n} {side = side} (laws.opened rec store way model p) =
     lifted n side rec store (opening way model) p
-    (open-clean rec (get (shareOf side) store) (fits n side rec store (opening way model) p) way model (on-share n side rec store (opening way model) p))
+    (open-clean rec (get (shareOf side) store) (fits n side rec store (opening way model) p) way model (on-share rec (opening way model) n side store p))
 zero-behind {n = n} {side = side} (laws.asked {rec = rec} {store = store} r ask) = kept n side rec store ask (zero-behind r)
 zero-behind {n = n} {side = side} (laws.beside {rec = rec} {store = store} r other ne its ask) =
     rw (other-share n other its store ask (long r) side ne) (zero-behind r)

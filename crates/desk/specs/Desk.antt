@@ -1,26 +1,20 @@
 -- What a call gives: the definition that the desk's contracts cite, and that the law of isolation is about.
-use Prim.Native.Nat.{ℕ, _+_, _-_}
-use mathlib.Core.Bool.{cond}
-use mathlib.Core.List.{List, []}
-use mathlib.Core.Path.{_≡_}
-use lib.Dec.{eqb, ltb}
-use lib.ListN.{length}
-use lib.Ieee.{Float}
+use Rattle.rules.specs.Common.{ℕ, _+_, _-_, cond, _&&_, List, [], eqb, ltb, length, Float}
 use Rattle.rules.specs.F32.{zeros}
 use Rattle.rules.specs.Place.{get, put}
-use Rattle.rules.specs.Written.{Written, onto}
 use Rattle.model.specs.Model.{readOf}
 use Rattle.model.specs.declared.Reading.{Reading}
 use Rattle.model.specs.declared.Reading.the-variants.{Good, Refused as Unread}
 use Rattle.frame.specs.Share.{SHARE}
 use Rattle.frame.specs.Frame as frame
 use Rattle.halves.specs.Halves as halves
-use Rattle.pieces.specs.Pieces.{Outcome, framePart, refused, inPart}
+use Rattle.pieces.specs.Pieces.{framePart, inPart}
 use Rattle.pieces.specs.Pieces as pieces
+use Rattle.frame.specs.Effect.{Effect, refusal}
 use Rattle.frame.specs.Reply.{passed, isHeard, oneMore}
 use Rattle.frame.specs.declared.Hearing.{Hearing}
 use Rattle.frame.specs.declared.Reply.{Reply}
-use Rattle.frame.specs.declared.Reply.the-variants.{Done, Silent, Heard, Numbered, Refused, Misread}
+use Rattle.frame.specs.declared.Reply.the-variants.{Done, Numbered, Refused, Misread}
 use Rattle.frame.specs.declared.Way.{Way}
 use Rattle.frame.specs.declared.Way.the-variants.{Asked}
 use Rattle.desk.specs.Gate.{PIECE, RESUME, gate, shareOf}
@@ -52,19 +46,6 @@ callOf (firstHalf x s) = 1
 callOf (secondHalf l m o) = 3
 callOf (piece x o s) = PIECE
 callOf (resume x l m o s) = RESUME
-
--- the number of the last call that is done; a piece may begin a frame, and a resume ends one
-abbrev pub lastOf : Ask → ℕ
-lastOf (opening w m) = 0
-lastOf (call1 x w) = 1
-lastOf (call2 x l w s) = 2
-lastOf (call2Own x w s) = 2
-lastOf (call3 x l m o) = 3
-lastOf (call4 x o) = 4
-lastOf (firstHalf x s) = 2
-lastOf (secondHalf l m o) = 4
-lastOf (piece x o s) = 2
-lastOf (resume x l m o s) = 4
 
 -- ---- one side's record
 
@@ -112,25 +93,16 @@ nextHearing hearing reply =
       way = hearing .way;
     }
 
--- request 07: the frames are numbered as call 4 answers, and a heard call 3 is one more
-abbrev pub nextFrame : ℕ → Reply → ℕ
-nextFrame n (Numbered f h) = f
-nextFrame n Done = n
-nextFrame n Silent = n
-nextFrame n (Heard v e) = n
-nextFrame n (Refused r) = n
-nextFrame n (Misread r l) = n
-
+-- and is one more: request 07
 abbrev pub nextHeard : ℕ → Reply → ℕ
 nextHeard n reply = cond (isHeard reply) (oneMore n) n
 
 abbrev pub advanced : Record → Reply → Record
-advanced rec reply =
-    recordOf (nextDue (rec .due)) (nextHearing (rec .hearing) reply) (nextFrame (rec .frame) reply) (nextHeard (rec .heard) reply)
+advanced rec reply = recordOf (nextDue (rec .due)) (nextHearing (rec .hearing) reply) (rec .frame) (nextHeard (rec .heard) reply)
 
--- as what call 4 answers moves it on
+-- by call 4, which ends a frame
 abbrev pub numbered : Record → Record
-numbered rec = advanced rec (Numbered (oneMore (rec .frame)) (rec .heard))
+numbered rec = recordOf (nextDue (rec .due)) (rec .hearing) (oneMore (rec .frame)) (rec .heard)
 
 -- with so many samples of a piece of this size in no frame yet: they wait, or a frame is under way, and the progress is this
 unfoldable pub carried : Record → ℕ → ℕ → ℕ → Record
@@ -143,63 +115,55 @@ started rec way (Good m) =
     (record { index = 0; vad = m .«vad_gru» .neurons; noise = m .«noise_gru» .neurons; denoise = m .«denoise_gru» .neurons; way = way }) 0 0
 started rec way (Unread n l) = rec
 
--- a half moves it on twice, the second by call 3's reply and then by call 4's; so does a resume
+-- a half moves it on twice, the second by call 3's reply and then by call 4; so does a resume
 abbrev pub recorded : Record → Ask → Reply → Record
 recorded rec (opening w m) reply = started rec w (readOf m)
 recorded rec (call1 x w) reply = advanced rec reply
 recorded rec (call2 x l w s) reply = advanced rec reply
 recorded rec (call2Own x w s) reply = advanced rec reply
 recorded rec (call3 x l m o) reply = advanced rec reply
-recorded rec (call4 x o) reply = advanced rec reply
+recorded rec (call4 x o) reply = numbered rec
 recorded rec (firstHalf x s) reply = advanced (advanced rec reply) reply
 recorded rec (secondHalf l m o) reply = numbered (advanced rec reply)
 recorded rec (piece x o s) reply = carried rec (rec .waiting + length x) (length x) (480 - rec .waiting)
 recorded rec (resume x l m o s) reply = carried (numbered (advanced rec reply)) (length x - rec .progress) (length x) (rec .progress + 480)
 
--- the answer with a reply; a refusal leaves the record
+-- call 4 is answered with the numbers of frames and of heard frames, as they then stand: request 07
+abbrev pub replyTo : Record → Ask → Reply → Reply
+replyTo rec ask reply = cond (eqb (callOf ask) 4 && passed reply) (Numbered (oneMore (rec .frame)) (rec .heard)) reply
+
+-- the answer, by what the call on the share replied; a refusal leaves the record
 abbrev pub answered : Record → Ask → Reply → Answer
-answered rec ask reply = record { reply = reply; rec = cond (passed reply) (recorded rec ask reply) rec }
+answered rec ask reply = record { reply = replyTo rec ask reply; rec = cond (passed reply) (recorded rec ask reply) rec }
 
 -- ---- one side's share
 
 -- an opening wipes the share, whatever it held
-abbrev pub opened : List Float → Reading → Outcome
-opened share (Good m) = record { reply = Done; share = zeros SHARE; written = [] }
-opened share (Unread n l) = refused (Misread n l) share
+abbrev pub opened : List Float → Reading → Effect Reply
+opened share (Good m) = record { answer = Done; kept = zeros SHARE; written = [] }
+opened share (Unread n l) = refusal (Misread n l) share
 
 -- a call of a frame is lent its part alone, a piece all of it
-abbrev pub onShare : Record → List Float → Ask → Outcome
+abbrev pub onShare : Record → List Float → Ask → Effect Reply
 onShare rec share (opening w m) = opened share (readOf m)
 onShare rec share (call1 x w) = inPart share (frame.call1 (get framePart share) x w)
 onShare rec share (call2 x l w s) = inPart share (frame.call2 (get framePart share) x l w s)
 onShare rec share (call2Own x w s) = inPart share (halves.call2Own (get framePart share) x w s)
 onShare rec share (call3 x l m o) = inPart share (frame.call3 (get framePart share) (rec .hearing) x l m o)
-onShare rec share (call4 x o) = inPart share (frame.call4 (get framePart share) (rec .frame) (rec .heard) x o)
+onShare rec share (call4 x o) = inPart share (frame.call4 (get framePart share) x o)
 onShare rec share (firstHalf x s) = inPart share (halves.firstHalf (get framePart share) (rec .hearing .way) x s)
 onShare rec share (secondHalf l m o) = inPart share (halves.secondHalf (get framePart share) (rec .hearing) l m o)
 onShare rec share (piece x o s) = pieces.piece share (rec .hearing .way) (rec .waiting) x o s
 onShare rec share (resume x l m o s) = pieces.resume share (rec .hearing) (rec .piece) (rec .progress) x l m o s
 
 -- a call that the gate lets through, with 0, or its refusal
-abbrev pub admitted : Record → List Float → Ask → ℕ → Outcome
-admitted rec share ask number = cond (eqb number 0) (onShare rec share ask) (refused (Refused number) share)
+abbrev pub admitted : Record → List Float → Ask → ℕ → Effect Reply
+admitted rec share ask number = cond (eqb number 0) (onShare rec share ask) (refusal (Refused number) share)
 
 -- ---- the desk: the side's record and share are worked on, and nothing else
 
--- an answer, the store afterwards, and what is written to each answer buffer
-pub record Given : Type 0 where
-  pub answer : Answer
-  pub store : List Float
-  pub written : List Written
-
 -- a call on one of `benches` sides of a store, with the side's record
-unfoldable pub desk : ℕ → ℕ → Record → List Float → Ask → Given
+unfoldable pub desk : ℕ → ℕ → Record → List Float → Ask → Effect Answer
 desk benches side rec store ask =
     let f = admitted rec (get (shareOf side) store) ask (gate benches side rec (length store) (callOf ask)) in
-    record { answer = answered rec ask (f .reply); store = put (shareOf side) store (f .share); written = f .written }
-
--- what a contract says of a call: its answer, the store, and the answer buffers, by what they held
-pub record Served (o : Given) (answer : Answer) (store : List Float) (held out : List (List Float)) : Type 0 where
-  pub answers : answer ≡ o .answer
-  pub stores : store ≡ o .store
-  pub writes : out ≡ onto (o .written) held
+    record { answer = answered rec ask (f .answer); kept = put (shareOf side) store (f .kept); written = f .written }

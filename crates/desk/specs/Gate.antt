@@ -1,8 +1,5 @@
 -- Refusals 1 to 4: who is turned away before a share is looked at. Stated over the number of benches.
-use Prim.Native.Nat.{ℕ, _*_, _%_}
-use mathlib.Core.Bool.{Bool, true, cond, not, _&&_}
-use mathlib.Core.List.{List, [], _∷_}
-use lib.Dec.{eqb, leb, ltb}
+use Rattle.rules.specs.Common.{ℕ, _*_, _%_, Bool, true, cond, not, _&&_, List, [], _∷_, eqb, leb, ltb}
 use Rattle.rules.specs.Refusals.{Row, _when_, refusing}
 use Rattle.rules.specs.Place.{Place}
 use Rattle.frame.specs.Share.{SHARE}

@@ -1,11 +1,6 @@
--- What is claimed of the desk's calls, for any number of benches. The proofs are in proofs/Settled, Ranged, Replies, Buffers, Halved, Apart and Zeros.
-use Prim.Native.Nat.{ℕ, _+_, _*_, _≤_, _<_}
-use mathlib.Core.Bool.{true, false, cond}
-use mathlib.Core.List.{List}
+-- What is claimed of the desk's calls, for any number of benches. The proofs are in proofs/Kept, Ranged, Noted, Replies, Buffers, Halved, Apart and Zeros.
+use Rattle.rules.specs.Common.{ℕ, _+_, _*_, _≤_, _<_, true, false, cond, List, _≡_, length, drop, Float}
 use mathlib.Core.Logic.{_⊎_}
-use mathlib.Core.Path.{_≡_}
-use lib.ListN.{length, drop}
-use lib.Ieee.{Float}
 use Rattle.rules.specs.Place.{get, put}
 use Rattle.rules.specs.Written.{Written, firstIn}
 use Rattle.transforms.specs.Transform.{forwardOf}
@@ -13,7 +8,9 @@ use Rattle.model.specs.Model.{readOf}
 use Rattle.model.specs.declared.Model.{Model}
 use Rattle.model.specs.declared.Reading.the-variants.{Good}
 use Rattle.frame.specs.Share.{SHARE}
+use Rattle.frame.specs.Effect.{Effect}
 use Rattle.frame.specs.Reply.{passed}
+use Rattle.frame.specs.declared.Hearing.{Hearing}
 use Rattle.frame.specs.declared.Reply.{Reply}
 use Rattle.frame.specs.declared.Reply.the-variants.{Done, Silent, Heard, Numbered, Refused, Misread}
 use Rattle.frame.specs.declared.Way.{Way}
@@ -22,24 +19,9 @@ use Rattle.halves.specs.Halves.{lookedBack}
 use Rattle.halves.specs.Ways.{forwardBy, inverseBy}
 use Rattle.pieces.specs.Pieces.{framePart, waitingIn, paddedTo}
 use Rattle.desk.specs.Gate.{shareOf, inRange}
-use Rattle.desk.specs.Desk.{Ask, opening, call1, call2, call2Own, call3, call4, firstHalf, secondHalf, piece, resume, closed, Given, desk, Served}
-use Rattle.desk.specs.Surface.{Hosted}
+use Rattle.desk.specs.Desk.{Ask, opening, call1, call2, call2Own, call3, call4, firstHalf, secondHalf, piece, resume, callOf, closed, desk}
 use Rattle.desk.specs.declared.Answer.{Answer}
 use Rattle.desk.specs.declared.Record.{Record}
-
--- ---- no second outcome meets a contract
-
-abbrev pub Settled : Type 0
-Settled =
-    (o : Given) (answer answer′ : Answer) (store store′ : List Float) (held out out′ : List (List Float))
-    → Served o answer store held out → Served o answer′ store′ held out′
-    → (answer ≡ answer′) × (store ≡ store′) × (out ≡ out′)
-
-abbrev pub HostSettled : Type 0
-HostSettled =
-    (o : Given) (number number′ : ℕ) (ns ms ms′ : List ℕ) (store store′ : List Float) (held out out′ : List (List Float))
-    → Hosted o number ns ms store held out → Hosted o number′ ns ms′ store′ held out′
-    → (number ≡ number′) × (ms ≡ ms′) × (store ≡ store′) × (out ≡ out′)
 
 -- ---- one call
 
@@ -48,7 +30,7 @@ abbrev pub RefusedKeeps : Type 0
 RefusedKeeps =
     (n side : ℕ) (rec : Record) (store : List Float) (ask : Ask)
     → let o = desk n side rec store ask in
-    passed (o .answer .reply) ≡ false → (o .answer .rec ≡ rec) × (o .store ≡ store)
+    passed (o .answer .reply) ≡ false → (o .answer .rec ≡ rec) × (o .kept ≡ store)
 
 -- where a call is done, the record given and the record handed back are in range: a host that hands back what it received is not turned away for it
 abbrev pub RangeKept : Type 0
@@ -56,6 +38,15 @@ RangeKept =
     (n side : ℕ) (rec : Record) (store : List Float) (ask : Ask)
     → let o = desk n side rec store ask in
     passed (o .answer .reply) ≡ true → (inRange rec ≡ true) × (inRange (o .answer .rec) ≡ true)
+
+-- what an opening noted stays until the next: of the hearing any other call moves the index alone
+abbrev pub noted : Hearing → ℕ × ℕ × ℕ × Way
+noted hearing = (hearing .vad, hearing .noise, hearing .denoise, hearing .way)
+
+abbrev pub NotedStays : Type 0
+NotedStays =
+    (n side : ℕ) (rec : Record) (store : List Float) (ask : Ask) → (callOf ask ≡ 0 → ⊥)
+    → noted (desk n side rec store ask .answer .rec .hearing) ≡ noted (rec .hearing)
 
 -- a 7 comes with a number of at most 22 and a layer of at most 6
 abbrev pub SmallSeven : Reply → Type 0
@@ -99,12 +90,12 @@ Opens =
 -- ---- request 08: accepted, a half is its two calls in turn, the second handed the record and the store as the first left them
 
 -- a half that is two calls of the desk: both are done, it leaves the second's record and store, and this is its reply and what it writes
-pub record InTurn (one two half : Given) (reply : Reply) (written : List Written) : Type 0 where
+pub record InTurn (one two half : Effect Answer) (reply : Reply) (written : List Written) : Type 0 where
   pub first : passed (one .answer .reply) ≡ true
   pub last : passed (two .answer .reply) ≡ true
   pub replies : half .answer .reply ≡ reply
   pub records : half .answer .rec ≡ two .answer .rec
-  pub stores : half .store ≡ two .store
+  pub stores : half .kept ≡ two .kept
   pub writes : half .written ≡ written
 
 -- by the way that is asked: call 1, and call 2's sister with the plain sums of its window
@@ -112,7 +103,7 @@ abbrev pub FirstInTurn : Type 0
 FirstInTurn =
     (n side : ℕ) (rec : Record) (store samples : List Float) (sums : ℕ)
     → let one = desk n side rec store (call1 samples 960) in
-    let two = desk n side (one .answer .rec) (one .store) (call2Own (forwardOf (firstIn (one .written))) 960 sums) in
+    let two = desk n side (one .answer .rec) (one .kept) (call2Own (forwardOf (firstIn (one .written))) 960 sums) in
     let half = desk n side rec store (firstHalf samples sums) in
     rec .hearing .way ≡ Asked → passed (half .answer .reply) ≡ true → InTurn one two half (two .answer .reply) (drop 1 (two .written))
 
@@ -123,7 +114,7 @@ SecondInTurn =
     → let way = rec .hearing .way in
     let spectrum = forwardBy way (lookedBack (get framePart (get (shareOf side) store))) in
     let three = desk n side rec store (call3 spectrum logs model 961) in
-    let four = desk n side (three .answer .rec) (three .store) (call4 (inverseBy way (firstIn (three .written))) out) in
+    let four = desk n side (three .answer .rec) (three .kept) (call4 (inverseBy way (firstIn (three .written))) out) in
     let half = desk n side rec store (secondHalf logs model out) in
     passed (half .answer .reply) ≡ true
     → InTurn three four half (three .answer .reply) (four .written)
@@ -137,8 +128,8 @@ SharesApart =
     (a b : ℕ) → (a ≡ b → ⊥) → let p = shareOf a in let q = shareOf b in (p .at + p .size ≤ q .at) ⊎ (q .at + q .size ≤ p .at)
 
 -- an outcome on a store that is the share of a side, in the store that the share is a part of
-abbrev pub placed : ℕ → List Float → Given → Given
-placed side store o = record { answer = o .answer; store = put (shareOf side) store (o .store); written = o .written }
+abbrev pub placed : ℕ → List Float → Effect Answer → Effect Answer
+placed side store o = record { answer = o .answer; kept = put (shareOf side) store (o .kept); written = o .written }
 
 -- a call on a side is what a desk of one bench makes of it, with the side's share for its store
 abbrev pub ItsOwn : Type 0
@@ -150,18 +141,18 @@ ItsOwn =
 abbrev pub SameLength : Type 0
 SameLength =
     (n side : ℕ) (rec : Record) (store : List Float) (ask : Ask) → length store ≡ n * SHARE
-    → length (desk n side rec store ask .store) ≡ length store
+    → length (desk n side rec store ask .kept) ≡ length store
 
 abbrev pub OtherShare : Type 0
 OtherShare =
     (n side : ℕ) (rec : Record) (store : List Float) (ask : Ask) → length store ≡ n * SHARE → (s : ℕ) → (side ≡ s → ⊥)
-    → get (shareOf s) (desk n side rec store ask .store) ≡ get (shareOf s) store
+    → get (shareOf s) (desk n side rec store ask .kept) ≡ get (shareOf s) store
 
 -- two outcomes that answer alike, and leave the same store or a closed record
-pub record AnsweredAlike (o u : Given) : Type 0 where
+pub record AnsweredAlike (o u : Effect Answer) : Type 0 where
   pub answer : o .answer ≡ u .answer
   pub written : o .written ≡ u .written
-  pub store : (o .store ≡ u .store) ⊎ (o .answer .rec .due ≡ 0)
+  pub store : (o .kept ≡ u .kept) ⊎ (o .answer .rec .due ≡ 0)
 
 -- what the share of a closed side held is never told
 abbrev pub ClosedAlike : Type 0
@@ -187,11 +178,11 @@ ZerosBehind side rec store =
 pub data Reached (n side : ℕ) : Record → List Float → Type 0 where
   opened : (rec : Record) (store : List Float) (way : Way) (model : List ℕ)
       → passed (desk n side rec store (opening way model) .answer .reply) ≡ true
-      → Reached n side (desk n side rec store (opening way model) .answer .rec) (desk n side rec store (opening way model) .store)
+      → Reached n side (desk n side rec store (opening way model) .answer .rec) (desk n side rec store (opening way model) .kept)
   asked : {rec : Record} {store : List Float} → Reached n side rec store
-      → (ask : Ask) → Reached n side (desk n side rec store ask .answer .rec) (desk n side rec store ask .store)
+      → (ask : Ask) → Reached n side (desk n side rec store ask .answer .rec) (desk n side rec store ask .kept)
   beside : {rec : Record} {store : List Float} → Reached n side rec store
-      → (other : ℕ) → (other ≡ side → ⊥) → (its : Record) (ask : Ask) → Reached n side rec (desk n other its store ask .store)
+      → (other : ℕ) → (other ≡ side → ⊥) → (its : Record) (ask : Ask) → Reached n side rec (desk n other its store ask .kept)
 
 abbrev pub UnusedZero : Type 0
 UnusedZero = (n side : ℕ) (rec : Record) (store : List Float) → Reached n side rec store → ZerosBehind side rec store

@@ -1,13 +1,11 @@
 -- For the parts of the code.
-use Prim.Native.Nat.{ℕ, _+_, _-_, _≤_}
-use mathlib.Core.Bool.{cond}
-use mathlib.Core.Path.{_≡_}
+use Rattle.rules.specs.Common.{ℕ, _+_, _-_, _≤_, cond, _≡_}
 use Rattle.model.specs.declared.Reading.{Reading}
 use Rattle.model.specs.declared.Reading.the-variants.{Good, Refused as Unread}
 use Rattle.frame.specs.Share.{SHARE, PART}
-use Rattle.frame.specs.Reply.{passed}
+use Rattle.frame.specs.Reply.{passed, oneMore}
 use Rattle.frame.specs.declared.Reply.{Reply}
-use Rattle.frame.specs.declared.Reply.the-variants.{Done, Refused, Misread}
+use Rattle.frame.specs.declared.Reply.the-variants.{Done, Numbered, Refused, Misread}
 use Rattle.frame.specs.declared.Way.{Way}
 use Rattle.desk.specs.Gate.{gate, shareOf}
 use Rattle.desk.specs.Desk.{advanced, numbered, carried, started}
@@ -24,12 +22,16 @@ pub record Admits (benches side : ℕ) (rec : Record) (len call : ℕ) (a : Admi
   pub inside : a .end ≤ len
   pub share : a .number ≡ 0 → (a .start ≡ shareOf side .at) × (a .part ≡ shareOf side .at + PART) × (a .end ≡ shareOf side .at + SHARE)
 
--- the answers of a call that is turned away, of a frame call, and of the two halves
+-- the answers of a call that is turned away, of calls 1 to 3 and call 4, and of the two halves
 abbrev pub turnedAway : Record → ℕ → Answer
 turnedAway rec number = record { reply = Refused number; rec = rec }
 
 abbrev pub toldOf : Record → Reply → Answer
 toldOf rec reply = record { reply = reply; rec = cond (passed reply) (advanced rec reply) rec }
+
+abbrev pub toldFourth : Record → Reply → Answer
+toldFourth rec reply =
+    record { reply = cond (passed reply) (Numbered (oneMore (rec .frame)) (rec .heard)) reply; rec = cond (passed reply) (numbered rec) rec }
 
 abbrev pub toldFirst : Record → Reply → Answer
 toldFirst rec reply = record { reply = reply; rec = cond (passed reply) (advanced (advanced rec reply) reply) rec }

@@ -1,13 +1,8 @@
 -- The desk for a host that has numbers alone: what the functions of the C surface return and leave.
-use Prim.Native.Nat.{ℕ, _+_, _*_}
-use mathlib.Core.Bool.{cond, _&&_}
-use mathlib.Core.List.{List, [], _∷_, _++_}
-use mathlib.Core.Path.{_≡_}
-use lib.Dec.{eqb, leb}
-use lib.ListN.{length, getD, replicate}
-use lib.Ieee.{Float}
+use Rattle.rules.specs.Common.{ℕ, _+_, _*_, cond, _&&_, List, [], _∷_, _++_, eqb, leb, length, getD, replicate, Float}
 use Rattle.rules.specs.F32.{f32}
-use Rattle.rules.specs.Written.{Written, all, onto}
+use Rattle.rules.specs.Written.{Written, all}
+use Rattle.frame.specs.Effect.{Effect}
 use Rattle.frame.specs.Reply.{passed}
 use Rattle.frame.specs.declared.Hearing.{Hearing}
 use Rattle.frame.specs.declared.Reply.{Reply}
@@ -15,7 +10,7 @@ use Rattle.frame.specs.declared.Reply.the-variants.{Done, Silent, Heard, Number
 use Rattle.frame.specs.declared.Way.{Way}
 use Rattle.frame.specs.declared.Way.the-variants.{Asked, Crate}
 use Rattle.desk.specs.Gate.{wayNumber}
-use Rattle.desk.specs.Desk.{Ask, opening, call1, call2, call2Own, call3, call4, firstHalf, secondHalf, piece, resume, recordOf, holding, noHearing, Given, desk}
+use Rattle.desk.specs.Desk.{Ask, opening, call1, call2, call2Own, call3, call4, firstHalf, secondHalf, piece, resume, recordOf, holding, noHearing, desk}
 use Rattle.desk.specs.declared.Record.{Record}
 use Rattle.desk.specs.declared.Answer.{Answer}
 
@@ -82,22 +77,19 @@ abbrev pub outOf : ℕ → ℕ → ℕ
 outOf answer out = cond (eqb answer 3) out 0
 
 -- a call as a host has it that is told its answer besides
-abbrev pub telling : Given → Given
-telling o = record { answer = o .answer; store = o .store; written = o .written ++ toldBesides (o .answer .reply) }
+abbrev pub telling : Effect Answer → Effect Answer
+telling o = record { answer = o .answer; kept = o .kept; written = o .written ++ toldBesides (o .answer .reply) }
 
 -- the desk, asked with a record that is numbers
-unfoldable pub hosted : ℕ → ℕ → List ℕ → List Float → Ask → Given
+unfoldable pub hosted : ℕ → ℕ → List ℕ → List Float → Ask → Effect Answer
 hosted benches side ns store ask =
     let o = desk benches side (recordIn ns) store ask in
-    record { answer = o .answer; store = o .store; written = o .written ++ besides ask (o .answer .reply) }
+    record { answer = o .answer; kept = o .kept; written = o .written ++ besides ask (o .answer .reply) }
 
 -- the record that comes back: a refusal leaves it
 abbrev pub handedBack : Answer → List ℕ → List ℕ
 handedBack answer ns = cond (passed (answer .reply)) (numbersOf (answer .rec)) ns
 
--- what a contract says of a host's call: the number, the record, the store and the buffers afterwards
-pub record Hosted (o : Given) (number : ℕ) (ns ns′ : List ℕ) (store : List Float) (held out : List (List Float)) : Type 0 where
-  pub numbers : number ≡ replyNumber (o .answer .reply)
-  pub records : ns′ ≡ handedBack (o .answer) ns
-  pub stores : store ≡ o .store
-  pub writes : out ≡ onto (o .written) held
+-- what a host is handed: the number and the record in the place of the answer
+abbrev pub handed : List ℕ → Effect Answer → Effect (ℕ × List ℕ)
+handed ns o = record { answer = (replyNumber (o .answer .reply), handedBack (o .answer) ns); kept = o .kept; written = o .written }

@@ -5,8 +5,9 @@ ghost use mathlib.Core.Bool.{true};
 ghost use mathlib.Core.List.{[], _∷_};
 ghost use lib.ListN.{length};
 ghost use Rattle.desk.specs.Gate.{BENCHES, sideOf, idle, wayNumber, allZero, inCounts, resting, underWay, inPieces, inRange, isDue, gate};
-ghost use Rattle.desk.specs.Desk.{opening, call1, call2, call2Own, call3, call4, firstHalf, secondHalf, piece, resume, recordOf, holding, nextIndex, nextHearing, nextFrame, nextHeard, nextDue, carried, desk, Served};
-ghost use Rattle.desk.specs.Parts.{Admits, turnedAway, toldOf, toldFirst, toldSecond, toldPiece, toldResume, openedOf};
+ghost use Rattle.desk.specs.Desk.{opening, call1, call2, call2Own, call3, call4, firstHalf, secondHalf, piece, resume, recordOf, holding, nextIndex, nextHearing, nextHeard, nextDue, numbered, carried, desk};
+ghost use Rattle.desk.specs.Parts.{Admits, turnedAway, toldOf, toldFourth, toldFirst, toldSecond, toldPiece, toldResume, openedOf};
+ghost use Rattle.frame.specs.Effect.{Worked};
 ghost use Rattle.frame.specs.Reply.{passed};
 use frame::Hearing;
 use frame::Lag;
@@ -48,10 +49,10 @@ pub const PIECE: usize = 5;
 const RESUME: usize = 6;
 
 // Left or right, 0 or 1: a bench's parity.
-pub fn side_of(bench: u32) -> u32
-    ensures { λ r. ⌜ r ≡ sideOf bench ⌝ }
+pub fn side_of(side: Side) -> usize
+    ensures { λ r. ⌜ r ≡ sideOf (side .0) ⌝ }
 {
-    bench % 2
+    side.0 % 2
 }
 
 // Every record is made here: one at which nothing waits and no piece is unfinished.
@@ -336,20 +337,6 @@ fn next_hearing(hearing: Hearing, reply: Reply) -> Hearing
     }
 }
 
-// The number of frames after a reply: call 4 answers with it.
-fn next_frame(number: u32, reply: Reply) -> u32
-    ensures { λ r. ⌜ r ≡ nextFrame number reply ⌝ }
-{
-    match reply {
-        Reply::Numbered(frame, _) => frame,
-        Reply::Done => number,
-        Reply::Silent => number,
-        Reply::Heard(_, _) => number,
-        Reply::Refused(_) => number,
-        Reply::Misread(_, _) => number,
-    }
-}
-
 // The number of heard frames after a reply.
 fn next_heard(number: u32, reply: Reply) -> u32
     ensures { λ r. ⌜ r ≡ nextHeard number reply ⌝ }
@@ -383,11 +370,36 @@ fn told(rec: Record, reply: Reply) -> Answer
     }
     let due = next_due(rec.due);
     let hearing = next_hearing(rec.hearing, reply);
-    let frame = next_frame(rec.frame, reply);
     let heard = next_heard(rec.heard, reply);
     Answer {
         reply,
-        rec: record_of(due, hearing, frame, heard),
+        rec: record_of(due, hearing, rec.frame, heard),
+    }
+}
+
+// The record after call 4, which ends a frame.
+fn numbered(rec: Record) -> Record
+    ensures { λ r. ⌜ r ≡ numbered rec ⌝ }
+{
+    let hearing = rec.hearing;
+    record_of(
+        next_due(rec.due),
+        hearing,
+        frame::one_more(rec.frame),
+        rec.heard,
+    )
+}
+
+// The answer to call 4: the frames and the heard frames, as they then stand.
+fn told_fourth(rec: Record, reply: Reply) -> Answer
+    ensures { λ r. ⌜ r ≡ toldFourth rec reply ⌝ }
+{
+    if !frame::passed(reply) {
+        return Answer { reply, rec };
+    }
+    Answer {
+        reply: Reply::Numbered(frame::one_more(rec.frame), rec.heard),
+        rec: numbered(rec),
     }
 }
 
@@ -409,12 +421,10 @@ fn told_second(rec: Record, reply: Reply) -> Answer
     }
     let first = told(rec, reply);
     let next = first.rec;
-    let last = told(
-        next,
-        Reply::Numbered(frame::one_more(next.frame), next.heard),
-    );
-    let rec = last.rec;
-    Answer { reply, rec }
+    Answer {
+        reply,
+        rec: numbered(next),
+    }
 }
 
 // The record with so many samples of a piece of this size in no frame yet: they wait, or a frame is under way.
@@ -486,7 +496,7 @@ fn opened(rec: Record, way: Way, read: Reading) -> Answer
 
 // An opening in a way: a model that reads wipes the side's share and makes call 1 due. It has no answer buffer.
 pub fn open(side: Side, rec: Record, store: &mut [f32], way: Way, model: &[u8]) -> Answer
-    ensures { λ r. ⌜ Served
+    ensures { λ r. ⌜ Worked
         (desk BENCHES (side .0) rec (now (store .entry)) (opening way (now (model .entry))))
         r (now (store .exit)) [] [] ⌝ }
 {
@@ -516,7 +526,7 @@ pub fn call1(
     samples: &[f32],
     window: &mut [f32],
 ) -> Answer
-    ensures { λ r. ⌜ Served
+    ensures { λ r. ⌜ Worked
         (desk BENCHES (side .0) rec (now (store .entry))
         (call1 (now (samples .entry)) (length (now (window .entry)))))
         r (now (store .exit)) (now (window .entry) ∷ []) (now (window .exit) ∷ []) ⌝ }
@@ -544,7 +554,7 @@ pub fn call2(
     window: &mut [f32],
     sums: &mut [f32],
 ) -> Answer
-    ensures { λ r. ⌜ Served
+    ensures { λ r. ⌜ Worked
         (desk BENCHES (side .0) rec (now (store .entry))
         (call2 (now (spectrum .entry)) (lag .0) (length (now (window .entry))) (length (now (sums .entry)))))
         r (now (store .exit)) (now (window .entry) ∷ now (sums .entry) ∷ []) (now (window .exit) ∷ now (sums .exit) ∷ []) ⌝ }
@@ -571,7 +581,7 @@ pub fn call2_own(
     window: &mut [f32],
     sums: &mut [f32],
 ) -> Answer
-    ensures { λ r. ⌜ Served
+    ensures { λ r. ⌜ Worked
         (desk BENCHES (side .0) rec (now (store .entry))
         (call2Own (now (spectrum .entry)) (length (now (window .entry))) (length (now (sums .entry)))))
         r (now (store .exit)) (now (window .entry) ∷ now (sums .entry) ∷ []) (now (window .exit) ∷ now (sums .exit) ∷ []) ⌝ }
@@ -599,7 +609,7 @@ pub fn call3(
     model: &[u8],
     out: &mut [f32],
 ) -> Answer
-    ensures { λ r. ⌜ Served
+    ensures { λ r. ⌜ Worked
         (desk BENCHES (side .0) rec (now (store .entry))
         (call3 (now (spectrum .entry)) (now (logs .entry)) (now (model .entry)) (length (now (out .entry)))))
         r (now (store .exit)) (now (out .entry) ∷ []) (now (out .exit) ∷ []) ⌝ }
@@ -626,7 +636,7 @@ pub fn call3(
 
 // Call 4: 960 inverse samples in, 480 numbers written; the frames and the heard frames so far.
 pub fn call4(side: Side, rec: Record, store: &mut [f32], inverse: &[f32], out: &mut [f32]) -> Answer
-    ensures { λ r. ⌜ Served
+    ensures { λ r. ⌜ Worked
         (desk BENCHES (side .0) rec (now (store .entry))
         (call4 (now (inverse .entry)) (length (now (out .entry)))))
         r (now (store .exit)) (now (out .entry) ∷ []) (now (out .exit) ∷ []) ⌝ }
@@ -640,8 +650,8 @@ pub fn call4(side: Side, rec: Record, store: &mut [f32], inverse: &[f32], out: &
     if number != 0 {
         return turned_away(rec, number);
     }
-    let reply = frame::call4(&mut store[start..part], rec.frame, rec.heard, inverse, out);
-    told(rec, reply)
+    let reply = frame::call4(&mut store[start..part], inverse, out);
+    told_fourth(rec, reply)
 }
 
 // The first half of a frame, calls 1 and 2: 480 samples in, 22 sums written.
@@ -652,7 +662,7 @@ pub fn first_half(
     samples: &[f32],
     sums: &mut [f32],
 ) -> Answer
-    ensures { λ r. ⌜ Served
+    ensures { λ r. ⌜ Worked
         (desk BENCHES (side .0) rec (now (store .entry))
         (firstHalf (now (samples .entry)) (length (now (sums .entry)))))
         r (now (store .exit)) (now (sums .entry) ∷ []) (now (sums .exit) ∷ []) ⌝ }
@@ -681,7 +691,7 @@ pub fn second_half(
     model: &[u8],
     out: &mut [f32],
 ) -> Answer
-    ensures { λ r. ⌜ Served
+    ensures { λ r. ⌜ Worked
         (desk BENCHES (side .0) rec (now (store .entry))
         (secondHalf (now (logs .entry)) (now (model .entry)) (length (now (out .entry)))))
         r (now (store .exit)) (now (out .entry) ∷ []) (now (out .exit) ∷ []) ⌝ }
@@ -708,7 +718,7 @@ pub fn piece(
     out: &mut [f32],
     sums: &mut [f32],
 ) -> Answer
-    ensures { λ r. ⌜ Served
+    ensures { λ r. ⌜ Worked
         (desk BENCHES (side .0) rec (now (store .entry))
         (piece (now (samples .entry)) (length (now (out .entry))) (length (now (sums .entry)))))
         r (now (store .exit)) (now (out .entry) ∷ now (sums .entry) ∷ []) (now (out .exit) ∷ now (sums .exit) ∷ []) ⌝ }
@@ -740,7 +750,7 @@ pub fn resume(
     out: &mut [f32],
     sums: &mut [f32],
 ) -> Answer
-    ensures { λ r. ⌜ Served
+    ensures { λ r. ⌜ Worked
         (desk BENCHES (side .0) rec (now (store .entry))
         (resume (now (samples .entry)) (now (logs .entry)) (now (model .entry)) (length (now (out .entry))) (length (now (sums .entry)))))
         r (now (store .exit)) (now (out .entry) ∷ now (sums .entry) ∷ []) (now (out .exit) ∷ now (sums .exit) ∷ []) ⌝ }

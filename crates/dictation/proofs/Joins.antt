@@ -1,70 +1,72 @@
 -- Laws of a dictation: that it is blind to what waited in the share before, and that it can be broken off and gone on with. Assumes nothing.
-use Prim.Native.Nat.{ℕ, _+_, _*_, _≤_, _<_}
+use Rattle.rules.proofs.Common.{ℕ, _+_, _*_, _≤_, _<_, List, [], _∷_, _++_, _≡_, refl, length, take, drop, length-drop, Float}
 use native.Mathlib.Omega.{arith}
-use mathlib.Core.List.{List, [], _∷_, _++_, append-assoc}
-use mathlib.Core.Path.{_≡_, refl}
-use lib.ListN.{length, take, drop, length-drop}
+use mathlib.Core.List.{append-assoc}
 use lib.Seq.{take-append-le, drop-append-le}
-use lib.Ieee.{Float}
 use Rattle.rules.specs.Place.{get, put}
+use Rattle.rules.specs.Written.{firstIn}
 use Rattle.frame.specs.declared.Reply.{Reply}
-use Rattle.frame.specs.Frame.{Effect}
+use Rattle.frame.specs.Effect.{Effect}
 use Rattle.frame.specs.Share.{SHARE, PART}
-use Rattle.halves.specs.Halves.{buffer, firstHalf, secondHalf}
-use Rattle.pieces.specs.Pieces.{framePart, waitingIn, waits}
+use Rattle.halves.specs.Halves.{firstHalf, secondHalf}
+use Rattle.pieces.specs.Pieces.{framePart, waits}
 use Rattle.pieces.proofs.Halved.{first-length, second-length}
 use Rattle.pieces.proofs.Shares.{part-length, waits-length, waits-waits, frame-waits, waiting-back, frame-length, waits-frame}
 use Rattle.desk.specs.declared.Record.{Record}
 use Rattle.desk.specs.Desk.{holding, advanced, numbered}
-use Rattle.dictation.specs.Dictation.{Lent, Dictated, dictate}
+use Rattle.dictation.specs.Dictation.{Lent, Told, Dictated, dictate, dictatedOn}
 
 -- ---- one frame: its halves, and the share and the record behind it
 
 module _ (rec : Record) (share xs : List Float) (l : Lent) where
-  abbrev pub first : Effect
+  abbrev pub first : Effect Reply
   first = firstHalf (get framePart share) (rec .hearing .way) (take 480 xs) 22
 
-  abbrev pub second : Effect
-  second = secondHalf (first .share) (rec .hearing) (l .logs) (l .model) 480
+  -- the logarithms that it is lent
+  abbrev pub itsLogs : List Float
+  itsLogs = l .logs (firstIn (first .written))
+
+  abbrev pub second : Effect Reply
+  second = secondHalf (first .kept) (rec .hearing) itsLogs (l .model) 480
 
   abbrev pub shareAfter : List Float
-  shareAfter = put framePart share (second .share)
+  shareAfter = put framePart share (second .kept)
 
   abbrev pub recAfter : Record
-  recAfter = numbered (advanced (holding 3 rec 0 0 0) (second .reply))
+  recAfter = numbered (advanced (holding 3 rec 0 0 0) (second .answer))
 
   module _ (k : length share ≡ SHARE) where
-    pub first-part : length (first .share) ≡ PART
+    pub first-part : length (first .kept) ≡ PART
     first-part = first-length (get framePart share) (rec .hearing .way) (take 480 xs) 22 (part-length share k)
 
-    pub second-part : length (second .share) ≡ PART
-    second-part = second-length (first .share) (rec .hearing) (l .logs) (l .model) 480 first-part
+    pub second-part : length (second .kept) ≡ PART
+    second-part = second-length (first .kept) (rec .hearing) itsLogs (l .model) 480 first-part
 
     pub after-length : length shareAfter ≡ SHARE
-    after-length = frame-length share k (second .share) second-part
+    after-length = frame-length share k (second .kept) second-part
 
   -- what it tells
-  abbrev pub toldThere : List Float × Reply × Record
-  toldThere = (buffer first, second .reply, recAfter)
+  abbrev pub toldThere : Told
+  toldThere = (firstIn (first .written), second .answer, recAfter)
 
 -- d with one frame in front, which told this and filled these
-abbrev pub framed : List Float × Reply × Record → List Float → Dictated → Dictated
-framed told ys d = record { rec = d .rec; store = d .store; told = told ∷ d .told; out = ys ++ d .out }
+abbrev pub framed : Told → List Float → Dictated → Dictated
+framed told ys d = record { rec = d .rec; kept = d .kept; told = told ∷ d .told; out = ys ++ d .out }
 
 pub dictate-more : (rec : Record) (share xs : List Float) (l : Lent) (more : List Lent)
     → dictate rec share xs (l ∷ more)
-    ≡ framed (toldThere rec share xs l) (buffer (second rec share xs l)) (dictate (recAfter rec share xs l) (shareAfter rec share xs l) (drop 480 xs) more)
+    ≡ framed (toldThere rec share xs l) (firstIn (second rec share xs l .written)) (dictate (recAfter rec share xs l) (shareAfter rec share xs l) (drop 480 xs) more)
 unfolding dictate
 dictate-more rec share xs l more = refl
 
 pub dictate-none : (rec : Record) (share xs : List Float)
-    → dictate rec share xs [] ≡ record { rec = holding 1 rec (length xs) 0 0; store = waits share xs; told = []; out = [] }
+    → dictate rec share xs [] ≡ record { rec = holding 1 rec (length xs) 0 0; kept = waits share xs; told = []; out = [] }
 unfolding dictate
 dictate-none rec share xs = refl
 
 -- ---- what a share is left with
 
-pub share-size : (rec : Record) (share xs : List Float) (lent : List Lent) → length share ≡ SHARE → length (dictate rec share xs lent .store) ≡ SHARE
+pub share-size : (rec : Record) (share xs : List Float) (lent : List Lent) → length share ≡ SHARE → length (dictate rec share xs lent .kept) ≡ SHARE
 unfolding dictate
 share-size rec share xs [] k = waits-length share k xs
 share-size rec share xs (l ∷ more) k = share-size (recAfter rec share xs l) (shareAfter rec share xs l) (drop 480 xs) more (after-length rec share xs l k)
@@ -78,7 +80,7 @@ washed rec share ws xs [] k = rw (waits-waits share k ws xs)
 washed rec share ws xs (l ∷ more) k =
     rw (
       frame-waits share k ws,
-      waits-frame share k (second rec share xs l .share) (second-part rec share xs l k) ws,
+      waits-frame share k (second rec share xs l .kept) (second-part rec share xs l k) ws,
       washed (recAfter rec share xs l) (shareAfter rec share xs l) ws (drop 480 xs) more (after-length rec share xs l k),
     )
 
@@ -86,11 +88,11 @@ washed rec share ws xs (l ∷ more) k =
 
 -- one dictation and then another
 abbrev pub then : Dictated → Dictated → Dictated
-then d e = record { rec = e .rec; store = e .store; told = d .told ++ e .told; out = d .out ++ e .out }
+then d e = record { rec = e .rec; kept = e .kept; told = d .told ++ e .told; out = d .out ++ e .out }
 
 -- one that goes on where d ended
 abbrev pub again : Dictated → List Float → List Lent → Dictated
-again d ys ms = dictate (d .rec) (d .store) (waitingIn (d .rec .waiting) (d .store) ++ ys) ms
+again d ys ms = dictatedOn (d .rec) (d .kept) ys ms
 
 -- what waits and which call is due are no part of what a dictation starts from
 rested : (rec : Record) (share xs : List Float) (w : ℕ) (lent : List Lent) → dictate (holding 1 rec w 0 0) share xs lent ≡ dictate rec share xs lent

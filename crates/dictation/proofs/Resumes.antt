@@ -1,36 +1,30 @@
--- Laws of a record and of one piece: its numbers, where it is accepted, and that an accepted piece comes to its end and makes a cut. Assumes nothing.
-use Prim.Native.Nat.{ℕ, _+_, _-_, _*_, _/_, _≤_, _<_}
+-- Laws of a record and of one piece: its numbers, where it is accepted, and that an accepted piece comes to its end. Assumes nothing.
+use Rattle.rules.proofs.Common.{ℕ, _+_, _-_, _*_, _/_, _≤_, _<_, Bool, true, false, List, [], _∷_, _++_, _≡_, refl, sym, ap, _∙_, eqb, leb, length}
+use Rattle.rules.proofs.Common.{drop, length-drop, length-append, Float}
 use native.Mathlib.Omega.{arith}
-use mathlib.Core.Bool.{Bool, true, false}
-use mathlib.Core.List.{List, [], _∷_, _++_}
-use mathlib.Core.Path.{_≡_, refl, sym, ap, _∙_}
 use borrow.Author.Tests.{eqb-true, eqb-false, leb-true, eq-eqb, ne-eqb, le-leb, lt-ltb, not-false}
-use lib.Dec.{eqb, leb}
-use lib.ListN.{length, take, drop, length-append, length-drop}
 use lib.Seq.{drop-drop, drop-append-add}
-use lib.Ieee.{Float}
-use Rattle.rules.specs.F32.{zeros}
 use Rattle.rules.specs.Place.{get, put}
-use Rattle.rules.specs.Written.{Written, from, nothing, over, onto}
-use Rattle.rules.proofs.Places.{length-get, length-put}
-use Rattle.rules.proofs.Writing.{over-none}
-use Rattle.rules.proofs.Truth.{both}
+use Rattle.rules.specs.Written.{Written, from, nothing, over, firstIn}
+use Rattle.rules.proofs.Places.{length-get, length-put, over-none}
+use Rattle.rules.proofs.Tests.{both}
 use Rattle.samples.specs.Samples.{good}
+use Rattle.desk.specs.declared.Answer.{Answer}
+use Rattle.frame.specs.Effect.{Effect}
 use Rattle.frame.specs.declared.Reply.{Reply}
 use Rattle.frame.specs.declared.Reply.the-variants.{Done}
 use Rattle.frame.specs.Reply.{passed}
 use Rattle.frame.specs.Share.{SHARE}
-use Rattle.halves.specs.Halves.{buffer}
 use Rattle.pieces.specs.Pieces.{waitingIn, waits, waitedOf, completes}
 use Rattle.pieces.proofs.Accepted.{Piece, piece-taken}
 use Rattle.pieces.proofs.Kept.{further-reply}
 use Rattle.pieces.proofs.Shares.{waiting-length, waits-length}
 use Rattle.desk.specs.declared.Record.{Record}
 use Rattle.desk.specs.Gate.{shareOf, idle, allZero, inCounts, underWay, inPieces, inRange, isDue, gate}
-use Rattle.desk.specs.Desk.{piece, resume, holding, Given, desk}
+use Rattle.desk.specs.Desk.{piece, resume, holding, desk}
 use Rattle.dictation.specs.Dictation.{Lent, Dictated}
-use Rattle.dictation.specs.Cutting.{Led, ended, paused, last}
-use Rattle.dictation.specs.Resuming.{Numbered, Accepts, Fitting, Completes, MakesCut}
+use Rattle.dictation.specs.Cutting.{outputOf, sumsIn, Led, ended, paused}
+use Rattle.dictation.specs.Resuming.{FrameKnown, Accepts, Fitting, ComesToItsEnd}
 use Rattle.desk.proofs.Ranged.{bounded, next-index, open-range}
 use Rattle.desk.proofs.Turned.{none, through}
 use Rattle.dictation.proofs.Joins.{first, second, shareAfter, recAfter, after-length}
@@ -66,8 +60,8 @@ unfinished rec e ne = go (eqb (rec .due) 0) refl
         let within = both (leb 1 (rec .progress)) (leb (rec .progress) (rec .piece)) (begun .1) in
         (leb-true 1 (rec .progress) (within .0), leb-true (rec .progress) (rec .piece) (within .1))
 
-pub numbered : Numbered
-numbered rec e ne =
+pub frame-known : FrameKnown
+frame-known rec e ne =
     let u = unfinished rec e ne in
     (omega arith, omega arith, omega arith, omega arith, λ i v h q. (omega arith, omega arith))
 
@@ -116,7 +110,7 @@ module _ (n side : ℕ) (h : side < n) (store : List Float) (size : length store
       → (d : Dictated) × Led n side samples (onward side store rec reply share rest (length samples) progress w) held lent d
   comes [] rec reply share rest progress w held p k i c same begun sum room m f =
       let q = ends side store rec reply share rest (length samples) progress w (omega arith) in
-      (_, ended (zeros 22) p (ap (λ (x : Given). onto (x .written) (held ∷ zeros 22 ∷ [])) q) (ap (λ (x : Given). x .answer .rec .piece) q))
+      (_, ended p (ap (λ (x : Effect Answer). x .answer .rec .piece) q))
   comes (l ∷ more) rec reply share rest progress w held p k i c same begun sum room m f =
       let out = over w held in
       let q = pauses side store rec reply share rest (length samples) progress w (omega arith) in
@@ -131,7 +125,7 @@ module _ (n side : ℕ) (h : side < n) (store : List Float) (size : length store
         within = within;
         few = few;
         same = refl;
-        taken = f .0;
+        taken = f .0 (firstIn (first rec share rest l .written));
         room = room;
         places = refl;
         right = ap passed (f .1);
@@ -144,30 +138,23 @@ module _ (n side : ℕ) (h : side < n) (store : List Float) (size : length store
       let y = halved n side h store size samples rec share rest l progress (length out) k same known in
       let s = second rec share rest l in
       let wide = fits-in n side h store size samples rec share rest l progress (length out) k same known in
-      let kept : length (over (from (place progress) (buffer s)) out) ≡ length out =
-      length-put (record { at = place progress; size = length (buffer s) }) out (buffer s) (omega (arith, y .fills)) refl in
+      let stays : length (over (from (place progress) (firstIn (s .written))) out) ≡ length out =
+      length-put (record { at = place progress; size = length (firstIn (s .written)) }) out (firstIn (s .written)) (omega (arith, y .fills)) refl in
       let ih =
-      comes more (recAfter rec share rest l) (s .reply) (shareAfter rec share rest l) (drop 480 rest) (progress + 480)
-      (from (place progress) (buffer s)) out
-      (y .passes) (after-length rec share rest l k) (next-index (rec .hearing .index) (s .reply) i) (counts-on rec share rest l c)
+      comes more (recAfter rec share rest l) (s .answer) (shareAfter rec share rest l) (drop 480 rest) (progress + 480)
+      (from (place progress) (firstIn (s .written))) out
+      (y .passes) (after-length rec share rest l k) (next-index (rec .hearing .index) (s .answer) i) (counts-on rec share rest l c)
       (sym (drop-drop 480 progress samples) ∙ ap (drop 480) same)
-      (omega arith) (omega (arith, length-drop 480 rest)) (rw (kept, same-wait progress) room) (omega (arith, length-drop 480 rest))
+      (omega arith) (omega (arith, length-drop 480 rest)) (rw (stays, same-wait progress) room) (omega (arith, length-drop 480 rest))
       (fitting-on rec (recAfter rec share rest l) more refl refl refl (f .2)) in
-      let e = ih .0 in
-      let o = next n side h store size samples rec share rest l progress (length out) k same in (
-        record {
-          rec = e .rec;
-          store = e .store;
-          told = (buffer (first rec share rest l), o .answer .reply, holding 1 (o .answer .rec) 0 0 0) ∷ e .told;
-          out = e .out;
-        },
-        paused {d = e} (zeros 22) p (ap (λ (x : Given). onto (x .written) (held ∷ zeros 22 ∷ [])) q)
-            (sym (ap (λ (x : Given). desk n side (x .answer .rec) (x .store) (resume samples (l .logs) (l .model) (length out) 22)) q ∙ nx))
-            (ih .1),
-      )
+      let call : Effect Answer → Effect Answer = λ x. desk n side (x .answer .rec) (x .kept) (resume samples (l .logs (sumsIn x)) (l .model) (length (outputOf x held)) 22) in
+      let o = onward side store rec reply share rest (length samples) progress w in
+      let led : Led n side samples (next n side h store size samples rec share rest l progress (length out) k same) (outputOf o held) more (ih .0) =
+      rw (ap (λ (x : Effect Answer). outputOf x held) q) (ih .1) in
+      (_, paused p (sym (ap call q ∙ nx)) led)
 
-pub completed : Completes
-completed n side rec store samples held lent p m f =
+pub comes-to-its-end : ComesToItsEnd
+comes-to-its-end n side rec store samples held lent p m f =
     let t = piece-passed n side rec store samples (length held) 22 p in
     let k = t .1 in
     let side-and-store = through n side rec (length store) 5 (t .0) in
@@ -211,8 +198,3 @@ accepts n side rec store samples held h l r d some few room waited fine =
       piece-taken share (rec .hearing .way) (rec .waiting) samples (length held) 22 k,
       further-reply Done (waits share []) (rec .hearing .way) (waitingIn (rec .waiting) share ++ samples) nothing,
     )
-
-pub makes-cut : MakesCut
-makes-cut n side rec store samples held lent p m f =
-    let t = completed n side rec store samples held lent p m f in
-    let d = t .0 in (record { rec = d .rec; store = d .store; told = d .told; out = take (480 * length lent) (d .out) }, last {held = held} {d = d} (t .1))

@@ -4,22 +4,18 @@
 --     resume-passed      a resume, with what is left of its samples
 --     ends, pauses       onward, the rest is too short for a frame, or begins one
 -- Assumes nothing.
-use Prim.Native.Nat.{ℕ, _+_, _-_, _*_, _≤_, _<_}
-use mathlib.Core.Bool.{Bool, true, false, cond, false≢true}
-use mathlib.Core.List.{List, [], _∷_, _++_}
-use mathlib.Core.Path.{_≡_, refl, sym, ap, _∙_}
-use borrow.Author.Tests.{eqb-true, lt-ltb, le-ltb}
-use lib.Dec.{eqb}
-use lib.ListN.{length, take, drop, length-append, length-drop}
-use lib.Ieee.{Float}
+use Rattle.rules.proofs.Common.{ℕ, _+_, _-_, _*_, _≤_, _<_, true, false≢true, List, [], _∷_, _++_, _≡_, sym, ap, _∙_, length, take, drop, length-drop}
+use Rattle.rules.proofs.Common.{length-append, Float}
+use borrow.Author.Tests.{lt-ltb, le-ltb}
 use Rattle.rules.specs.Place.{get, put}
-use Rattle.rules.specs.Written.{Written, all, from, nothing}
+use Rattle.rules.specs.Written.{Written, all, from, nothing, firstIn}
+use Rattle.desk.specs.declared.Answer.{Answer}
+use Rattle.frame.specs.Effect.{Effect}
 use Rattle.frame.specs.declared.Reply.{Reply}
-use Rattle.frame.specs.declared.Reply.the-variants.{Done, Refused}
-use Rattle.frame.specs.Frame.{Effect}
+use Rattle.frame.specs.declared.Reply.the-variants.{Done}
 use Rattle.frame.specs.Reply.{passed}
-use Rattle.halves.specs.Halves.{buffer, firstHalf, secondHalf}
-use Rattle.pieces.specs.Pieces.{Outcome, framePart, waitingIn, waits, refused, frameAt, further}
+use Rattle.halves.specs.Halves.{firstHalf, secondHalf}
+use Rattle.pieces.specs.Pieces.{framePart, waitingIn, waits, frameAt, further}
 use Rattle.pieces.specs.Pieces as pieces
 use Rattle.pieces.proofs.Accepted.{Piece, piece-taken, Resume, resume-taken}
 use Rattle.pieces.proofs.Cases.{piece-by, resume-by}
@@ -28,46 +24,31 @@ use Rattle.pieces.proofs.Kept.{further-reply}
 use Rattle.pieces.proofs.Shares.{part-length, waiting-length}
 use Rattle.desk.specs.declared.Record.{Record}
 use Rattle.desk.specs.Gate.{shareOf, gate}
-use Rattle.desk.specs.Desk.{Ask, piece, resume, callOf, holding, advanced, numbered, carried, answered, onShare, Given, desk}
+use Rattle.desk.specs.Desk.{Ask, piece, resume, callOf, holding, advanced, numbered, carried, answered, onShare, desk}
+use Rattle.desk.proofs.Answered as past
 
 -- ---- the gate
 
 -- what a side of a store is given, by what comes of its share
-abbrev pub on : ℕ → List Float → Record → Ask → Outcome → Given
-on side store rec ask f = record { answer = answered rec ask (f .reply); store = put (shareOf side) store (f .share); written = f .written }
+abbrev pub on : ℕ → List Float → Record → Ask → Effect Reply → Effect Answer
+on side store rec ask f = record { answer = answered rec ask (f .answer); kept = put (shareOf side) store (f .kept); written = f .written }
 
 module _ (n side : ℕ) (rec : Record) (store : List Float) (ask : Ask) where
-  abbrev share : List Float
-  share = get (shareOf side) store
-
-  abbrev number : ℕ
-  number = gate n side rec (length store) (callOf ask)
+  pub let-through : gate n side rec (length store) (callOf ask) ≡ 0 → desk n side rec store ask ≡ on side store rec ask (onShare rec (get (shareOf side) store) ask)
+  let-through e = past.let-in rec ask n side store e
 
   pub let-in : passed (desk n side rec store ask .answer .reply) ≡ true
       → (gate n side rec (length store) (callOf ask) ≡ 0) × (desk n side rec store ask ≡ on side store rec ask (onShare rec (get (shareOf side) store) ask))
-  unfolding desk
-  let-in = go (eqb number 0) refl
-    where
-      given : Bool → Outcome
-      given t = cond t (onShare rec share ask) (refused (Refused number) share)
-
-      go : (t : Bool) → eqb number 0 ≡ t → passed (given t .reply) ≡ true
-          → (number ≡ 0) × (on side store rec ask (given t) ≡ on side store rec ask (onShare rec share ask))
-      go true e p = (eqb-true number 0 e, refl)
-      go false e p = absurd (false≢true p)
-
-  pub let-through : gate n side rec (length store) (callOf ask) ≡ 0 → desk n side rec store ask ≡ on side store rec ask (onShare rec (get (shareOf side) store) ask)
-  unfolding desk
-  let-through e = rw e
+  let-in p = let e = past.was-let-in rec ask n side store p in (e, let-through e)
 
 -- ---- onward with the rest of a piece
 
-abbrev pub onward : ℕ → List Float → Record → Reply → List Float → List Float → ℕ → ℕ → Written → Given
+abbrev pub onward : ℕ → List Float → Record → Reply → List Float → List Float → ℕ → ℕ → Written → Effect Answer
 onward side store rec reply share rest size progress w =
     let f = further reply share (rec .hearing .way) rest w in
     record {
       answer = record { reply = reply; rec = carried rec (length rest) size progress };
-      store = put (shareOf side) store (f .share);
+      kept = put (shareOf side) store (f .kept);
       written = f .written;
     }
 
@@ -76,7 +57,7 @@ module _ (side : ℕ) (store : List Float) (rec : Record) (reply : Reply) (share
       → onward side store rec reply share rest size progress w
       ≡ record {
         answer = record { reply = reply; rec = holding 1 rec (length rest) 0 0 };
-        store = put (shareOf side) store (waits share rest);
+        kept = put (shareOf side) store (waits share rest);
         written = w ∷ nothing ∷ [];
       }
   unfolding further carried
@@ -87,8 +68,8 @@ module _ (side : ℕ) (store : List Float) (rec : Record) (reply : Reply) (share
       onward side store rec reply share rest size progress w
       ≡ record {
         answer = record { reply = reply; rec = holding 3 rec 0 size progress };
-        store = put (shareOf side) store (put framePart share (f .share));
-        written = w ∷ all (buffer f) ∷ [];
+        kept = put (shareOf side) store (put framePart share (f .kept));
+        written = w ∷ all (firstIn (f .written)) ∷ [];
       }
   unfolding further carried
   pauses h = rw (le-ltb (length rest) 480 h)
@@ -102,7 +83,7 @@ module _ (n side : ℕ) (rec : Record) (store samples : List Float) (out sums : 
   abbrev facts : Type 0
   facts = Piece its (rec .waiting) samples out sums
 
-  abbrev pub begins : Given
+  abbrev pub begins : Effect Answer
   begins = onward side store rec Done (waits its []) (waitingIn (rec .waiting) its ++ samples) (length samples) (480 - rec .waiting) nothing
 
   begun-onward : facts → on side store rec (piece samples out sums) (pieces.piece its (rec .hearing .way) (rec .waiting) samples out sums) ≡ begins
@@ -116,8 +97,8 @@ module _ (n side : ℕ) (rec : Record) (store samples : List Float) (out sums : 
       → (gate n side rec (length store) 5 ≡ 0) × facts × (desk n side rec store (piece samples out sums) ≡ begins)
   piece-passed p =
       let t = let-in n side rec store (piece samples out sums) p in
-      let q : passed (pieces.piece its (rec .hearing .way) (rec .waiting) samples out sums .reply) ≡ true = sym (ap (λ (o : Given). passed (o .answer .reply)) (t .1)) ∙ p in
-      let k = piece-by its (λ o. passed (o .reply) ≡ true → facts) (λ m e. absurd (false≢true e)) (rec .hearing .way) (rec .waiting) samples out sums (λ k _. k) q in
+      let q : passed (pieces.piece its (rec .hearing .way) (rec .waiting) samples out sums .answer) ≡ true = sym (ap (λ (o : Effect Answer). passed (o .answer .reply)) (t .1)) ∙ p in
+      let k = piece-by its (λ o. passed (o .answer) ≡ true → facts) (λ m e. absurd (false≢true e)) (rec .hearing .way) (rec .waiting) samples out sums (λ k _. k) q in
       (t .0, k, t .1 ∙ begun-onward k)
 
 -- ---- a resume
@@ -129,7 +110,7 @@ module _ (n side : ℕ) (rec : Record) (store samples logs : List Float) (model 
   abbrev known : Type 0
   known = Resume mine (rec .hearing) (rec .piece) (rec .progress) samples logs model out sums
 
-  abbrev half : Effect
+  abbrev half : Effect Reply
   half = secondHalf (get framePart mine) (rec .hearing) logs model 480
 
   -- the second half is refused nothing
@@ -138,11 +119,11 @@ module _ (n side : ℕ) (rec : Record) (store samples logs : List Float) (model 
       second-passes (get framePart mine) (rec .hearing) logs model
       (part-length mine (k .size)) (k .taken) (k .inside) (k .right)
 
-  abbrev pub goes : Given
+  abbrev pub goes : Effect Answer
   goes =
-      onward side store (numbered (advanced rec (half .reply))) (half .reply) (put framePart mine (half .share))
+      onward side store (numbered (advanced rec (half .answer))) (half .answer) (put framePart mine (half .kept))
       (drop (rec .progress) samples)
-      (length samples) (rec .progress + 480) (from (480 * (frameAt (rec .progress) - 1)) (buffer half))
+      (length samples) (rec .progress + 480) (from (480 * (frameAt (rec .progress) - 1)) (firstIn (half .written)))
 
   pub resumed-onward : known
       → on side store rec (resume samples logs model out sums)
@@ -152,7 +133,7 @@ module _ (n side : ℕ) (rec : Record) (store samples logs : List Float) (model 
       let rest = drop (rec .progress) samples in
       rw (
         resume-taken mine (rec .hearing) (rec .piece) (rec .progress) samples logs model out sums k,
-        further-reply (half .reply) (put framePart mine (half .share)) (rec .hearing .way) rest (from (480 * (frameAt (rec .progress) - 1)) (buffer half)),
+        further-reply (half .answer) (put framePart mine (half .kept)) (rec .hearing .way) rest (from (480 * (frameAt (rec .progress) - 1)) (firstIn (half .written))),
         half-passes k .passes,
         length-drop (rec .progress) samples,
       )
@@ -162,9 +143,9 @@ module _ (n side : ℕ) (rec : Record) (store samples logs : List Float) (model 
   resume-passed p =
       let t = let-in n side rec store (resume samples logs model out sums) p in
       let o = pieces.resume mine (rec .hearing) (rec .piece) (rec .progress) samples logs model out sums in
-      let q : passed (o .reply) ≡ true = sym (ap (λ (g : Given). passed (g .answer .reply)) (t .1)) ∙ p in
+      let q : passed (o .answer) ≡ true = sym (ap (λ (g : Effect Answer). passed (g .answer .reply)) (t .1)) ∙ p in
       let k =
-      resume-by mine (λ o. passed (o .reply) ≡ true → known) (λ m e. absurd (false≢true e))
+      resume-by mine (λ o. passed (o .answer) ≡ true → known) (λ m e. absurd (false≢true e))
       (rec .hearing) (rec .piece) (rec .progress) samples logs model out sums
       (λ m l _ e. absurd (false≢true e)) (λ k _. k) q in
       (t .0, k, t .1 ∙ resumed-onward k)

@@ -1,39 +1,46 @@
 -- Dictation by frames, request 12: 480 samples at a time, each with what is lent to a frame, and the rest waits. It knows of no piece.
-use Prim.Native.Nat.{ℕ}
-use mathlib.Core.List.{List, [], _∷_, _++_}
-use lib.ListN.{length, take, drop}
-use lib.Ieee.{Float}
+use Rattle.rules.specs.Common.{ℕ, List, [], _∷_, _++_, length, take, drop, Float}
 use Rattle.rules.specs.Place.{get, put}
+use Rattle.rules.specs.Written.{firstIn}
 use Rattle.frame.specs.declared.Reply.{Reply}
-use Rattle.halves.specs.Halves.{buffer, firstHalf, secondHalf}
+use Rattle.halves.specs.Halves.{firstHalf, secondHalf}
 use Rattle.pieces.specs.Pieces.{framePart, waitingIn, waits}
 use Rattle.desk.specs.declared.Record.{Record}
 use Rattle.desk.specs.Gate.{shareOf}
 use Rattle.desk.specs.Desk.{holding, advanced, numbered}
 
+-- to a frame are lent logarithms, as a function of its 22 sums, and a model
 pub record Lent : Type 0 where
-  pub logs : List Float
+  pub logs : List Float → List Float
   pub model : List ℕ
 
--- the record and the store at the end; of each frame its 22 sums, its reply and the record behind it; and the output
+-- what is told of a frame: its sums, its reply and the record behind it
+abbrev pub Told : Type 0
+Told = List Float × Reply × Record
+
+-- the record at the end, and the share or the store that is kept; what is told of each frame; and the output
 pub record Dictated : Type 0 where
   pub rec : Record
-  pub store : List Float
-  pub told : List (List Float × Reply × Record)
+  pub kept : List Float
+  pub told : List Told
   pub out : List Float
 
 -- over one share, as many frames as are lent to: call 3 is due behind a first half, and a second half moves the record on
 unfoldable pub dictate : Record → List Float → List Float → List Lent → Dictated
-dictate rec share xs [] = record { rec = holding 1 rec (length xs) 0 0; store = waits share xs; told = []; out = [] }
+dictate rec share xs [] = record { rec = holding 1 rec (length xs) 0 0; kept = waits share xs; told = []; out = [] }
 dictate rec share xs (l ∷ more) =
     let f = firstHalf (get framePart share) (rec .hearing .way) (take 480 xs) 22 in
-    let s = secondHalf (f .share) (rec .hearing) (l .logs) (l .model) 480 in
-    let after = numbered (advanced (holding 3 rec 0 0 0) (s .reply)) in
-    let d = dictate after (put framePart share (s .share)) (drop 480 xs) more in
-    record { rec = d .rec; store = d .store; told = (buffer f, s .reply, after) ∷ d .told; out = buffer s ++ d .out }
+    let s = secondHalf (f .kept) (rec .hearing) (l .logs (firstIn (f .written))) (l .model) 480 in
+    let after = numbered (advanced (holding 3 rec 0 0 0) (s .answer)) in
+    let d = dictate after (put framePart share (s .kept)) (drop 480 xs) more in
+    record { rec = d .rec; kept = d .kept; told = (firstIn (f .written), s .answer, after) ∷ d .told; out = firstIn (s .written) ++ d .out }
 
--- on a side of a store: the samples that wait, and these behind them
+-- the samples that wait in a share, and these behind them
+abbrev pub dictatedOn : Record → List Float → List Float → List Lent → Dictated
+dictatedOn rec share samples lent = dictate rec share (waitingIn (rec .waiting) share ++ samples) lent
+
+-- and so on a side of a store
 abbrev pub dictated : ℕ → Record → List Float → List Float → List Lent → Dictated
 dictated side rec store samples lent =
-    let d = dictate rec (get (shareOf side) store) (waitingIn (rec .waiting) (get (shareOf side) store) ++ samples) lent in
-    record { rec = d .rec; store = put (shareOf side) store (d .store); told = d .told; out = d .out }
+    let d = dictatedOn rec (get (shareOf side) store) samples lent in
+    record { rec = d .rec; kept = put (shareOf side) store (d .kept); told = d .told; out = d .out }

@@ -1,10 +1,5 @@
 -- Laws of a record and of one piece: what is claimed. The proofs are in proofs/Cuts.antt and proofs/Resumes.antt.
-use Prim.Native.Nat.{ℕ, _+_, _*_, _≤_, _<_}
-use mathlib.Core.Bool.{true}
-use mathlib.Core.List.{List, [], _∷_}
-use mathlib.Core.Path.{_≡_}
-use lib.ListN.{length}
-use lib.Ieee.{Float}
+use Rattle.rules.specs.Common.{ℕ, _+_, _*_, _≤_, _<_, true, List, [], _∷_, _≡_, length, Float}
 use Rattle.rules.specs.Place.{get}
 use Rattle.rules.specs.Written.{from, over}
 use Rattle.samples.specs.Samples.{good}
@@ -16,21 +11,16 @@ use Rattle.frame.specs.Share.{SHARE}
 use Rattle.pieces.specs.Pieces.{waitingIn, completes, frameAt, waitedOf}
 use Rattle.desk.specs.declared.Record.{Record}
 use Rattle.desk.specs.Gate.{shareOf, inRange}
-use Rattle.desk.specs.Desk.{piece, Given, desk}
 use Rattle.dictation.specs.Dictation.{Lent, Dictated, dictated}
-use Rattle.dictation.specs.Cutting.{Led, Cut}
+use Rattle.dictation.specs.Cutting.{handedIn, Led}
 
 -- any record that passes with a piece unfinished says which frame of it is under way and how many samples waited, and no other two numbers fit it
-abbrev pub Numbered : Type 0
-Numbered =
+abbrev pub FrameKnown : Type 0
+FrameKnown =
     (rec : Record) → inRange rec ≡ true → (rec .piece ≡ 0 → ⊥)
     → let j = frameAt (rec .progress) in let w = waitedOf (rec .progress) in
     (1 ≤ j) × (j ≤ completes w (rec .piece)) × (w ≤ 479) × (w + rec .progress ≡ 480 * j)
     × ((i v : ℕ) → v ≤ 479 → v + rec .progress ≡ 480 * i → (i ≡ j) × (v ≡ w))
-
--- a piece of these samples, where the output held this
-abbrev pub handedIn : ℕ → ℕ → Record → List Float → List Float → List Float → Given
-handedIn n side rec store samples held = desk n side rec store (piece samples (length held) 22)
 
 -- where call 1 is due, a piece is accepted: 1 to 4,096 samples, nothing to refuse in them and in those that wait, and room for the frames that they
 -- complete
@@ -43,32 +33,25 @@ Accepts =
     → handedIn n side rec store samples held .answer .reply ≡ Done
 
 -- a piece that is resumed to its end has as many frames as it completes; they fill its output from the front, and the places behind them stay
-abbrev pub Whole : Type 0
-Whole =
+abbrev pub FillsFront : Type 0
+FillsFront =
     (n side : ℕ) (rec : Record) (store samples held : List Float) (lent : List Lent) (d : Dictated)
     → Led n side samples (handedIn n side rec store samples held) held lent d
     → let e = dictated side rec store samples lent in
     (length lent ≡ completes (rec .waiting) (length samples)) × (length (e .out) ≡ 480 * length lent)
-    × (d ≡ record { rec = e .rec; store = e .store; told = e .told; out = over (from 0 (e .out)) held })
+    × (d ≡ record { rec = e .rec; kept = e .kept; told = e .told; out = over (from 0 (e .out)) held })
 
 -- to each frame 22 logarithms are lent, and a model that reads with the opening's counts
 abbrev pub Fitting : Record → List Lent → Type 0
 Fitting rec [] = Unit
 Fitting rec (l ∷ more) =
-    (length (l .logs) ≡ 22) × (checked (counted (rec .hearing)) (readOf (l .model)) ≡ Done) × Fitting rec more
+    ((sums : List Float) → length (l .logs sums) ≡ 22) × (checked (counted (rec .hearing)) (readOf (l .model)) ≡ Done) × Fitting rec more
 
--- a piece that is accepted comes to its end: with the same samples and output, and what fits each frame, no resume is refused
-abbrev pub Completes : Type 0
-Completes =
+-- a piece that is accepted comes to its end: with the same samples and output, and what fits each frame, no resume is refused. And so it is a cut,
+-- by `last`: what the law of cutting asks for can be met
+abbrev pub ComesToItsEnd : Type 0
+ComesToItsEnd =
     (n side : ℕ) (rec : Record) (store samples held : List Float) (lent : List Lent)
     → passed (handedIn n side rec store samples held .answer .reply) ≡ true
     → length lent ≡ completes (rec .waiting) (length samples) → Fitting rec lent
     → (d : Dictated) × Led n side samples (handedIn n side rec store samples held) held lent d
-
--- and so it makes a cut: what the law of cutting asks for can be met
-abbrev pub MakesCut : Type 0
-MakesCut =
-    (n side : ℕ) (rec : Record) (store samples held : List Float) (lent : List Lent)
-    → passed (handedIn n side rec store samples held .answer .reply) ≡ true
-    → length lent ≡ completes (rec .waiting) (length samples) → Fitting rec lent
-    → (d : Dictated) × Cut n side rec store samples lent d

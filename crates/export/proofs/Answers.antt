@@ -1,9 +1,6 @@
 -- What the number of an answer says of a leaf whose answer is an enum, and an answer that goes into one place, or into two. Assumes nothing.
-use mathlib.Core.Path.{_≡_, ap, _∙_, sym}
-use mathlib.Core.List.{List, [], _∷_}
-use Prim.Native.Nat.{ℕ}
+use Rattle.rules.proofs.Common.{ℕ, List, [], _∷_, _≡_, sym, ap, _∙_, length, set}
 use native.Mathlib.Omega.{arith}
-use lib.ListN.{length, set}
 use Rattle.rules.specs.Leaf.{Leaf, done, refused}
 
 module _ {Answer : Type 0} {Fits : Type 0} (number : Answer → ℕ) {got new old : Answer} (promise : Leaf Fits got new old) where

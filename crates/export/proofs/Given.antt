@@ -3,25 +3,22 @@
 --     Telling                what is known of a call with three numbers besides, by the places of `out` that it is lent
 --     three, told-three      it is lent `out`, or no place of it where `answer` has another length than three
 -- Assumes nothing.
-use Prim.Native.Nat.{ℕ, suc, _-_, _≤_}
+use Rattle.rules.proofs.Common.{ℕ, suc, _-_, _≤_, Bool, true, false, cond, false≢true, List, [], _∷_, _++_, _≡_, refl, sym, ap, ap₂, _∙_, eqb, length}
+use Rattle.rules.proofs.Common.{drop, Float}
 use native.Mathlib.Omega.{arith}
-use mathlib.Core.Bool.{Bool, true, false, cond, false≢true}
-use mathlib.Core.List.{List, [], _∷_, _++_, append-nil}
-use mathlib.Core.Path.{_≡_, refl, sym, ap, ap₂, _∙_}
+use mathlib.Core.List.{append-nil}
 use borrow.Author.Tests.{eqb-true}
-use lib.Dec.{eqb}
-use lib.ListN.{length, drop, drop-of-length-le}
+use lib.ListN.{drop-of-length-le}
 use lib.Seq.{take-all}
-use lib.Ieee.{Float}
 use Rattle.rules.specs.Place.{Place, get, put}
 use Rattle.rules.specs.Written.{Written, all, onto}
-use Rattle.rules.proofs.Writing.{onto-more, to-none}
+use Rattle.rules.proofs.Places.{onto-more, to-none}
+use Rattle.frame.specs.Effect.{Effect, Worked}
 use Rattle.frame.specs.Reply.{passed}
 use Rattle.desk.specs.declared.Record.{Record}
 use Rattle.desk.specs.declared.Answer.{Answer}
 use Rattle.desk.specs.Gate.{inRange}
-use Rattle.desk.specs.Desk.{Given, Served}
-use Rattle.desk.specs.Surface.{RECORD, recordIn, numbersOf, replyNumber, heardOf, outOf, telling, Hosted}
+use Rattle.desk.specs.Surface.{RECORD, recordIn, numbersOf, replyNumber, heardOf, outOf, telling, handed}
 use Rattle.desk.proofs.Ranged.{bounded}
 use Rattle.desk.proofs.Replies.{SmallSeven}
 use Rattle.export.specs.Parts.{HandsBack}
@@ -56,7 +53,7 @@ hands-back ns b {a} {given} read sound e =
 -- ---- a call with its answer as three numbers besides
 
 -- it writes to so many buffers, or is refused and writes to none; and it is refused where it is lent no place of `out`
-pub record Telling (buffers : ℕ) (give : ℕ → Given) : Type 0 where
+pub record Telling (buffers : ℕ) (give : ℕ → Effect Answer) : Type 0 where
   pub no-place : passed (give 0 .answer .reply) ≡ false
   pub writes : (n : ℕ) → length (give n .written) ≡ cond (passed (give n .answer .reply)) buffers 0
 
@@ -96,9 +93,9 @@ joined false [] held left told t t′ l e f = ap₂ (λ (x : List (List Float)) 
 joined false (w ∷ ws) held left told t t′ l e f = absurd (omega arith)
 
 -- `others` are the buffers between `out` and `answer`
-module _ (ns : List ℕ) (store′ : List Float) (give : ℕ → Given) (out answer new : List Float) (others others′ : List (List Float)) (given : Answer) (end : ℕ)
+module _ (ns : List ℕ) (store′ : List Float) (give : ℕ → Effect Answer) (out answer new : List Float) (others others′ : List (List Float)) (given : Answer) (end : ℕ)
     (known : Telling (suc (length others)) give) (ends : end ≡ outOf (length answer) (length out))
-    (served : Served (give (length (get (upTo end) out))) given store′ (get (upTo end) out ∷ others) (new ∷ others′)) where
+    (served : Worked (give (length (get (upTo end) out))) given store′ (get (upTo end) out ∷ others) (new ∷ others′)) where
   -- of another length, the call is refused
   shut : eqb (length answer) 3 ≡ false → passed (given .reply) ≡ false
   shut e =
@@ -116,12 +113,12 @@ module _ (ns : List ℕ) (store′ : List Float) (give : ℕ → Given) (out ans
   pub told-three : {number : ℕ} {ns′ : List ℕ} {answer′ : List Float} → length new ≡ length (get (upTo end) out)
       → answer′ ≡ cond (passed (given .reply)) (heardOf (given .reply)) answer
       → (number ≡ replyNumber (given .reply)) × (ns′ ≡ cond (passed (given .reply)) (numbersOf (given .rec)) ns)
-      → Hosted (telling (give (outOf (length answer) (length out)))) number ns ns′ store′
+      → Worked (handed ns (telling (give (outOf (length answer) (length out))))) (number, ns′) store′
       (out ∷ others ++ (answer ∷ [])) (put (upTo end) out new ∷ others′ ++ (answer′ ∷ []))
   told-three {number} {ns′} {answer′} same told h = go (eqb (length answer) 3) refl
     where
       go : (t : Bool) → eqb (length answer) 3 ≡ t
-          → Hosted (telling (give (outOf (length answer) (length out)))) number ns ns′ store′
+          → Worked (handed ns (telling (give (outOf (length answer) (length out))))) (number, ns′) store′
           (out ∷ others ++ (answer ∷ [])) (put (upTo end) out new ∷ others′ ++ (answer′ ∷ []))
       go true e =
           let z : end ≡ length out = rw e at ends in
@@ -129,9 +126,8 @@ module _ (ns : List ℕ) (store′ : List Float) (give : ℕ → Given) (out ans
           let o = give (length out) in
           rw (e, replaced out end new (omega arith))
           (record {
-            numbers = rw (← s .answers) (h .0);
-            records = rw (← s .answers) (h .1);
-            stores = s .stores;
+            answers = rw (← s .answers) (ap₂ (λ (n : ℕ) (ms : List ℕ). (n, ms)) (h .0) (h .1));
+            keeps = s .keeps;
             writes =
                 joined (passed (o .answer .reply)) (o .written) (out ∷ others) (new ∷ others′) (heardOf (o .answer .reply)) answer answer′
                 (known .writes (length out)) (s .writes) (rw (s .answers) at told);
@@ -145,8 +141,7 @@ module _ (ns : List ℕ) (store′ : List Float) (give : ℕ → Given) (out ans
           let untouched : others′ ≡ others = ap (drop 1) (rw unwritten at (s .writes)) in
           rw (e, z, kept out new (rw (z, empty out) at same))
           (record {
-            numbers = rw (← s .answers) (h .0);
-            records = rw (← s .answers) (h .1);
-            stores = s .stores;
+            answers = rw (← s .answers) (ap₂ (λ (n : ℕ) (ms : List ℕ). (n, ms)) (h .0) (h .1));
+            keeps = s .keeps;
             writes = rw (unwritten, known .no-place) (ap₂ (λ (x : List (List Float)) (y : List Float). out ∷ x ++ (y ∷ [])) untouched (rw no at told));
           })

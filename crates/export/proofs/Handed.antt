@@ -3,20 +3,18 @@
 --     handed                   it is, and the call is what the desk gives
 --     three, handed-three      a call with three numbers besides
 -- Assumes nothing.
-use Prim.Native.Nat.{ℕ, suc}
-use mathlib.Core.Bool.{true, false, cond}
-use mathlib.Core.List.{List, [], _∷_, _++_, append-nil}
-use mathlib.Core.Path.{_≡_}
-use lib.ListN.{length}
-use lib.Ieee.{Float}
+use Rattle.rules.proofs.Common.{ℕ, suc, true, false, cond, List, [], _∷_, _++_, _≡_, ap₂, length, Float}
+use mathlib.Core.List.{append-nil}
 use Rattle.rules.specs.Place.{get, put}
+use Rattle.frame.specs.Effect.{Effect, Worked}
 use Rattle.frame.specs.Reply.{passed}
 use Rattle.frame.specs.declared.Reply.{Reply}
 use Rattle.desk.specs.declared.Record.{Record}
 use Rattle.desk.specs.declared.Answer.{Answer}
 use Rattle.desk.specs.Gate.{BENCHES}
-use Rattle.desk.specs.Desk.{Ask, desk, Given, Served}
-use Rattle.desk.specs.Surface.{recordIn, numbersOf, replyNumber, heardOf, toldBesides, besides, outOf, hosted, Hosted}
+use Rattle.desk.specs.Desk.{Ask, desk}
+use Rattle.desk.specs.Surface.{recordIn, numbersOf, replyNumber, heardOf, toldBesides, besides, outOf, hosted}
+use Rattle.desk.specs.Surface as surface
 use Rattle.desk.proofs.Buffers.{buffersOf, buffers}
 use Rattle.desk.proofs.Ranged.{range-kept}
 use Rattle.desk.proofs.Replies.{small}
@@ -26,23 +24,22 @@ use Rattle.export.proofs.Given as any
 
 -- the record as the code has it, and what the desk's call left
 module _ (side : ℕ) (ns : List ℕ) (b : Record) (store store′ : List Float) (ask : Ask) (held out : List (List Float)) (answer : Answer)
-    (read : b ≡ recordIn ns) (served : Served (desk BENCHES side b store ask) answer store′ held out) where
+    (read : b ≡ recordIn ns) (served : Worked (desk BENCHES side b store ask) answer store′ held out) where
   pub hands-back : HandsBack ns answer
   hands-back =
       any.hands-back ns b read (record { small = small BENCHES side b store ask; ranged = range-kept BENCHES side b store ask }) (served .answers)
 
   -- a call with no buffer but its own
   pub handed : {number : ℕ} {ns′ : List ℕ} → (number ≡ replyNumber (answer .reply)) × (ns′ ≡ cond (passed (answer .reply)) (numbersOf (answer .rec)) ns)
-      → besides ask (answer .reply) ≡ [] → Hosted (hosted BENCHES side ns store ask) number ns ns′ store′ held out
+      → besides ask (answer .reply) ≡ [] → Worked (surface.handed ns (hosted BENCHES side ns store ask)) (number, ns′) store′ held out
   unfolding hosted
   handed h none =
       let o = desk BENCHES side b store ask in
       let alone : o .written ++ besides ask (o .answer .reply) ≡ o .written = rw (← served .answers, none) (append-nil (o .written)) in
       rw (← read)
       (record {
-        numbers = rw (← served .answers) (h .0);
-        records = rw (← served .answers) (h .1);
-        stores = served .stores;
+        answers = rw (← served .answers) (ap₂ (λ (n : ℕ) (ms : List ℕ). (n, ms)) (h .0) (h .1));
+        keeps = served .keeps;
         writes = rw alone (served .writes);
       })
 
@@ -53,8 +50,8 @@ module _ (side : ℕ) (ns : List ℕ) (b : Record) (store store′ : List Float)
     (no-place : passed (desk BENCHES side b store (ask 0) .answer .reply) ≡ false)
     (lent : (n : ℕ) → buffersOf (ask n) ≡ suc (length others)) (with-three : (n : ℕ) (r : Reply) → besides (ask n) r ≡ toldBesides r)
     (read : b ≡ recordIn ns) (ends : end ≡ outOf (length answer) (length out))
-    (served : Served (desk BENCHES side b store (ask (length (get (upTo end) out)))) given store′ (get (upTo end) out ∷ others) (new ∷ others′)) where
-  abbrev give : ℕ → Given
+    (served : Worked (desk BENCHES side b store (ask (length (get (upTo end) out)))) given store′ (get (upTo end) out ∷ others) (new ∷ others′)) where
+  abbrev give : ℕ → Effect Answer
   give n = desk BENCHES side b store (ask n)
 
   known : Telling (suc (length others)) give
@@ -66,7 +63,7 @@ module _ (side : ℕ) (ns : List ℕ) (b : Record) (store store′ : List Float)
   pub handed-three : {number : ℕ} {ns′ : List ℕ} {answer′ : List Float} → length new ≡ length (get (upTo end) out)
       → answer′ ≡ cond (passed (given .reply)) (heardOf (given .reply)) answer
       → (number ≡ replyNumber (given .reply)) × (ns′ ≡ cond (passed (given .reply)) (numbersOf (given .rec)) ns)
-      → Hosted (hosted BENCHES side ns store (ask (outOf (length answer) (length out)))) number ns ns′ store′
+      → Worked (surface.handed ns (hosted BENCHES side ns store (ask (outOf (length answer) (length out))))) (number, ns′) store′
       (out ∷ others ++ (answer ∷ [])) (put (upTo end) out new ∷ others′ ++ (answer′ ∷ []))
   unfolding hosted
   handed-three same told h =

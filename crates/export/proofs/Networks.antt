@@ -1,10 +1,7 @@
 -- What the proofs of the network's functions cite. Assumes nothing.
-use mathlib.Core.Path.{_≡_}
-use mathlib.Core.List.{List}
-use Prim.Native.Nat.{ℕ, _≤_}
+use Rattle.rules.proofs.Common.{ℕ, _≤_, List, _≡_, Float}
 use Rattle.rules.specs.Leaf.{Leaf, done, refused}
-use lib.Ieee.{Float}
-use Rattle.network.specs.Compute.{Computing, computed}
+use Rattle.network.specs.Compute.{Outcome, computed}
 use Rattle.network.proofs.Callers.{Answered, answered}
 use Rattle.export.specs.OfNetwork.{Known}
 
@@ -13,6 +10,6 @@ pub known : {O Fits : Type 0} {got new old : O} {activation : ℕ} → activatio
 known h (done f e) = done (record { known = h; fits = f }) e
 known h (refused n e) = refused (λ k. n (k .fits)) e
 
-pub answered-by : (gains voice vad noise denoise : List Float) (model : List ℕ) (features : List Float) {o : Computing}
+pub answered-by : (gains voice vad noise denoise : List Float) (model : List ℕ) (features : List Float) {o : Outcome}
     → o ≡ computed gains voice vad noise denoise model features → Answered (o .answer)
 answered-by gains voice vad noise denoise model features e = rw e (answered gains voice vad noise denoise model features)

@@ -1,9 +1,5 @@
 -- The lengths of the finder, whose answers go into lent slices, and the numbers that it keeps.
-use mathlib.Core.Path.{_≡_}
-use mathlib.Core.List.{List, [], _∷_}
-use Prim.Native.Nat.{ℕ}
-use lib.IntN.{pos}
-use lib.Ieee.{Float, binary32, ofInt}
+use Rattle.rules.specs.Common.{ℕ, List, [], _∷_, _≡_, pos, Float, binary32, ofInt}
 use Rattle.rules.specs.F32.{at}
 use Rattle.finder.specs.Finder.{find}
 use Rattle.finder.specs.declared.Pitch.{Pitch}

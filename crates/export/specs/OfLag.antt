@@ -1,6 +1,5 @@
 -- The lengths of our own lag, whose answer goes into a lent slice.
-use mathlib.Core.Path.{_≡_}
-use Prim.Native.Nat.{ℕ}
+use Rattle.rules.specs.Common.{ℕ, _≡_}
 
 pub record LagFits (place mem : ℕ) : Type 0 where
   pub one : place ≡ 1

@@ -1,7 +1,7 @@
 -- What crosses the boundary of `network` as a number: an activation, and a frame's answer.
-use Prim.Native.Nat.{ℕ, _≤_}
+use Rattle.rules.specs.Common.{ℕ, _≤_}
 use Rattle.rules.specs.Leaf.{_leaving_}
-use Rattle.network.specs.Compute.{Frame, Computing}
+use Rattle.network.specs.Compute.{Layered, Outcome}
 use Rattle.network.specs.declared.Computed.{Computed}
 use Rattle.network.specs.declared.Computed.the-variants.{Done, Refused, Misread}
 use Rattle.desk.specs.Surface.{sevenOf}
@@ -17,5 +17,5 @@ computedNumber (Refused number) = number
 computedNumber (Misread number layer) = sevenOf number layer
 
 -- the number, and what the buffers hold
-abbrev pub computedTold : Computing → ℕ × Frame
-computedTold o = computedNumber (o .answer) leaving o .left
+abbrev pub computedTold : Outcome → ℕ × Layered
+computedTold o = computedNumber (o .answer) leaving o .layers

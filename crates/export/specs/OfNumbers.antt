@@ -1,8 +1,5 @@
 -- The filter's coefficients, which cross the boundary as a slice, as its memories do.
-use mathlib.Core.Path.{_≡_}
-use mathlib.Core.List.{List}
-use Prim.Native.Nat.{ℕ}
-use lib.Ieee.{Float}
+use Rattle.rules.specs.Common.{ℕ, List, _≡_, Float}
 use Rattle.rules.specs.F32.{at}
 use Rattle.numbers.specs.declared.filter.Biquad.{Biquad}
 

@@ -1,6 +1,5 @@
 -- The lengths of the leaves of `pitch` whose answer goes into a lent slice.
-use mathlib.Core.Path.{_≡_}
-use Prim.Native.Nat.{ℕ}
+use Rattle.rules.specs.Common.{ℕ, _≡_}
 use Rattle.pitch_search.specs.Inner.{InnerFits}
 use Rattle.pitch_search.specs.Best.{BestFits}
 

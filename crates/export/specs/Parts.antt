@@ -1,9 +1,5 @@
 -- For the parts of the code.
-use Prim.Native.Nat.{ℕ}
-use mathlib.Core.Bool.{true}
-use mathlib.Core.List.{List}
-use mathlib.Core.Path.{_≡_}
-use lib.ListN.{length}
+use Rattle.rules.specs.Common.{ℕ, true, List, _≡_, length}
 use Rattle.frame.specs.Reply.{passed}
 use Rattle.desk.specs.declared.Answer.{Answer}
 use Rattle.desk.specs.Surface.{RECORD}

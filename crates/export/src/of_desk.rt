@@ -14,7 +14,8 @@ ghost use Rattle.frame.specs.Reply.{passed};
 ghost use Rattle.frame.specs.declared.Way.the-variants.{Asked, Crate};
 ghost use Rattle.desk.specs.Gate.{BENCHES, sideOf};
 ghost use Rattle.desk.specs.Desk.{recordOf, noHearing, opening, call1, call2, call2Own, call3, call4, firstHalf, secondHalf, piece, resume};
-ghost use Rattle.desk.specs.Surface.{RECORD, numbersOf, wayIn, hearingIn, recordIn, replyNumber, heardOf, outOf, hosted, Hosted};
+ghost use Rattle.frame.specs.Effect.{Worked};
+ghost use Rattle.desk.specs.Surface.{RECORD, numbersOf, wayIn, hearingIn, recordIn, replyNumber, heardOf, outOf, hosted, handed};
 ghost use Rattle.desk.proofs.Ranged.{Bounded};
 ghost use Rattle.desk.proofs.Replies.{SmallSeven};
 ghost use Rattle.export.specs.Parts.{HandsBack};
@@ -147,7 +148,7 @@ pub(crate) fn hand_back(record: &mut [u32], given: Answer) -> u32
 pub extern "C" fn tuppence_side_of(bench: u32) -> u32
     ensures { λ r. ⌜ r ≡ sideOf bench ⌝ }
 {
-    desk::side_of(bench)
+    desk::side_of(Side(bench as usize)) as u32
 }
 
 // Opens a side, at any moment: what it held is wiped, and call 1 is due.
@@ -158,9 +159,10 @@ pub extern "C" fn tuppence_open(
     side: u32,
     model: &[u8],
 ) -> u32
-    ensures { λ r. ⌜ Hosted
-        (hosted BENCHES side (now («record» .entry)) (now (store .entry)) (opening Asked (now (model .entry))))
-        r (now («record» .entry)) (now («record» .exit)) (now (store .exit)) [] [] ⌝ }
+    ensures { λ r. ⌜ Worked
+        (handed (now («record» .entry))
+        (hosted BENCHES side (now («record» .entry)) (now (store .entry)) (opening Asked (now (model .entry)))))
+        (r, now («record» .exit)) (now (store .exit)) [] [] ⌝ }
 {
     let given = desk::open(
         Side(side as usize),
@@ -181,9 +183,10 @@ pub extern "C" fn tuppence_open_crate(
     side: u32,
     model: &[u8],
 ) -> u32
-    ensures { λ r. ⌜ Hosted
-        (hosted BENCHES side (now («record» .entry)) (now (store .entry)) (opening Crate (now (model .entry))))
-        r (now («record» .entry)) (now («record» .exit)) (now (store .exit)) [] [] ⌝ }
+    ensures { λ r. ⌜ Worked
+        (handed (now («record» .entry))
+        (hosted BENCHES side (now («record» .entry)) (now (store .entry)) (opening Crate (now (model .entry)))))
+        (r, now («record» .exit)) (now (store .exit)) [] [] ⌝ }
 {
     let given = desk::open(
         Side(side as usize),
@@ -204,10 +207,11 @@ pub extern "C" fn tuppence_call1(
     samples: &[f32],
     window: &mut [f32],
 ) -> u32
-    ensures { λ r. ⌜ Hosted
+    ensures { λ r. ⌜ Worked
+        (handed (now («record» .entry))
         (hosted BENCHES side (now («record» .entry)) (now (store .entry))
-        (call1 (now (samples .entry)) (length (now (window .entry)))))
-        r (now («record» .entry)) (now («record» .exit)) (now (store .exit)) (now (window .entry) ∷ []) (now (window .exit) ∷ []) ⌝ }
+        (call1 (now (samples .entry)) (length (now (window .entry))))))
+        (r, now («record» .exit)) (now (store .exit)) (now (window .entry) ∷ []) (now (window .exit) ∷ []) ⌝ }
 {
     let given = desk::call1(
         Side(side as usize),
@@ -231,10 +235,11 @@ pub extern "C" fn tuppence_call2(
     window: &mut [f32],
     sums: &mut [f32],
 ) -> u32
-    ensures { λ r. ⌜ Hosted
+    ensures { λ r. ⌜ Worked
+        (handed (now («record» .entry))
         (hosted BENCHES side (now («record» .entry)) (now (store .entry))
-        (call2 (now (spectrum .entry)) lag (length (now (window .entry))) (length (now (sums .entry)))))
-        r (now («record» .entry)) (now («record» .exit)) (now (store .exit))
+        (call2 (now (spectrum .entry)) lag (length (now (window .entry))) (length (now (sums .entry))))))
+        (r, now («record» .exit)) (now (store .exit))
         (now (window .entry) ∷ now (sums .entry) ∷ []) (now (window .exit) ∷ now (sums .exit) ∷ []) ⌝ }
 {
     let given = desk::call2(
@@ -259,10 +264,11 @@ pub extern "C" fn tuppence_call2_own(
     window: &mut [f32],
     sums: &mut [f32],
 ) -> u32
-    ensures { λ r. ⌜ Hosted
+    ensures { λ r. ⌜ Worked
+        (handed (now («record» .entry))
         (hosted BENCHES side (now («record» .entry)) (now (store .entry))
-        (call2Own (now (spectrum .entry)) (length (now (window .entry))) (length (now (sums .entry)))))
-        r (now («record» .entry)) (now («record» .exit)) (now (store .exit))
+        (call2Own (now (spectrum .entry)) (length (now (window .entry))) (length (now (sums .entry))))))
+        (r, now («record» .exit)) (now (store .exit))
         (now (window .entry) ∷ now (sums .entry) ∷ []) (now (window .exit) ∷ now (sums .exit) ∷ []) ⌝ }
 {
     let given = desk::call2_own(
@@ -313,11 +319,12 @@ pub extern "C" fn tuppence_call3(
     out: &mut [f32],
     answer: &mut [f32],
 ) -> u32
-    ensures { λ r. ⌜ Hosted
+    ensures { λ r. ⌜ Worked
+        (handed (now («record» .entry))
         (hosted BENCHES side (now («record» .entry)) (now (store .entry))
         (call3 (now (spectrum .entry)) (now (logs .entry)) (now (model .entry))
-        (outOf (length (now (answer .entry))) (length (now (out .entry))))))
-        r (now («record» .entry)) (now («record» .exit)) (now (store .exit))
+        (outOf (length (now (answer .entry))) (length (now (out .entry)))))))
+        (r, now («record» .exit)) (now (store .exit))
         (now (out .entry) ∷ now (answer .entry) ∷ []) (now (out .exit) ∷ now (answer .exit) ∷ []) ⌝ }
 {
     let end = places(answer.len(), out.len());
@@ -344,10 +351,11 @@ pub extern "C" fn tuppence_call4(
     inverse: &[f32],
     out: &mut [f32],
 ) -> u32
-    ensures { λ r. ⌜ Hosted
+    ensures { λ r. ⌜ Worked
+        (handed (now («record» .entry))
         (hosted BENCHES side (now («record» .entry)) (now (store .entry))
-        (call4 (now (inverse .entry)) (length (now (out .entry)))))
-        r (now («record» .entry)) (now («record» .exit)) (now (store .exit)) (now (out .entry) ∷ []) (now (out .exit) ∷ []) ⌝ }
+        (call4 (now (inverse .entry)) (length (now (out .entry))))))
+        (r, now («record» .exit)) (now (store .exit)) (now (out .entry) ∷ []) (now (out .exit) ∷ []) ⌝ }
 {
     let given = desk::call4(Side(side as usize), record_in(record), store, inverse, out);
     hand_back(record, given)
@@ -362,10 +370,11 @@ pub extern "C" fn tuppence_first_half(
     samples: &[f32],
     sums: &mut [f32],
 ) -> u32
-    ensures { λ r. ⌜ Hosted
+    ensures { λ r. ⌜ Worked
+        (handed (now («record» .entry))
         (hosted BENCHES side (now («record» .entry)) (now (store .entry))
-        (firstHalf (now (samples .entry)) (length (now (sums .entry)))))
-        r (now («record» .entry)) (now («record» .exit)) (now (store .exit)) (now (sums .entry) ∷ []) (now (sums .exit) ∷ []) ⌝ }
+        (firstHalf (now (samples .entry)) (length (now (sums .entry))))))
+        (r, now («record» .exit)) (now (store .exit)) (now (sums .entry) ∷ []) (now (sums .exit) ∷ []) ⌝ }
 {
     let given = desk::first_half(Side(side as usize), record_in(record), store, samples, sums);
     hand_back(record, given)
@@ -382,10 +391,11 @@ pub extern "C" fn tuppence_second_half(
     out: &mut [f32],
     answer: &mut [f32],
 ) -> u32
-    ensures { λ r. ⌜ Hosted
+    ensures { λ r. ⌜ Worked
+        (handed (now («record» .entry))
         (hosted BENCHES side (now («record» .entry)) (now (store .entry))
-        (secondHalf (now (logs .entry)) (now (model .entry)) (outOf (length (now (answer .entry))) (length (now (out .entry))))))
-        r (now («record» .entry)) (now («record» .exit)) (now (store .exit))
+        (secondHalf (now (logs .entry)) (now (model .entry)) (outOf (length (now (answer .entry))) (length (now (out .entry)))))))
+        (r, now («record» .exit)) (now (store .exit))
         (now (out .entry) ∷ now (answer .entry) ∷ []) (now (out .exit) ∷ now (answer .exit) ∷ []) ⌝ }
 {
     let end = places(answer.len(), out.len());
@@ -413,10 +423,11 @@ pub extern "C" fn tuppence_piece(
     out: &mut [f32],
     sums: &mut [f32],
 ) -> u32
-    ensures { λ r. ⌜ Hosted
+    ensures { λ r. ⌜ Worked
+        (handed (now («record» .entry))
         (hosted BENCHES side (now («record» .entry)) (now (store .entry))
-        (piece (now (samples .entry)) (length (now (out .entry))) (length (now (sums .entry)))))
-        r (now («record» .entry)) (now («record» .exit)) (now (store .exit))
+        (piece (now (samples .entry)) (length (now (out .entry))) (length (now (sums .entry))))))
+        (r, now («record» .exit)) (now (store .exit))
         (now (out .entry) ∷ now (sums .entry) ∷ []) (now (out .exit) ∷ now (sums .exit) ∷ []) ⌝ }
 {
     let given = desk::piece(
@@ -444,11 +455,12 @@ pub extern "C" fn tuppence_resume(
     sums: &mut [f32],
     answer: &mut [f32],
 ) -> u32
-    ensures { λ r. ⌜ Hosted
+    ensures { λ r. ⌜ Worked
+        (handed (now («record» .entry))
         (hosted BENCHES side (now («record» .entry)) (now (store .entry))
         (resume (now (samples .entry)) (now (logs .entry)) (now (model .entry))
-        (outOf (length (now (answer .entry))) (length (now (out .entry)))) (length (now (sums .entry)))))
-        r (now («record» .entry)) (now («record» .exit)) (now (store .exit))
+        (outOf (length (now (answer .entry))) (length (now (out .entry)))) (length (now (sums .entry))))))
+        (r, now («record» .exit)) (now (store .exit))
         (now (out .entry) ∷ now (sums .entry) ∷ now (answer .entry) ∷ []) (now (out .exit) ∷ now (sums .exit) ∷ now (answer .exit) ∷ []) ⌝ }
 {
     let end = places(answer.len(), out.len());

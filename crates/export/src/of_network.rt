@@ -5,7 +5,7 @@ ghost use lib.ListN.{length};
 ghost use Rattle.rules.specs.Leaf.{Leaf, _leaving_};
 ghost use Rattle.model.specs.Layer.{activationOf};
 ghost use Rattle.network.specs.Layers.{denseOf, DenseFits, gruOf, GruFits};
-ghost use Rattle.network.specs.Compute.{frameOf, computed};
+ghost use Rattle.network.specs.Compute.{layeredOf, computed};
 ghost use Rattle.network.proofs.Callers.{Answered};
 ghost use Rattle.export.specs.OfNetwork.{Known, computedNumber, computedTold};
 use model::Activation;
@@ -102,7 +102,7 @@ pub extern "C" fn tuppence_network(
     model: &[u8],
     features: &[f32],
 ) -> u32
-    ensures { λ r. ⌜ (r leaving frameOf
+    ensures { λ r. ⌜ (r leaving layeredOf
         (now (gains .exit)) (now (voice .exit)) (now (vad .exit)) (now (noise .exit)) (now (denoise .exit)))
         ≡ computedTold (computed
         (now (gains .entry)) (now (voice .entry)) (now (vad .entry)) (now (noise .entry)) (now (denoise .entry))

@@ -3,7 +3,8 @@
 ghost use mathlib.Core.List.{[], _∷_};
 ghost use lib.ListN.{length};
 ghost use Rattle.desk.specs.Gate.{BENCHES};
-ghost use Rattle.desk.specs.Surface.{outOf, Hosted};
+ghost use Rattle.frame.specs.Effect.{Worked};
+ghost use Rattle.desk.specs.Surface.{outOf, handed};
 ghost use Rattle.whole.specs.Surface.{hostedFrame, hostedTake};
 use desk::Side;
 
@@ -18,10 +19,11 @@ pub extern "C" fn tuppence_frame(
     out: &mut [f32],
     answer: &mut [f32],
 ) -> u32
-    ensures { λ r. ⌜ Hosted
+    ensures { λ r. ⌜ Worked
+        (handed (now («record» .entry))
         (hostedFrame BENCHES side (now («record» .entry)) (now (store .entry)) (now (samples .entry)) (now (model .entry))
-        (outOf (length (now (answer .entry))) (length (now (out .entry)))))
-        r (now («record» .entry)) (now («record» .exit)) (now (store .exit))
+        (outOf (length (now (answer .entry))) (length (now (out .entry))))))
+        (r, now («record» .exit)) (now (store .exit))
         (now (out .entry) ∷ now (answer .entry) ∷ []) (now (out .exit) ∷ now (answer .exit) ∷ []) ⌝ }
 {
     let end = crate::of_desk::places(answer.len(), out.len());
@@ -50,10 +52,11 @@ pub extern "C" fn tuppence_take(
     out: &mut [f32],
     answers: &mut [f32],
 ) -> u32
-    ensures { λ r. ⌜ Hosted
+    ensures { λ r. ⌜ Worked
+        (handed (now («record» .entry))
         (hostedTake BENCHES side (now («record» .entry)) (now (store .entry)) (now (piece .entry)) (now (model .entry))
-        (length (now (out .entry))) (length (now (answers .entry))))
-        r (now («record» .entry)) (now («record» .exit)) (now (store .exit))
+        (length (now (out .entry))) (length (now (answers .entry)))))
+        (r, now («record» .exit)) (now (store .exit))
         (now (out .entry) ∷ now (answers .entry) ∷ []) (now (out .exit) ∷ now (answers .exit) ∷ []) ⌝ }
 {
     let given = whole::take(

@@ -1,12 +1,8 @@
 -- How many numbers each definition gives. Assumes nothing.
-use mathlib.Core.Path.{_≡_, refl, _∙_}
-use mathlib.Core.List.{List}
-use Prim.Native.Nat.{ℕ, _≤_}
+use Rattle.rules.proofs.Common.{ℕ, _≤_, List, _≡_, refl, _∙_, length, length-set, length-drop, length-append, Float}
 use native.Mathlib.Omega.{arith}
-use lib.Ieee.{Float}
-use lib.ListN.{length, length-set, length-append, length-drop}
 use Rattle.rules.proofs.Places.{length-put}
-use Rattle.rules.proofs.Tabs.{length-tab}
+use Rattle.rules.proofs.Lists.{length-tab}
 use Rattle.bands.proofs.Results.{length-dct}
 use Rattle.features.specs.Cepstra.{row, followLogs, cepstrum, deltas}
 use Rattle.features.specs.Features.{normalised, normalisedCorr, pitchFeatures, withCepstrum, laid, featuresOf}

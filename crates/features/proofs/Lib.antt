@@ -2,4 +2,3 @@ pub mod Lengths
 pub mod Order
 pub mod Places
 pub mod Remembered
-pub mod Silence

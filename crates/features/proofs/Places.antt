@@ -1,16 +1,14 @@
 -- Where the features lie among the 42, and what stays where others are written. Assumes nothing.
-use mathlib.Core.Path.{_≡_, sym, ap, _∙_}
+use Rattle.rules.proofs.Common.{ℕ, _+_, List, [], _∷_, _++_, _≡_, sym, ap, _∙_, length, take, drop, set, length-take, length-drop, length-append}
+use Rattle.rules.proofs.Common.{Float}
 use mathlib.Core.Logic.{inl}
-use mathlib.Core.List.{List, [], _∷_, _++_, append-assoc}
-use Prim.Native.Nat.{ℕ, _+_}
+use mathlib.Core.List.{append-assoc}
 use native.Mathlib.Omega.{arith}
-use lib.Ieee.{Float}
-use lib.ListN.{length, set, take, drop, length-append, length-take, length-drop, take-append-drop}
+use lib.ListN.{take-append-drop}
 use lib.Seq.{drop-drop, set-at, take-all}
 use Rattle.rules.specs.F32.{part}
 use Rattle.rules.specs.Place.{Place, get, put}
-use Rattle.rules.proofs.Fronts.{put-behind}
-use Rattle.rules.proofs.Places.{get-get, get-put, get-put-apart, length-put}
+use Rattle.rules.proofs.Places.{put-behind, get-get, get-put, get-put-apart, length-put}
 
 abbrev pub place : ℕ → ℕ → Place
 place at size = record { at = at; size = size }

@@ -1,11 +1,7 @@
 -- The two laws of remembered gains, for any gains g, NaN among them: no remembered gain becomes NaN, and each is at least 0.6 of its predecessor. Assumes nothing.
-use mathlib.Core.Path.{_≡_}
-use mathlib.Core.List.{List}
-use mathlib.Core.Bool.{true, false}
-use Prim.Native.Nat.{ℕ, _<_}
-use lib.Ieee.{Float, nan, le, isNan}
+use Rattle.rules.proofs.Common.{ℕ, _<_, true, false, List, _≡_, Float, nan, le, isNan}
 use Rattle.rules.specs.F32.{at}
-use Rattle.rules.proofs.Tabs.{getD-tab}
+use Rattle.rules.proofs.Lists.{getD-tab}
 use Rattle.features.specs.Gains.{sixTenths, atLeast, gained}
 use Rattle.features.specs.Laws.{Remembered}
 use Rattle.features.proofs.Order.{held-no-nan, larger-no-nan, larger-at-least}

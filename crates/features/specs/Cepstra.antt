@@ -1,11 +1,6 @@
 -- The logarithms' lower bounds, the cepstral memory and what is made of it, from `compute_frame_features` of features.rs. The memory
 -- is 8 rows of 22.
-use mathlib.Core.List.{List}
-use mathlib.Core.Bool.{cond}
-use Prim.Native.Nat.{ℕ, _+_, _-_, _*_}
-use lib.Dec.{eqb, ltb}
-use lib.Ieee.{Float, neg}
-use lib.ListN.{set}
+use Rattle.rules.specs.Common.{ℕ, _+_, _-_, _*_, cond, List, eqb, ltb, set, Float, neg}
 use Rattle.rules.specs.Loop.{loop}
 use Rattle.rules.specs.F32.{_⊕_, _⊖_, _⊗_, _⊘_, at, f32}
 use Rattle.rules.specs.Place.{Place}

@@ -1,10 +1,6 @@
 -- The 42 features of a heard frame, its normalised correlations and the new cepstral memory, from `compute_frame_features` of features.rs.
 -- `logs` are the logarithms of 0.01 + ex, and `lag` is the pitch index.
-use mathlib.Core.Path.{_≡_}
-use mathlib.Core.List.{List, [], _∷_, _++_}
-use Prim.Native.Nat.{ℕ, _≤_}
-use lib.Ieee.{Float, binary32}
-use lib.ListN.{drop}
+use Rattle.rules.specs.Common.{ℕ, _≤_, List, [], _∷_, _++_, _≡_, drop, Float, binary32}
 use Rattle.rules.specs.F32.{_⊕_, _⊖_, _⊗_, _⊘_, at, f32}
 use Rattle.rules.specs.Place.{put}
 use Rattle.rules.specs.Tab.{tab}

@@ -1,8 +1,5 @@
 -- The gains, each at least 0.6 of the remembered one, from `process_frame` of denoise.rs.
-use mathlib.Core.Path.{_≡_}
-use mathlib.Core.List.{List}
-use Prim.Native.Nat.{ℕ}
-use lib.Ieee.{Float}
+use Rattle.rules.specs.Common.{ℕ, List, _≡_, Float}
 use Rattle.rules.specs.F32.{_⊗_, at, f32}
 use Rattle.rules.specs.Tab.{tab}
 use Rattle.numbers.specs.Larger.{larger}

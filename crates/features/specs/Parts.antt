@@ -1,5 +1,5 @@
 -- What the private functions promise.
-use lib.Ieee.{Float}
+use Rattle.rules.specs.Common.{Float}
 use Rattle.features.specs.Cepstra.{smoothed, slope, bend}
 use Rattle.features.specs.declared.cepstra.Delta.{Delta}
 use Rattle.features.specs.declared.cepstra.Delta.the-variants.{Smoothed, Slope, Bend}

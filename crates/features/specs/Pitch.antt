@@ -1,15 +1,11 @@
 -- `pitch_filter` and `apply_gain` of features.rs.
-use mathlib.Core.Path.{_≡_}
-use mathlib.Core.List.{List}
-use mathlib.Core.Bool.{cond}
-use Prim.Native.Nat.{ℕ}
-use lib.Ieee.{Float, binary32, lt}
+use Rattle.rules.specs.Common.{ℕ, cond, List, _≡_, Float, binary32, lt}
 use Rattle.rules.specs.F32.{_⊕_, _⊖_, _⊗_, _⊘_, at, f32, one}
 use Rattle.rules.specs.Tab.{tab}
 use Rattle.numbers.specs.Larger.{clamped}
 use Rattle.numbers.specs.Root.{root}
 use Rattle.bands.specs.Bands.{bandCorr, bandGain}
-use Rattle.bands.specs.Spectrum.{binOf}
+use Rattle.rules.specs.Spectrum.{binOf}
 
 -- if exp > gain { 1.0 } else { exp_sq * (1.0 - g_sq) / (0.001 + g_sq * (1.0 - exp_sq)) }
 unfoldable pub strength : Float → Float → Float

@@ -1,8 +1,5 @@
 -- The test for silence, from `compute_frame_features` of features.rs.
-use mathlib.Core.List.{List}
-use mathlib.Core.Bool.{cond}
-use Prim.Native.Nat.{ℕ}
-use lib.Ieee.{Float, lt}
+use Rattle.rules.specs.Common.{ℕ, Bool, cond, List, Float, lt}
 use Rattle.rules.specs.Loop.{loop}
 use Rattle.rules.specs.F32.{_⊕_, at, f32}
 use Rattle.features.specs.declared.Sound.{Sound}
@@ -15,5 +12,8 @@ unfoldable pub energy : List Float → Float
 energy ex = loop 22 (energyStep ex) (f32 0)
 
 -- e < 0.04
+abbrev pub isSilent : Float → Bool
+isSilent e = lt e (f32 0x3D23D70A)
+
 unfoldable pub soundOf : Float → Sound
-soundOf e = cond (lt e (f32 0x3D23D70A)) Sound.Silent (Sound.Heard e)
+soundOf e = cond (isSilent e) Sound.Silent (Sound.Heard e)

@@ -3,32 +3,27 @@
 --     sized, part-length, ready   the numbers of a feed that no row refuses
 --     turned, shut, fed           a feed that the gate turns away, one that a row refuses, and one that is neither
 -- Assumes nothing.
-use Prim.Native.Nat.{ℕ, _-_, _*_, _/_, _≤_, _<_}
+use Rattle.rules.proofs.Common.{ℕ, _-_, _*_, _/_, _≤_, _<_, Bool, true, false, cond, not, _&&_, true≢false, false≢true, List, [], _∷_, _≡_, refl, sym}
+use Rattle.rules.proofs.Common.{ap, _∙_, leb, length, getD, drop, length-take, Float, nan}
 use native.Mathlib.Nat.{sub-zero}
 use native.Mathlib.Omega.{arith}
-use mathlib.Core.Bool.{Bool, true, false, cond, not, _&&_, true≢false, false≢true}
-use mathlib.Core.List.{List, [], _∷_}
-use mathlib.Core.Path.{_≡_, refl, sym, ap, _∙_}
 use borrow.Author.Tests.{ne-eqb, leb-true}
-use lib.Dec.{leb}
-use lib.ListN.{length, getD, drop, length-take, List·getD-append, take as list-take}
+use lib.ListN.{List·getD-append, take as list-take}
 use lib.Seq.{take-at}
-use lib.Ieee.{Float, nan}
 use Rattle.rules.specs.F32.{at, part}
 use Rattle.rules.specs.Place.{put}
 use Rattle.rules.specs.Refusals.{_when_, refusing}
 use Rattle.rules.specs.Tab.{tab}
 use Rattle.rules.specs.Written.{from, over}
-use Rattle.rules.proofs.Tabs.{tab-same}
-use Rattle.rules.proofs.Tests.{answered-no, answered-yes}
-use Rattle.rules.proofs.Truth.{both}
+use Rattle.rules.proofs.Lists.{tab-same}
+use Rattle.rules.proofs.Tests.{answered-no, answered-yes, both}
+use Rattle.frame.specs.Effect.{Worked}
 use Rattle.frame.specs.declared.Reply.the-variants.{Refused}
 use Rattle.frame.specs.Reply.{passed}
 use Rattle.pieces.specs.Pieces.{completes, pieceFits}
 use Rattle.desk.specs.declared.Answer.{Answer}
 use Rattle.desk.specs.declared.Record.{Record}
 use Rattle.desk.specs.Gate.{PIECE, gate}
-use Rattle.desk.specs.Desk.{Given, Served}
 use Rattle.whole.specs.Whole.{takeEnds, take}
 use Rattle.whole.proofs.Accepted.{fits-sizes}
 use Rattle.whole.proofs.Dictations.{take-fills}
@@ -57,13 +52,13 @@ module _ (k frame : ℕ) (xs held : List Float) {held′ : List Float} (o : held
   front-answers = o
 
 module _ (n side : ℕ) (rec : Record) (store samples : List Float) (model : List ℕ) {a : Answer} {s out out′ told told′ : List Float} {b : Bool} where
-  module _ (w : Served (take n side rec store samples model (length out) (length told)) a s (out ∷ told ∷ []) (out′ ∷ told′ ∷ [])) (e : b ≡ passed (a .reply)) where
+  module _ (w : Worked (take n side rec store samples model (length out) (length told)) a s (out ∷ told ∷ []) (out′ ∷ told′ ∷ [])) (e : b ≡ passed (a .reply)) where
     pub handed : b ≡ true → (k : ℕ) → k ≡ completes (rec .waiting) (length samples) → {cleaned cleaned′ entries entries′ : List ℕ}
         → (cleaned′ ≡ atFront (packed (part 0 (480 * k) out′)) cleaned) × (entries′ ≡ atFront (tab k (λ j. entryOf (rec .frame) j (at told′ (3 * j)))) entries)
         → FedTo (fedBy (rec .frame) (take n side rec store samples model (length out) (length told))) a s cleaned cleaned′ entries entries′ told told′
     handed p k count {cleaned} {cleaned′} {entries} {entries′} h =
         take-by n side samples model rec store (length out) (length told)
-        (λ o. Served o a s (out ∷ told ∷ []) (out′ ∷ told′ ∷ []) → FedTo (fedBy (rec .frame) o) a s cleaned cleaned′ entries entries′ told told′)
+        (λ o. Worked o a s (out ∷ told ∷ []) (out′ ∷ told′ ∷ []) → FedTo (fedBy (rec .frame) o) a s cleaned cleaned′ entries entries′ told told′)
         (λ q v.
         let t = takeEnds n side rec store samples model (length out) in
         let f = take-fills n side rec store samples model (length out) (length told) q in
@@ -71,7 +66,7 @@ module _ (n side : ℕ) (rec : Record) (store samples : List Float) (model : Lis
         let l : told′ ≡ over (from 0 (t .answers)) told = ap (λ (xs : List (List Float)). getD xs 1 []) (v .writes) in
         record {
           answered = v .answers;
-          stores = v .stores;
+          stores = v .keeps;
           cleans = h .0 ∙ ap (λ (x : List ℕ). atFront x cleaned) (front-bytes k (rec .frame) (t .out) out o (f .0 ∙ ap (λ (m : ℕ). 480 * m) (sym count)));
           notes = h .1 ∙ ap (λ (x : List ℕ). atFront x entries) (front-entries k (rec .frame) (t .answers) told l (f .1 ∙ ap (λ (m : ℕ). 3 * m) (sym count)));
           tells = front-answers k (rec .frame) (t .answers) told l;
@@ -83,9 +78,9 @@ module _ (n side : ℕ) (rec : Record) (store samples : List Float) (model : Lis
     unfolding packed tab
     unhanded p {cleaned} {entries} =
         take-by n side samples model rec store (length out) (length told)
-        (λ o. Served o a s (out ∷ told ∷ []) (out′ ∷ told′ ∷ []) → FedTo (fedBy (rec .frame) o) a s cleaned cleaned entries entries told told′)
+        (λ o. Worked o a s (out ∷ told ∷ []) (out′ ∷ told′ ∷ []) → FedTo (fedBy (rec .frame) o) a s cleaned cleaned entries entries told told′)
         (λ q v. absurd (false≢true (sym p ∙ e ∙ ap (λ (x : Answer). passed (x .reply)) (v .answers) ∙ q)))
-        (λ q v. record { answered = v .answers; stores = v .stores; cleans = refl; notes = refl; tells = ap (λ (xs : List (List Float)). getD xs 1 []) (v .writes) })
+        (λ q v. record { answered = v .answers; stores = v .keeps; cleans = refl; notes = refl; tells = ap (λ (xs : List (List Float)). getD xs 1 []) (v .writes) })
         w
 
 -- ---- the numbers

@@ -3,28 +3,22 @@
 --     feed-leaves, entry-small  what specs/Laws.antt claims
 --     feed-settled              a contract is met by one outcome alone
 -- Assumes nothing.
-use Prim.Native.Nat.{ℕ, _+_, _%_, _<_}
+use Rattle.rules.proofs.Common.{ℕ, _+_, _%_, _<_, Bool, true, false, cond, true≢false, false≢true, List, _≡_, refl, sym, _∙_, length, Float}
 use native.Mathlib.Omega.{arith}
-use mathlib.Core.Bool.{Bool, true, false, cond, true≢false, false≢true}
-use mathlib.Core.List.{List}
-use mathlib.Core.Path.{_≡_, refl, sym, _∙_}
-use lib.ListN.{length}
-use lib.Ieee.{Float, eq}
+use lib.Ieee.{eq}
 use Rattle.rules.specs.F32.{f32}
 use Rattle.rules.specs.Tab.{tab}
-use Rattle.rules.proofs.Refused.{by-rows}
+use Rattle.rules.proofs.Refusals.{by-rows}
 use Rattle.frame.specs.declared.Reply.the-variants.{Refused}
 use Rattle.frame.specs.Reply.{passed}
-use Rattle.desk.specs.declared.Answer.{Answer}
 use Rattle.desk.specs.declared.Record.{Record}
 use Rattle.desk.specs.Gate.{PIECE, inRange, gate}
-use Rattle.desk.specs.Desk.{Given}
 use Rattle.desk.proofs.Replies.{SmallSeven}
 use Rattle.whole.specs.Whole.{take}
 use Rattle.whole.proofs.Ranged.{take-small, take-range, take-by}
 use Rattle.pcm.specs.Pcm.{packed}
-use Rattle.feed.specs.Feed.{Block, ROOM, sizeOf, samplesOf, feedRows, Fed, unfed, fedBy, feed, FedTo}
-use Rattle.feed.specs.Laws.{FeedLeaves, EntrySmall}
+use Rattle.feed.specs.Feed.{Block, ROOM, sizeOf, samplesOf, feedRows, Fed, unfed, fedBy, feed}
+use Rattle.feed.specs.Laws.{FeedLeaves, EntrySmall, FeedSettled}
 
 module _ (n side : ℕ) (rec : Record) (store : List Float) (b : Block) (model : List ℕ) (cleaned entries answers : ℕ) where
   -- what holds of a refusal, and of what comes of the take, holds of a feed
@@ -59,7 +53,6 @@ entry-small frame j heard = go (eq heard (f32 0))
     go true = omega arith
     go false = omega arith
 
-pub feed-settled : {o : Fed} {a a′ : Answer} {s s′ : List Float} {c c₁ c₂ d d₁ d₂ : List ℕ} {t t₁ t₂ : List Float}
-    → FedTo o a s c c₁ d d₁ t t₁ → FedTo o a′ s′ c c₂ d d₂ t t₂ → (a ≡ a′) × (s ≡ s′) × (c₁ ≡ c₂) × (d₁ ≡ d₂) × (t₁ ≡ t₂)
-feed-settled f g =
+pub feed-settled : FeedSettled
+feed-settled o answer answer′ store store′ cleaned cleaned₁ cleaned₂ entries entries₁ entries₂ answers answers₁ answers₂ f g =
     (f .answered ∙ sym (g .answered), f .stores ∙ sym (g .stores), f .cleans ∙ sym (g .cleans), f .notes ∙ sym (g .notes), f .tells ∙ sym (g .tells))

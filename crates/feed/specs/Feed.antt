@@ -1,12 +1,7 @@
 -- A block of recorded bytes in one call: a bench's own channel of it is unpacked, taken, and packed again, with an entry of the side sheet for each frame. By
 -- definition these one after the other; what may refuse them is tested before anything changes, the lowest number first.
-use Prim.Native.Nat.{ℕ, _+_, _*_, _/_, _%_}
-use mathlib.Core.Bool.{Bool, cond, not, _&&_}
-use mathlib.Core.List.{List, [], _∷_, _++_}
-use mathlib.Core.Path.{_≡_}
-use lib.Dec.{eqb, leb, ltb}
-use lib.ListN.{length, getD, drop}
-use lib.Ieee.{Float, eq}
+use Rattle.rules.specs.Common.{ℕ, _+_, _*_, _/_, _%_, Bool, cond, not, _&&_, List, [], _∷_, _++_, _≡_, eqb, leb, ltb, length, getD, drop, Float}
+use lib.Ieee.{eq}
 use Rattle.rules.specs.F32.{f32, at}
 use Rattle.rules.specs.Refusals.{Row, _when_, refusing}
 use Rattle.rules.specs.Tab.{tab}
@@ -17,7 +12,7 @@ use Rattle.pieces.specs.Pieces.{completes, pieceFits}
 use Rattle.desk.specs.declared.Answer.{Answer}
 use Rattle.desk.specs.declared.Record.{Record}
 use Rattle.desk.specs.Gate.{PIECE, gate}
-use Rattle.desk.specs.Desk.{Given}
+use Rattle.frame.specs.Effect.{Effect}
 use Rattle.whole.specs.Whole.{take}
 use Rattle.pcm.specs.Pcm.{width, unpacked, packed}
 
@@ -88,12 +83,12 @@ abbrev pub entriesOf : ℕ → List Float → List ℕ
 entriesOf frame answers = tab (length answers / 3) (λ j. entryOf frame j (at answers (3 * j)))
 
 -- what comes of a take: its samples packed, an entry for each frame, and its answers
-abbrev pub fedBy : ℕ → Given → Fed
+abbrev pub fedBy : ℕ → Effect Answer → Fed
 fedBy frame t =
     let answers = numbersIn (getD (t .written) 1 nothing) in
     record {
       answer = t .answer;
-      store = t .store;
+      store = t .kept;
       cleaned = packed (firstIn (t .written));
       entries = entriesOf frame answers;
       answers = answers;

@@ -1,7 +1,5 @@
 -- For the parts of the code.
-use Prim.Native.Nat.{ℕ, _+_, _*_, _≤_}
-use mathlib.Core.Bool.{Bool, _&&_}
-use lib.Dec.{leb}
+use Rattle.rules.specs.Common.{ℕ, _+_, _*_, _≤_, Bool, _&&_, leb}
 use Rattle.pieces.specs.Pieces.{completes, pieceFits}
 use Rattle.feed.specs.Feed.{ROOM}
 

@@ -1,8 +1,5 @@
 -- A feed for a host that has numbers alone: what the function of the C surface returns and leaves.
-use Prim.Native.Nat.{ℕ}
-use mathlib.Core.List.{List}
-use mathlib.Core.Path.{_≡_}
-use lib.Ieee.{Float}
+use Rattle.rules.specs.Common.{ℕ, List, _≡_, Float}
 use Rattle.desk.specs.Surface.{replyNumber, handedBack}
 use Rattle.feed.specs.Feed.{Fed, atFront}
 

@@ -1,10 +1,6 @@
 -- The transforms of two to five numbers are sums over the circle. Assumes nothing.
-use mathlib.Core.Path.{_≡_, refl, sym, ap, _∙_}
-use mathlib.Core.List.{List, [], _∷_}
-use mathlib.Core.Bool.{cond}
-use Prim.Native.Nat.{ℕ, zero, suc, _+_, _*_, _<_}
+use Rattle.rules.proofs.Common.{ℕ, zero, suc, _+_, _*_, _<_, cond, List, [], _∷_, _≡_, refl, sym, ap, _∙_, eqb}
 use native.Mathlib.Omega.{arith}
-use lib.Dec.{eqb}
 use Rattle.fft.specs.Ops.{Ops, Complex}
 use Rattle.fft.specs.Exact.{Ring, Cosines}
 use Rattle.fft.specs.Fast.{ofTwo, ofThree, ofFour, ofFive}

@@ -1,10 +1,7 @@
 -- Complex numbers over a commutative ring, the points of the circle by its cosines, and finite sums. Assumes nothing.
-use mathlib.Core.Path.{_≡_, refl, sym, ap, _∙_}
-use mathlib.Core.List.{List, [], _∷_, _++_}
-use Prim.Native.Nat.{ℕ, zero, suc, _+_, _*_, _/_, _%_, _<_}
+use Rattle.rules.proofs.Common.{ℕ, zero, suc, _+_, _*_, _/_, _%_, _<_, List, [], _∷_, _++_, _≡_, refl, sym, ap, _∙_, getD}
 use native.Mathlib.Nat.{add-zero, add-suc, mul-zero, mul-suc}
 use native.Mathlib.Omega.{arith}
-use lib.ListN.{getD}
 use Rattle.fft.specs.Ops.{Ops, Complex}
 use Rattle.fft.specs.Exact.{Ring, Cosines}
 use mathlib.Core.Logic.{⊎-elim}

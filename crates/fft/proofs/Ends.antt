@@ -1,11 +1,7 @@
 -- Laws of what stands before and after the complex transform. Assumes nothing.
-use mathlib.Core.Path.{_≡_, refl, sym, ap, _∙_}
-use mathlib.Core.List.{List}
-use Prim.Native.Nat.{ℕ, _+_, _-_, _*_, _/_, _%_, _≤_, _<_}
+use Rattle.rules.proofs.Common.{ℕ, _+_, _-_, _*_, _/_, _%_, _≤_, _<_, List, _≡_, refl, sym, ap, _∙_, length, set, length-set, Float}
 use native.Mathlib.Omega.{arith}
 use borrow.Author.Tests.{eq-eqb, ne-eqb}
-use lib.Ieee.{Float}
-use lib.ListN.{length, set, length-set}
 use lib.Seq.{getD-set-same}
 use Rattle.rules.specs.F32.{at, f32, _⊕_}
 use Rattle.rules.specs.Tab.{tab}

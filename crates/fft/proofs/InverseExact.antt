@@ -1,15 +1,11 @@
 -- Over a commutative ring the fast inverse transform is the plain one. Assumes nothing.
-use mathlib.Core.Path.{_≡_, refl, sym, ap, _∙_}
-use mathlib.Core.List.{List, [], _∷_}
+use Rattle.rules.proofs.Common.{ℕ, zero, suc, _+_, _-_, _*_, _/_, _%_, _≤_, _<_, cond, List, [], _∷_, _≡_, refl, sym, ap, _∙_, eqb}
 use mathlib.Core.Logic.{⊎-elim}
-use mathlib.Core.Bool.{cond}
-use Prim.Native.Nat.{ℕ, zero, suc, _+_, _-_, _*_, _/_, _%_, _≤_, _<_}
 use native.Mathlib.Nat.{add-mul, mul-assoc, mul-comm}
 use native.Mathlib.Omega.{arith}
 use borrow.Author.Tests.{eq-eqb, ne-eqb}
-use lib.Dec.{eqb}
 use Rattle.rules.specs.Loop.{loop, range}
-use Rattle.rules.proofs.Tabs.{tab-same}
+use Rattle.rules.proofs.Lists.{tab-same}
 use Rattle.fft.specs.Ops.{Ops, Complex, numberAt}
 use Rattle.fft.specs.Exact.{Ring, Cosines}
 use Rattle.fft.specs.Fast.{complexAt, transformed, binIn, merged, mergedAt, mergedOf, sampleOut, inverseOver}

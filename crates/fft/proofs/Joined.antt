@@ -1,9 +1,6 @@
 -- The transforms of two to five numbers, of what was read. Assumes nothing.
-use mathlib.Core.Path.{_≡_, ap, _∙_}
-use mathlib.Core.List.{List}
-use lib.Ieee.{Float}
+use Rattle.rules.proofs.Common.{ℕ, _+_, _*_, List, _≡_, ap, _∙_, Float}
 use Rattle.fft.specs.Ops.{Complex}
-use Prim.Native.Nat.{ℕ, _+_, _*_}
 use Rattle.fft.specs.Fast.{complexAt, turnedBack, ofTwo, ofThree, ofFour, ofFive, first, angle, row2, row3, row4, row5, stage, transformed}
 use Rattle.fft.specs.Single.{single, of}
 use Rattle.fft.specs.Parts.{cx, complexOf, twos, threes, fours, fives}

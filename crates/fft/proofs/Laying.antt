@@ -1,21 +1,16 @@
 -- A list of complex numbers that is filled four lanes at a time: `begun` shows `Laid` where a stage begins, `lay` adds the bins of four lanes, row by row, and `laid-all` reads
 -- it after the last. Assumes nothing.
-use mathlib.Core.Path.{_≡_, refl, sym, ap, _∙_}
-use mathlib.Core.List.{List}
+use Rattle.rules.proofs.Common.{ℕ, zero, suc, _+_, _-_, _*_, _/_, _%_, _≤_, _<_, cond, List, _≡_, refl, sym, ap, _∙_, ltb, length, set, length-set}
+use Rattle.rules.proofs.Common.{Float, nan}
 use mathlib.Core.Logic.{_⊎_, inl, inr, ⊎-elim}
-use mathlib.Core.Bool.{cond}
-use Prim.Native.Nat.{ℕ, zero, suc, _+_, _-_, _*_, _/_, _%_, _≤_, _<_}
 use native.Mathlib.Nat.{mul-le-mul-left, mul-suc, mul-comm, div-add-mod, mod-lt, div-lt-iff-lt-mul}
 use native.Mathlib.Numerals.{add-one}
 use native.Mathlib.Omega.{arith}
 use borrow.Author.Tests.{lt-ltb, le-ltb}
-use lib.Dec.{ltb}
-use lib.Ieee.{Float, nan}
-use lib.ListN.{length, set, length-set}
 use lib.Seq.{getD-set-same, getD-set-other, ext-getD}
 use Rattle.rules.specs.F32.{at}
 use Rattle.rules.specs.Tab.{tab}
-use Rattle.rules.proofs.Tabs.{length-tab, getD-tab, tab-same}
+use Rattle.rules.proofs.Lists.{length-tab, getD-tab, tab-same}
 use Rattle.fft.specs.Ops.{Complex}
 use Rattle.fft.specs.Fast.{complexAt, complexes, stage}
 use Rattle.fft.specs.Single.{single}

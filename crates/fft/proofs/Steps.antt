@@ -1,14 +1,10 @@
 -- A stage of the complex transform, over a ring: where the list holds the transforms of s numbers that stand r * m apart, it then holds those of r * s numbers that stand
 -- m apart. So the five stages are the transform of 480 numbers. Assumes nothing.
-use mathlib.Core.Path.{_≡_, sym, ap, _∙_}
-use mathlib.Core.List.{List}
-use mathlib.Core.Bool.{cond}
-use Prim.Native.Nat.{ℕ, _+_, _-_, _*_, _/_, _%_, _<_}
+use Rattle.rules.proofs.Common.{ℕ, _+_, _-_, _*_, _/_, _%_, _<_, cond, List, _≡_, sym, ap, _∙_, ltb}
 use native.Mathlib.Nat.{add-mul, mul-add, mul-mul-mul-comm, mul-assoc, mul-left-comm, div-add-mod}
 use native.Mathlib.Omega.{arith}
 use borrow.Author.Tests.{lt-ltb, le-ltb}
-use lib.Dec.{ltb}
-use Rattle.rules.proofs.Tabs.{getD-tab}
+use Rattle.rules.proofs.Lists.{getD-tab}
 use Rattle.fft.specs.Ops.{Ops, Complex}
 use Rattle.fft.specs.Exact.{Ring, Cosines}
 use Rattle.fft.specs.Fast.{complexAt, complexes, ofTwo, ofThree, ofFour, ofFive, first, angle, row2, row3, row4, row5, stage, transformed}

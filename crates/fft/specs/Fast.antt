@@ -1,10 +1,7 @@
 -- The 960-point real transforms by way of a complex transform of 480 numbers in five stages, every operation in its order.
 -- `c m` is the cosine of m/960 of a turn, so that `c (m + 240)` is minus its sine.
 -- Complex numbers z[0] to z[479] stand in a list of 960: their real parts, and then their imaginary parts.
-use mathlib.Core.List.{List}
-use mathlib.Core.Bool.{cond}
-use Prim.Native.Nat.{ℕ, zero, suc, _+_, _-_, _*_, _/_, _%_}
-use lib.Dec.{eqb, ltb}
+use Rattle.rules.specs.Common.{ℕ, zero, suc, _+_, _-_, _*_, _/_, _%_, cond, List, eqb, ltb}
 use Rattle.rules.specs.Tab.{tab}
 use Rattle.fft.specs.Ops.{Ops, Complex, numberAt}
 

@@ -1,8 +1,5 @@
 -- Without rounding, the fast transforms are the plain sums of request 08: what is claimed. The proofs are in proofs/Exactly.antt and proofs/Same.antt.
-use mathlib.Core.Path.{_≡_}
-use mathlib.Core.List.{List}
-use Prim.Native.Nat.{ℕ}
-use lib.Ieee.{Float}
+use Rattle.rules.specs.Common.{ℕ, List, _≡_, Float}
 use Rattle.transforms.specs.Cosine.{cosine}
 use Rattle.transforms.specs.Transform.{forwardOf, inverseOf}
 use Rattle.fft.specs.Ops.{Ops}

@@ -1,7 +1,5 @@
 -- The operations that a transform is made of. The same definitions are read at f32, where each operation rounds, and at any commutative ring, where they are exact.
-use mathlib.Core.List.{List}
-use Prim.Native.Nat.{ℕ}
-use lib.ListN.{getD}
+use Rattle.rules.specs.Common.{ℕ, List, getD}
 
 pub record Ops (A : Type 0) : Type 0 where
   pub plus : A → A → A

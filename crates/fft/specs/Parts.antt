@@ -1,9 +1,5 @@
 -- For the parts of the code: its structs, and a list of complex numbers that is filled four lanes at a time.
-use mathlib.Core.Path.{_≡_}
-use mathlib.Core.List.{List}
-use Prim.Native.Nat.{ℕ, _+_, _*_, _<_}
-use lib.Ieee.{Float}
-use lib.ListN.{length, set}
+use Rattle.rules.specs.Common.{ℕ, _+_, _*_, _<_, List, _≡_, length, set, Float}
 use Rattle.rules.specs.F32.{at}
 use Rattle.fft.specs.Ops.{Complex}
 use Rattle.fft.specs.Fast.{complexAt}

@@ -1,9 +1,9 @@
 -- The plain sums of `transforms`, over any operations and cosines. With the operations of f32 and its table they are the definitions of `transforms` (specs/Laws).
-use mathlib.Core.List.{List}
-use Prim.Native.Nat.{ℕ, _+_, _-_, _*_, _%_}
+use Rattle.rules.specs.Common.{ℕ, _+_, _-_, _*_, _%_, List}
 use Rattle.rules.specs.Loop.{loop, range}
 use Rattle.rules.specs.Tab.{tab}
-use Rattle.transforms.specs.Transform.{binOf, partOf}
+use Rattle.rules.specs.Spectrum.{binOf}
+use Rattle.transforms.specs.Transform.{partOf}
 use Rattle.fft.specs.Ops.{Ops, numberAt}
 
 module _ {A : Type 0} (o : Ops A) (c : ℕ → A) where

@@ -1,7 +1,5 @@
 -- The transforms as the code has them: with the operations of f32, over the cosines of `transforms`.
-use mathlib.Core.List.{List}
-use Prim.Native.Nat.{ℕ}
-use lib.Ieee.{Float, nan}
+use Rattle.rules.specs.Common.{ℕ, List, Float, nan}
 use Rattle.rules.specs.F32.{_⊕_, _⊖_, _⊗_, at, f32}
 use Rattle.transforms.specs.Cosine.{cosine}
 use Rattle.fft.specs.Ops.{Ops}

@@ -1,19 +1,12 @@
 -- What the calls ensure, in a row. Assumes nothing.
-use mathlib.Core.Path.{_≡_, refl, ap, _∙_}
-use mathlib.Core.Bool.{Bool, cond}
-use mathlib.Core.List.{List, [], _∷_}
-use Prim.Native.Nat.{ℕ, _-_, _≤_, _<_}
+use Rattle.rules.proofs.Common.{ℕ, _-_, _≤_, _<_, Bool, cond, List, [], _∷_, _≡_, refl, ap, _∙_, length, take, drop, set, length-drop, Float, lt}
 use native.Mathlib.Omega.{arith}
-use lib.Ieee.{Float, lt}
-use lib.ListN.{length, set, take, drop, length-drop}
 use lib.Seq.{take-all}
 use Rattle.rules.specs.F32.{_⊕_, _⊘_, at, f32}
 use Rattle.rules.specs.Leaf.{Leaf, _leaving_}
 use Rattle.rules.specs.Tab.{tab}
-use Rattle.rules.proofs.Leaves.{fitting}
-use Rattle.rules.proofs.Called.{left}
-use Rattle.rules.proofs.Tabs.{length-tab}
-use Rattle.rules.proofs.Filling.{Filling}
+use Rattle.rules.proofs.Refusals.{fitting, left}
+use Rattle.rules.proofs.Lists.{length-tab, Filling}
 use Rattle.pitch.specs.Xcorr.{pitchXcorr, XcorrFits}
 use Rattle.pitch.specs.Downsample.{downsampled}
 use Rattle.pitch_search.specs.Best.{bestOf, firstOf, secondOf, BestFits}

@@ -1,13 +1,11 @@
 -- A kept lag, as a whole number: it is at most 768 (`lag-small`), and of a whole number up to there it is that number (`lag-back`). Assumes nothing.
-use Prim.Native.Nat.{ℕ, zero, suc, _+_, _*_, _≤_, _<_, min}
+use Rattle.rules.proofs.Common.{ℕ, zero, suc, _+_, _*_, _≤_, _<_, Bool, true, false, cond, true≢false, _≡_, refl, sym, ap, _∙_, leb, T, pos, Float}
+use Rattle.rules.proofs.Common.{binary32, nan, inf, fin, up, down}
+use Prim.Native.Nat.{min}
 use native.Mathlib.Nat.{mul-one, mul-right-comm, mul-lt-mul-of-pos-right}
 use native.Mathlib.Omega.{arith}
-use mathlib.Core.Bool.{Bool, true, false, cond, true≢false}
-use mathlib.Core.Path.{_≡_, refl, sym, ap, _∙_}
 use borrow.Author.Tests.{leb-true, leb-false, le-ltb, ne-eqb}
-use lib.Dec.{T, leb}
-use lib.IntN.{pos}
-use lib.Ieee.{Float, nan, inf, fin, binary32, up, down, ofInt, lt, eq, le}
+use lib.Ieee.{ofInt, lt, eq, le}
 use lib.Ieee.Back.{round-whole}
 use lib.Ieee.Exact.{HasValue}
 use lib.Ieee.Fits.{down-pos}

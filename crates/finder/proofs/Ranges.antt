@@ -1,18 +1,14 @@
 -- How far the places reach: no index leaves its list, and the period is 60 to 767. Assumes nothing.
-use mathlib.Core.Path.{_≡_, refl}
-use mathlib.Core.Bool.{Bool, true, false, cond, _&&_}
-use mathlib.Core.List.{List}
-use Prim.Native.Nat.{ℕ, zero, suc, _+_, _-_, _*_, _/_, _≤_, _<_}
+use Rattle.rules.proofs.Common.{ℕ, zero, suc, _+_, _-_, _*_, _/_, _≤_, _<_, Bool, true, false, cond, _&&_, List, _≡_, refl, eqb, leb, ltb, T, length}
+use Rattle.rules.proofs.Common.{drop, Float, lt}
 use native.Mathlib.Nat.{div-lt-iff-lt-mul, mul-le-mul}
 use native.Mathlib.Omega.{arith}
 use borrow.Author.Tests.{ltb-true, ltb-false, eqb-true, eqb-false, ne-eqb}
-use lib.Dec.{T, leb, ltb, eqb, leb→le}
-use lib.Ieee.{Float, lt}
-use lib.ListN.{length, drop}
+use lib.Dec.{leb→le}
 use Rattle.rules.specs.F32.{at, natAt, _⊕_, _⊖_, _⊗_, _⊘_, f32}
 use Rattle.rules.specs.Loop.{walk, Flow, go, stop, value, andThen}
-use Rattle.rules.proofs.Tabs.{length-tab}
-use Rattle.rules.proofs.Table.{at as entry-of}
+use Rattle.rules.proofs.Lists.{length-tab}
+use Rattle.rules.proofs.Tests.{at-each}
 use Rattle.pitch.specs.Xcorr.{pitchXcorr}
 use Rattle.pitch.specs.Downsample.{downsampled}
 use Rattle.pitch_search.specs.Best.{bestOf, firstOf, secondOf}
@@ -77,12 +73,13 @@ shortened-small t0 k h g =
     omega arith
 
 -- from 3 on no more than k of k parts
-right : ℕ → ℕ → Bool
-right k check = cond (eqb k 2) true (leb check k)
+right : ℕ → Bool
+unfolding secondCheck
+right k = cond (eqb k 2) true (leb (natAt secondCheck k) k)
 
 pub check-small : {table : List ℕ} (k : ℕ) → table ≡ secondCheck → k ≤ 15 → (k ≡ 2 → ⊥) → natAt table k ≤ k
 unfolding secondCheck right
-check-small k same h other = rw same (leb→le _ _ (rw (ne-eqb k 2 other) at (entry-of right secondCheck tt k (omega arith))))
+check-small k same h other = rw same (leb→le _ _ (rw (ne-eqb k 2 other) at (at-each 16 right tt k (omega arith))))
 
 pub check-product : {table : List ℕ} (t0 k : ℕ) → table ≡ secondCheck → t0 ≤ 383 → k ≤ 15 → (k ≡ 2 → ⊥) → 2 * natAt table k * t0 ≤ 2 * k * 383
 check-product t0 k same h g other = mul-le-mul (omega (arith, check-small k same g other)) h

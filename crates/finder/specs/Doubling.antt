@@ -1,11 +1,7 @@
 -- `pitch_gain` and `remove_doubling` of pitch.rs. `x` is the text's `pitch_buf`, 864 numbers; max_period is 384, min_period 30, and n 480.
-use mathlib.Core.Bool.{cond, _&&_}
-use mathlib.Core.List.{List, [], _∷_}
-use Prim.Native.Nat.{ℕ, _+_, _-_, _*_, _/_, min, max}
-use lib.Dec.{ltb, leb, eqb}
-use lib.Ieee.{Float, binary32, lt, le}
-use lib.ListN.{drop}
-use Rattle.rules.specs.F32.{_⊕_, _⊖_, _⊗_, _⊘_, at, natAt, f32, one}
+use Rattle.rules.specs.Common.{ℕ, _+_, _-_, _*_, _/_, min, cond, _&&_, List, [], _∷_, eqb, leb, ltb, drop, Float, binary32, lt, le}
+use Prim.Native.Nat.{max}
+use Rattle.rules.specs.F32.{_⊕_, _⊖_, _⊗_, _⊘_, at, natAt, f32, one, two}
 use Rattle.rules.specs.Loop.{range, walk, Flow, go, stop, value}
 use Rattle.rules.specs.Tab.{tab}
 use Rattle.numbers.specs.Larger.{larger, smaller}
@@ -15,9 +11,6 @@ use Rattle.finder.specs.Search.{apart, leaning}
 use Rattle.finder.specs.declared.Pitch.{Pitch}
 use Rattle.finder.specs.declared.doubling.Asked.{Asked}
 use Rattle.finder.specs.declared.doubling.Chosen.{Chosen}
-
-abbrev two : Float
-two = f32 0x40000000
 
 -- xy / (1.0 + xx * yy).sqrt()
 abbrev pub pitchGain : Float → Float → Float → Float

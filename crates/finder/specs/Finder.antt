@@ -1,7 +1,5 @@
 -- `PitchFinder::process` of pitch.rs, with `last_period` and `last_gain` as two numbers that go in. They come out as the period and the gain.
-use mathlib.Core.List.{List}
-use Prim.Native.Nat.{ℕ, _-_}
-use lib.Ieee.{Float}
+use Rattle.rules.specs.Common.{ℕ, _-_, List, Float}
 use Rattle.rules.specs.F32.{f32}
 use Rattle.pitch.specs.Downsample.{downsampled}
 use Rattle.finder.specs.Doubling.{removeDoubling}

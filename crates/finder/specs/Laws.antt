@@ -1,9 +1,5 @@
 -- The finder: what is claimed. The proofs are in proofs/Ranges.antt and proofs/Lags.antt.
-use mathlib.Core.List.{List}
-use Prim.Native.Nat.{ℕ, _≤_}
-use mathlib.Core.Path.{_≡_}
-use lib.IntN.{pos}
-use lib.Ieee.{Float, binary32, ofInt}
+use Rattle.rules.specs.Common.{ℕ, _≤_, List, _≡_, pos, Float, binary32, ofInt}
 use Rattle.finder.specs.Finder.{find}
 use Rattle.finder.specs.Kept.{wholeLag}
 

@@ -1,10 +1,5 @@
 -- `pitch_search` of pitch.rs. `buf` is the text's `pitch_buf`, 864 numbers: x_lp is &buf[384..], and y is buf.
-use mathlib.Core.Bool.{cond, _&&_}
-use mathlib.Core.List.{List}
-use Prim.Native.Nat.{ℕ, _+_, _-_, _*_}
-use lib.Dec.{ltb}
-use lib.Ieee.{Float, neg, lt}
-use lib.ListN.{drop}
+use Rattle.rules.specs.Common.{ℕ, _+_, _-_, _*_, cond, _&&_, List, ltb, drop, Float, lt, neg}
 use Rattle.rules.specs.F32.{_⊖_, _⊗_, at, f32, one}
 use Rattle.rules.specs.Tab.{tab}
 use Rattle.numbers.specs.Larger.{larger}

@@ -1,21 +1,17 @@
 -- What the calls leave alone: a share keeps its length, and a place that lies apart from the written ones keeps its numbers. Assumes nothing.
-use Prim.Native.Nat.{ℕ, _+_, _≤_}
+use Rattle.rules.proofs.Common.{ℕ, _+_, _≤_, List, [], _∷_, _≡_, refl, ap, _∙_, length, replicate, length-append, Float}
 use native.Mathlib.Omega.{arith}
-use mathlib.Core.List.{List, [], _∷_}
-use mathlib.Core.Path.{_≡_, refl, ap, _∙_}
-use lib.ListN.{length, length-append, replicate}
-use lib.Ieee.{Float}
 use Rattle.rules.specs.F32.{f32}
 use Rattle.rules.specs.Place.{Place, get, put}
 use Rattle.rules.proofs.Places.{Apart, length-get, length-put, get-put-apart}
-use Rattle.rules.proofs.Tabs.{length-tab}
+use Rattle.rules.proofs.Lists.{length-tab}
 use Rattle.numbers.specs.Filter.{highPass, outputs}
 use Rattle.numbers.proofs.Outputs.{length-outputs}
 use Rattle.bands.proofs.Results.{length-corr}
 use Rattle.model.specs.Model.{readOf}
 use Rattle.model.specs.declared.Model.{Model}
 use Rattle.model.specs.declared.Reading.the-variants.{Good}
-use Rattle.network.specs.Compute.{Computing, layersInPlace}
+use Rattle.network.specs.Compute.{Outcome, layersInPlace}
 use Rattle.network.specs.Parts.{Lengths}
 use Rattle.network.proofs.Callers.{computed-done, kept}
 use Rattle.features.specs.Features.{withCepstrum}
@@ -43,7 +39,7 @@ module _ (q : Place) where
   then h k = record { size = k .size; same = k .same ∙ h .same }
 
   pub done1-beside : (share samples : List Float) → AllApart (inputMem ∷ memHpX ∷ []) q → length share ≡ PART → length samples ≡ 480
-      → Beside q share (done1 share samples .share)
+      → Beside q share (done1 share samples .kept)
   unfolding shifted
   done1-beside share samples apart whole l =
       let out = outputs highPass (memoryOf (get memHpX share)) samples in
@@ -60,10 +56,10 @@ module _ (q : Place) where
       let two = then one (put-beside keptEx (put keptX share x) (energies spectrum) (omega arith) (apart .1 .0) (one .size) (length-corr x x)) in
       then two (put-beside keptLag (put keptEx (put keptX share x) (energies spectrum)) _ (omega arith) (apart .1 .1 .0) (two .size) refl)
 
-  pub done4-beside : (share : List Float) (frame heard : ℕ) (inverse : List Float) → AllApart (synthesisMem ∷ []) q → length share ≡ PART
-      → Beside q share (done4 share frame heard inverse .share)
+  pub done4-beside : (share inverse : List Float) → AllApart (synthesisMem ∷ []) q → length share ≡ PART
+      → Beside q share (done4 share inverse .kept)
   unfolding laterHalf
-  done4-beside share frame heard inverse apart whole = put-beside synthesisMem share (laterHalf (windowBuf inverse)) (omega arith) (apart .0) whole (length-tab 480 _)
+  done4-beside share inverse apart whole = put-beside synthesisMem share (laterHalf (windowBuf inverse)) (omega arith) (apart .0) whole (length-tab 480 _)
 
   -- ---- a heard frame
 
@@ -92,9 +88,9 @@ module _ (q : Place) where
       let done = computed-done g a v n d bytes features fit {m = m} {left = layersInPlace bytes m v n d features} good refl in
       let k = kept g a v n d bytes features in
       states-beside share _ _ _ apart whole
-      (ap (λ (o : Computing). length (o .left .vad)) done ∙ k .first ∙ lv)
-      (ap (λ (o : Computing). length (o .left .noise)) done ∙ k .second ∙ ln)
-      (ap (λ (o : Computing). length (o .left .denoise)) done ∙ k .third ∙ ld)
+      (ap (λ (o : Outcome). length (o .layers .vad)) done ∙ k .first ∙ lv)
+      (ap (λ (o : Outcome). length (o .layers .noise)) done ∙ k .second ∙ ln)
+      (ap (λ (o : Outcome). length (o .layers .denoise)) done ∙ k .third ∙ ld)
 
   -- before the gains are remembered
   pub sensed-beside : (share : List Float) (index : ℕ) (p ep logs : List Float) (bytes : List ℕ) (m : Model)

@@ -1,11 +1,6 @@
 -- What a call gives where it is refused nothing; and call 3, where `out` has no place. Assumes nothing.
-use Prim.Native.Nat.{ℕ, _≤_}
-use mathlib.Core.Bool.{Bool, true, false, cond, _||_, true≢false, false≢true}
-use mathlib.Core.List.{List}
-use mathlib.Core.Path.{_≡_, refl, sym, ap, _∙_}
+use Rattle.rules.proofs.Common.{ℕ, _≤_, Bool, true, false, cond, _||_, true≢false, false≢true, List, _≡_, refl, sym, ap, _∙_, length, Float}
 use borrow.Author.Tests.{eq-eqb, le-ltb}
-use lib.ListN.{length}
-use lib.Ieee.{Float}
 use Rattle.samples.specs.Samples.{good}
 use Rattle.model.specs.Model.{readOf}
 use Rattle.model.specs.declared.Model.{Model}
@@ -16,7 +11,8 @@ use Rattle.frame.specs.declared.Reply.{Reply}
 use Rattle.frame.specs.declared.Reply.the-variants.{Done, Refused}
 use Rattle.frame.specs.Reply.{passed}
 use Rattle.frame.specs.Share.{PART}
-use Rattle.frame.specs.Frame.{Effect, Worked, refusal, done1, call1, done2, call2, counted, modelled, done3, call3, done4, call4, checked}
+use Rattle.frame.specs.Effect.{Effect, Worked, refusal}
+use Rattle.frame.specs.Frame.{done1, call1, done2, call2, counted, modelled, done3, call3, done4, call4, checked}
 
 module _ (share : List Float) (whole : length share ≡ PART) where
   pub call1-done : (samples : List Float) (window : ℕ) → length samples ≡ 480 → window ≡ 960 → good samples ≡ true
@@ -36,10 +32,9 @@ module _ (share : List Float) (whole : length share ≡ PART) where
   unfolding call3
   call3-done hearing spectrum logs model out a b d h = simp (eq-eqb _ _ whole, eq-eqb _ _ a, eq-eqb _ _ b, eq-eqb _ _ d, le-ltb 7 (hearing .index) h)
 
-  pub call4-done : (frame heard : ℕ) (inverse : List Float) (out : ℕ) → length inverse ≡ 960 → out ≡ 480
-      → call4 share frame heard inverse out ≡ done4 share frame heard inverse
+  pub call4-done : (inverse : List Float) (out : ℕ) → length inverse ≡ 960 → out ≡ 480 → call4 share inverse out ≡ done4 share inverse
   unfolding call4
-  call4-done frame heard inverse out a b = simp (eq-eqb _ _ whole, eq-eqb _ _ a, eq-eqb _ _ b)
+  call4-done inverse out a b = simp (eq-eqb _ _ whole, eq-eqb _ _ a, eq-eqb _ _ b)
 
 pub or-true : (a : Bool) → (a || true) ≡ true
 or-true true = refl
@@ -52,16 +47,16 @@ call3-no-out share hearing spectrum logs model = simp or-true
 
 -- ---- what the model decides
 
-module _ (same : Model → Bool) (share : List Float) (held : List (List Float)) (f : Model → Effect) where
+module _ (same : Model → Bool) (share : List Float) (held : List (List Float)) (f : Model → Effect Reply) where
   -- it is refused
   pub modelled-no : (r : Reading) {reply : Reply} → reply ≡ checked same r → passed reply ≡ false → Worked (modelled same r share f) reply share held held
   unfolding checked
-  modelled-no (Unread n l) e p = rw e (record { replies = refl; shares = refl; writes = refl })
+  modelled-no (Unread n l) e p = rw e (record { answers = refl; keeps = refl; writes = refl })
   modelled-no (Good m) {reply} e p = go (same m) e
     where
       go : (t : Bool) → reply ≡ cond t Done (Refused 8) → Worked (cond t (f m) (refusal (Refused 8) share)) reply share held held
       go true h = absurd (true≢false (sym (ap passed h) ∙ p))
-      go false h = rw h (record { replies = refl; shares = refl; writes = refl })
+      go false h = rw h (record { answers = refl; keeps = refl; writes = refl })
 
   -- it reads, and has the counts
   pub modelled-yes : (r : Reading) {reply answer : Reply} {after : List Float} {out : List (List Float)} → reply ≡ checked same r → passed reply ≡ true

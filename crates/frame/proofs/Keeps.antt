@@ -1,39 +1,36 @@
 -- What every call keeps, whatever it is given: the share's length; and, refused, the share. Assumes nothing.
-use Prim.Native.Nat.{ℕ}
+use Rattle.rules.proofs.Common.{ℕ, true, false, true≢false, List, [], _≡_, refl, sym, _∙_, length, Float}
 use native.Mathlib.Omega.{arith}
-use mathlib.Core.Bool.{true, false, true≢false}
-use mathlib.Core.List.{List, []}
 use mathlib.Core.Logic.{inl}
-use mathlib.Core.Path.{_≡_, refl, sym, _∙_}
-use lib.ListN.{length}
-use lib.Ieee.{Float}
 use Rattle.rules.specs.Place.{Place}
 use Rattle.frame.specs.declared.Hearing.{Hearing}
 use Rattle.frame.specs.declared.Reply.{Reply}
 use Rattle.frame.specs.declared.Reply.the-variants.{Silent, Refused, Misread}
+use Rattle.rules.specs.Written.{Written}
+use Rattle.frame.specs.Effect.{Effect}
 use Rattle.frame.specs.Reply.{passed}
 use Rattle.frame.specs.Share.{PART}
 use Rattle.frame.specs.Heard.{spoken}
-use Rattle.frame.specs.Frame.{Effect, done1, call1, done2, call2, heard, call3, done4, call4}
+use Rattle.frame.specs.Frame.{done1, call1, done2, call2, heard, call3, done4, call4}
 use Rattle.frame.proofs.Beside.{Beside, done1-beside, done2-beside, done3-beside, done4-beside}
 use Rattle.frame.proofs.Cases.{call1-by, call2-by, call3-by, call4-by}
 
-pub record Keeps (share : List Float) (f : Effect) : Type 0 where
-  pub size : length (f .share) ≡ length share
-  pub still : passed (f .reply) ≡ false → f .share ≡ share
+pub record Keeps (share : List Float) (f : Effect Reply) : Type 0 where
+  pub size : length (f .kept) ≡ length share
+  pub still : passed (f .answer) ≡ false → f .kept ≡ share
 
 -- behind every field
 abbrev pub end : Place
 end = record { at = PART; size = 0 }
 
 module _ (share : List Float) where
-  pub unmoved : (reply : Reply) (out : List (List Float)) → Keeps share (record { reply = reply; share = share; written = out })
+  pub unmoved : (reply : Reply) (out : List Written) → Keeps share (record { answer = reply; kept = share; written = out })
   unmoved reply out = record { size = refl; still = λ _. refl }
 
-  pub moved : (f : Effect) → passed (f .reply) ≡ true → length share ≡ PART → Beside end share (f .share) → Keeps share f
+  pub moved : (f : Effect Reply) → passed (f .answer) ≡ true → length share ≡ PART → Beside end share (f .kept) → Keeps share f
   moved f e whole b = record { size = b .size ∙ sym whole; still = λ h. absurd (true≢false (sym e ∙ h)) }
 
-  bad : (n : ℕ) → Keeps share (record { reply = Refused n; share = share; written = [] })
+  bad : (n : ℕ) → Keeps share (record { answer = Refused n; kept = share; written = [] })
   bad n = unmoved (Refused n) _
 
   pub call1-keeps : (samples : List Float) (window : ℕ) → Keeps share (call1 share samples window)
@@ -55,7 +52,7 @@ module _ (share : List Float) where
       (done3-beside end share (hearing .index) spectrum logs model m
       (inl (omega arith), (inl (omega arith), (inl (omega arith), (inl (omega arith), (inl (omega arith), tt))))) good whole inside))
 
-  pub call4-keeps : (frame heard : ℕ) (inverse : List Float) (out : ℕ) → Keeps share (call4 share frame heard inverse out)
-  call4-keeps frame heard inverse out =
-      call4-by share (Keeps share) bad frame heard inverse out
-      (λ whole. moved (done4 share frame heard inverse) refl whole (done4-beside end share frame heard inverse (inl (omega arith), tt) whole))
+  pub call4-keeps : (inverse : List Float) (out : ℕ) → Keeps share (call4 share inverse out)
+  call4-keeps inverse out =
+      call4-by share (Keeps share) bad inverse out
+      (λ whole. moved (done4 share inverse) refl whole (done4-beside end share inverse (inl (omega arith), tt) whole))

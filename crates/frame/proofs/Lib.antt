@@ -6,3 +6,4 @@ pub mod Settled
 pub mod Sizes
 pub mod Sounded
 pub mod Spoken
+pub mod Tables

@@ -1,17 +1,10 @@
 -- What the four calls of a frame do to one share: the definitions that the calls of `frame` are held to. A share knows of no side.
-use Prim.Native.Nat.{ℕ, _+_, _-_}
-use mathlib.Core.Bool.{Bool, cond, not, _&&_}
-use mathlib.Core.List.{List, [], _∷_, _++_}
-use mathlib.Core.Path.{_≡_}
-use lib.Dec.{eqb, ltb}
-use lib.IntN.{pos}
-use lib.ListN.{length}
-use lib.Ieee.{Float, binary32, ofInt}
+use Rattle.rules.specs.Common.{ℕ, _+_, _-_, Bool, cond, not, _&&_, List, [], _∷_, _++_, eqb, ltb, length, pos, Float, binary32, ofInt}
 use Rattle.rules.specs.F32.{_⊕_, _⊘_, at, f32}
 use Rattle.rules.specs.Place.{Place, get, put}
-use Rattle.rules.specs.Refusals.{Row, _when_, refusing}
 pub use Rattle.rules.specs.Refusals.{wrong}
 use Rattle.rules.specs.Tab.{tab}
+use Rattle.rules.specs.Written.{all}
 use Rattle.samples.specs.Samples.{good}
 use Rattle.numbers.specs.Filter.{highPass, memoryOf, memoryList, memoryAfter, outputs}
 use Rattle.bands.specs.Windowed.{windowed}
@@ -19,38 +12,15 @@ use Rattle.model.specs.Model.{readOf}
 use Rattle.model.specs.declared.Model.{Model}
 use Rattle.model.specs.declared.Reading.{Reading}
 use Rattle.model.specs.declared.Reading.the-variants.{Good, Refused as Unread}
-use Rattle.features.specs.Silence.{energy, soundOf}
-use Rattle.features.specs.declared.Sound.{Sound}
-use Rattle.features.specs.declared.Sound.the-variants.{Silent as Quiet, Heard as Loud, Refused as Unfit}
-use Rattle.frame.specs.Reply.{left, oneMore}
+use Rattle.features.specs.Silence.{energy, isSilent}
+use Rattle.frame.specs.Effect.{Effect, refusal, unless}
+use Rattle.frame.specs.Reply.{_when_}
 pub use Rattle.frame.specs.Share.{PART}
 use Rattle.frame.specs.Share.{inputMem, synthesisMem, keptX, keptEx, keptLag, memHpX}
 use Rattle.frame.specs.Heard.{scaled, energies, Spoken, spoken}
 use Rattle.frame.specs.declared.Hearing.{Hearing}
 use Rattle.frame.specs.declared.Reply.{Reply}
-use Rattle.frame.specs.declared.Reply.the-variants.{Done, Silent, Heard, Numbered, Refused, Misread}
-
--- ---- what a call gives
-
--- the reply, the share afterwards, and what is written: a list for each answer buffer, in order
-pub record Effect : Type 0 where
-  pub reply : Reply
-  pub share : List Float
-  pub written : List (List Float)
-
--- a refusal changes nothing and writes nothing
-abbrev pub refusal : Reply → List Float → Effect
-refusal reply share = record { reply = reply; share = share; written = [] }
-
--- the first refusal of a table, or f
-abbrev pub unless : List Row → List Float → Effect → Effect
-unless rows share f = refusing rows (λ n. refusal (Refused n) share) f
-
--- what a contract says of a call: its reply, the share, and the answer buffers, which a refusal leaves as they were held
-pub record Worked (f : Effect) (reply : Reply) (share : List Float) (held out : List (List Float)) : Type 0 where
-  pub replies : reply ≡ f .reply
-  pub shares : share ≡ f .share
-  pub writes : out ≡ left (f .reply) held (f .written)
+use Rattle.frame.specs.declared.Reply.the-variants.{Done, Silent, Heard, Refused, Misread}
 
 -- ---- call 1, from `shift_and_filter_input` and `transform_input` of features.rs
 
@@ -63,18 +33,18 @@ abbrev pub recent : ℕ → Place
 recent lag = record { at = 768 - lag; size = 960 }
 
 -- what call 1 does, unless it is refused; done2 to done4 likewise
-abbrev pub done1 : List Float → List Float → Effect
+abbrev pub done1 : List Float → List Float → Effect Reply
 done1 share samples =
     let memory = memoryOf (get memHpX share) in
     let mem = shifted (get inputMem share) (outputs highPass memory samples) in
     record {
-      reply = Done;
-      share = put memHpX (put inputMem share mem) (memoryList (memoryAfter highPass memory samples));
-      written = windowed (get (recent 0) mem) ∷ [];
+      answer = Done;
+      kept = put memHpX (put inputMem share mem) (memoryList (memoryAfter highPass memory samples));
+      written = all (windowed (get (recent 0) mem)) ∷ [];
     }
 
 -- of an answer buffer, here `window`, a call is told the length
-unfoldable pub call1 : List Float → List Float → ℕ → Effect
+unfoldable pub call1 : List Float → List Float → ℕ → Effect Reply
 call1 share samples window =
     unless
     (5 when wrong ((length share, PART) ∷ (length samples, 480) ∷ (window, 960) ∷ []) ∷ 9 when not (good samples) ∷ []) share
@@ -91,15 +61,15 @@ unfoldable pub putKept : List Float → List Float → ℕ → List Float
 putKept share spectrum lag =
     put keptLag (put keptEx (put keptX share (scaled spectrum)) (energies spectrum)) (ofInt binary32 (pos lag) ∷ [])
 
-abbrev pub done2 : List Float → List Float → ℕ → Effect
+abbrev pub done2 : List Float → List Float → ℕ → Effect Reply
 done2 share spectrum lag =
     record {
-      reply = Done;
-      share = putKept share spectrum lag;
-      written = windowed (get (recent lag) (get inputMem share)) ∷ plusHundredth (energies spectrum) ∷ [];
+      answer = Done;
+      kept = putKept share spectrum lag;
+      written = all (windowed (get (recent lag) (get inputMem share))) ∷ all (plusHundredth (energies spectrum)) ∷ [];
     }
 
-unfoldable pub call2 : List Float → List Float → ℕ → ℕ → ℕ → Effect
+unfoldable pub call2 : List Float → List Float → ℕ → ℕ → ℕ → Effect Reply
 call2 share spectrum lag window sums =
     unless
     (5 when wrong ((length share, PART) ∷ (length spectrum, 961) ∷ (window, 960) ∷ (sums, 22) ∷ []) ∷ 6 when ltb 768 lag ∷ []) share
@@ -108,20 +78,16 @@ call2 share spectrum lag window sums =
 -- ---- call 3, from `compute_frame_features` and `process_frame` of denoise.rs
 
 -- a silent frame writes the first spectrum, and changes nothing
-abbrev pub silent : List Float → Effect
-silent share = record { reply = Silent; share = share; written = get keptX share ∷ [] }
+abbrev pub silent : List Float → Effect Reply
+silent share = record { answer = Silent; kept = share; written = all (get keptX share) ∷ [] }
 
-abbrev pub heard : Float → Spoken → Effect
-heard e s = record { reply = Heard (s .voice) e; share = s .share; written = s .spectrum ∷ [] }
+abbrev pub heard : Float → Spoken → Effect Reply
+heard e s = record { answer = Heard (s .voice) e; kept = s .share; written = all (s .spectrum) ∷ [] }
 
--- by the sum of the band energies: if e < 0.04
-abbrev pub sounded : Sound → List Float → Spoken → Effect
-sounded Quiet share s = silent share
-sounded (Loud e) share s = heard e s
-sounded (Unfit n) share s = refusal (Refused n) share
-
-unfoldable pub done3 : List Float → ℕ → List Float → List Float → List ℕ → Model → Effect
-done3 share index spectrum logs bytes m = sounded (soundOf (energy (get keptEx share))) share (spoken share index spectrum logs bytes m)
+-- by the sum of the band energies
+unfoldable pub done3 : List Float → ℕ → List Float → List Float → List ℕ → Model → Effect Reply
+done3 share index spectrum logs bytes m =
+    let e = energy (get keptEx share) in cond (isSilent e) (silent share) (heard e (spoken share index spectrum logs bytes m))
 
 -- whether the model has the opening's counts
 abbrev pub counted : Hearing → Model → Bool
@@ -135,11 +101,11 @@ checked same (Unread n l) = Misread n l
 checked same (Good m) = cond (same m) Done (Refused 8)
 
 -- on with what the model makes of the frame, unless it is refused with 7, its number and its layer, or its counts are with 8
-abbrev pub modelled : (Model → Bool) → Reading → List Float → (Model → Effect) → Effect
+abbrev pub modelled : (Model → Bool) → Reading → List Float → (Model → Effect Reply) → Effect Reply
 modelled same (Unread n l) share f = refusal (Misread n l) share
 modelled same (Good m) share f = cond (same m) (f m) (refusal (Refused 8) share)
 
-unfoldable pub call3 : List Float → Hearing → List Float → List Float → List ℕ → ℕ → Effect
+unfoldable pub call3 : List Float → Hearing → List Float → List Float → List ℕ → ℕ → Effect Reply
 call3 share hearing spectrum logs model out =
     unless
     (5 when wrong ((length share, PART) ∷ (length spectrum, 961) ∷ (length logs, 22) ∷ (out, 961) ∷ []) ∷ 5 when ltb 7 (hearing .index) ∷ []) share
@@ -159,17 +125,15 @@ overlapped buf mem = tab 480 (λ i. at buf i ⊕ at mem i)
 unfoldable pub laterHalf : List Float → List Float
 laterHalf buf = tab 480 (λ i. at buf (480 + i))
 
--- the numbers of frames and of heard frames are answered as they then stand: request 07
-abbrev pub done4 : List Float → ℕ → ℕ → List Float → Effect
-done4 share frame heard inverse =
+abbrev pub done4 : List Float → List Float → Effect Reply
+done4 share inverse =
     let buf = windowBuf inverse in
     record {
-      reply = Numbered (oneMore frame) heard;
-      share = put synthesisMem share (laterHalf buf);
-      written = overlapped buf (get synthesisMem share) ∷ [];
+      answer = Done;
+      kept = put synthesisMem share (laterHalf buf);
+      written = all (overlapped buf (get synthesisMem share)) ∷ [];
     }
 
-unfoldable pub call4 : List Float → ℕ → ℕ → List Float → ℕ → Effect
-call4 share frame heard inverse out =
-    unless (5 when wrong ((length share, PART) ∷ (length inverse, 960) ∷ (out, 480) ∷ []) ∷ []) share
-    (done4 share frame heard inverse)
+unfoldable pub call4 : List Float → List Float → ℕ → Effect Reply
+call4 share inverse out =
+    unless (5 when wrong ((length share, PART) ∷ (length inverse, 960) ∷ (out, 480) ∷ []) ∷ []) share (done4 share inverse)

@@ -1,8 +1,6 @@
 -- A heard frame, stage by stage, from `compute_frame_features` of features.rs and `process_frame` of denoise.rs. A stage takes the
 -- share as the stage before it left it.
-use Prim.Native.Nat.{ℕ}
-use mathlib.Core.List.{List}
-use lib.Ieee.{Float}
+use Rattle.rules.specs.Common.{ℕ, List, Float}
 use Rattle.rules.specs.F32.{_⊗_, at}
 use Rattle.rules.specs.Place.{get, put}
 use Rattle.rules.specs.Tab.{tab}

@@ -1,9 +1,5 @@
 -- For the parts of the code: what a function leaves, as one value of the stage's definition.
-use Prim.Native.Nat.{ℕ}
-use mathlib.Core.Bool.{Bool, true, false}
-use mathlib.Core.List.{List}
-use mathlib.Core.Path.{_≡_}
-use lib.Ieee.{Float}
+use Rattle.rules.specs.Common.{ℕ, Bool, true, false, List, _≡_, Float}
 use Rattle.model.specs.Model.{readOf}
 use Rattle.model.specs.declared.Model.{Model}
 use Rattle.model.specs.declared.Reading.the-variants.{Good}

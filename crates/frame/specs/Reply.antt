@@ -1,9 +1,5 @@
 -- What the replies mean.
-use Prim.Native.Nat.{ℕ, _+_}
-use mathlib.Core.Bool.{Bool, true, false, cond}
-use mathlib.Core.List.{List}
-use lib.Dec.{ltb}
-use lib.Ieee.{Float}
+use Rattle.rules.specs.Common.{ℕ, _+_, Bool, true, false, cond, List, [], _∷_, ltb}
 use Rattle.frame.specs.declared.Reply.{Reply}
 use Rattle.frame.specs.declared.Reply.the-variants.{Done, Silent, Heard, Numbered, Refused, Misread}
 
@@ -29,6 +25,12 @@ isHeard (Misread n l) = false
 abbrev pub oneMore : ℕ → ℕ
 oneMore number = cond (ltb number 4294967295) (number + 1) 0
 
--- what the answer buffers hold afterwards, in order: what the call wrote, or, refused, what they held
-abbrev pub left : Reply → List (List Float) → List (List Float) → List (List Float)
-left reply held written = cond (passed reply) written held
+-- a table of refusals, tried in order: each row is a reply, and refuses or not. A row of a number and the test at which it is given
+infix 70 _when_
+abbrev pub _when_ : ℕ → Bool → Reply
+n when t = cond t (Refused n) Done
+
+-- the first refusal, or Done
+abbrev pub firstRefusal : List Reply → Reply
+firstRefusal [] = Done
+firstRefusal (row ∷ rows) = cond (passed row) (firstRefusal rows) row

@@ -1,6 +1,6 @@
 -- A share: 6,144 numbers, what the calls of one bench remember. The first 3,778 are a frame's, and no more is lent to its calls: their
 -- fields, place by place.
-use Prim.Native.Nat.{ℕ}
+use Rattle.rules.specs.Common.{ℕ}
 use Rattle.rules.specs.Place.{Place}
 
 abbrev pub SHARE : ℕ

@@ -8,9 +8,10 @@ ghost use Rattle.rules.specs.Place.{get, put};
 ghost use Rattle.bands.specs.Bands.{bandGain};
 ghost use Rattle.model.specs.Model.{readOf};
 ghost use Rattle.features.specs.Pitch.{pitchFiltered, applied};
-ghost use Rattle.frame.specs.Share.{keptX, keptEx, lastg, vadState, noiseState, denoiseState};
+ghost use Rattle.frame.specs.Share.{keptX, keptEx, lastg};
 ghost use Rattle.frame.specs.Heard.{energies, featured, rnnOf, heldGains, spokenFrom, spoken};
-ghost use Rattle.frame.specs.Frame.{Worked, done3, counted, checked};
+ghost use Rattle.frame.specs.Effect.{Worked};
+ghost use Rattle.frame.specs.Frame.{done3, counted, checked};
 ghost use Rattle.frame.specs.Parts.{Reads, featuredAs, rnnAs, spokenAs, quiet, replyOf};
 use crate::Hearing;
 use crate::Reply;
@@ -77,54 +78,7 @@ fn sense(
     );
 }
 
-// The three states, out of the share.
-fn take_states(vad: &mut [f32], noise: &mut [f32], denoise: &mut [f32], share: &[f32])
-    requires { ⌜ (length (now share) ≡ 3778) × (length (now vad) ≡ 128) × (length (now noise) ≡ 128) × (length (now denoise) ≡ 128) ⌝ }
-    ensures { λ _. ⌜ now (vad .exit) ≡ get vadState (now (share .entry)) ⌝ }
-    ensures { λ _. ⌜ now (noise .exit) ≡ get noiseState (now (share .entry)) ⌝ }
-    ensures { λ _. ⌜ now (denoise .exit) ≡ get denoiseState (now (share .entry)) ⌝ }
-{
-    rules::copy(vad, &share[3392..3520]);
-    rules::copy(noise, &share[3520..3648]);
-    rules::copy(denoise, &share[3648..3776]);
-}
-
-// The three states, into the share.
-fn put_states(share: &mut [f32], vad: &[f32], noise: &[f32], denoise: &[f32])
-    requires { ⌜ (length (now share) ≡ 3778) × (length (now vad) ≡ 128) × (length (now noise) ≡ 128) × (length (now denoise) ≡ 128) ⌝ }
-    ensures { λ _. ⌜ now (share .exit)
-        ≡ put denoiseState (put noiseState (put vadState (now (share .entry)) (now (vad .entry))) (now (noise .entry)))
-        (now (denoise .entry)) ⌝ }
-{
-    rules::copy(&mut share[3392..3520], vad);
-    rules::copy(&mut share[3520..3648], noise);
-    rules::copy(&mut share[3648..3776], denoise);
-}
-
-fn think_in(
-    share: &mut [f32],
-    gains: &mut [f32],
-    voice: &mut [f32],
-    vad: &mut [f32],
-    noise: &mut [f32],
-    denoise: &mut [f32],
-    model: &[u8],
-    features: &[f32],
-) -> f32
-    requires { ⌜ (length (now share) ≡ 3778) × (length (now gains) ≡ 22) × (length (now voice) ≡ 1) × (length (now features) ≡ 42) ⌝ }
-    requires { ⌜ (length (now vad) ≡ 128) × (length (now noise) ≡ 128) × (length (now denoise) ≡ 128) ⌝ }
-    ensures { λ r. ⌜ Reads (now (model .entry))
-        (λ m. rnnAs (now (share .exit)) (now (gains .exit)) r
-        ≡ rnnOf (now (share .entry)) (now (features .entry)) (now (model .entry)) m) ⌝ }
-{
-    take_states(vad, noise, denoise, share);
-    network::compute(gains, voice, vad, noise, denoise, model, features);
-    put_states(share, vad, noise, denoise);
-    voice[0]
-}
-
-// The network, over the states in the share: the gains, and the voice. Three parts of one slice can't be lent at once, so the states
-// are copied.
+// The network, over the states in the share: the gains, and the voice.
 fn think(share: &mut [f32], gains: &mut [f32], model: &[u8], features: &[f32]) -> f32
     requires { ⌜ (length (now share) ≡ 3778) × (length (now gains) ≡ 22) × (length (now features) ≡ 42) ⌝ }
     ensures { λ r. ⌜ Reads (now (model .entry))
@@ -132,19 +86,8 @@ fn think(share: &mut [f32], gains: &mut [f32], model: &[u8], features: &[f32]) -
         ≡ rnnOf (now (share .entry)) (now (features .entry)) (now (model .entry)) m) ⌝ }
 {
     let mut voice = [0.0f32; 1];
-    let mut vad = [0.0f32; 128];
-    let mut noise = [0.0f32; 128];
-    let mut denoise = [0.0f32; 128];
-    think_in(
-        share,
-        gains,
-        &mut voice,
-        &mut vad,
-        &mut noise,
-        &mut denoise,
-        model,
-        features,
-    )
+    network::compute_on(gains, &mut voice, &mut share[3392..3776], model, features);
+    voice[0]
 }
 
 fn apply_in(out: &mut [f32], gf: &mut [f32], gains: &[f32])

@@ -9,6 +9,7 @@ ghost use Rattle.rules.specs.Place.{put};
 ghost use Rattle.frame.specs.Share.{keptX, keptEx, keptLag};
 ghost use Rattle.frame.specs.Heard.{scaled, energies};
 ghost use Rattle.frame.specs.Frame.{plusHundredth, putKept};
+use crate::Lag;
 
 // out is the spectrum, each number times `wnorm`.
 fn scale(out: &mut [f32], spectrum: &[f32])
@@ -51,19 +52,19 @@ fn analyse(share: &mut [f32], spectrum: &[f32], ex: &mut [f32])
 }
 
 // The share keeps the band energies and the lag.
-fn keep(share: &mut [f32], ex: &[f32], lag: usize)
-    requires { ⌜ (length (now share) ≡ 3778) × (length (now ex) ≡ 22) × (lag ≤ 768) ⌝ }
+fn keep(share: &mut [f32], ex: &[f32], lag: Lag)
+    requires { ⌜ (length (now share) ≡ 3778) × (length (now ex) ≡ 22) × (lag .0 ≤ 768) ⌝ }
     ensures { λ _. ⌜ now (share .exit)
-        ≡ put keptLag (put keptEx (now (share .entry)) (now (ex .entry))) (ofInt binary32 (pos lag) ∷ []) ⌝ }
+        ≡ put keptLag (put keptEx (now (share .entry)) (now (ex .entry))) (ofInt binary32 (pos (lag .0)) ∷ []) ⌝ }
 {
     rules::copy(&mut share[3169..3191], ex);
-    share[3191] = lag as f32;
+    share[3191] = lag.0 as f32;
 }
 
 // What call 2 does once its window is written.
-pub(crate) fn note(share: &mut [f32], spectrum: &[f32], lag: usize, sums: &mut [f32])
-    requires { ⌜ (length (now share) ≡ 3778) × (length (now spectrum) ≡ 961) × (length (now sums) ≡ 22) × (lag ≤ 768) ⌝ }
-    ensures { λ _. ⌜ now (share .exit) ≡ putKept (now (share .entry)) (now (spectrum .entry)) lag ⌝ }
+pub(crate) fn note(share: &mut [f32], spectrum: &[f32], lag: Lag, sums: &mut [f32])
+    requires { ⌜ (length (now share) ≡ 3778) × (length (now spectrum) ≡ 961) × (length (now sums) ≡ 22) × (lag .0 ≤ 768) ⌝ }
+    ensures { λ _. ⌜ now (share .exit) ≡ putKept (now (share .entry)) (now (spectrum .entry)) (lag .0) ⌝ }
     ensures { λ _. ⌜ now (sums .exit) ≡ plusHundredth (energies (now (spectrum .entry))) ⌝ }
 {
     analyse(share, spectrum, sums);

@@ -2,7 +2,8 @@
 ghost use mathlib.Core.Path.{_≡_};
 ghost use mathlib.Core.List.{[], _∷_};
 ghost use lib.ListN.{length};
-ghost use Rattle.frame.specs.Frame.{Worked, call1, call2, call3, call4};
+ghost use Rattle.frame.specs.Effect.{Worked};
+ghost use Rattle.frame.specs.Frame.{call1, call2, call3, call4};
 ghost use Rattle.frame.specs.Reply.{passed, oneMore};
 
 mod heard;
@@ -13,7 +14,7 @@ mod output;
 pub use heard::check;
 use numbers::Memory;
 
-// What a call is told: done, for call 3 silent or heard with voice and energy, for call 4 the frames and the heard frames so far;
+// What a call is told: done, for call 3 silent or heard with voice and energy, for a desk's call 4 the frames and the heard frames so far;
 // refused with a number, or with 7 and the model's number and layer.
 pub enum Reply {
     Done,
@@ -129,7 +130,7 @@ pub fn call2(
     let back = lag.0;
     let from = 768 - back;
     bands::apply_window(window, &share[from..from + 960]);
-    lagged::note(share, spectrum, back, sums);
+    lagged::note(share, spectrum, Lag(back), sums);
     Reply::Done
 }
 
@@ -170,10 +171,9 @@ pub fn call3(
     heard::listen(share, out, hearing.index, spectrum, logs, model)
 }
 
-// Call 4: 960 inverse samples in, 480 numbers written. Of the record it is told how many frames and heard frames there were; it
-// answers with both as they then stand.
-pub fn call4(share: &mut [f32], frame: u32, heard: u32, inverse: &[f32], out: &mut [f32]) -> Reply
-    ensures { λ r. ⌜ Worked (call4 (now (share .entry)) frame heard (now (inverse .entry)) (length (now (out .entry))))
+// Call 4: 960 inverse samples in, 480 numbers written.
+pub fn call4(share: &mut [f32], inverse: &[f32], out: &mut [f32]) -> Reply
+    ensures { λ r. ⌜ Worked (call4 (now (share .entry)) (now (inverse .entry)) (length (now (out .entry))))
         r (now (share .exit)) (now (out .entry) ∷ []) (now (out .exit) ∷ []) ⌝ }
 {
     if share.len() != PART {
@@ -186,5 +186,5 @@ pub fn call4(share: &mut [f32], frame: u32, heard: u32, inverse: &[f32], out: &m
         return Reply::Refused(5);
     }
     output::synthesise(&mut share[1728..2208], inverse, out);
-    Reply::Numbered(one_more(frame), heard)
+    Reply::Done
 }

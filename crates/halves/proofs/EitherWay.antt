@@ -1,16 +1,12 @@
 -- What both ways have in common: a lag that call 2 takes (`lag-fits`), the lengths of a spectrum and of its samples, and that the finder's two numbers
 -- alone are written (`remembered-beside`). Assumes nothing.
-use Prim.Native.Nat.{ℕ, _≤_}
+use Rattle.rules.proofs.Common.{ℕ, _≤_, List, _≡_, refl, length, Float}
 use native.Mathlib.Omega.{arith}
-use mathlib.Core.List.{List}
 use mathlib.Core.Logic.{inl}
-use mathlib.Core.Path.{_≡_, refl}
-use lib.ListN.{length}
-use lib.Ieee.{Float}
 use Rattle.rules.specs.F32.{at}
 use Rattle.rules.specs.Place.{Place, get}
 use Rattle.rules.proofs.Places.{Apart}
-use Rattle.rules.proofs.Tabs.{length-tab}
+use Rattle.rules.proofs.Lists.{length-tab}
 use Rattle.lag.proofs.Ranges.{in-range}
 use Rattle.finder.proofs.Ranges.{period-in-range}
 use Rattle.transforms.specs.Transform.{forwardOf, inverseOf}

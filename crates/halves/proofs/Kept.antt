@@ -1,12 +1,8 @@
 -- What the halves keep, as the calls do: a share's length, and refused all of it; and every place that lies apart from the written ones.
 -- Assumes nothing.
-use Prim.Native.Nat.{ℕ}
+use Rattle.rules.proofs.Common.{ℕ, List, [], _∷_, _≡_, refl, length, Float}
 use native.Mathlib.Omega.{arith}
-use mathlib.Core.List.{List, [], _∷_}
 use mathlib.Core.Logic.{inl}
-use mathlib.Core.Path.{_≡_, refl}
-use lib.ListN.{length}
-use lib.Ieee.{Float}
 use Rattle.rules.specs.Place.{Place, get}
 use Rattle.frame.specs.declared.Hearing.{Hearing}
 use Rattle.frame.specs.declared.Reply.{Reply}
@@ -14,11 +10,13 @@ use Rattle.frame.specs.declared.Reply.the-variants.{Silent, Heard, Refused, Mis
 use Rattle.frame.specs.declared.Way.{Way}
 use Rattle.frame.specs.Share.{PART, inputMem, synthesisMem, keptX, keptEx, keptLag, memHpX, finderMem}
 use Rattle.frame.specs.Heard.{spoken}
-use Rattle.frame.specs.Frame.{refusal, done1}
+use Rattle.rules.specs.Written.{firstIn}
+use Rattle.frame.specs.Effect.{refusal}
+use Rattle.frame.specs.Frame.{done1}
 use Rattle.frame.proofs.Beside.{Beside, AllApart, then, done1-beside, done2-beside, done3-beside, done4-beside}
 use Rattle.frame.proofs.Keeps.{Keeps, end, unmoved, moved}
 use Rattle.halves.specs.Ways.{lagBy, remembered, forwardBy, inverseBy}
-use Rattle.halves.specs.Halves.{buffer, lookedBack, firstHalf, secondHalf}
+use Rattle.halves.specs.Halves.{lookedBack, firstHalf, secondHalf}
 use Rattle.halves.proofs.Cases.{doneFirst, doneSecond, first-half-by, second-half-by}
 use Rattle.halves.proofs.EitherWay.{remembered-beside}
 
@@ -26,18 +24,18 @@ use Rattle.halves.proofs.EitherWay.{remembered-beside}
 
 module _ (q : Place) where
   pub done-first-beside : (share : List Float) (way : Way) (samples : List Float) → AllApart (inputMem ∷ memHpX ∷ keptX ∷ keptEx ∷ keptLag ∷ finderMem ∷ []) q
-      → length share ≡ PART → length samples ≡ 480 → Beside q share (doneFirst share way samples .share)
+      → length share ≡ PART → length samples ≡ 480 → Beside q share (doneFirst share way samples .kept)
   done-first-beside share way samples apart whole l =
       let a = done1 share samples in
       let one = done1-beside q share samples (apart .0, (apart .1 .0, tt)) whole l in
       let kept = apart .1 .1 in
-      let two = then q one (remembered-beside q (a .share) way (kept .1 .1 .1 .0) (one .size)) in
-      then q two (done2-beside q (remembered way (a .share)) (forwardBy way (buffer a)) (lagBy way (a .share)) (kept .0, (kept .1 .0, (kept .1 .1 .0, tt))) (two .size))
+      let two = then q one (remembered-beside q (a .kept) way (kept .1 .1 .1 .0) (one .size)) in
+      then q two (done2-beside q (remembered way (a .kept)) (forwardBy way (firstIn (a .written))) (lagBy way (a .kept)) (kept .0, (kept .1 .0, (kept .1 .1 .0, tt))) (two .size))
 
   pub done-second-beside : (reply : Reply) (share after : List Float) (way : Way) (spectrum : List Float) → AllApart (synthesisMem ∷ []) q → Beside q share after
-      → Beside q share (doneSecond reply after way spectrum .share)
+      → Beside q share (doneSecond reply after way spectrum .kept)
   done-second-beside reply share after way spectrum apart b =
-      then q b (done4-beside q after 0 0 (inverseBy way spectrum) apart (b .size))
+      then q b (done4-beside q after (inverseBy way spectrum) apart (b .size))
 
 -- ---- lengths, and what a refusal leaves
 

@@ -1,36 +1,32 @@
 -- The window of the lag that stands in a share: behind a call 2, whoever made it, the second half looks at that call's window. Assumes nothing.
-use Prim.Native.Nat.{ℕ, _+_, _-_, _≤_}
+use Rattle.rules.proofs.Common.{ℕ, _+_, _-_, _≤_, List, [], _∷_, _≡_, refl, _∙_, ltb, length, take, drop, pos, Float, binary32, ofInt}
 use native.Mathlib.Omega.{arith}
-use mathlib.Core.Bool.{true, false≢true}
-use mathlib.Core.List.{List, [], _∷_}
 use mathlib.Core.Logic.{inr}
-use mathlib.Core.Path.{_≡_, refl, _∙_}
 use borrow.Author.Tests.{ltb-false}
-use lib.Dec.{ltb}
-use lib.IntN.{pos}
-use lib.ListN.{length, take, drop}
-use lib.Ieee.{Float, binary32, ofInt}
 use Rattle.rules.specs.F32.{at}
 use Rattle.rules.specs.Place.{get, put}
-use Rattle.rules.specs.Refusals.{_when_, wrong}
-use Rattle.rules.proofs.Refused.{by-rows, right}
+use Rattle.rules.specs.Refusals.{wrong}
+use Rattle.rules.specs.Written.{firstIn}
+use Rattle.rules.proofs.Refusals.{right}
 use Rattle.rules.proofs.Places.{get-put, length-put}
-use Rattle.rules.proofs.Tabs.{length-tab}
+use Rattle.rules.proofs.Lists.{length-tab}
 use Rattle.bands.specs.Windowed.{windowed}
 use Rattle.bands.proofs.Results.{length-corr}
 use Rattle.lag.specs.Lag.{ownLag}
 use Rattle.finder.specs.Kept.{wholeLag}
 use Rattle.finder.proofs.Lags.{lag-small, lag-back}
-use Rattle.frame.specs.declared.Reply.the-variants.{Refused}
-use Rattle.frame.specs.Reply.{passed}
+use Rattle.frame.specs.declared.Reply.{Reply}
+use Rattle.frame.specs.Effect.{Effect}
+use Rattle.frame.specs.Reply.{_when_}
 use Rattle.frame.specs.Share.{PART, inputMem, keptX, keptEx, keptLag}
 use Rattle.frame.specs.Heard.{scaled, energies}
-use Rattle.frame.specs.Frame.{refusal, recent, putKept, done2, call2}
+use Rattle.frame.specs.Frame.{recent, putKept, done2, call2}
 use Rattle.frame.proofs.Beside.{done2-beside}
+use Rattle.frame.proofs.Tables.{not-when, by-accepted}
 use Rattle.frame.proofs.Sizes.{lag-at, looked-at}
 use Rattle.halves.specs.Own.{call2Own}
 use Rattle.halves.specs.Laws.{SameWindow, OwnWindow}
-use Rattle.halves.specs.Halves.{buffer, lookedBack}
+use Rattle.halves.specs.Halves.{lookedBack}
 
 -- call 2's window
 pub looked-back : (share : List Float) {lag : ℕ} → length share ≡ PART → lag ≡ wholeLag (at share 3191)
@@ -58,9 +54,8 @@ looks-at share spectrum lag whole small =
 pub same-window : SameWindow
 unfolding call2
 same-window share spectrum lag window sums =
-    by-rows (λ n. refusal (Refused n) share) (done2 share spectrum lag) (λ f. passed (f .reply) ≡ true → lookedBack (f .share) ≡ buffer f)
-    (5 when wrong lengths ∷ 6 when ltb 768 lag ∷ []) (λ n e. absurd (false≢true e))
-    (λ c _. looks-at share spectrum lag (right lengths (c .0) .0) (ltb-false 768 lag (c .1 .0)))
+    by-accepted share (done2 share spectrum lag) (λ (f : Effect Reply). lookedBack (f .kept) ≡ firstIn (f .written)) (5 when wrong lengths ∷ 6 when ltb 768 lag ∷ [])
+    (λ c _. looks-at share spectrum lag (right lengths (not-when 5 (wrong lengths) (c .0)) .0) (ltb-false 768 lag (not-when 6 (ltb 768 lag) (c .1 .0))))
   where
     lengths : List (ℕ × ℕ)
     lengths = (length share, PART) ∷ (length spectrum, 961) ∷ (window, 960) ∷ (sums, 22) ∷ []

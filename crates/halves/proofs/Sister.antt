@@ -1,21 +1,18 @@
 -- The sister of call 2 is call 2 with the lag that is found: what holds of call 2 with any lag holds of it. Assumes nothing.
-use Prim.Native.Nat.{ℕ}
-use mathlib.Core.List.{List, [], _∷_}
-use mathlib.Core.Path.{_≡_, ap, _∙_}
+use Rattle.rules.proofs.Common.{ℕ, List, [], _∷_, _≡_, ap, _∙_, length, Float}
 use native.Mathlib.Omega.{arith}
 use borrow.Author.Tests.{le-ltb}
-use lib.Ieee.{Float}
-use lib.ListN.{length}
 use Rattle.rules.specs.Leaf.{Leaf}
 use Rattle.rules.specs.Place.{get}
-use Rattle.rules.specs.Refusals.{_when_}
-use Rattle.rules.proofs.Leaves.{fitting}
+use Rattle.rules.proofs.Refusals.{fitting}
 use Rattle.rules.proofs.Places.{length-get}
 use Rattle.lag.specs.Lag.{ownLag, lagIn}
 use Rattle.lag.specs.declared.OwnLag.{OwnLag}
 use Rattle.lag.proofs.Ranges.{in-range}
 use Rattle.frame.specs.Share.{PART, inputMem}
-use Rattle.frame.specs.Frame.{Effect, Worked, refusal, wrong, unless, done2, call2}
+use Rattle.frame.specs.Effect.{Effect, Worked, refusal, unless}
+use Rattle.frame.specs.Reply.{_when_}
+use Rattle.frame.specs.Frame.{wrong, done2, call2}
 use Rattle.frame.specs.declared.Reply.{Reply}
 use Rattle.frame.specs.declared.Reply.the-variants.{Refused}
 use Rattle.frame.proofs.Cases.{call2-by}
@@ -31,7 +28,7 @@ module _ (share : List Float) where
   pub found : {answer : OwnLag} {lag : ℕ} → length share ≡ PART → Leaf (length mem ≡ 1728) answer (OwnLag.Lag (ownLag mem)) (OwnLag.Refused 5) → lag ≡ lagIn answer → lag ≡ ownLag mem
   found whole leaf e = e ∙ ap lagIn (fitting leaf (length-get inputMem share (omega arith)))
 
-  pub call2-own-by : (P : Effect → Type 0) → ((n : ℕ) → P (refusal (Refused n) share)) → (spectrum : List Float) (window sums : ℕ)
+  pub call2-own-by : (P : Effect Reply → Type 0) → ((n : ℕ) → P (refusal (Refused n) share)) → (spectrum : List Float) (window sums : ℕ)
       → (length share ≡ PART → P (done2 share spectrum (ownLag mem))) → P (call2Own share spectrum window sums)
   unfolding call2Own
   call2-own-by P bad spectrum window sums h = call2-by share P bad spectrum (ownLag mem) window sums h

@@ -1,24 +1,21 @@
 -- What is claimed of the calls that are made of others, over one share. The proofs are in proofs/Sister, proofs/Lagged and proofs/Joined.
-use Prim.Native.Nat.{ℕ}
-use mathlib.Core.Bool.{true}
-use mathlib.Core.List.{List, [], _∷_}
-use mathlib.Core.Path.{_≡_}
-use lib.ListN.{length, drop}
-use lib.Ieee.{Float}
+use Rattle.rules.specs.Common.{ℕ, true, List, [], _∷_, _≡_, length, drop, Float}
 use Rattle.rules.specs.Place.{get}
-use Rattle.rules.specs.Refusals.{_when_, wrong}
+use Rattle.rules.specs.Refusals.{wrong}
+use Rattle.rules.specs.Written.{Written, firstIn}
 use Rattle.lag.specs.Lag.{ownLag}
 use Rattle.transforms.specs.Transform.{forwardOf, inverseOf}
 use Rattle.frame.specs.declared.Hearing.{Hearing}
 use Rattle.frame.specs.declared.Reply.{Reply}
 use Rattle.frame.specs.declared.Way.{Way}
 use Rattle.frame.specs.declared.Way.the-variants.{Asked}
-use Rattle.frame.specs.Reply.{passed}
+use Rattle.frame.specs.Effect.{Effect, unless}
+use Rattle.frame.specs.Reply.{passed, _when_}
 use Rattle.frame.specs.Share.{PART, inputMem}
-use Rattle.frame.specs.Frame.{Effect, unless, call1, done2, call2, call3, call4}
+use Rattle.frame.specs.Frame.{call1, done2, call2, call3, call4}
 use Rattle.halves.specs.Own.{call2Own}
 use Rattle.halves.specs.Ways.{lagBy, remembered, forwardBy, inverseBy}
-use Rattle.halves.specs.Halves.{buffer, firstHalf, lookedBack, secondHalf}
+use Rattle.halves.specs.Halves.{firstHalf, lookedBack, secondHalf}
 
 -- the sister keeps call 2's refusals, of which 6 is never due (request 04): 5 for a wrong length, or done with our own lag
 abbrev pub SisterByFive : Type 0
@@ -32,19 +29,19 @@ SisterByFive =
 abbrev pub SameWindow : Type 0
 SameWindow =
     (share spectrum : List Float) (lag window sums : ℕ)
-    → let b = call2 share spectrum lag window sums in passed (b .reply) ≡ true → lookedBack (b .share) ≡ buffer b
+    → let b = call2 share spectrum lag window sums in passed (b .answer) ≡ true → lookedBack (b .kept) ≡ firstIn (b .written)
 
 abbrev pub OwnWindow : Type 0
 OwnWindow =
     (share spectrum : List Float) (window sums : ℕ)
-    → let b = call2Own share spectrum window sums in passed (b .reply) ≡ true → lookedBack (b .share) ≡ buffer b
+    → let b = call2Own share spectrum window sums in passed (b .answer) ≡ true → lookedBack (b .kept) ≡ firstIn (b .written)
 
 -- a half that is the calls a and b: both are done, it leaves b's share, and this is its reply and what it writes
-pub record Both (a b half : Effect) (reply : Reply) (written : List (List Float)) : Type 0 where
-  pub first : passed (a .reply) ≡ true
-  pub last : passed (b .reply) ≡ true
-  pub replies : half .reply ≡ reply
-  pub shares : half .share ≡ b .share
+pub record Both (a b half : Effect Reply) (reply : Reply) (written : List Written) : Type 0 where
+  pub first : passed (a .answer) ≡ true
+  pub last : passed (b .answer) ≡ true
+  pub answers : half .answer ≡ reply
+  pub keeps : half .kept ≡ b .kept
   pub writes : half .written ≡ written
 
 -- accepted, a half is its two calls, one after the other, with the spectra and the lag of its way lent
@@ -52,32 +49,31 @@ abbrev pub FirstIsCalls : Type 0
 FirstIsCalls =
     (share : List Float) (way : Way) (samples : List Float) (sums : ℕ)
     → let one = call1 share samples 960 in
-    let two = call2 (remembered way (one .share)) (forwardBy way (buffer one)) (lagBy way (one .share)) 960 sums in
+    let two = call2 (remembered way (one .kept)) (forwardBy way (firstIn (one .written))) (lagBy way (one .kept)) 960 sums in
     let half = firstHalf share way samples sums in
-    passed (half .reply) ≡ true → Both one two half (two .reply) (drop 1 (two .written))
+    passed (half .answer) ≡ true → Both one two half (two .answer) (drop 1 (two .written))
 
--- whatever numbers of frames call 4 is told
 abbrev pub SecondIsCalls : Type 0
 SecondIsCalls =
-    (share : List Float) (hearing : Hearing) (logs : List Float) (model : List ℕ) (out frame heard : ℕ)
+    (share : List Float) (hearing : Hearing) (logs : List Float) (model : List ℕ) (out : ℕ)
     → let three = call3 share hearing (forwardBy (hearing .way) (lookedBack share)) logs model 961 in
-    let four = call4 (three .share) frame heard (inverseBy (hearing .way) (buffer three)) out in
+    let four = call4 (three .kept) (inverseBy (hearing .way) (firstIn (three .written))) out in
     let half = secondHalf share hearing logs model out in
-    passed (half .reply) ≡ true → Both three four half (three .reply) (four .written)
+    passed (half .answer) ≡ true → Both three four half (three .answer) (four .written)
 
 -- the way that requests 04 and 08 ask: call 2's sister, and the plain sums
 abbrev pub AskedFirst : Type 0
 AskedFirst =
     (share samples : List Float) (sums : ℕ)
     → let one = call1 share samples 960 in
-    let two = call2Own (one .share) (forwardOf (buffer one)) 960 sums in
+    let two = call2Own (one .kept) (forwardOf (firstIn (one .written))) 960 sums in
     let half = firstHalf share Asked samples sums in
-    passed (half .reply) ≡ true → Both one two half (two .reply) (drop 1 (two .written))
+    passed (half .answer) ≡ true → Both one two half (two .answer) (drop 1 (two .written))
 
 abbrev pub AskedSecond : Type 0
 AskedSecond =
-    (share : List Float) (hearing : Hearing) (logs : List Float) (model : List ℕ) (out frame heard : ℕ) → hearing .way ≡ Asked
+    (share : List Float) (hearing : Hearing) (logs : List Float) (model : List ℕ) (out : ℕ) → hearing .way ≡ Asked
     → let three = call3 share hearing (forwardOf (lookedBack share)) logs model 961 in
-    let four = call4 (three .share) frame heard (inverseOf (buffer three)) out in
+    let four = call4 (three .kept) (inverseOf (firstIn (three .written))) out in
     let half = secondHalf share hearing logs model out in
-    passed (half .reply) ≡ true → Both three four half (three .reply) (four .written)
+    passed (half .answer) ≡ true → Both three four half (three .answer) (four .written)

@@ -1,8 +1,5 @@
 -- A bench's two ways: what requests 04 and 08 ask, our own lag and the plain sums; and the crate's own, its finder and the fast transforms.
-use Prim.Native.Nat.{ℕ}
-use mathlib.Core.List.{List, [], _∷_}
-use lib.IntN.{pos}
-use lib.Ieee.{Float, binary32, ofInt}
+use Rattle.rules.specs.Common.{ℕ, List, [], _∷_, pos, Float, binary32, ofInt}
 use Rattle.rules.specs.F32.{at}
 use Rattle.rules.specs.Place.{get, put}
 use Rattle.lag.specs.Lag.{ownLag}

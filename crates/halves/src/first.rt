@@ -2,9 +2,8 @@
 ghost use mathlib.Core.List.{[], _∷_};
 ghost use mathlib.Core.Path.{_≡_};
 ghost use lib.ListN.{length};
-ghost use Rattle.frame.specs.Frame.{Worked};
+ghost use Rattle.frame.specs.Effect.{Worked};
 ghost use Rattle.halves.specs.Halves.{analysed, firstHalf};
-use frame::Lag;
 use frame::PART;
 use frame::Reply;
 use frame::Way;
@@ -18,7 +17,7 @@ fn analyse(share: &mut [f32], way: Way, window: &mut [f32], sums: &mut [f32]) ->
     let mut spectrum = [0.0f32; 961];
     crate::ways::forward(&mut spectrum, window, way);
     let lag = crate::ways::lag(share, way);
-    frame::call2(share, &spectrum, Lag(lag), window, sums)
+    frame::call2(share, &spectrum, lag, window, sums)
 }
 
 // 480 samples in, 22 sums written, for the logarithms of the second half.

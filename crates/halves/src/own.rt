@@ -1,7 +1,7 @@
 // The sister of call 2: it takes no lag, and finds its own in the share's `input_mem` (request 04).
 ghost use mathlib.Core.List.{[], _∷_};
 ghost use lib.ListN.{length};
-ghost use Rattle.frame.specs.Frame.{Worked};
+ghost use Rattle.frame.specs.Effect.{Worked};
 ghost use Rattle.halves.specs.Own.{call2Own};
 use frame::Lag;
 use frame::Reply;

@@ -2,7 +2,8 @@
 ghost use mathlib.Core.List.{[], _∷_};
 ghost use mathlib.Core.Path.{_≡_};
 ghost use lib.ListN.{length};
-ghost use Rattle.frame.specs.Frame.{Worked, call4};
+ghost use Rattle.frame.specs.Effect.{Worked};
+ghost use Rattle.frame.specs.Frame.{call4};
 ghost use Rattle.halves.specs.Ways.{forwardBy, inverseBy};
 ghost use Rattle.halves.specs.Halves.{lookedBack, secondHalf};
 use frame::Hearing;
@@ -25,12 +26,12 @@ fn look_back(spectrum: &mut [f32], share: &[f32], way: Way)
 // Call 4 with the inverse of what call 3 wrote.
 fn synthesise(share: &mut [f32], way: Way, spectrum: &[f32], out: &mut [f32]) -> Reply
     requires { ⌜ length (now spectrum) ≡ 961 ⌝ }
-    ensures { λ r. ⌜ Worked (call4 (now (share .entry)) 0 0 (inverseBy way (now (spectrum .entry))) (length (now (out .entry))))
+    ensures { λ r. ⌜ Worked (call4 (now (share .entry)) (inverseBy way (now (spectrum .entry))) (length (now (out .entry))))
         r (now (share .exit)) (now (out .entry) ∷ []) (now (out .exit) ∷ []) ⌝ }
 {
     let mut samples = [0.0f32; 960];
     crate::ways::inverse(&mut samples, spectrum, way);
-    frame::call4(share, 0, 0, &samples, out)
+    frame::call4(share, &samples, out)
 }
 
 // 22 logarithms and the model in, 480 samples written; silent, or heard with voice and energy.

@@ -4,29 +4,30 @@ ghost use lib.ListN.{length};
 ghost use Rattle.frame.specs.declared.Way.the-variants.{Crate};
 ghost use Rattle.transforms.specs.Transform.{ForwardFits, InverseFits};
 ghost use Rattle.halves.specs.Ways.{lagBy, remembered, forwardBy, inverseBy};
+use frame::Lag;
 use frame::Way;
 
 // The finder's period, which it remembers with its gain.
-fn find(share: &mut [f32]) -> usize
+fn find(share: &mut [f32]) -> Lag
     requires { ⌜ length (now share) ≡ 3778 ⌝ }
-    ensures { λ r. ⌜ r ≡ lagBy Crate (now (share .entry)) ⌝ }
+    ensures { λ r. ⌜ r .0 ≡ lagBy Crate (now (share .entry)) ⌝ }
     ensures { λ _. ⌜ now (share .exit) ≡ remembered Crate (now (share .entry)) ⌝ }
 {
     let found = finder::find(share[3776], share[3777], &share[0..1728]);
     let period = found.period();
     share[3776] = period as f32;
     share[3777] = found.gain();
-    period
+    Lag(period)
 }
 
 // The lag, and what is remembered of it.
-pub(crate) fn lag(share: &mut [f32], way: Way) -> usize
+pub(crate) fn lag(share: &mut [f32], way: Way) -> Lag
     requires { ⌜ length (now share) ≡ 3778 ⌝ }
-    ensures { λ r. ⌜ r ≡ lagBy way (now (share .entry)) ⌝ }
+    ensures { λ r. ⌜ r .0 ≡ lagBy way (now (share .entry)) ⌝ }
     ensures { λ _. ⌜ now (share .exit) ≡ remembered way (now (share .entry)) ⌝ }
 {
     match way {
-        Way::Asked => lag::lag_of(&share[0..1728]).lag(),
+        Way::Asked => Lag(lag::lag_of(&share[0..1728]).lag()),
         Way::Crate => find(share),
     }
 }

@@ -4,20 +4,13 @@
 --     closed-same    from closed, what the share held is never received
 --     isolated, undisturbed     what specs/Isolation.antt claims
 -- Assumes nothing.
-use Prim.Native.Nat.{ℕ, _*_, _<_}
+use Rattle.rules.proofs.Common.{ℕ, _*_, _<_, Bool, true, false, cond, List, [], _∷_, map, _≡_, refl, sym, ap, ap₂, _∙_, eqb, ltb, length, Float}
 use native.Mathlib.Omega.{arith}
-use mathlib.Core.Bool.{Bool, true, false, cond}
-use mathlib.Core.List.{List, [], _∷_, map}
 use mathlib.Core.Logic.{_⊎_, inl, inr, ⊎-elim}
-use mathlib.Core.Path.{_≡_, refl, sym, ap, ap₂, _∙_}
 use borrow.Author.Tests.{eqb-true, eqb-false, ltb-true, ltb-false}
-use lib.Dec.{eqb, ltb}
-use lib.ListN.{length}
-use lib.Ieee.{Float}
 use Rattle.rules.specs.F32.{zeros}
 use Rattle.rules.specs.Place.{get, put}
-use Rattle.rules.proofs.Places.{length-get, length-put, get-put, get-put-apart}
-use Rattle.rules.proofs.Wholes.{get-whole}
+use Rattle.rules.proofs.Places.{length-get, length-put, get-put, get-put-apart, get-whole}
 use Rattle.frame.specs.Reply.{passed}
 use Rattle.frame.specs.Share.{SHARE}
 use Rattle.desk.specs.declared.Record.{Record}

@@ -4,24 +4,19 @@
 --     sized      the share keeps its length
 --     unseen     what the share of a closed side held is never told
 -- Assumes nothing.
-use Prim.Native.Nat.{ℕ, suc, _+_, _*_, _<_, _≤_}
+use Rattle.rules.proofs.Common.{ℕ, suc, _+_, _*_, _≤_, _<_, Bool, true, false, cond, List, _≡_, refl, sym, ap, _∙_, eqb, length, Float}
 use native.Mathlib.Omega.{arith}
-use mathlib.Core.Bool.{Bool, true, false, cond}
-use mathlib.Core.List.{List}
 use mathlib.Core.Logic.{_⊎_, inl, inr, ⊎-elim}
-use mathlib.Core.Path.{_≡_, refl, sym, ap, _∙_}
 use borrow.Author.Tests.{ne-eqb}
-use lib.Dec.{eqb}
-use lib.ListN.{length}
-use lib.Ieee.{Float}
 use Rattle.rules.specs.Place.{get, put}
-use Rattle.rules.proofs.Places.{length-get, length-put, get-put, put-get, put-put}
-use Rattle.rules.proofs.Wholes.{get-whole}
+use Rattle.rules.proofs.Places.{length-get, length-put, get-put, put-get, put-put, get-whole}
+use Rattle.desk.specs.declared.Answer.{Answer}
+use Rattle.frame.specs.Effect.{Effect}
 use Rattle.frame.specs.Share.{SHARE}
 use Rattle.frame.specs.declared.Reply.the-variants.{Refused}
 use Rattle.desk.specs.declared.Record.{Record}
 use Rattle.desk.specs.Gate.{gate, shareOf}
-use Rattle.desk.specs.Desk.{Ask, Given, desk}
+use Rattle.desk.specs.Desk.{Ask, desk}
 use Rattle.desk.proofs.Apart as apart
 use Rattle.desk.proofs.Turned.{gate-own, closed-opens}
 use Rattle.isolation.specs.Plan.{Plan, answers, asks, enters, Came, came, perform}
@@ -50,7 +45,7 @@ module _ (n side : ℕ) (store : List Float) where
         let o = desk 1 0 b xs a in
         apart.its-own n side b (put (shareOf side) store xs) a same h
         ∙ ap (λ (ys : List Float). apart.placed side (put (shareOf side) store xs) (desk 1 0 b ys a)) back
-        ∙ ap (λ (ys : List Float). record { answer = o .answer; store = ys; written = o .written }) (put-put (shareOf side) store xs (o .store) fits k)
+        ∙ ap (λ (ys : List Float). record { answer = o .answer; kept = ys; written = o .written }) (put-put (shareOf side) store xs (o .kept) fits k)
 
 -- ---- a plan
 
@@ -64,7 +59,7 @@ module _ {O : Type 0} where
   sized (answers r t) b xs l = l
   sized (asks a more) b xs l =
       let o = desk 1 0 b xs a in
-      sized (more (o .answer) (o .written)) (o .answer .rec) (o .store) (apart.one-length b xs a l)
+      sized (more (o .answer) (o .written)) (o .answer .rec) (o .kept) (apart.one-length b xs a l)
   sized (enters i turned more) b xs l =
       by (λ (o : Came O). length (o .store) ≡ SHARE) (eqb (gate 1 0 b (length xs) (suc i)) 0) _ _ (sized (more b (get (shareOf 0) xs)) b xs l) l
 
@@ -74,8 +69,8 @@ module _ {O : Type 0} where
   on-side n side store h l (answers r t) b xs k = refl
   on-side n side store h l (asks a more) b xs k =
       let o = desk 1 0 b xs a in
-      ap (λ (g : Given). perform n side (g .answer .rec) (g .store) (more (g .answer) (g .written))) (again n side store h l xs k a b)
-      ∙ on-side n side store h l (more (o .answer) (o .written)) (o .answer .rec) (o .store) (apart.one-length b xs a k)
+      ap (λ (g : Effect Answer). perform n side (g .answer .rec) (g .kept) (more (g .answer) (g .written))) (again n side store h l xs k a b)
+      ∙ on-side n side store h l (more (o .answer) (o .written)) (o .answer .rec) (o .kept) (apart.one-length b xs a k)
   on-side n side store h l (enters i turned more) b xs k =
       let number = gate 1 0 b SHARE (suc i) in
       rw (gate-own n side b (length (put (shareOf side) store xs)) (suc i) h (same n side store h l xs k), back n side store h l xs k, k, get-whole xs SHARE k)
@@ -99,7 +94,7 @@ module _ {O : Type 0} where
   no-side n side h (asks a more) b store l =
       let o = desk n side b store a in
       let left = apart.no-side n side b store a l h in
-      no-side n side h (more (o .answer) (o .written)) (o .answer .rec) (o .store) (ap length left ∙ l) ∙ left
+      no-side n side h (more (o .answer) (o .written)) (o .answer .rec) (o .kept) (ap length left ∙ l) ∙ left
   no-side n side h (enters i turned more) b store l =
       by (λ (o : Came O). o .store ≡ store) (eqb (gate n side b (length store) (suc i)) 0) _ _ (no-side n side h (more b (get (shareOf side) store)) b store l) refl
 
@@ -119,10 +114,10 @@ module _ {O : Type 0} where
       let u = desk 1 0 b ys a in
       let like = apart.closed-alike b xs ys l k a z in
       let next = more (o .answer) (o .written) in
-      let rest : Alike (perform 1 0 (o .answer .rec) (o .store) next) (perform 1 0 (o .answer .rec) (u .store) next) =
+      let rest : Alike (perform 1 0 (o .answer .rec) (o .kept) next) (perform 1 0 (o .answer .rec) (u .kept) next) =
       ⊎-elim
       (λ e. rw e (record { reply = refl; told = refl; rec = refl; store = inl refl }))
-      (λ d. unseen (more (o .answer) (o .written)) (o .answer .rec) (o .store) (u .store) (apart.one-length b xs a l) (apart.one-length b ys a k) d)
+      (λ d. unseen (more (o .answer) (o .written)) (o .answer .rec) (o .kept) (u .kept) (apart.one-length b xs a l) (apart.one-length b ys a k) d)
       (like .store) in
       rw (← like .answer, ← like .written) rest
   unseen (enters i turned more) b xs ys l k z =

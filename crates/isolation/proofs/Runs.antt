@@ -4,11 +4,7 @@
 --     record-after     a side's record behind a call of the desk; store-after, the store
 --     expanding        where each call is made of the desk's calls, any run is
 -- Assumes nothing.
-use Prim.Native.Nat.{ℕ}
-use mathlib.Core.Bool.{Bool, true, false, cond}
-use mathlib.Core.List.{List, [], _∷_, _++_, map}
-use mathlib.Core.Path.{_≡_, refl, sym, ap, _∙_}
-use lib.Dec.{eqb, leb}
+use Rattle.rules.proofs.Common.{ℕ, Bool, true, false, cond, List, [], _∷_, _++_, map, _≡_, refl, sym, ap, _∙_, eqb, leb}
 use Rattle.frame.specs.Reply.{passed}
 use Rattle.frame.specs.declared.Way.{Way}
 use Rattle.frame.specs.declared.Way.the-variants.{Asked, Crate}
@@ -17,7 +13,7 @@ use Rattle.desk.specs.declared.Record.{Record}
 use Rattle.desk.specs.Desk.{Ask, desk}
 use Rattle.desk.specs.Gate.{wayNumber}
 use Rattle.desk.specs.Surface.{numbersOf, wayIn, recordIn, handedBack, hosted}
-use Rattle.desk.proofs.Settled.{refused-keeps}
+use Rattle.desk.proofs.Kept.{refused-keeps}
 use Rattle.isolation.specs.Run.{Kind, On, on, State, recordAt, after, ended, desks, Made, expand, Expands}
 
 pub joined : {C O : Type 0} (serve : Kind C O) (n : ℕ) (first rest : List (On C)) (st : State)
@@ -60,7 +56,7 @@ record-after n s st c = go (eqb (c .side) s)
     go true = handed ns a (λ p. refused-keeps n (c .side) (recordIn ns) (st .store) (c .call) p .0)
     go false = refl
 
-pub store-after : (n : ℕ) (st : State) (c : On Ask) → after desks n st c .store ≡ desk n (c .side) (recordAt (c .side) st) (st .store) (c .call) .store
+pub store-after : (n : ℕ) (st : State) (c : On Ask) → after desks n st c .store ≡ desk n (c .side) (recordAt (c .side) st) (st .store) (c .call) .kept
 unfolding hosted
 store-after n st c = refl
 

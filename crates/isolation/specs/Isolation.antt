@@ -2,13 +2,7 @@
 -- Every record is all zeros at the start, and the store has the published length and holds anything. Then calls come on any sides in any order, refused
 -- ones among them; no one else touches the records and the store. Where a call does what a plan does, whatever its kind, a side receives what its own
 -- calls alone would give it.
-use Prim.Native.Nat.{ℕ, _*_, _<_}
-use mathlib.Core.Bool.{cond}
-use mathlib.Core.List.{List, [], _∷_, map}
-use mathlib.Core.Path.{_≡_}
-use lib.Dec.{eqb}
-use lib.ListN.{length}
-use lib.Ieee.{Float}
+use Rattle.rules.specs.Common.{ℕ, _*_, _<_, cond, List, [], _∷_, map, _≡_, eqb, length, Float}
 use Rattle.rules.specs.F32.{zeros}
 use Rattle.frame.specs.Share.{SHARE}
 use Rattle.desk.specs.Desk.{closed}

@@ -4,34 +4,21 @@
 -- what `hear` makes of the side's heard frames, one after another: of their logarithms, normalised band correlations, lags and models
 -- alone (request 13). A silent frame, a refused call and another bench leave it as it is. No remembered gain is ever NaN, and after k
 -- heard frames each is at least its value before them multiplied k times by 0.6, rounded each time.
-use Prim.Native.Nat.{ℕ, _*_, _<_}
-use mathlib.Core.Bool.{true, false, cond}
-use mathlib.Core.List.{List, [], _∷_, _++_}
-use mathlib.Core.Path.{_≡_}
-use lib.Dec.{eqb}
-use lib.ListN.{length}
-use lib.Ieee.{Float, isNan, le}
+use Rattle.rules.specs.Common.{ℕ, _*_, _<_, true, false, List, [], _∷_, _≡_, length, Float, le, isNan}
 use Rattle.rules.specs.F32.{_⊗_, at, f32}
 use Rattle.rules.specs.Place.{get}
 use Rattle.frame.specs.declared.Reply.the-variants.{Heard}
 use Rattle.frame.specs.Share.{SHARE}
 use Rattle.desk.specs.Gate.{shareOf}
 use Rattle.desk.specs.Desk.{Ask, callOf}
-use Rattle.memory.specs.Hear.{Recalled, blank, HeardFrame, heardAll, faded}
-use Rattle.memory.specs.Brought.{recalledIn, Noted, unnoted, brought}
+use Rattle.memory.specs.Hear.{Recalled, blank, heardAll, faded}
+use Rattle.memory.specs.Brought.{recalledIn}
 use Rattle.isolation.specs.Run.{Kind, On, State, recordAt, after, ended, desks, Made, expand}
-use Rattle.isolation.specs.Numbering.{hears, replied, howMany, Unopened, Opened, Numbering}
+use Rattle.isolation.specs.Numbering.{replied, framesHeard, Unopened, Opened, Numbering}
 
 -- what side s remembers, in its share and in its record
 abbrev pub recalled : ℕ → State → Recalled
 recalled s st = recalledIn (recordAt s st .hearing .index) (get (shareOf s) (st .store))
-
--- the frames that side s hears in a run, in order: what its own calls bring, where a call 2 before the run noted k
-unfoldable pub frames : ℕ → ℕ → Noted → State → List (On Ask) → List HeardFrame
-frames n s k st [] = []
-frames n s k st (c ∷ cs) =
-    let b = cond (eqb (c .side) s) (brought (recordAt s st) (get (shareOf s) (st .store)) k (c .call) (replied n st c)) (k, []) in
-    b .1 ++ frames n s (b .0) (after desks n st c) cs
 
 -- a call of the desk on side s that is not heard leaves all of it alone, an opening apart
 abbrev pub SilentLeaves : ℕ → Type 0
@@ -52,7 +39,7 @@ module _ {C O : Type 0} (serve : Kind C O) (asksOf : Made C) (n : ℕ) where
       → (calls : List (On C))
       → let asks = expand serve asksOf n st calls in
       Unopened n s st asks
-      → recalled s (ended serve n st calls) ≡ heardAll blank (frames n s unnoted st asks)
+      → recalled s (ended serve n st calls) ≡ heardAll blank (framesHeard n s st asks)
 
   -- a state that an opening of side s and then any calls led to
   pub record Since (s : ℕ) (st : State) : Type 0 where
@@ -68,7 +55,7 @@ module _ {C O : Type 0} (serve : Kind C O) (asksOf : Made C) (n : ℕ) where
       → (calls : List (On C))
       → let asks = expand serve asksOf n st calls in
       Unopened n s st asks
-      → let k = howMany hears n s st asks in
+      → let k = length (framesHeard n s st asks) in
       let last = recalled s (ended serve n st calls) in
       ((i : ℕ) → i < 22 → le (faded k (at (recalled s st .gains) i)) (at (last .gains) i) ≡ true) × (k ≡ 0 → last ≡ recalled s st)
 

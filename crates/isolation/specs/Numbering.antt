@@ -2,35 +2,41 @@
 --
 -- From an opening on, whatever calls follow on whatever sides, a side's record has the number of its own call 4s done since, and that of
 -- its own heard call 3s, both modulo 2^32, until it is opened anew.
-use Prim.Native.Nat.{ℕ, _+_, _*_, _%_, _<_}
-use mathlib.Core.Bool.{Bool, true, false, cond, _&&_}
-use mathlib.Core.List.{List, [], _∷_}
-use mathlib.Core.Path.{_≡_}
-use lib.Dec.{eqb}
-use lib.ListN.{length}
-use Rattle.frame.specs.Reply.{passed, isHeard}
+use Rattle.rules.specs.Common.{ℕ, _+_, _*_, _%_, _<_, true, false, cond, List, [], _∷_, _++_, _≡_, eqb, length}
+use Rattle.rules.specs.Place.{get}
+use Rattle.frame.specs.Reply.{passed}
 use Rattle.frame.specs.Share.{SHARE}
 use Rattle.frame.specs.declared.Reply.{Reply}
 use Rattle.frame.specs.declared.Way.{Way}
-use Rattle.desk.specs.Desk.{Ask, opening, callOf, lastOf, desk}
+use Rattle.desk.specs.Gate.{shareOf}
+use Rattle.desk.specs.Desk.{Ask, opening, callOf, desk}
+use Rattle.memory.specs.Hear.{HeardFrame}
+use Rattle.memory.specs.Calls.{FrameCall, one, two, three, four, callsDone}
+use Rattle.memory.specs.Brought.{unnoted, brought}
 use Rattle.isolation.specs.Run.{Kind, On, on, State, recordAt, after, ended, desks, Made, expand}
-
--- a call 4 that is done, by itself, in a second half or in a resume
-abbrev pub endsFrame : Ask → Reply → Bool
-endsFrame ask reply = eqb (lastOf ask) 4 && passed reply
-
--- a heard call 3, by itself, in a second half or in a resume; nothing else is answered so
-abbrev pub hears : Ask → Reply → Bool
-hears ask reply = isHeard reply
 
 -- what is replied to a call of the desk
 abbrev pub replied : ℕ → State → On Ask → Reply
 replied n st c = desk n (c .side) (recordAt (c .side) st) (st .store) (c .call) .answer .reply
 
--- how many of side s's calls in a run are answered so
-unfoldable pub howMany : (Ask → Reply → Bool) → ℕ → ℕ → State → List (On Ask) → ℕ
-howMany kind n s st [] = 0
-howMany kind n s st (c ∷ cs) = cond (eqb (c .side) s && kind (c .call) (replied n st c)) 1 0 + howMany kind n s (after desks n st c) cs
+-- the calls of side s's frames that are done in a run, in order
+unfoldable pub callsIn : ℕ → ℕ → State → List (On Ask) → List FrameCall
+callsIn n s st [] = []
+callsIn n s st (c ∷ cs) =
+    cond (eqb (c .side) s) (callsDone (recordAt s st) (get (shareOf s) (st .store)) (c .call) (replied n st c)) []
+    ++ callsIn n s (after desks n st c) cs
+
+-- how many of them end a frame
+unfoldable pub framesEnded : List FrameCall → ℕ
+framesEnded [] = 0
+framesEnded (one ∷ cs) = framesEnded cs
+framesEnded (two x lag ∷ cs) = framesEnded cs
+framesEnded (three heard x logs m ∷ cs) = framesEnded cs
+framesEnded (four ∷ cs) = framesEnded cs + 1
+
+-- the frames that side s hears in a run, in order, where nothing is noted before it; how many they are does not depend on that
+abbrev pub framesHeard : ℕ → ℕ → State → List (On Ask) → List HeardFrame
+framesHeard n s st cs = brought unnoted (callsIn n s st cs)
 
 -- in a run, side s is not opened anew: an opening of it is refused
 unfoldable pub Unopened : ℕ → ℕ → State → List (On Ask) → Type 0
@@ -60,4 +66,4 @@ module _ {C O : Type 0} (serve : Kind C O) (asksOf : Made C) (n : ℕ) where
       → let asks = expand serve asksOf n st calls in
       let last = recordAt s (ended serve n st calls) in
       Unopened n s st asks
-      → (last .frame ≡ howMany endsFrame n s st asks % 4294967296) × (last .heard ≡ howMany hears n s st asks % 4294967296)
+      → (last .frame ≡ framesEnded (callsIn n s st asks) % 4294967296) × (last .heard ≡ length (framesHeard n s st asks) % 4294967296)

@@ -1,10 +1,5 @@
 -- A plan: calls of the desk on one side, one after another, where each is chosen by what the side received so far.
-use Prim.Native.Nat.{ℕ, suc}
-use mathlib.Core.Bool.{cond}
-use mathlib.Core.List.{List}
-use lib.Dec.{eqb}
-use lib.ListN.{length}
-use lib.Ieee.{Float}
+use Rattle.rules.specs.Common.{ℕ, suc, cond, List, eqb, length, Float}
 use Rattle.rules.specs.Place.{get}
 use Rattle.rules.specs.Written.{Written}
 use Rattle.frame.specs.declared.Reply.{Reply}
@@ -35,7 +30,7 @@ came reply told rec store = record { reply = reply; told = told; rec = rec; stor
 unfoldable pub perform : {O : Type 0} → ℕ → ℕ → Record → List Float → Plan O → Came O
 perform n side rec store (answers reply told) = came reply told rec store
 perform n side rec store (asks ask more) =
-    let o = desk n side rec store ask in perform n side (o .answer .rec) (o .store) (more (o .answer) (o .written))
+    let o = desk n side rec store ask in perform n side (o .answer .rec) (o .kept) (more (o .answer) (o .written))
 perform n side rec store (enters i turned more) =
     let number = gate n side rec (length store) (suc i) in
     cond (eqb number 0) (perform n side rec store (more rec (get (shareOf side) store))) (came (Refused number) (turned number) rec store)

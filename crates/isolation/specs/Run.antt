@@ -1,10 +1,5 @@
 -- Runs of calls of any kind on n sides of one store, and what one side receives in a run. The desk's own calls are a kind, and others are made of them.
-use Prim.Native.Nat.{ℕ}
-use mathlib.Core.Bool.{cond, _&&_}
-use mathlib.Core.List.{List, [], _∷_, _++_, map}
-use mathlib.Core.Path.{_≡_}
-use lib.Dec.{eqb}
-use lib.Ieee.{Float}
+use Rattle.rules.specs.Common.{ℕ, cond, _&&_, List, [], _∷_, _++_, map, _≡_, eqb, Float}
 use Rattle.rules.specs.Written.{Written}
 use Rattle.desk.specs.declared.Answer.{Answer}
 use Rattle.desk.specs.declared.Record.{Record}
@@ -70,7 +65,7 @@ module _ {C O : Type 0} (serve : Kind C O) (n : ℕ) where
 -- ---- the desk's calls, and what is made of them
 
 abbrev pub desks : Kind Ask (List Written)
-desks n side ns store a = let o = hosted n side ns store a in gives ns (o .answer) (o .written) (o .store)
+desks n side ns store a = let o = hosted n side ns store a in gives ns (o .answer) (o .written) (o .kept)
 
 -- the calls of the desk that a call is made of, all on its side
 abbrev pub Made : Type 0 → Type 0

@@ -1,12 +1,8 @@
 -- The leaves of `pitch`, joined: what each call ensures, in a row. Assumes nothing.
-use mathlib.Core.Path.{_≡_, ap, _∙_}
-use mathlib.Core.List.{List}
-use Prim.Native.Nat.{ℕ, _-_, _*_, _<_}
+use Rattle.rules.proofs.Common.{ℕ, _-_, _*_, _<_, List, _≡_, ap, _∙_, length, take, drop, Float}
 use native.Mathlib.Omega.{arith}
-use lib.Ieee.{Float}
-use lib.ListN.{length, take, drop}
 use Rattle.rules.specs.Leaf.{Leaf}
-use Rattle.rules.proofs.Leaves.{fitting}
+use Rattle.rules.proofs.Refusals.{fitting}
 use Rattle.pitch.specs.Xcorr.{pitchXcorr}
 use Rattle.pitch_search.specs.Best.{bestOf, firstOf, BestFits}
 use Rattle.pitch.specs.Downsample.{downsampled}

@@ -1,11 +1,7 @@
 -- What our lag may be: 182 to 768, and 768 where no correlation is positive. Assumes nothing.
-use mathlib.Core.Path.{_≡_}
-use mathlib.Core.List.{List}
-use Prim.Native.Nat.{_<_}
+use Rattle.rules.proofs.Common.{_<_, List, _≡_, length, Float}
 use native.Mathlib.Omega.{arith}
-use lib.Ieee.{Float}
-use lib.ListN.{length}
-use Rattle.rules.proofs.Tabs.{length-tab}
+use Rattle.rules.proofs.Lists.{length-tab}
 use Rattle.pitch.specs.Xcorr.{pitchXcorr}
 use Rattle.pitch.specs.Downsample.{downsampled}
 use Rattle.pitch_search.proofs.Firsts.{first-below, first-none}

@@ -1,7 +1,5 @@
 -- Our own lag, request 04, over the definitions of `pitch`. It is our rule, and not `PitchFinder::process`.
-use mathlib.Core.List.{List}
-use Prim.Native.Nat.{ℕ, _-_, _*_}
-use lib.Ieee.{Float}
+use Rattle.rules.specs.Common.{ℕ, _-_, _*_, List, Float}
 use Rattle.rules.specs.F32.{part}
 use Rattle.pitch.specs.Xcorr.{pitchXcorr}
 use Rattle.pitch_search.specs.Best.{bestOf, firstOf}

@@ -1,9 +1,5 @@
 -- What is claimed of our own lag, for any numbers. The proofs are in proofs/Ranges.
-use mathlib.Core.Path.{_≡_}
-use mathlib.Core.Bool.{false}
-use mathlib.Core.List.{List}
-use Prim.Native.Nat.{ℕ, _≤_, _<_}
-use lib.Ieee.{Float, lt}
+use Rattle.rules.specs.Common.{ℕ, _≤_, _<_, false, List, _≡_, Float, lt}
 use Rattle.rules.specs.F32.{at, f32}
 use Rattle.pitch.specs.Downsample.{downsampled}
 use Rattle.lag.specs.Lag.{correlations, ownLag}

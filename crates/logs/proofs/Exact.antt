@@ -1,13 +1,12 @@
 -- What the constants' rule is for: m * centre - 1 and e * two_high + high lose nothing, whichever f32 above zero x is. Assumes nothing.
-use mathlib.Core.Path.{_≡_, refl, sym, ap, _∙_, subst}
-use mathlib.Core.Bool.{Bool, true, false}
-use Prim.Native.Nat.{ℕ, zero, suc, _+_, _-_, _*_, _/_, _%_, _^_, _≤_, _<_}
+use Rattle.rules.proofs.Common.{ℕ, zero, suc, _+_, _-_, _*_, _/_, _%_, _^_, _≤_, _<_, Bool, true, false, _≡_, refl, sym, ap, subst, _∙_, T, pos}
+use Rattle.rules.proofs.Common.{Float, binary32, binary64, nan, inf, fin, up, down}
 use native.Mathlib.Nat.{le-trans, lt-of-le-of-lt, lt-of-lt-of-le, mul-le-mul, mul-assoc, mul-right-comm, mul-div-cancel, eq-of-mul-eq-mul-right}
 use native.Mathlib.Omega.{arith}
-use lib.Dec.{T, lit<, lit≤}
-use lib.IntN.{ℤ, pos, natAbs, _-ℤ_, _*ℤ_}
+use lib.Dec.{lit<, lit≤}
+use lib.IntN.{ℤ, natAbs, _-ℤ_, _*ℤ_}
 use lib.Pow.{pow-add, pow-pos, pow-mono, shl-lt}
-use lib.Ieee.{Float, nan, inf, fin, binary32, binary64, up, down, size, fits, ofInt, ofBits, toBits}
+use lib.Ieee.{size, fits, ofInt, ofBits, toBits}
 use lib.Ieee.Back.{round-whole}
 use lib.Ieee.Bits.{toBits-lt}
 use lib.Ieee.Digits.{size-le}
@@ -18,7 +17,7 @@ use Rattle.numbers.proofs.Held.{fits-says, place}
 use Rattle.numbers.proofs.Pattern.{pattern-value}
 use Rattle.rules.specs.F64.{f64, _*₆₄_}
 use Rattle.logs.specs.Tables.{rowAt, twoHigh}
-use Rattle.logs.specs.Log10.{exponentOf, mantissaOf, rowOf, restOf, highOf}
+use Rattle.logs.specs.Log10.{exponentOf, mantissaOf, rowOf, offCentre, highOf}
 use Rattle.logs.specs.Exact.{Exactly, wholes, digitsOf, RestExact, HighExact, Exact, Claim}
 use Rattle.logs.proofs.Rule.{rule, two-rule}
 use Rattle.logs.proofs.Wholes.{product-exact, sum-exact, difference-exact, abs-sum, abs-difference, abs-product}
@@ -59,7 +58,7 @@ module _ (bits : ℕ) (short : bits % 2 ^ 29 ≡ 0) where
       (pattern-value binary64 false (2 ^ 52 + d) 1022 (omega arith, λ K. omega arith) (lt-of-lt-of-le (shl-lt 53 1022 (omega arith)) (pow-mono {i = 53 + 1022} {j = 2098} (lit≤ tt)))))
 
   pub rest-exact : RestExact bits
-  unfolding restOf
+  unfolding offCentre
   rest-exact =
       let i = rowOf bits in
       let c = rule i (placed bits) .centre in

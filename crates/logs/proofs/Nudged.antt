@@ -1,10 +1,9 @@
 -- The last step by its cases: t stays where it is a NaN, off every midpoint of two f32, or lost nothing; else it moves by one bit, and stays a number. Assumes nothing.
-use mathlib.Core.Path.{_≡_, refl}
-use mathlib.Core.Bool.{Bool, true, false, cond, not, _&&_, Bool·beq}
-use Prim.Native.Nat.{ℕ, _+_, _-_, _*_, _%_, _^_, _≤_, _<_}
+use Rattle.rules.proofs.Common.{ℕ, _+_, _-_, _*_, _%_, _^_, _≤_, _<_, Bool, true, false, cond, not, _&&_, _≡_, refl, eqb, T, Float, binary64, nan, lt}
+use Rattle.rules.proofs.Common.{isNan}
+use mathlib.Core.Bool.{Bool·beq}
 use native.Mathlib.Omega.{arith}
-use lib.Dec.{T, eqb}
-use lib.Ieee.{Float, nan, binary64, fits, isNan, nanBits, toBits, lt, eq, ne}
+use lib.Ieee.{fits, nanBits, toBits, eq, ne}
 use lib.Ieee.Bits.{toBits-lt}
 use borrow.Author.Tests.{eq-eqb, ne-eqb}
 use Rattle.numbers.proofs.NoNan.{magnitude-le, real-pattern}

@@ -1,12 +1,11 @@
 -- The constants' rule: tests that antt computes once over the whole table, and what they say of each row. Assumes nothing.
-use mathlib.Core.Path.{refl, sym, ap, _∙_}
-use mathlib.Core.Bool.{Bool, true, false, _&&_}
-use Prim.Native.Nat.{ℕ, _+_, _*_, _/_, _%_, _^_, _<_}
+use Rattle.rules.proofs.Common.{ℕ, _+_, _*_, _/_, _%_, _^_, _<_, Bool, true, false, _&&_, refl, sym, ap, _∙_, eqb, leb, T, Float, nan, inf, fin, up}
+use Rattle.rules.proofs.Common.{down}
 use native.Mathlib.Nat.{div-add-mod', add-zero}
-use lib.Dec.{T, leb, eqb, leb→le, eqb→eq}
-use lib.Ieee.{Float, nan, inf, fin, up, down, ofBits}
+use lib.Dec.{leb→le, eqb→eq}
+use lib.Ieee.{ofBits}
 use lib.Ieee.Fits.{and-l, and-r}
-use Rattle.rules.proofs.Below.{at-each}
+use Rattle.rules.proofs.Tests.{at-each}
 use Rattle.logs.specs.Tables.{rowBits, rows, rowAt, twoHigh}
 use Rattle.logs.specs.Exact.{Grained, Rule}
 

@@ -1,9 +1,6 @@
 -- `log10Of` by what the tests `x > 0.0`, `x == 1.0 / 0.0` and `x == 0.0` tell. Assumes nothing.
-use mathlib.Core.Path.{_≡_, refl}
-use mathlib.Core.Bool.{Bool, true, false, true≢false, false≢true}
-use Prim.Native.Nat.{zero, suc}
-use lib.Dec.{T}
-use lib.Ieee.{Float, nan, inf, fin, binary64, toBits, eq}
+use Rattle.rules.proofs.Common.{zero, suc, Bool, true, false, true≢false, false≢true, _≡_, refl, T, Float, binary64, nan, inf, fin}
+use lib.Ieee.{toBits, eq}
 use lib.Ieee.Positive.{above}
 use Rattle.numbers.specs.Narrowed.{narrowed}
 use Rattle.numbers.proofs.Special.{Zero, Below}

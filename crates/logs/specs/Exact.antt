@@ -1,13 +1,12 @@
 -- The constants' rule, and the steps that lose nothing. An f64 is exactly z / c, for a whole number z; zero is +0.
-use Prim.Native.Nat.{ℕ, suc, _+_, _*_, _/_, _%_, _^_, _≤_, _<_}
-use mathlib.Core.Bool.{true, false}
+use Rattle.rules.specs.Common.{ℕ, suc, _+_, _*_, _/_, _%_, _^_, _≤_, _<_, true, false, pos, Float, binary32, binary64, nan, inf, fin, up, down}
 use lib.Dec.{T}
-use lib.IntN.{ℤ, pos, negsuc, _+ℤ_, _-ℤ_, _*ℤ_}
-use lib.Ieee.{Float, nan, inf, fin, binary32, binary64, up, down, fits, toBits}
+use lib.IntN.{ℤ, negsuc, _+ℤ_, _-ℤ_, _*ℤ_}
+use lib.Ieee.{fits, toBits}
 use lib.Ieee.Exact.{HasValue}
 use lib.Ieee.Positive.{positive}
 use Rattle.logs.specs.Tables.{rowAt, twoHigh}
-use Rattle.logs.specs.Log10.{rowOf, restOf, highOf}
+use Rattle.logs.specs.Log10.{rowOf, offCentre, highOf}
 
 abbrev pub Exactly : Float → ℤ → ℕ → Type 0
 Exactly x (pos n) c = HasValue x false n c
@@ -36,7 +35,7 @@ digitsOf bits = 2 ^ 23 + bits % 2 ^ 52 / 2 ^ 29
 
 -- m * centre - 1 is exact where m has 24 digits
 abbrev pub RestExact : ℕ → Type 0
-RestExact bits = Exactly (restOf bits) (pos (digitsOf bits * wholes 20 (rowAt (rowOf bits) .centre)) -ℤ pos (2 ^ 43)) (2 ^ 43)
+RestExact bits = Exactly (offCentre bits) (pos (digitsOf bits * wholes 20 (rowAt (rowOf bits) .centre)) -ℤ pos (2 ^ 43)) (2 ^ 43)
 
 -- e * two_high + high is exact
 abbrev pub HighExact : ℕ → Type 0

@@ -1,13 +1,10 @@
 -- The logarithm to base 10: each constant by its bits, each f64 operation rounded in the order written, and the result narrowed. That it is the nearest f32
 -- to the true logarithm is tried on every f32 (docs/BENCHMARKS.md), and not proved: there is no logarithm of real numbers here.
 -- proofs/Exact.antt shows which of its steps lose nothing.
-use mathlib.Core.Path.{_≡_}
-use mathlib.Core.Bool.{true, false, cond, _&&_, Bool·beq}
-use mathlib.Core.List.{List}
-use Prim.Native.Nat.{ℕ, zero, suc, _+_, _-_, _/_, _%_, _^_}
-use lib.Dec.{eqb}
-use lib.IntN.{pos}
-use lib.Ieee.{Float, nan, inf, fin, binary64, ofInt, toBits, lt, ne}
+use Rattle.rules.specs.Common.{ℕ, zero, suc, _+_, _-_, _/_, _%_, _^_, true, false, cond, _&&_, List, _≡_, eqb, pos, Float, binary64, nan, inf, fin}
+use Rattle.rules.specs.Common.{ofInt, lt}
+use mathlib.Core.Bool.{Bool·beq}
+use lib.Ieee.{toBits, ne}
 use Rattle.rules.specs.F32.{at}
 use Rattle.rules.specs.Tab.{tab}
 use Rattle.numbers.specs.Narrowed.{narrowed}
@@ -29,8 +26,8 @@ abbrev pub rowOf : ℕ → ℕ
 rowOf bits = (bits % 2 ^ 52 + 2 ^ 46) / 2 ^ 47
 
 -- m * centre - 1, which is exact
-unfoldable pub restOf : ℕ → Float
-restOf bits = mantissaOf bits *₆₄ rowAt (rowOf bits) .centre -₆₄ f64 0x3FF0000000000000
+unfoldable pub offCentre : ℕ → Float
+offCentre bits = mantissaOf bits *₆₄ rowAt (rowOf bits) .centre -₆₄ f64 0x3FF0000000000000
 
 -- e * log10(2) - log10(centre), in two parts, of which the high one is exact
 unfoldable pub highOf : ℕ → Float
@@ -65,7 +62,7 @@ summed hi lo r =
     nudged t (w -₆₄ (t -₆₄ s))
 
 unfoldable pub logOfBits : ℕ → Float
-logOfBits bits = summed (highOf bits) (lowOf bits) (restOf bits)
+logOfBits bits = summed (highOf bits) (lowOf bits) (offCentre bits)
 
 -- ---- of any f32, as IEEE 754 has it: minus infinity for both zeros, and a NaN below zero
 unfoldable pub log10Of : Float → Float

@@ -1,7 +1,5 @@
 -- The constants of `log10`, made by tools/make_tables.sh: by their bit patterns.
-use mathlib.Core.List.{List, [], _∷_, map}
-use Prim.Native.Nat.{ℕ, _+_, _*_}
-use lib.Ieee.{Float, ofBits}
+use Rattle.rules.specs.Common.{ℕ, _+_, _*_, List, [], _∷_, map, Float, ofBits}
 use Rattle.rules.specs.F32.{at}
 use Rattle.rules.specs.F64.{f64}
 use Rattle.logs.specs.declared.table.Row.{Row}

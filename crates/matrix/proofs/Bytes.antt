@@ -1,13 +1,11 @@
 -- A model byte, moved to the middle of the bytes and back: computed for all 256. Assumes nothing.
-use mathlib.Core.Path.{_≡_, ap}
-use mathlib.Core.Bool.{Bool, false}
-use Prim.Native.Nat.{ℕ, _+_, _%_, _^_, _<_}
-use lib.Dec.{T, ltb, ltb→lt, eqb, eqb→eq}
-use lib.IntN.{ℤ, pos, negsuc, _-ℤ_}
+use Rattle.rules.proofs.Common.{ℕ, _+_, _%_, _^_, _<_, Bool, false, _≡_, ap, eqb, ltb, T, pos}
+use lib.Dec.{ltb→lt, eqb→eq}
+use lib.IntN.{ℤ, negsuc, _-ℤ_}
 use lib.Signed.{mag}
 use mir.Syntax.{w16}
 use mir.Val.{toZ, ofZ}
-use Rattle.rules.proofs.Below.{at-each}
+use Rattle.rules.proofs.Tests.{at-each}
 use Rattle.matrix.specs.Sums.{signed}
 
 abbrev moved : ℕ → ℤ

@@ -1,19 +1,14 @@
 -- A column, and two columns in one pass, which are the one and then the other. Assumes nothing.
-use mathlib.Core.Path.{_≡_, refl, sym, ap, _∙_}
-use mathlib.Core.List.{List}
-use Prim.Native.Nat.{ℕ, _+_, _-_, _*_, _≤_, _<_}
+use Rattle.rules.proofs.Common.{ℕ, _+_, _-_, _*_, _≤_, _<_, List, _≡_, refl, sym, ap, _∙_, length, getD, drop, set, Float, nan}
 use native.Mathlib.Nat.{le-refl, suc-mul}
 use native.Mathlib.Numerals.{add-one}
 use native.Mathlib.Omega.{arith}
-use lib.ListN.{length, getD, set, drop}
 use lib.Seq.{getD-take, getD-drop}
-use lib.Ieee.{Float, nan}
 use Rattle.rules.specs.F32.{at, part, _⊕_, _⊗_}
 use Rattle.rules.specs.Loop.{loop}
-use Rattle.rules.proofs.Fused.{fused}
-use Rattle.rules.proofs.Loops.{more}
+use Rattle.rules.proofs.Lists.{fused}
+use Rattle.rules.proofs.Loops.{more, loop-same}
 use Rattle.rules.proofs.Numbers.{row-fits}
-use Rattle.rules.proofs.Runs.{loop-same}
 use Rattle.matrix.specs.Sums.{ofByte, columnStep, addColumn, mulStep, MulAddFits}
 use Rattle.matrix.proofs.Lengths.{length-addColumn}
 

@@ -1,13 +1,10 @@
 -- A model byte as the last digits of a large number, its top bit turned over, and that number less what then stands for 0: computed for all 256. Assumes nothing.
-use mathlib.Core.Path.{_≡_}
-use mathlib.Core.Bool.{not}
-use Prim.Native.Nat.{ℕ, _*_, _<_}
-use lib.Dec.{T}
+use Rattle.rules.proofs.Common.{ℕ, _*_, _<_, not, _≡_, T, binary32}
 use lib.Bits.{bitXor}
-use lib.Ieee.{binary32, ofBits, ofInt, sub, add, neg, sum, round, units, odd, climb, span, size, nanBits, ofFields}
+use lib.Ieee.{ofBits, ofInt, sub, add, neg, sum, round, units, odd, climb, span, size, nanBits, ofFields}
 use Rattle.rules.specs.F32.{f32, _⊖_}
-use Rattle.rules.proofs.Below.{at-each}
-use Rattle.rules.proofs.Floats.{same, floats}
+use Rattle.rules.proofs.Tests.{at-each}
+use Rattle.floats.proofs.Same.{same, floats}
 use Rattle.matrix.specs.Sums.{ofByte}
 
 -- in the last eight digits

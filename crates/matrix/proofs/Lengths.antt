@@ -1,11 +1,7 @@
 -- A multiply-add keeps its output's length. Assumes nothing.
-use mathlib.Core.Path.{_≡_}
-use mathlib.Core.List.{List}
-use Prim.Native.Nat.{ℕ, _+_, _*_}
-use lib.ListN.{length, length-set}
-use lib.Ieee.{Float}
+use Rattle.rules.proofs.Common.{ℕ, _+_, _*_, List, _≡_, length, length-set, Float}
 use Rattle.rules.specs.F32.{at, part}
-use Rattle.rules.proofs.Lengths.{same-length}
+use Rattle.rules.proofs.Loops.{same-length}
 use Rattle.matrix.specs.Sums.{columnStep, addColumn, mulStep, mulAdd}
 
 pub length-addColumn : (out : List Float) (col : List ℕ) (x : Float) → length (addColumn out col x) ≡ length out

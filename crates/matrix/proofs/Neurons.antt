@@ -1,19 +1,16 @@
 -- A multiply-add sum by sum: what its columns leave at a place, and what each of sixteen sums is. Assumes nothing.
-use mathlib.Core.Path.{_≡_, refl, sym, ap, _∙_}
-use mathlib.Core.List.{List, [], _∷_, _++_, append-nil, append-assoc}
-use Prim.Native.Nat.{ℕ, zero, suc, _+_, _-_, _*_, _/_, _%_, _≤_, _<_}
+use Rattle.rules.proofs.Common.{ℕ, zero, suc, _+_, _-_, _*_, _/_, _%_, _≤_, _<_, List, [], _∷_, _++_, _≡_, refl, sym, ap, _∙_, length, getD, take}
+use Rattle.rules.proofs.Common.{drop, length-drop, Float, nan}
+use mathlib.Core.List.{append-nil, append-assoc}
 use native.Mathlib.Nat.{add-zero, add-suc}
 use native.Mathlib.Omega.{arith}
-use lib.ListN.{length, getD, take, drop, length-drop, drop-of-length-le}
+use lib.ListN.{drop-of-length-le}
 use lib.Seq.{getD-take, getD-drop, ext-getD, length-take-le, take-all, take-at, drop-at}
-use lib.Ieee.{Float, nan}
 use Rattle.rules.specs.F32.{at, part, _⊕_, _⊗_}
 use Rattle.rules.specs.Loop.{loop}
 use Rattle.rules.specs.Tab.{tab}
-use Rattle.rules.proofs.Loops.{more}
-use Rattle.rules.proofs.Lengths.{same-length}
-use Rattle.rules.proofs.Fused.{behind}
-use Rattle.rules.proofs.Tabs.{length-tab, getD-tab, tab-same, tab-four-more}
+use Rattle.rules.proofs.Loops.{more, same-length}
+use Rattle.rules.proofs.Lists.{behind, length-tab, getD-tab, tab-same, tab-four-more}
 use Rattle.matrix.specs.Sums.{ofByte, addColumn, mulStep, mulAdd, MulAddFits}
 use Rattle.matrix.specs.Parts.{addedAt, plusFour, plusSixteen, sixteenSums, fourAt, sixteenAt, neuron, spot, storeFour}
 use Rattle.matrix.specs.declared.lanes.Sixteen.{Sixteen}

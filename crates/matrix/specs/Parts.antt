@@ -1,9 +1,5 @@
 -- What the private functions promise and ask for: the sums of a multiply-add one by one, and sixteen of them side by side.
-use mathlib.Core.Path.{_≡_}
-use mathlib.Core.List.{List}
-use Prim.Native.Nat.{ℕ, _+_, _*_, _/_, _%_, _≤_}
-use lib.ListN.{length, set}
-use lib.Ieee.{Float}
+use Rattle.rules.specs.Common.{ℕ, _+_, _*_, _/_, _%_, _≤_, List, _≡_, length, set, Float}
 use Rattle.rules.specs.Loop.{loop}
 use Rattle.rules.specs.F32.{_⊕_, _⊗_, at, natAt}
 use Rattle.matrix.specs.Sums.{ofByte, MulAddFits}

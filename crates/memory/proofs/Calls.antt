@@ -1,38 +1,35 @@
--- What one call makes of a bench's memory, over a desk of one bench.
---     part-recalled, part-noted    all that is remembered and noted stands in a frame's part of a share
+-- What one call makes of what a bench keeps, over a desk of one bench.
+--     one-kept .. four-kept, first-kept    the calls of a frame and a first half, on a frame's part of a share
+--     part-kept    all that is kept stands in that part
 --     by-gate      a call is refused by the gate, or it is let through
---     remembers    a call that opens nothing: what is remembered then is what `hear` makes of what it brought, and what is noted follows
---     opens        an opening that is done leaves nothing remembered
---     either       every call does one or the other
+--     either       a call opens the bench, or it makes of what is kept what the calls of a frame do that it is made of
+--     opens        an opening that is done does the one
+--     remembers    every other call, and an opening that is refused, the other
 -- Assumes nothing.
-use Prim.Native.Nat.{ℕ, _+_, _-_, _*_, _≤_}
+use Rattle.rules.proofs.Common.{ℕ, _+_, _-_, _*_, _≤_, Bool, true, false, cond, false≢true, List, [], _∷_, _++_, _≡_, refl, sym, ap, ap₂, subst, _∙_}
+use Rattle.rules.proofs.Common.{eqb, ltb, length, take, drop, replicate, length-take, pos, Float, binary32, ofInt}
 use native.Mathlib.Nat.{zero-add}
 use native.Mathlib.Omega.{arith}
-use mathlib.Core.Bool.{Bool, true, false, cond, false≢true}
-use mathlib.Core.List.{List, [], _∷_, _++_}
-use mathlib.Core.Logic.{_⊎_, inl, inr}
-use mathlib.Core.Path.{_≡_, refl, sym, ap, ap₂, subst, _∙_}
+use mathlib.Core.Logic.{_⊎_, inl, inr, ⊎-elim}
 use borrow.Author.Tests.{ltb-false}
-use lib.Dec.{eqb, ltb}
-use lib.ListN.{length, take, drop, length-take, replicate}
-use lib.IntN.{pos}
-use lib.Ieee.{Float, binary32, ofInt}
 use Rattle.rules.specs.F32.{at, f32}
 use Rattle.rules.specs.Place.{Place, get, put}
-use Rattle.rules.specs.Written.{Written, from, nothing}
+use Rattle.rules.specs.Written.{Written, from, nothing, firstIn}
 use Rattle.rules.proofs.Places.{length-put, get-get, get-put, get-put-apart}
-use Rattle.rules.proofs.Tabs.{length-tab}
+use Rattle.rules.proofs.Lists.{length-tab}
 use Rattle.bands.proofs.Results.{length-corr}
 use Rattle.model.specs.Model.{readOf}
+use Rattle.model.specs.declared.Model.{Model}
 use Rattle.model.specs.declared.Reading.{Reading}
 use Rattle.model.specs.declared.Reading.the-variants.{Good, Refused as Unread}
 use Rattle.samples.specs.Samples.{good}
-use Rattle.frame.specs.Reply.{passed, isHeard}
+use Rattle.desk.specs.declared.Answer.{Answer}
+use Rattle.frame.specs.Effect.{Effect, refusal}
+use Rattle.frame.specs.Reply.{passed, isHeard, oneMore}
 use Rattle.lag.specs.Lag.{ownLag}
 use Rattle.frame.specs.Share.{SHARE, PART, inputMem, keptX, keptEx, keptLag, lastg, cepstralMem, vadState, noiseState, denoiseState}
 use Rattle.frame.specs.Heard.{scaled, energies, spoken}
-use Rattle.frame.specs.Frame.{Effect, done1, putKept, done4}
-use Rattle.frame.specs.Frame as frame
+use Rattle.frame.specs.Frame.{done1, putKept, done4}
 use Rattle.frame.specs.declared.Reply.{Reply}
 use Rattle.frame.specs.declared.Reply.the-variants.{Done, Silent, Heard, Refused}
 use Rattle.frame.specs.declared.Way.{Way}
@@ -40,13 +37,13 @@ use Rattle.frame.proofs.Keeps.{Keeps, end, call1-keeps, call2-keeps, call3-keep
 use Rattle.frame.proofs.Beside.{Beside, AllApart, done1-beside, done2-beside, done3-beside, done4-beside}
 use Rattle.frame.proofs.Cases.{call1-by, call2-by, call3-by, call4-by}
 use Rattle.halves.specs.Ways.{lagBy, remembered, forwardBy, inverseBy}
-use Rattle.halves.specs.Halves.{buffer, lookedBack}
+use Rattle.halves.specs.Halves.{lookedBack}
 use Rattle.halves.specs.Halves as halves
 use Rattle.halves.proofs.Sister.{call2-own-by, call2-own-keeps}
-use Rattle.halves.proofs.Cases.{doneFirst, doneSecond, whole-after-1, first-half-by, second-half-by}
-use Rattle.halves.proofs.Kept.{done-first-beside, done-second-beside, first-half-keeps, second-half-keeps}
+use Rattle.halves.proofs.Cases.{doneFirst, whole-after-1, first-half-by, second-half-by}
+use Rattle.halves.proofs.Kept.{done-first-beside, first-half-keeps, second-half-keeps}
 use Rattle.halves.proofs.EitherWay.{whole-remembered}
-use Rattle.pieces.specs.Pieces.{framePart, waitingIn, waits, frameAt, Outcome, refused, inPart, atEnd, paused, further}
+use Rattle.pieces.specs.Pieces.{framePart, waitingIn, waits, frameAt, inPart, atEnd, paused, further}
 use Rattle.pieces.specs.Pieces as pieces
 use Rattle.pieces.proofs.Cases.{piece-by, resume-by}
 use Rattle.pieces.proofs.Goods.{good-append, good-take, good-drop}
@@ -55,13 +52,16 @@ use Rattle.pieces.proofs.Kept.{further-reply, piece-kept, resume-kept}
 use Rattle.pieces.proofs.Shares.{part-length, waits-length, frame-waits, frame-length, frame-back}
 use Rattle.desk.specs.declared.Record.{Record}
 use Rattle.desk.specs.Gate.{gate}
-use Rattle.desk.specs.Desk.{Ask, opening, call1, call2, call2Own, call3, call4, firstHalf, secondHalf, piece, resume, callOf, advanced, numbered, carried, answered, opened, onShare, Given, desk}
+use Rattle.desk.specs.Desk.{Ask, opening, call1, call2, call2Own, call3, call4, firstHalf, secondHalf, piece, resume, callOf, advanced, numbered, carried, replyTo, answered, opened, onShare, desk}
+use Rattle.desk.proofs.Answered.{refused}
 use Rattle.desk.proofs.Apart.{givenOf, one-bench}
 use Rattle.desk.proofs.Zeros.{get-replicate}
 use Rattle.desk.proofs.Leaves.{carried-leaves}
-use Rattle.memory.specs.Hear.{blank, HeardFrame, heardAll}
-use Rattle.memory.specs.Brought.{recalledIn, Noted, unnoted, noting, firstNotes, restNotes, brought}
-use Rattle.memory.proofs.Heard.{notedIn, heard-frame}
+use Rattle.memory.specs.Hear.{Recalled, blank, nextPlace, hear}
+use Rattle.memory.specs.Calls.{FrameCall, two, firstCalls, restCalls, callsDone}
+use Rattle.memory.specs.Brought.{recalledIn, Noted, unnoted, noting, heardFrame, brought}
+use Rattle.memory.proofs.Kept.{Kept, keptOf, notedIn, keptIn, keeping, kept}
+use Rattle.memory.proofs.Heard.{heard-frame}
 
 -- ---- what is left alone
 
@@ -78,9 +78,12 @@ same-recalled index xs ys same =
 same-noted : (xs ys : List Float) → ((q : Place) → 2208 ≤ q .at → q .at + q .size ≤ 3192 → get q ys ≡ get q xs) → notedIn ys ≡ notedIn xs
 same-noted xs ys same = cc (same keptX (omega arith) (omega arith), same keptEx (omega arith) (omega arith), same keptLag (omega arith) (omega arith))
 
+alike : {r r′ : Recalled} {k k′ : Noted} {f h : ℕ} → r ≡ r′ → k ≡ k′ → keptOf r k f h ≡ keptOf r′ k′ f h
+alike {f = f} {h = h} p q = ap₂ (λ r k. keptOf r k f h) p q
+
 -- call 2 notes what it brought
 kept-noted : (share spectrum : List Float) (lag : ℕ) → length share ≡ PART
-    → notedIn (putKept share spectrum lag) ≡ noting spectrum (ofInt binary32 (pos lag))
+    → notedIn (putKept share spectrum lag) ≡ noting spectrum lag
 unfolding putKept energies scaled
 kept-noted share spectrum lag whole =
     let x = scaled spectrum in
@@ -98,17 +101,52 @@ kept-noted share spectrum lag whole =
     let third = ap (λ (xs : List Float). at xs 0) (get-put keptLag with-ex (ofInt binary32 (pos lag) ∷ []) (omega arith) refl) in
     cc (first, second, third)
 
--- so does a first half; and it leaves what is remembered of the voice
-module _ (part : List Float) (way : Way) (x : List Float) (whole : length part ≡ PART) (l : length x ≡ 480) where
-  first-recalled : (index : ℕ) → recalledIn index (doneFirst part way x .share) ≡ recalledIn index part
-  first-recalled index =
-      same-recalled index part (doneFirst part way x .share)
-      (λ q h k. done-first-beside q part way x (inl (omega arith), (inl (omega arith), (inl (omega arith), (inl (omega arith), (inl (omega arith), (inr (omega arith), tt)))))) whole l .same)
+-- ---- the calls of a frame on its part of a share, whatever the record's numbers
 
-  first-noted : notedIn (doneFirst part way x .share) ≡ firstNotes way part x
-  first-noted =
+module _ (b : Record) (part : List Float) (whole : length part ≡ PART) where
+  one-kept : (x : List Float) → length x ≡ 480 → keptIn b (done1 part x .kept) ≡ keptIn b part
+  one-kept x l =
+      alike
+      (same-recalled (b .hearing .index) part _ (λ q h k. done1-beside q part x (inl (omega arith), (inl (omega arith), tt)) whole l .same))
+      (same-noted part _ (λ q h k. done1-beside q part x (inl (omega arith), (inr (omega arith), tt)) whole l .same))
+
+  two-kept : (x : List Float) (lag : ℕ) → keptIn b (putKept part x lag) ≡ keeping (keptIn b part) (two x lag)
+  two-kept x lag =
+      alike
+      (same-recalled (b .hearing .index) part _ (λ q h k. done2-beside q part x lag (inl (omega arith), (inl (omega arith), (inl (omega arith), tt))) whole .same))
+      (kept-noted part x lag whole)
+
+  four-kept : (x : List Float) → keptIn b (done4 part x .kept) ≡ keptIn b part
+  four-kept x =
+      alike
+      (same-recalled (b .hearing .index) part _ (λ q h k. done4-beside q part x (inl (omega arith), tt) whole .same))
+      (same-noted part _ (λ q h k. done4-beside q part x (inl (omega arith), tt) whole .same))
+
+  first-kept : (way : Way) (x : List Float) → length x ≡ 480 → keptIn b (doneFirst part way x .kept) ≡ kept (keptIn b part) (firstCalls way part x)
+  unfolding kept
+  first-kept way x l =
       let a = done1 part x in
-      kept-noted (remembered way (a .share)) (forwardBy way (buffer a)) (lagBy way (a .share)) (whole-remembered (a .share) way (whole-after-1 part x whole l))
+      alike
+      (same-recalled (b .hearing .index) part _
+      (λ q h k. done-first-beside q part way x (inl (omega arith), (inl (omega arith), (inl (omega arith), (inl (omega arith), (inl (omega arith), (inr (omega arith), tt)))))) whole l .same))
+      (kept-noted (remembered way (a .kept)) (forwardBy way (firstIn (a .written))) (lagBy way (a .kept)) (whole-remembered (a .kept) way (whole-after-1 part x whole l)))
+
+  module _ (p l : List Float) (m : List ℕ) (k : Model) (good : readOf m ≡ Good k) (inside : b .hearing .index ≤ 7) where
+    abbrev said : List Float
+    said = spoken part (b .hearing .index) p l m k .share
+
+    said-beside : (q : Place) → AllApart (lastg ∷ cepstralMem ∷ vadState ∷ noiseState ∷ denoiseState ∷ []) q → Beside q part said
+    said-beside q apart = done3-beside q part (b .hearing .index) p l m k apart good whole inside
+
+    said-whole : length said ≡ PART
+    said-whole = said-beside end (inl (omega arith), (inl (omega arith), (inl (omega arith), (inl (omega arith), (inl (omega arith), tt))))) .size
+
+    three-kept : (frame heard : ℕ)
+        → keptOf (recalledIn (nextPlace (b .hearing .index)) said) (notedIn said) frame heard
+        ≡ keptOf (hear (recalledIn (b .hearing .index) part) (heardFrame (notedIn part) p l m)) (notedIn part) frame heard
+    three-kept frame heard =
+        alike (heard-frame part (b .hearing .index) p l m k good whole inside)
+        (same-noted part said (λ q h j. said-beside q (inr (omega arith), (inr (omega arith), (inr (omega arith), (inr (omega arith), (inr (omega arith), tt))))) .same))
 
 -- ---- all of it stands in a frame's part of a share
 
@@ -116,265 +154,209 @@ module _ (share : List Float) (whole : length share ≡ SHARE) where
   read : (q : Place) → q .at + q .size ≤ PART → get q (get framePart share) ≡ get q share
   read q h = get-get framePart q share (omega arith) h ∙ ap (λ (n : ℕ). get (record { at = n; size = q .size }) share) (zero-add (q .at))
 
-  pub part-recalled : (index : ℕ) → recalledIn index (get framePart share) ≡ recalledIn index share
-  part-recalled index =
-      cc (read lastg (omega arith), read cepstralMem (omega arith), read vadState (omega arith), read noiseState (omega arith), read denoiseState (omega arith))
-
-  pub part-noted : notedIn (get framePart share) ≡ notedIn share
-  part-noted = cc (read keptX (omega arith), read keptEx (omega arith), read keptLag (omega arith))
+  part-kept : (b : Record) → keptIn b (get framePart share) ≡ keptIn b share
+  part-kept b =
+      alike (same-recalled (b .hearing .index) share _ (λ q h k. read q (omega arith))) (same-noted share _ (λ q h k. read q (omega arith)))
 
 -- ---- one call on a share
 
-pub record Remembers (b : Record) (share : List Float) (ask : Ask) (o : Given) : Type 0 where
-  pub recalls : recalledIn (o .answer .rec .hearing .index) (o .store) ≡ heardAll (recalledIn (b .hearing .index) share) (brought b share (notedIn share) ask (o .answer .reply) .1)
-  pub notes : notedIn (o .store) ≡ brought b share (notedIn share) ask (o .answer .reply) .0
-  pub counts : length (brought b share (notedIn share) ask (o .answer .reply) .1) ≡ cond (isHeard (o .answer .reply)) 1 0
+-- what is kept is what the calls of a frame make of it; and they bring a frame where the reply is heard
+pub record Remembers (b : Record) (share : List Float) (ask : Ask) (o : Effect Answer) : Type 0 where
+  pub keeps : keptIn (o .answer .rec) (o .kept) ≡ kept (keptIn b share) (callsDone b share ask (o .answer .reply))
+  pub counts : (k : Noted) → length (brought k (callsDone b share ask (o .answer .reply))) ≡ cond (isHeard (o .answer .reply)) 1 0
 
 -- an opening that is done
-pub record Opens (o : Given) : Type 0 where
-  pub forgets : recalledIn (o .answer .rec .hearing .index) (o .store) ≡ blank
-  pub unnotes : notedIn (o .store) ≡ unnoted
+pub record Opens (ask : Ask) (o : Effect Answer) : Type 0 where
+  pub opens : callOf ask ≡ 0
+  pub passes : passed (o .answer .reply) ≡ true
+  pub forgets : keptIn (o .answer .rec) (o .kept) ≡ keptOf blank unnoted 0 0
   pub unheard : isHeard (o .answer .reply) ≡ false
+
+wiped : (n : ℕ) → SHARE ≤ n → keptOf (recalledIn 0 (replicate n (f32 0))) (notedIn (replicate n (f32 0))) 0 0 ≡ keptOf blank unnoted 0 0
+wiped n h =
+    let at : (p : Place) → p .at + p .size ≤ SHARE → get p (replicate n (f32 0)) ≡ replicate (p .size) (f32 0) = λ p k. get-replicate p n (f32 0) (omega arith) in
+    cc (
+      at lastg (omega arith),
+      at cepstralMem (omega arith),
+      at vadState (omega arith),
+      at noiseState (omega arith),
+      at denoiseState (omega arith),
+      at keptX (omega arith),
+      at keptEx (omega arith),
+      at keptLag (omega arith),
+    )
 
 -- what holds of a whole share where it holds of the part that a call leaves
 module _ (b : Record) (share : List Float) (whole : length share ≡ SHARE) where
   abbrev part : List Float
   part = get framePart share
 
-  abbrev brings : Ask → Reply → Noted × List HeardFrame
-  brings ask reply = brought b share (notedIn part) ask reply
+  abbrev calls : Ask → Reply → List FrameCall
+  calls ask reply = callsDone b share ask reply
 
   record Leaves (ask : Ask) (reply : Reply) (after : List Float) : Type 0 where
-    recalls : recalledIn (answered b ask reply .rec .hearing .index) after ≡ heardAll (recalledIn (b .hearing .index) part) (brings ask reply .1)
-    notes : notedIn after ≡ brings ask reply .0
-    counts : length (brings ask reply .1) ≡ cond (isHeard reply) 1 0
+    keeps : keptIn (answered b ask reply .rec) after ≡ kept (keptIn b part) (calls ask (replyTo b ask reply))
+    counts : (k : Noted) → length (brought k (calls ask (replyTo b ask reply))) ≡ cond (isHeard (replyTo b ask reply)) 1 0
 
-  lift : (ask : Ask) (o : Outcome) → length (o .share) ≡ SHARE → Leaves ask (o .reply) (get framePart (o .share)) → Remembers b share ask (givenOf b ask o)
+  lift : (ask : Ask) (o : Effect Reply) → length (o .kept) ≡ SHARE → Leaves ask (o .answer) (get framePart (o .kept)) → Remembers b share ask (givenOf b ask o)
   lift ask o left r =
-      let noted = part-noted share whole in
       record {
-        recalls =
-            sym (part-recalled (o .share) left (answered b ask (o .reply) .rec .hearing .index))
-            ∙ r .recalls
-            ∙ ap₂ (λ m k. heardAll m (brought b share k ask (o .reply) .1)) (part-recalled share whole (b .hearing .index)) noted;
-        notes = sym (part-noted (o .share) left) ∙ r .notes ∙ ap (λ k. brought b share k ask (o .reply) .0) noted;
-        counts = ap (λ k. length (brought b share k ask (o .reply) .1)) (sym noted) ∙ r .counts;
+        keeps =
+            sym (part-kept (o .kept) left (answered b ask (o .answer) .rec))
+            ∙ r .keeps
+            ∙ ap (λ (k : Kept). kept k (calls ask (replyTo b ask (o .answer)))) (part-kept share whole b);
+        counts = r .counts;
       }
 
   -- a call of a frame
-  abbrev LeavesOf : Ask → Effect → Type 0
-  LeavesOf ask f = Leaves ask (f .reply) (f .share)
+  abbrev LeavesOf : Ask → Effect Reply → Type 0
+  LeavesOf ask f = Leaves ask (f .answer) (f .kept)
 
-  in-part : (ask : Ask) (f : Effect) → Keeps part f → LeavesOf ask f → Remembers b share ask (givenOf b ask (inPart share f))
+  in-part : (ask : Ask) (f : Effect Reply) → Keeps part f → LeavesOf ask f → Remembers b share ask (givenOf b ask (inPart share f))
   in-part ask f k r =
-      let l : length (f .share) ≡ PART = k .size ∙ part-length share whole in
-      lift ask (inPart share f) (frame-length share whole (f .share) l) (subst (Leaves ask (f .reply)) (sym (frame-back share whole (f .share) l)) r)
+      let l : length (f .kept) ≡ PART = k .size ∙ part-length share whole in
+      lift ask (inPart share f) (frame-length share whole (f .kept) l) (subst (Leaves ask (f .answer)) (sym (frame-back share whole (f .kept) l)) r)
 
   -- a refusal leaves all alone
   unmoved : (ask : Ask) (n : ℕ) → Leaves ask (Refused n) part
-  unfolding heardAll
-  unmoved (opening w m) n = record { recalls = refl; notes = refl; counts = refl }
-  unmoved (call1 x w) n = record { recalls = refl; notes = refl; counts = refl }
-  unmoved (call2 x l w s) n = record { recalls = refl; notes = refl; counts = refl }
-  unmoved (call2Own x w s) n = record { recalls = refl; notes = refl; counts = refl }
-  unmoved (call3 x l m o) n = record { recalls = refl; notes = refl; counts = refl }
-  unmoved (call4 x o) n = record { recalls = refl; notes = refl; counts = refl }
-  unmoved (firstHalf x s) n = record { recalls = refl; notes = refl; counts = refl }
-  unmoved (secondHalf l m o) n = record { recalls = refl; notes = refl; counts = refl }
-  unmoved (piece x o s) n = record { recalls = refl; notes = refl; counts = refl }
-  unmoved (resume x l m o s) n = record { recalls = refl; notes = refl; counts = refl }
-
-  call1-leaves : (x : List Float) (w : ℕ) → LeavesOf (call1 x w) (frame.call1 part x w)
-  unfolding heardAll
-  call1-leaves x w =
-      call1-by part (LeavesOf (call1 x w)) (unmoved (call1 x w)) x w
-      (λ whole l. record {
-        recalls = same-recalled (b .hearing .index) part (done1 part x .share) (λ q h k. done1-beside q part x (inl (omega arith), (inl (omega arith), tt)) whole l .same);
-        notes = same-noted part (done1 part x .share) (λ q h k. done1-beside q part x (inl (omega arith), (inr (omega arith), tt)) whole l .same);
-        counts = refl;
-      })
-
-  call2-leaves : (x : List Float) (l w s : ℕ) → LeavesOf (call2 x l w s) (frame.call2 part x l w s)
-  unfolding heardAll
-  call2-leaves x l w s =
-      call2-by part (LeavesOf (call2 x l w s)) (unmoved (call2 x l w s)) x l w s
-      (λ whole. record {
-        recalls = same-recalled (b .hearing .index) part (putKept part x l) (λ q h k. done2-beside q part x l (inl (omega arith), (inl (omega arith), (inl (omega arith), tt))) whole .same);
-        notes = kept-noted part x l whole;
-        counts = refl;
-      })
-
-  call2-own-leaves : (x : List Float) (w s : ℕ) → LeavesOf (call2Own x w s) (halves.call2Own part x w s)
-  unfolding heardAll
-  call2-own-leaves x w s =
-      call2-own-by part (LeavesOf (call2Own x w s)) (unmoved (call2Own x w s)) x w s
-      (λ whole. let l = ownLag (get inputMem part) in record {
-        recalls = same-recalled (b .hearing .index) part (putKept part x l) (λ q h k. done2-beside q part x l (inl (omega arith), (inl (omega arith), (inl (omega arith), tt))) whole .same);
-        notes = kept-noted part x l whole;
-        counts = refl;
-      })
-
-  call3-leaves : (x l : List Float) (m : List ℕ) (o : ℕ) → LeavesOf (call3 x l m o) (frame.call3 part (b .hearing) x l m o)
-  unfolding heardAll
-  call3-leaves x l m o =
-      call3-by part (LeavesOf (call3 x l m o)) (unmoved (call3 x l m o)) (b .hearing) x l m o
-      (λ _ _ _. record { recalls = refl; notes = refl; counts = refl })
-      (record { recalls = refl; notes = refl; counts = refl })
-      (λ e k good whole inside. record {
-        recalls = heard-frame part (b .hearing .index) x l m k good whole inside;
-        notes = same-noted part (spoken part (b .hearing .index) x l m k .share) (λ q h j. done3-beside q part (b .hearing .index) x l m k
-            (inr (omega arith), (inr (omega arith), (inr (omega arith), (inr (omega arith), (inr (omega arith), tt))))) good whole inside .same);
-        counts = refl;
-      })
-
-  call4-leaves : (x : List Float) (o : ℕ) → LeavesOf (call4 x o) (frame.call4 part (b .frame) (b .heard) x o)
-  unfolding heardAll
-  call4-leaves x o =
-      call4-by part (LeavesOf (call4 x o)) (unmoved (call4 x o)) (b .frame) (b .heard) x o
-      (λ whole. record {
-        recalls = same-recalled (b .hearing .index) part (done4 part (b .frame) (b .heard) x .share) (λ q h k. done4-beside q part (b .frame) (b .heard) x (inl (omega arith), tt) whole .same);
-        notes = same-noted part (done4 part (b .frame) (b .heard) x .share) (λ q h k. done4-beside q part (b .frame) (b .heard) x (inl (omega arith), tt) whole .same);
-        counts = refl;
-      })
-
-  first-half-leaves : (x : List Float) (s : ℕ) → LeavesOf (firstHalf x s) (halves.firstHalf part (b .hearing .way) x s)
-  unfolding heardAll
-  first-half-leaves x s =
-      let way = b .hearing .way in
-      first-half-by part (LeavesOf (firstHalf x s)) (unmoved (firstHalf x s)) way x s
-      (λ whole l. record {
-        recalls = first-recalled part way x whole l (b .hearing .index);
-        notes = first-noted part way x whole l;
-        counts = refl;
-      })
+  unfolding kept brought
+  unmoved ask n = record { keeps = rw (refused b ask n) refl; counts = λ _. rw (refused b ask n) refl }
 
   second-half-leaves : (l : List Float) (m : List ℕ) (o : ℕ) → LeavesOf (secondHalf l m o) (halves.secondHalf part (b .hearing) l m o)
-  unfolding heardAll
+  unfolding kept brought
   second-half-leaves l m o =
       let way = b .hearing .way in
       second-half-by part (LeavesOf (secondHalf l m o)) (unmoved (secondHalf l m o)) (b .hearing) l m o
-      (λ _ _ _. record { recalls = refl; notes = refl; counts = refl })
-      (λ whole. record {
-        recalls = same-recalled (b .hearing .index) part (doneSecond Silent part way (get keptX part) .share) (λ q h k. done-second-beside q Silent part part way (get keptX part) (inl (omega arith), tt) (record { size = whole; same = refl }) .same);
-        notes = same-noted part (doneSecond Silent part way (get keptX part) .share) (λ q h k. done-second-beside q Silent part part way (get keptX part) (inl (omega arith), tt) (record { size = whole; same = refl }) .same);
-        counts = refl;
-      })
+      (λ _ _ _. record { keeps = refl; counts = λ _. refl })
+      (λ whole. record { keeps = four-kept (numbered (advanced b Silent)) part whole (inverseBy way (get keptX part)); counts = λ _. refl })
       (λ e k good whole inside.
       let p = forwardBy way (lookedBack part) in
       let t = spoken part (b .hearing .index) p l m k in
-      let kept : (q : Place) → AllApart (lastg ∷ cepstralMem ∷ vadState ∷ noiseState ∷ denoiseState ∷ []) q → Beside q part (t .share)
-      = λ q apart. done3-beside q part (b .hearing .index) p l m k apart good whole inside in
-      let size = kept end (inl (omega arith), (inl (omega arith), (inl (omega arith), (inl (omega arith), (inl (omega arith), tt))))) .size in
       record {
-        recalls = same-recalled _ (t .share) (doneSecond (Heard (t .voice) e) (t .share) way (t .spectrum) .share) (λ q h j. done4-beside q (t .share) 0 0 (inverseBy way (t .spectrum)) (inl (omega arith), tt) size .same)
-            ∙ heard-frame part (b .hearing .index) p l m k good whole inside;
-        notes = same-noted part (doneSecond (Heard (t .voice) e) (t .share) way (t .spectrum) .share) (λ q h j. done-second-beside q (Heard (t .voice) e) part (t .share) way (t .spectrum) (inl (omega arith), tt)
-            (kept q (inr (omega arith), (inr (omega arith), (inr (omega arith), (inr (omega arith), (inr (omega arith), tt)))))) .same);
-        counts = refl;
+        keeps =
+            four-kept (numbered (advanced b (Heard (t .voice) e))) (t .share) (said-whole b part whole p l m k good inside) (inverseBy way (t .spectrum))
+            ∙ three-kept b part whole p l m k good inside (oneMore (b .frame)) (oneMore (b .heard));
+        counts = λ _. refl;
       })
 
   -- ---- pieces: the rest of one waits, or begins a frame
 
-  first-notes : (index : ℕ) (q : List Float) (way : Way) (x : List Float) → passed (halves.firstHalf q way x 22 .reply) ≡ true
-      → let f = halves.firstHalf q way x 22 in (recalledIn index (f .share) ≡ recalledIn index q) × (notedIn (f .share) ≡ firstNotes way q x)
-  first-notes index q way x =
-      first-half-by q (λ f. passed (f .reply) ≡ true → (recalledIn index (f .share) ≡ recalledIn index q) × (notedIn (f .share) ≡ firstNotes way q x)) (λ n e. absurd (false≢true e)) way x 22
-      (λ sized l _. (first-recalled q way x sized l index, first-noted q way x sized l))
+  -- it brings no frame
+  rest-brings : (way : Way) (q rest : List Float) (k : Noted) → brought k (restCalls way q rest) ≡ []
+  unfolding brought
+  rest-brings way q rest k = go (ltb (length rest) 480)
+    where
+      go : (t : Bool) → brought k (cond t [] (firstCalls way q (take 480 rest))) ≡ []
+      go true = refl
+      go false = refl
 
-  rest-notes : (index : ℕ) (reply : Reply) (mid : List Float) (way : Way) (rest : List Float) (w : Written) → length mid ≡ SHARE → good rest ≡ true
-      → let o = further reply mid way rest w in let q = get framePart mid in
-      (recalledIn index (get framePart (o .share)) ≡ recalledIn index q) × (notedIn (get framePart (o .share)) ≡ restNotes way (notedIn q) q rest)
-  unfolding further
-  rest-notes index reply mid way rest w l g = go (ltb (length rest) 480) refl
+  rest-keeps : (r : Record) (reply : Reply) (mid : List Float) (way : Way) (rest : List Float) (w : Written) → length mid ≡ SHARE → good rest ≡ true
+      → let q = get framePart mid in
+      keptIn r (get framePart (further reply mid way rest w .kept)) ≡ kept (keptIn r q) (restCalls way q rest)
+  unfolding further kept
+  rest-keeps r reply mid way rest w l g = go (ltb (length rest) 480) refl
     where
       go : (t : Bool) → ltb (length rest) 480 ≡ t
-          → let o = cond t (atEnd reply mid rest w) (paused reply mid way rest w) in
-          (recalledIn index (get framePart (o .share)) ≡ recalledIn index (get framePart mid))
-          × (notedIn (get framePart (o .share)) ≡ cond t (notedIn (get framePart mid)) (firstNotes way (get framePart mid) (take 480 rest)))
-      go true e = (ap (recalledIn index) (frame-waits mid l rest), ap notedIn (frame-waits mid l rest))
+          → let q = get framePart mid in
+          keptIn r (get framePart (cond t (atEnd reply mid rest w) (paused reply mid way rest w) .kept)) ≡ kept (keptIn r q) (cond t [] (firstCalls way q (take 480 rest)))
+      go true e = ap (keptIn r) (frame-waits mid l rest)
       go false e =
           let q = get framePart mid in
+          let x = take 480 rest in
           let more = ltb-false (length rest) 480 e in
-          let f = first-passes q way (take 480 rest) (part-length mid l) (simp length-take (omega arith)) (good-take 480 rest g) in
-          let n = first-notes index q way (take 480 rest) (f .passes) in
-          let back = frame-back mid l (halves.firstHalf q way (take 480 rest) 22 .share) (f .part) in
-          (ap (recalledIn index) back ∙ n .0, ap notedIn back ∙ n .1)
+          let f = first-passes q way x (part-length mid l) (simp length-take (omega arith)) (good-take 480 rest g) in
+          ap (keptIn r) (frame-back mid l (halves.firstHalf q way x 22 .kept) (f .part))
+          ∙ first-half-by q (λ f. passed (f .answer) ≡ true → keptIn r (f .kept) ≡ kept (keptIn r q) (firstCalls way q x)) (λ n e. absurd (false≢true e)) way x 22
+          (λ sized l _. first-kept r q sized way x l) (f .passes)
 
-  -- a piece moves no index
-  carried-index : (r : Record) (rest size progress : ℕ) → carried r rest size progress .hearing .index ≡ r .hearing .index
-  carried-index r = carried-leaves (λ (x : Record). x .hearing .index) r (λ _ _ _ _. refl)
+  -- a piece moves no index, nor a number
+  carried-keeps : (r : Record) (rest size progress : ℕ) (q : List Float) → keptIn (carried r rest size progress) q ≡ keptIn r q
+  carried-keeps r rest size progress q = carried-leaves (λ (x : Record). keptIn x q) r (λ _ _ _ _. refl) rest size progress
 
-  piece-leaves : (x : List Float) (o s : ℕ) → let f = pieces.piece share (b .hearing .way) (b .waiting) x o s in Leaves (piece x o s) (f .reply) (get framePart (f .share))
-  unfolding heardAll
+  piece-leaves : (x : List Float) (o s : ℕ) → let f = pieces.piece share (b .hearing .way) (b .waiting) x o s in Leaves (piece x o s) (f .answer) (get framePart (f .kept))
+  unfolding kept brought
   piece-leaves x o s =
-      piece-by share (λ f. Leaves (piece x o s) (f .reply) (get framePart (f .share))) (unmoved (piece x o s)) (b .hearing .way) (b .waiting) x o s
+      piece-by share (λ f. Leaves (piece x o s) (f .answer) (get framePart (f .kept))) (unmoved (piece x o s)) (b .hearing .way) (b .waiting) x o s
       (λ k.
       let way = b .hearing .way in
       let mid = waits share [] in
       let rest = waitingIn (b .waiting) share ++ x in
-      let n = rest-notes (b .hearing .index) Done mid way rest nothing (waits-length share whole []) (good-append _ x (k .waited) (k .fine)) in
-      let same = frame-waits share whole [] in
-      subst (λ r. Leaves (piece x o s) r (get framePart (further Done mid way rest nothing .share))) (sym (further-reply Done mid way rest nothing))
+      subst (λ r. Leaves (piece x o s) r (get framePart (further Done mid way rest nothing .kept))) (sym (further-reply Done mid way rest nothing))
       (record {
-        recalls = ap (λ (i : ℕ). recalledIn i (get framePart (further Done mid way rest nothing .share))) (carried-index b _ _ _) ∙ n .0 ∙ ap (recalledIn (b .hearing .index)) same;
-        notes = n .1 ∙ ap (λ (q : List Float). restNotes way (notedIn q) q rest) same;
-        counts = refl;
+        keeps =
+            carried-keeps b _ _ _ _
+            ∙ rest-keeps b Done mid way rest nothing (waits-length share whole []) (good-append _ x (k .waited) (k .fine))
+            ∙ ap (λ (q : List Float). kept (keptIn b q) (restCalls way q rest)) (frame-waits share whole []);
+        counts = λ n. ap length (rest-brings way part rest n);
       }))
 
   resume-leaves : (x l : List Float) (m : List ℕ) (o s : ℕ)
-      → let f = pieces.resume share (b .hearing) (b .piece) (b .progress) x l m o s in Leaves (resume x l m o s) (f .reply) (get framePart (f .share))
-  unfolding heardAll
+      → let f = pieces.resume share (b .hearing) (b .piece) (b .progress) x l m o s in Leaves (resume x l m o s) (f .answer) (get framePart (f .kept))
+  unfolding kept brought
   resume-leaves x l m o s =
-      resume-by share (λ f. Leaves (resume x l m o s) (f .reply) (get framePart (f .share))) (unmoved (resume x l m o s))
+      resume-by share (λ f. Leaves (resume x l m o s) (f .answer) (get framePart (f .kept))) (unmoved (resume x l m o s))
       (b .hearing) (b .piece) (b .progress) x l m o s
-      (λ _ _ _. record { recalls = refl; notes = refl; counts = refl })
+      (λ _ _ _. record { keeps = refl; counts = λ _. refl })
       (λ k.
       let way = b .hearing .way in
       let h = halves.secondHalf part (b .hearing) l m 480 in
       let p = second-passes part (b .hearing) l m (part-length share whole) (k .taken) (k .inside) (k .right) in
       let c = second-half-leaves l m 480 in
-      let mid = put framePart share (h .share) in
+      let mid = put framePart share (h .kept) in
       let rest = drop (b .progress) x in
-      let w = from (480 * (frameAt (b .progress) - 1)) (buffer h) in
-      let next = numbered (advanced b (h .reply)) in
-      let n = rest-notes (next .hearing .index) (h .reply) mid way rest w (frame-length share whole (h .share) (p .part)) (good-drop (b .progress) x (k .fine)) in
-      let same = frame-back share whole (h .share) (p .part) in
-      let half = rw (p .passes) at (c .recalls) in
-      subst (λ r. Leaves (resume x l m o s) r (get framePart (further (h .reply) mid way rest w .share))) (sym (further-reply (h .reply) mid way rest w))
+      let w = from (480 * (frameAt (b .progress) - 1)) (firstIn (h .written)) in
+      let next = numbered (advanced b (h .answer)) in
+      subst (λ r. Leaves (resume x l m o s) r (get framePart (further (h .answer) mid way rest w .kept))) (sym (further-reply (h .answer) mid way rest w))
       (record {
-        recalls =
+        keeps =
             rw (p .passes)
-            (ap (λ (i : ℕ). recalledIn i (get framePart (further (h .reply) mid way rest w .share))) (carried-index next _ _ _) ∙ n .0 ∙ ap (recalledIn (next .hearing .index)) same ∙ half);
-        notes = rw (p .passes) (n .1 ∙ ap (λ (q : List Float). restNotes way (notedIn q) q rest) same ∙ ap (λ k. restNotes way k (h .share) rest) (c .notes));
-        counts = c .counts;
+            (carried-keeps next _ _ _ _
+            ∙ rest-keeps next (h .answer) mid way rest w (frame-length share whole (h .kept) (p .part)) (good-drop (b .progress) x (k .fine))
+            ∙ ap (λ (q : List Float). kept (keptIn next q) (restCalls way q rest)) (frame-back share whole (h .kept) (p .part))
+            ∙ ap (λ (t : Kept). kept t (restCalls way (h .kept) rest)) (rw (p .passes) at (c .keeps)));
+        counts = λ n. rw (p .passes, rest-brings way (h .kept) rest n) (rw (p .passes) at (c .counts n));
       }))
 
-  on-share : (ask : Ask) → (callOf ask ≡ 0 → passed (onShare b share ask .reply) ≡ false) → Remembers b share ask (givenOf b ask (onShare b share ask))
-  unfolding heardAll
-  on-share (opening w m) shut = go (readOf m) (shut refl)
+  -- ---- any call
+
+  on-share : (ask : Ask) → Opens ask (givenOf b ask (onShare b share ask)) ⊎ Remembers b share ask (givenOf b ask (onShare b share ask))
+  unfolding kept brought
+  on-share (opening w m) = go (readOf m) refl
     where
-      go : (r : Reading) → passed (opened share r .reply) ≡ false → Remembers b share (opening w m) (givenOf b (opening w m) (opened share r))
-      go (Good k) e = absurd (false≢true (sym e))
-      go (Unread n l) e = record { recalls = refl; notes = refl; counts = refl }
-  on-share (call1 x w) shut = in-part (call1 x w) _ (call1-keeps part x w) (call1-leaves x w)
-  on-share (call2 x l w s) shut = in-part (call2 x l w s) _ (call2-keeps part x l w s) (call2-leaves x l w s)
-  on-share (call2Own x w s) shut = in-part (call2Own x w s) _ (call2-own-keeps part x w s) (call2-own-leaves x w s)
-  on-share (call3 x l m o) shut = in-part (call3 x l m o) _ (call3-keeps part (b .hearing) x l m o) (call3-leaves x l m o)
-  on-share (call4 x o) shut = in-part (call4 x o) _ (call4-keeps part (b .frame) (b .heard) x o) (call4-leaves x o)
-  on-share (firstHalf x s) shut = in-part (firstHalf x s) _ (first-half-keeps part (b .hearing .way) x s) (first-half-leaves x s)
-  on-share (secondHalf l m o) shut = in-part (secondHalf l m o) _ (second-half-keeps part (b .hearing) l m o) (second-half-leaves l m o)
-  on-share (piece x o s) shut = lift (piece x o s) _ (piece-kept share (b .hearing .way) (b .waiting) x o s .size whole) (piece-leaves x o s)
-  on-share (resume x l m o s) shut =
-      lift (resume x l m o s) _ (resume-kept share (b .hearing) (b .piece) (b .progress) x l m o s .size whole) (resume-leaves x l m o s)
-
--- ---- an opening
-
-wiped : (n : ℕ) → SHARE ≤ n → (recalledIn 0 (replicate n (f32 0)) ≡ blank) × (notedIn (replicate n (f32 0)) ≡ unnoted)
-wiped n h =
-    let at : (p : Place) → p .at + p .size ≤ SHARE → get p (replicate n (f32 0)) ≡ replicate (p .size) (f32 0) = λ p k. get-replicate p n (f32 0) (omega arith) in (
-      cc (at lastg (omega arith), at cepstralMem (omega arith), at vadState (omega arith), at noiseState (omega arith), at denoiseState (omega arith)),
-      cc (at keptX (omega arith), at keptEx (omega arith), at keptLag (omega arith)),
-    )
+      go : (r : Reading) → readOf m ≡ r
+          → let o = givenOf b (opening w m) (opened share r) in Opens (opening w m) o ⊎ Remembers b share (opening w m) o
+      go (Good k) e = inl (rw e (record { opens = refl; passes = refl; forgets = wiped SHARE (omega arith); unheard = refl }))
+      go (Unread n l) e = inr (record { keeps = refl; counts = λ _. refl })
+  on-share (call1 x w) =
+      inr (in-part (call1 x w) _ (call1-keeps part x w)
+      (call1-by part (LeavesOf (call1 x w)) (unmoved (call1 x w)) x w
+      (λ whole l. record { keeps = one-kept b part whole x l; counts = λ _. refl })))
+  on-share (call2 x l w s) =
+      inr (in-part (call2 x l w s) _ (call2-keeps part x l w s)
+      (call2-by part (LeavesOf (call2 x l w s)) (unmoved (call2 x l w s)) x l w s
+      (λ whole. record { keeps = two-kept b part whole x l; counts = λ _. refl })))
+  on-share (call2Own x w s) =
+      inr (in-part (call2Own x w s) _ (call2-own-keeps part x w s)
+      (call2-own-by part (LeavesOf (call2Own x w s)) (unmoved (call2Own x w s)) x w s
+      (λ whole. record { keeps = two-kept b part whole x (ownLag (get inputMem part)); counts = λ _. refl })))
+  on-share (call3 x l m o) =
+      inr (in-part (call3 x l m o) _ (call3-keeps part (b .hearing) x l m o)
+      (call3-by part (LeavesOf (call3 x l m o)) (unmoved (call3 x l m o)) (b .hearing) x l m o
+      (λ _ _ _. record { keeps = refl; counts = λ _. refl })
+      (record { keeps = refl; counts = λ _. refl })
+      (λ e k good whole inside. record { keeps = three-kept b part whole x l m k good inside (b .frame) (oneMore (b .heard)); counts = λ _. refl })))
+  on-share (call4 x o) =
+      inr (in-part (call4 x o) _ (call4-keeps part x o)
+      (call4-by part (LeavesOf (call4 x o)) (unmoved (call4 x o)) x o
+      (λ whole. record { keeps = four-kept (numbered b) part whole x; counts = λ _. refl })))
+  on-share (firstHalf x s) =
+      inr (in-part (firstHalf x s) _ (first-half-keeps part (b .hearing .way) x s)
+      (first-half-by part (LeavesOf (firstHalf x s)) (unmoved (firstHalf x s)) (b .hearing .way) x s
+      (λ whole l. record { keeps = first-kept b part whole (b .hearing .way) x l; counts = λ _. refl })))
+  on-share (secondHalf l m o) = inr (in-part (secondHalf l m o) _ (second-half-keeps part (b .hearing) l m o) (second-half-leaves l m o))
+  on-share (piece x o s) = inr (lift (piece x o s) _ (piece-kept share (b .hearing .way) (b .waiting) x o s .size whole) (piece-leaves x o s))
+  on-share (resume x l m o s) =
+      inr (lift (resume x l m o s) _ (resume-kept share (b .hearing) (b .piece) (b .progress) x l m o s .size whole) (resume-leaves x l m o s))
 
 -- ---- one call on a desk of one bench
 
@@ -383,42 +365,27 @@ module _ (b : Record) (share : List Float) (whole : length share ≡ SHARE) (ask
   number = gate 1 0 b SHARE (callOf ask)
 
   -- a call is refused by the gate, or it is let through
-  by-gate : (P : Given → Type 0) → P (givenOf b ask (refused (Refused number) share)) → P (givenOf b ask (onShare b share ask)) → P (desk 1 0 b share ask)
+  by-gate : (P : Effect Answer → Type 0) → P (givenOf b ask (refusal (Refused number) share)) → P (givenOf b ask (onShare b share ask)) → P (desk 1 0 b share ask)
   unfolding number
   by-gate P turned let-in = rw (one-bench b share ask whole) (go (eqb number 0))
     where
-      go : (t : Bool) → P (givenOf b ask (cond t (onShare b share ask) (refused (Refused number) share)))
+      go : (t : Bool) → P (givenOf b ask (cond t (onShare b share ask) (refusal (Refused number) share)))
       go true = let-in
       go false = turned
 
+  pub either : Opens ask (desk 1 0 b share ask) ⊎ Remembers b share ask (desk 1 0 b share ask)
+  either =
+      by-gate (λ o. Opens ask o ⊎ Remembers b share ask o)
+      (inr (lift b share whole ask (refusal (Refused number) share) whole (unmoved b share whole ask number))) (on-share b share whole ask)
+
   pub remembers : (callOf ask ≡ 0 → passed (desk 1 0 b share ask .answer .reply) ≡ false) → Remembers b share ask (desk 1 0 b share ask)
-  remembers =
-      by-gate (λ o. (callOf ask ≡ 0 → passed (o .answer .reply) ≡ false) → Remembers b share ask o)
-      (λ _. lift b share whole ask (refused (Refused number) share) whole (unmoved b share whole ask number)) (on-share b share whole ask)
+  remembers shut = ⊎-elim (λ o. absurd (false≢true (sym (shut (o .opens)) ∙ o .passes))) (λ r. r) either
 
 pub opens : (b : Record) (share : List Float) → length share ≡ SHARE → (w : Way) (m : List ℕ)
-    → passed (desk 1 0 b share (opening w m) .answer .reply) ≡ true → Opens (desk 1 0 b share (opening w m))
+    → let o = desk 1 0 b share (opening w m) in passed (o .answer .reply) ≡ true → Opens (opening w m) o
 opens b share whole w m =
-    by-gate b share whole (opening w m) (λ o. passed (o .answer .reply) ≡ true → Opens o) (λ e. absurd (false≢true e)) (go (readOf m) refl)
+    by-gate b share whole (opening w m) (λ o. passed (o .answer .reply) ≡ true → Opens (opening w m) o) (λ e. absurd (false≢true e)) (go (readOf m) refl)
   where
-    go : (r : Reading) → readOf m ≡ r → passed (opened share r .reply) ≡ true → Opens (givenOf b (opening w m) (opened share r))
-    go (Good k) e p = let z = wiped SHARE (omega arith) in rw e (record { forgets = z .0; unnotes = z .1; unheard = refl })
+    go : (r : Reading) → readOf m ≡ r → passed (opened share r .answer) ≡ true → Opens (opening w m) (givenOf b (opening w m) (opened share r))
+    go (Good k) e p = rw e (record { opens = refl; passes = refl; forgets = wiped SHARE (omega arith); unheard = refl })
     go (Unread n l) e p = absurd (false≢true p)
-
--- there is no third way
-pub either : (b : Record) (share : List Float) → length share ≡ SHARE → (ask : Ask) → Opens (desk 1 0 b share ask) ⊎ Remembers b share ask (desk 1 0 b share ask)
-either b share whole (opening w m) = go (passed (desk 1 0 b share (opening w m) .answer .reply)) refl
-  where
-    go : (t : Bool) → passed (desk 1 0 b share (opening w m) .answer .reply) ≡ t
-        → Opens (desk 1 0 b share (opening w m)) ⊎ Remembers b share (opening w m) (desk 1 0 b share (opening w m))
-    go true e = inl (opens b share whole w m e)
-    go false e = inr (remembers b share whole (opening w m) (λ _. e))
-either b share whole (call1 x w) = inr (remembers b share whole (call1 x w) (λ z. absurd (omega arith)))
-either b share whole (call2 x l w s) = inr (remembers b share whole (call2 x l w s) (λ z. absurd (omega arith)))
-either b share whole (call2Own x w s) = inr (remembers b share whole (call2Own x w s) (λ z. absurd (omega arith)))
-either b share whole (call3 x l m o) = inr (remembers b share whole (call3 x l m o) (λ z. absurd (omega arith)))
-either b share whole (call4 x o) = inr (remembers b share whole (call4 x o) (λ z. absurd (omega arith)))
-either b share whole (firstHalf x s) = inr (remembers b share whole (firstHalf x s) (λ z. absurd (omega arith)))
-either b share whole (secondHalf l m o) = inr (remembers b share whole (secondHalf l m o) (λ z. absurd (omega arith)))
-either b share whole (piece x o s) = inr (remembers b share whole (piece x o s) (λ z. absurd (omega arith)))
-either b share whole (resume x l m o s) = inr (remembers b share whole (resume x l m o s) (λ z. absurd (omega arith)))

@@ -1,18 +1,14 @@
 -- A heard frame on a share: what is remembered then is what `hear` makes of what was remembered before. Assumes nothing.
-use Prim.Native.Nat.{ℕ, _+_, _≤_}
+use Rattle.rules.proofs.Common.{ℕ, _+_, _≤_, List, _≡_, refl, ap, _∙_, length, Float}
 use native.Mathlib.Omega.{arith}
-use mathlib.Core.List.{List}
 use mathlib.Core.Logic.{inl, inr}
-use mathlib.Core.Path.{_≡_, refl, ap, _∙_}
-use lib.ListN.{length}
-use lib.Ieee.{Float}
 use Rattle.rules.specs.F32.{at, zeros}
 use Rattle.rules.specs.Place.{Place, get, put}
 use Rattle.rules.proofs.Places.{Apart, length-get, length-put, get-put, get-put-apart}
 use Rattle.model.specs.Model.{readOf}
 use Rattle.model.specs.declared.Model.{Model}
 use Rattle.model.specs.declared.Reading.the-variants.{Good}
-use Rattle.network.specs.Compute.{Frame, Computing, layersInPlace, computed}
+use Rattle.network.specs.Compute.{Layered, Outcome, layersInPlace, computed}
 use Rattle.network.specs.Parts.{Lengths}
 use Rattle.network.proofs.Callers.{computed-done, kept}
 use Rattle.features.specs.Features.{normalisedCorr, featuresOf, withCepstrum}
@@ -21,11 +17,8 @@ use Rattle.features.proofs.Lengths.{length-gained, length-with-cepstrum, length
 use Rattle.frame.specs.Share.{PART, keptX, keptEx, keptLag, lastg, cepstralMem, vadState, noiseState, denoiseState}
 use Rattle.frame.specs.Heard.{scaled, energies, featured, rnnOf, spokenFrom, spoken}
 use Rattle.memory.specs.Hear.{Recalled, nextPlace, hear}
-use Rattle.memory.specs.Brought.{recalledIn, Noted, heardFrame}
-
--- what a share has noted
-abbrev pub notedIn : List Float → Noted
-notedIn share = record { x = get keptX share; ex = get keptEx share; lag = at (get keptLag share) 0 }
+use Rattle.memory.specs.Brought.{recalledIn, heardFrame}
+use Rattle.memory.proofs.Kept.{notedIn}
 
 -- ---- a field put into a whole share, and five one after another
 
@@ -117,7 +110,7 @@ module _ (share : List Float) (index : ℕ) (p logs : List Float) (bytes : List 
   features = featuresOf (normalisedCorr (get keptX share) (scaled p) (get keptEx share) (energies p)) (at (get keptLag share) 0) logs mem index
 
   -- what the six layers leave of the states as they stand in a share
-  abbrev leaves : List Float → Frame
+  abbrev leaves : List Float → Layered
   leaves xs = layersInPlace bytes m (get vadState xs) (get noiseState xs) (get denoiseState xs) features
 
   sized : (q : Place) → q .at + q .size ≤ PART → length (get q share) ≡ q .size
@@ -144,11 +137,11 @@ module _ (share : List Float) (index : ℕ) (p logs : List Float) (bytes : List 
         featured = length-features _ _ _ _ _;
       }
 
-  abbrev left : Frame
-  left = computed (zeros 22) (zeros 1) (get vadState share) (get noiseState share) (get denoiseState share) bytes features .left
+  abbrev left : Layered
+  left = computed (zeros 22) (zeros 1) (get vadState share) (get noiseState share) (get denoiseState share) bytes features .layers
 
   thought : leaves sensed ≡ left
-  thought = same ∙ ap (λ (o : Computing). o .left) (computed-done (zeros 22) (zeros 1) _ _ _ bytes features fit {m = m} {left = leaves share} good refl)
+  thought = same ∙ ap (λ (o : Outcome). o .layers) (computed-done (zeros 22) (zeros 1) _ _ _ bytes features fit {m = m} {left = leaves share} good refl)
 
   pub heard-frame : recalledIn (nextPlace index) (spoken share index p logs bytes m .share)
       ≡ hear (recalledIn index share) (heardFrame (notedIn share) p logs bytes)
@@ -158,8 +151,8 @@ module _ (share : List Float) (index : ℕ) (p logs : List Float) (bytes : List 
       let l1 = k .first ∙ sized vadState (omega arith) in
       let l2 = k .second ∙ sized noiseState (omega arith) in
       let l3 = k .third ∙ sized denoiseState (omega arith) in
-      let put-back : Frame → List Float = λ f. put denoiseState (put noiseState (put vadState sensed (f .vad)) (f .noise)) (f .denoise) in
-      let put-all : Frame → List Float → Recalled = λ f last. recalledIn (nextPlace index) (put lastg (put-back f) (gained (f .gains) last)) in
-      ap (λ (f : Frame). put-all f (get lastg (put-back f))) thought
+      let put-back : Layered → List Float = λ f. put denoiseState (put noiseState (put vadState sensed (f .vad)) (f .noise)) (f .denoise) in
+      let put-all : Layered → List Float → Recalled = λ f last. recalledIn (nextPlace index) (put lastg (put-back f) (gained (f .gains) last)) in
+      ap (λ (f : Layered). put-all f (get lastg (put-back f))) thought
       ∙ ap (put-all left) (old-gains share ceps (left .vad) (left .noise) (left .denoise) whole rows l1 l2 l3)
       ∙ all-put share ceps (left .vad) (left .noise) (left .denoise) whole rows l1 l2 l3 (gained (left .gains) (get lastg share)) (length-gained _ _) (nextPlace index)

@@ -1,4 +1,4 @@
+pub mod Kept
 pub mod Calls
 pub mod Gains
 pub mod Heard
-pub mod Order

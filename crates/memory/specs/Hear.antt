@@ -1,10 +1,6 @@
 -- What a bench remembers of the voice, and what a heard frame makes of it, request 13: `compute_frame_features` of features.rs and
 -- `process_frame` of denoise.rs, as far as they remember.
-use Prim.Native.Nat.{ℕ, zero, suc, _+_}
-use mathlib.Core.Bool.{cond}
-use mathlib.Core.List.{List, [], _∷_}
-use lib.Dec.{ltb}
-use lib.Ieee.{Float}
+use Rattle.rules.specs.Common.{ℕ, zero, suc, _+_, cond, List, [], _∷_, ltb, Float}
 use Rattle.rules.specs.F32.{zeros}
 use Rattle.network.specs.Compute.{computed}
 use Rattle.features.specs.Features.{featuresOf, withCepstrum}
@@ -38,7 +34,7 @@ nextPlace index = cond (ltb index 7) (index + 1) 0
 unfoldable pub hear : Recalled → HeardFrame → Recalled
 hear m f =
     let features = featuresOf (f .correlations) (f .lag) (f .logs) (m .cepstra) (m .index) in
-    let rnn = computed (zeros 22) (zeros 1) (m .vad) (m .noise) (m .denoise) (f .model) features .left in
+    let rnn = computed (zeros 22) (zeros 1) (m .vad) (m .noise) (m .denoise) (f .model) features .layers in
     record {
       gains = gained (rnn .gains) (m .gains);
       cepstra = withCepstrum (f .logs) (m .cepstra) (m .index);

@@ -1,2 +1,4 @@
 pub mod Hear
+pub mod Calls
 pub mod Brought
+pub mod Laws

@@ -1,36 +1,26 @@
 -- What holds of layers that the writer accepts. Assumes nothing.
 --     accepted     no refusal: each layer's table is clear, the layers go together, and the buffer is long enough
 --     fit          they are layers that a file can hold
-use mathlib.Core.Path.{_≡_, sym, ap, _∙_}
-use mathlib.Core.Bool.{false}
-use mathlib.Core.List.{List, [], _∷_, _++_, map, append-nil, append-assoc}
-use Prim.Native.Nat.{ℕ, zero, suc, _+_, _*_, _≤_}
+use Rattle.rules.proofs.Common.{ℕ, zero, suc, _+_, _*_, _≤_, false, List, [], _∷_, _++_, map, _≡_, sym, ap, _∙_, ltb, length, getD, take, drop}
+use Rattle.rules.proofs.Common.{length-drop, length-append}
+use mathlib.Core.List.{append-nil, append-assoc}
 use native.Mathlib.Nat.{zero-add}
 use native.Mathlib.Omega.{arith}
 use borrow.Author.Tests.{ltb-false, eq-eqb}
-use lib.Dec.{ltb}
-use lib.ListN.{length, getD, take, drop, length-append, length-drop}
 use lib.Seq.{getD-drop}
 use Rattle.rules.specs.Lists.{Bytes, sum}
 use Rattle.rules.specs.Refusals.{Row, _when_}
 use Rattle.rules.specs.Leaf.{_leaving_}
-use Rattle.rules.proofs.Refused.{Clear, clear}
-use Rattle.rules.proofs.Rows.{Each}
+use Rattle.rules.proofs.Refusals.{Clear, clear, cleared, due}
 use Rattle.model.specs.declared.Kind.{Kind}
 use Rattle.model.specs.Layer.{activationOf, activationNumber}
 use Rattle.model.specs.Model.{kinds, matchFaults}
 use Rattle.model.specs.Writer.{arraysOf, layersGiven, fileOf, layerFaults, inLayer, rowFaults, countsGiven, writerFaults, writeModel}
 use Rattle.model.specs.Parts.{faultIn, Few, headerBytes, layerBytes, threeBytes, overwritten, Put}
-use Rattle.model.proofs.Rows.{Some, by-fault, by-its-fault, past, no-fault, shifted-clear, clear-both}
+use Rattle.model.proofs.Rows.{Some, shifted-clear, clear-both}
 use Rattle.model.proofs.Inverse.{number-of}
 
 -- ---- from the tables
-
-some-rows : (j : ℕ) (ks : List Kind) (s ns : List ℕ) → Each Some (rowFaults j ks s ns)
-unfolding rowFaults
-some-rows j [] s ns = tt
-some-rows j (k ∷ ks) s ns =
-    ((λ e. omega arith), ((λ e. omega arith), ((λ e. omega arith), ((λ e. omega arith), ((λ e. omega arith), some-rows (suc j) ks (drop 3 s) (drop 3 ns))))))
 
 -- each layer's table is clear
 abbrev pub EachClear : List Kind → List ℕ → List ℕ → Type 0
@@ -52,27 +42,23 @@ module _ (s ns : List ℕ) (file buffer : ℕ) where
   abbrev together : List Row
   together = matchFaults (countsGiven kinds s) 0
 
-  some-together : Each Some (inLayer 6 together)
-  some-together = ((λ e. omega arith), ((λ e. omega arith), ((λ e. omega arith), ((λ e. omega arith), ((λ e. omega arith), ((λ e. omega arith), tt))))))
-
   pub bad-rows : {r : ℕ} → r ≡ faultIn (rowFaults 0 kinds s ns) → Some r → r ≡ faultIn (writerFaults s ns file buffer)
-  unfolding writerFaults
-  bad-rows e some = sym (by-fault (λ r. r) 0 (rowFaults 0 kinds s ns) (inLayer 6 (together ++ last)) e some)
+  unfolding writerFaults rowFaults
+  bad-rows e some = sym (due (λ r. r) _ (rowFaults 0 kinds s ns) e some)
 
   pub clear-rows : {r : ℕ} → r ≡ faultIn (rowFaults 0 kinds s ns) → r ≡ 0 → Clear (rowFaults 0 kinds s ns)
-  clear-rows e none = no-fault (rowFaults 0 kinds s ns) (some-rows 0 kinds s ns) e none
+  unfolding rowFaults
+  clear-rows e none = cleared (rowFaults 0 kinds s ns) tt (sym e ∙ none)
 
   pub bad-model : Clear (rowFaults 0 kinds s ns) → {r : ℕ} → r ≡ faultIn (inLayer 6 together) → Some r → r ≡ faultIn (writerFaults s ns file buffer)
-  unfolding writerFaults
-  bad-model c e some =
-      sym (past (λ r. r) 0 (rowFaults 0 kinds s ns) (inLayer 6 (together ++ last)) c ∙ by-fault (λ r. r) 0 (inLayer 6 together) (inLayer 6 last) e some)
+  unfolding writerFaults rowFaults
+  bad-model c e some = sym (clear (λ r. r) _ (rowFaults 0 kinds s ns) c ∙ due (λ r. r) _ (inLayer 6 together) e some)
 
   pub good-model : Clear (rowFaults 0 kinds s ns) → {r : ℕ} → r ≡ faultIn (inLayer 6 together) → r ≡ 0
       → faultIn (writerFaults s ns file buffer) ≡ faultIn (inLayer 6 last)
-  unfolding writerFaults
+  unfolding writerFaults rowFaults
   good-model c e none =
-      past (λ r. r) 0 (rowFaults 0 kinds s ns) (inLayer 6 (together ++ last)) c
-      ∙ past (λ r. r) 0 (inLayer 6 together) (inLayer 6 last) (no-fault (inLayer 6 together) some-together e none)
+      clear (λ r. r) _ (rowFaults 0 kinds s ns) c ∙ clear (λ r. r) _ (inLayer 6 together) (cleared (inLayer 6 together) tt (sym e ∙ none))
 
   pub few-given : Clear (rowFaults 0 kinds s ns) → Few (countsGiven kinds s)
   unfolding countsGiven
@@ -96,17 +82,6 @@ module _ (s ns : List ℕ) (file buffer : ℕ) where
       let both = clear-both (rowFaults 0 kinds s ns) (inLayer 6 (together ++ last)) c in
       let more = clear-both (inLayer 6 together) (inLayer 6 last) (both .1) in
       record { layers = each-clear 0 kinds s ns (both .0); together = shifted-clear 6 together (more .0); enough = ltb-false buffer file (more .1 .0) }
-
-  pub some-faults : Each Some (writerFaults s ns file buffer)
-  unfolding writerFaults
-  some-faults = some-both (rowFaults 0 kinds s ns) (some-rows 0 kinds s ns)
-    where
-      some-both : (rows : List Row) → Each Some rows → Each Some (rows ++ inLayer 6 (together ++ last))
-      some-both [] all = ((λ e. omega arith), ((λ e. omega arith), ((λ e. omega arith), ((λ e. omega arith), ((λ e. omega arith), ((λ e. omega arith), ((λ e. omega arith), tt)))))))
-      some-both (n when t ∷ rows) all = (all .0, some-both rows (all .1))
-
-  pub no-refusal : {r : ℕ} → r ≡ faultIn (writerFaults s ns file buffer) → r ≡ 0 → Accepted
-  no-refusal e none = accepted (no-fault (writerFaults s ns file buffer) some-faults e none)
 
 -- ---- the numbers
 
@@ -179,25 +154,28 @@ module _ (s : List ℕ) (x : Arrays) where
       simp (getD-drop, append-nil, append-assoc, numbered s (c .0 .1 .1 .0), n1, n2, n3, n4, n5)
 
   module _ (out : List ℕ) (eighteen : length s ≡ 18) {r : ℕ} (e : r ≡ faultIn (rows (length out))) where
+    none-due : r ≡ 0 → Clear (rows (length out))
+    unfolding writerFaults rowFaults
+    none-due none = cleared (rows (length out)) tt (sym e ∙ none)
+
+    taken : r ≡ 0 → Accepted s (map length arrays) (18 + sum (map length arrays)) (length out)
+    taken none = accepted _ _ _ _ (none-due none)
+
     -- what putting both halves asks for
     pub bytes-so : r ≡ 0 → Bytes s
-    bytes-so none =
-        bytes-given kinds s (map length arrays) eighteen (no-refusal s (map length arrays) (18 + sum (map length arrays)) (length out) e none .layers)
+    bytes-so none = bytes-given kinds s (map length arrays) eighteen (taken none .layers)
 
     pub fits-so : r ≡ 0 → 0 + length (head ++ tail) ≤ length out
-    fits-so none =
-        omega (arith, length-halves, no-refusal s (map length arrays) (18 + sum (map length arrays)) (length out) e none .enough)
+    fits-so none = omega (arith, length-halves, taken none .enough)
 
     pub refused-so : Some r → (r leaving out) ≡ writeModel s arrays out
     unfolding writeModel
-    refused-so some = rw (eq-eqb (length s) 18 eighteen, length-file) (sym (by-its-fault (λ n. n leaving out) _ (rows (length out)) e some))
+    refused-so some = rw (eq-eqb (length s) 18 eighteen, length-file) (sym (due (λ n. n leaving out) _ (rows (length out)) e some))
 
     pub written-so : r ≡ 0 → {next : ℕ} {after : List ℕ} → Put 0 (head ++ tail) out next after → (0 leaving after) ≡ writeModel s arrays out
     unfolding writeModel overwritten
     written-so none put =
-        let a = no-refusal s (map length arrays) (18 + sum (map length arrays)) (length out) e none in
-        let c = no-fault (rows (length out)) (some-faults s (map length arrays) (18 + sum (map length arrays)) (length out)) e none in
         rw (eq-eqb (length s) 18 eighteen, length-file)
-        (sym (clear (λ n. n leaving out) _ (rows (length out)) c
-        ∙ ap (λ (file : List ℕ). 0 leaving file ++ drop (length file) out) (halves (a .layers))
+        (sym (clear (λ n. n leaving out) _ (rows (length out)) (none-due none)
+        ∙ ap (λ (file : List ℕ). 0 leaving file ++ drop (length file) out) (halves (taken none .layers))
         ∙ rw (put .left, zero-add (length (head ++ tail)))))

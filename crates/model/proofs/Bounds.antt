@@ -1,12 +1,9 @@
 -- What readings stay within: no longer file reads than the largest model's, and a refusal is a number of the table. Assumes nothing.
-use mathlib.Core.Path.{_≡_, refl, sym, subst}
-use mathlib.Core.List.{List, [], _∷_}
-use Prim.Native.Nat.{ℕ, zero, suc, _+_, _*_, _≤_, _<_, _^_}
+use Rattle.rules.proofs.Common.{ℕ, zero, suc, _+_, _*_, _^_, _≤_, _<_, List, [], _∷_, _≡_, refl, sym, subst, length, getD, length-append}
 use native.Mathlib.Nat.{add-mul}
 use native.Mathlib.Numerals.{add-one}
 use native.Mathlib.Omega.{arith}
-use lib.ListN.{length, getD, length-append}
-use Rattle.rules.proofs.Rows.{by-each}
+use Rattle.rules.proofs.Refusals.{by-each}
 use Rattle.model.specs.declared.Kind.{Kind}
 use Rattle.model.specs.declared.Kind.the-variants.{Dense, Gru}
 use Rattle.model.specs.declared.Header.{Header}
@@ -15,13 +12,13 @@ use Rattle.model.specs.declared.Found.{Found}
 use Rattle.model.specs.declared.Found.the-variants.{At, Nothing}
 use Rattle.model.specs.declared.Reading.{Reading}
 use Rattle.model.specs.declared.Reading.the-variants.{Good, Refused}
-use Rattle.model.specs.Layer.{lengths, sizeOf, Layer}
-use Rattle.model.specs.Model.{kinds, headersAt, modelOf, countsIn, matchFaults, goodUnless, readOf}
+use Rattle.model.specs.Layer.{lengths, sizeOf, Layer, faultsOf, restOf}
+use Rattle.model.specs.Model.{kinds, headersAt, modelOf, countsIn, matchFaults, matchedWith, readLayers, refusingLayers, readOf}
 use Rattle.model.specs.Array.{foundIn, lineIn}
-use Rattle.model.specs.Laws.{LiesIn, Shaped, Largest, RefusedIn}
+use Rattle.model.specs.Laws.{layersRead, LiesIn, Shaped, Largest, RefusedIn}
 use Rattle.model.proofs.Layer.{product}
 use Rattle.model.specs.Writer.{fileOf}
-use Rattle.model.proofs.Inverse.{length-joined, number-small, FitAll, Number, AllCome, layers, refusal, row-comes}
+use Rattle.model.proofs.Inverse.{length-joined, number-small, FitAll}
 use Rattle.model.proofs.File.{Written, writes-back}
 use Rattle.model.proofs.Places.{within}
 use Rattle.model.proofs.Shapes.{shape}
@@ -70,10 +67,9 @@ largest-file size (l0 ∷ l1 ∷ l2 ∷ l3 ∷ l4 ∷ l5 ∷ l6 ∷ ls) f q = ab
 
 -- no longer file reads
 pub largest : Largest
-largest s m e = of m (rw (← e) at (writes-back s))
-  where
-    of : (m : Model) → Written s m → length s ≤ 157285
-    of m w = rw (w .holds .file) (largest-file (length s) (w .contents) (w .holds .fit) (subst (Shaped (length s)) (sym (w .model)) (shape s m w)))
+largest s m e =
+    let w : Written s m = rw (← e) at (writes-back s) in
+    rw (w .holds .file) (largest-file (length s) (layersRead s) (w .holds .fit) (subst (Shaped (length s)) (sym (w .model)) (shape s m w)))
 
 -- a layer that is found is within 157,285 bytes
 found-small : (s : List ℕ) (j : ℕ) {k : Kind} {h : Header} → At k h ≡ foundIn (readOf s) j → LiesIn 157285 k h
@@ -105,31 +101,24 @@ line-small s j n = rw (add-one n) (of (foundIn (readOf s) j) refl n)
 
 abbrev InTable : Reading → Type 0
 InTable (Good m) = Unit
-InTable (Refused n j) = Number n × (j ≤ 6)
+InTable (Refused n j) = (11 ≤ n) × (n ≤ 22) × (j ≤ 6)
 
-matched-in : (m : Model) (left : ℕ) → InTable (goodUnless (matchFaults (countsIn m) left) m)
-matched-in m left =
-    let last : (n : ℕ) → Number n → Number n × (6 ≤ 6) = λ n small. (small, omega arith) in
-    by-each (λ n. Refused n 6) (Good m) InTable (matchFaults (countsIn m) left) (
-      last 17 (omega arith, omega arith),
-      (
-        last 18 (omega arith, omega arith),
-        (last 19 (omega arith, omega arith), (last 20 (omega arith, omega arith), (last 21 (omega arith, omega arith), (last 22 (omega arith, omega arith), tt)))),
-      ),
-    ) tt
+matched-in : (m : Model) (left : ℕ) → InTable (matchedWith m left)
+matched-in m left = by-each (λ n. Refused n 6) (Good m) InTable (matchFaults (countsIn m) left) (omega arith) tt
+
+layers-in : (right : Reading) → InTable right → (j : ℕ) (ks : List Kind) (s : List ℕ) → j + length ks ≤ 6 → InTable (refusingLayers j ks s right)
+unfolding refusingLayers
+layers-in right h j [] s b = h
+layers-in right h j (k ∷ ks) s b =
+    by-each (λ n. Refused n j) _ InTable (faultsOf k s) (omega arith) (layers-in right h (suc j) ks (restOf k s) (omega arith))
 
 reading-in : (s : List ℕ) → InTable (readOf s)
 unfolding readOf
-reading-in s = of (row-comes 0 kinds s)
-  where
-    of : AllCome 0 kinds s → InTable (readOf s)
-    of (layers ls rest fit is gives) =
-        rw (gives _ Refused _) (matched-in (modelOf (headersAt 0 ls)) (length rest))
-    of (refusal n j small below gives) = rw (gives _ Refused _) (small, omega arith)
+reading-in s = let r = readLayers kinds s in layers-in _ (matched-in (modelOf (headersAt 0 (r .0))) (length (r .1))) 0 kinds s (omega arith)
 
 -- a refusal is one of 11 to 22, and its layer one of 0 to 6
 pub refused-in : (s : List ℕ) {n j : ℕ} → Refused n j ≡ readOf s → (11 ≤ n) × (n ≤ 22) × (j ≤ 6)
-refused-in s e = let r = rw (← e) at (reading-in s) in (r .0 .0, r .0 .1, r .1)
+refused-in s e = rw (← e) at (reading-in s)
 
 pub refusals : RefusedIn
 refusals s n j e = refused-in s e

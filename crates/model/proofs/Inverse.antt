@@ -1,23 +1,22 @@
 -- Reading and writing are each the other's inverse, for one layer and for layers in a row. Assumes nothing.
---     layer-reads, row-reads     the bytes of layers that fit read as these layers
---     layer-comes, row-comes     what reads is the bytes of its layers, and they fit; what does not is refused, whatever is made of it
-use mathlib.Core.Path.{_≡_, refl, sym, ap, _∙_}
-use mathlib.Core.Bool.{true, false}
-use mathlib.Core.List.{List, [], _∷_, _++_, append-assoc}
-use Prim.Native.Nat.{ℕ, zero, suc, _+_, _≤_, _<_}
+--     layer-reads, row-reads     the bytes of layers that fit read as these layers, and nothing refuses them
+--     layer-fits, row-fits       what nothing refuses is the bytes of its layers, and they fit
+use Rattle.rules.proofs.Common.{ℕ, zero, suc, _≤_, true≢false, List, [], _∷_, _++_, _≡_, refl, sym, ap, subst, _∙_, length, drop, length-take}
+use Rattle.rules.proofs.Common.{length-drop, length-append}
+use mathlib.Core.List.{append-assoc}
 use native.Mathlib.Omega.{arith}
 use borrow.Author.Tests.{le-ltb, ne-eqb, ltb-false, eqb-false}
-use lib.ListN.{length, drop, length-append, length-take, length-drop, take-append-drop}
+use lib.ListN.{take-append-drop}
 use lib.Seq.{take-append-seam, drop-append-seam}
 use Rattle.rules.specs.Lists.{sum}
 use Rattle.model.specs.declared.Activation.{Activation}
 use Rattle.model.specs.declared.Activation.the-variants.{Tanh, Sigmoid, Relu}
 use Rattle.model.specs.declared.Kind.{Kind}
-use Rattle.rules.specs.Refusals.{Row, _when_, refusing}
-use Rattle.rules.proofs.Refused.{Clear, clear}
-use Rattle.rules.proofs.Rows.{Each}
-use Rattle.model.specs.Layer.{lengths, sizeOf, activationOf, activationNumber, joined, cut, bytesOf, Layer, faults, readLayer}
-use Rattle.model.specs.Model.{readLayers}
+use Rattle.model.specs.declared.Reading.{Reading}
+use Rattle.model.specs.declared.Reading.the-variants.{Refused}
+use Rattle.rules.proofs.Refusals.{Clear, clear, by-rows}
+use Rattle.model.specs.Layer.{lengths, sizeOf, activationOf, activationNumber, joined, cut, bytesOf, Layer, layerOf, faultsOf, restOf}
+use Rattle.model.specs.Model.{readLayers, refusingLayers}
 use Rattle.model.specs.Writer.{fileOf}
 use Rattle.model.proofs.Layer.{joined-cut}
 
@@ -64,60 +63,33 @@ pub record Fits (k : Kind) (l : Layer) : Type 0 where
   pub some : l .neurons ≡ 0 → ⊥
   pub arrays : Sized (lengths k (l .inputs) (l .neurons)) (l .arrays)
 
-pub layer-reads : {A : Type 0} (k : Kind) (l : Layer) (rest : List ℕ) → Fits k l → (refuse : ℕ → A) (next : Layer → List ℕ → A)
-    → readLayer k (bytesOf l ++ rest) refuse next ≡ next l rest
-unfolding readLayer
-layer-reads k l rest h refuse next =
-    let n = lengths k (l .inputs) (l .neurons) in
-    let tail = joined (l .arrays) ++ rest in
-    let long = length-joined n (l .arrays) (h .arrays) in
-    let enough : sum n ≤ length tail = simp length-append (omega (arith, long)) in
-    clear refuse _ (faults k (l .inputs) (l .neurons) (activationNumber (l .activation)) (length tail))
-    (le-ltb _ _ (h .inputs), (le-ltb _ _ (h .neurons), (le-ltb _ _ (number-small (l .activation)), (ne-eqb _ _ (h .some), (le-ltb _ _ enough, tt)))))
-    ∙ rw (activation-of (l .activation), cut-joined n (l .arrays) rest (h .arrays), ← long, drop-append-seam (joined (l .arrays)) rest)
+module _ (k : Kind) (l : Layer) (rest : List ℕ) (h : Fits k l) where
+  abbrev ns : List ℕ
+  ns = lengths k (l .inputs) (l .neurons)
 
--- a number of the table
-abbrev pub Number : ℕ → Type 0
-Number n = (11 ≤ n) × (n ≤ 22)
+  pub layer-reads : layerOf k (bytesOf l ++ rest) ≡ l
+  layer-reads = rw (activation-of (l .activation), cut-joined ns (l .arrays) rest (h .arrays))
 
--- what a table of refusals comes to: no test holds, or one row's number is given, whatever is made of it
-data Chosen (rows : List Row) : Type 1 where
-  none : Clear rows → Chosen rows
-  row : (n : ℕ) → Number n → ((A : Type 0) (refuse : ℕ → A) (right : A) → refusing rows refuse right ≡ refuse n) → Chosen rows
+  rest-reads : restOf k (bytesOf l ++ rest) ≡ rest
+  rest-reads = ap (λ (l′ : Layer). drop (length (bytesOf l′)) (bytesOf l ++ rest)) layer-reads ∙ drop-append-seam (bytesOf l) rest
 
-chosen : (rows : List Row) → Each Number rows → Chosen rows
-chosen [] all = none tt
-chosen (n when true ∷ rows) all = row n (all .0) (λ A refuse right. refl)
-chosen (n when false ∷ rows) all = of (chosen rows (all .1))
-  where
-    of : Chosen rows → Chosen (n when false ∷ rows)
-    of (none c) = none (refl, c)
-    of (row m small gives) = row m small gives
+  layer-clear : Clear (faultsOf k (bytesOf l ++ rest))
+  layer-clear =
+      let enough : sum ns ≤ length (joined (l .arrays) ++ rest) = simp length-append (omega (arith, length-joined ns (l .arrays) (h .arrays))) in
+      (le-ltb (length (bytesOf l ++ rest)) 3 (omega arith), (le-ltb _ _ (h .inputs), (le-ltb _ _ (h .neurons), (le-ltb _ _ (number-small (l .activation)), (ne-eqb _ _ (h .some), (le-ltb _ _ enough, tt))))))
 
--- what reading a layer comes to: a layer that fits, it and what is behind it being the bytes; or a refusal
-pub data Comes (k : Kind) (s : List ℕ) : Type 1 where
-  layer : (l : Layer) (rest : List ℕ) → Fits k l → s ≡ bytesOf l ++ rest
-      → ((A : Type 0) (refuse : ℕ → A) (next : Layer → List ℕ → A) → readLayer k s refuse next ≡ next l rest) → Comes k s
-  refusal : (n : ℕ) → Number n → ((A : Type 0) (refuse : ℕ → A) (next : Layer → List ℕ → A) → readLayer k s refuse next ≡ refuse n) → Comes k s
-
-pub layer-comes : (k : Kind) (s : List ℕ) → Comes k s
-unfolding readLayer
-layer-comes k (i ∷ n ∷ a ∷ s) =
-    let small : Each Number (faults k i n a (length s)) =
-    ((omega arith, omega arith), ((omega arith, omega arith), ((omega arith, omega arith), ((omega arith, omega arith), ((omega arith, omega arith), tt))))) in
-    of (chosen (faults k i n a (length s)) small)
-  where
-    of : Chosen (faults k i n a (length s)) → Comes k (i ∷ n ∷ a ∷ s)
-    of (none h) =
-        let fits : sizeOf k i n ≤ length s = ltb-false _ _ (h .1 .1 .1 .1 .0) in
-        layer (record { inputs = i; neurons = n; activation = activationOf a; arrays = cut (lengths k i n) s }) (drop (sizeOf k i n) s)
-        (record { inputs = ltb-false _ _ (h .0); neurons = ltb-false _ _ (h .1 .0); some = eqb-false _ _ (h .1 .1 .1 .0); arrays = sized-cut (lengths k i n) s fits })
-        (simp (number-of a (ltb-false _ _ (h .1 .1 .0)), joined-cut, take-append-drop))
-        (λ A refuse next. clear refuse _ (faults k i n a (length s)) h)
-    of (row m small gives) = refusal m small (λ A refuse next. gives A refuse _)
-layer-comes k (i ∷ n ∷ []) = refusal 11 (omega arith, omega arith) (λ A refuse next. refl)
-layer-comes k (i ∷ []) = refusal 11 (omega arith, omega arith) (λ A refuse next. refl)
-layer-comes k [] = refusal 11 (omega arith, omega arith) (λ A refuse next. refl)
+-- a layer that nothing refuses
+pub layer-fits : (k : Kind) (s : List ℕ) → Clear (faultsOf k s) → Fits k (layerOf k s) × (s ≡ bytesOf (layerOf k s) ++ restOf k s)
+layer-fits k [] c = absurd (true≢false (c .0))
+layer-fits k (i ∷ []) c = absurd (true≢false (c .0))
+layer-fits k (i ∷ n ∷ []) c = absurd (true≢false (c .0))
+layer-fits k (i ∷ n ∷ a ∷ s) c =
+    let long : sizeOf k i n ≤ length s = ltb-false _ _ (c .1 .1 .1 .1 .1 .0) in
+    let l = layerOf k (i ∷ n ∷ a ∷ s) in
+    let is : i ∷ n ∷ a ∷ s ≡ bytesOf l ++ drop (sizeOf k i n) s = simp (number-of a (ltb-false _ _ (c .1 .1 .1 .0)), joined-cut, take-append-drop) in (
+      record { inputs = ltb-false _ _ (c .1 .0); neurons = ltb-false _ _ (c .1 .1 .0); some = eqb-false _ _ (c .1 .1 .1 .1 .0); arrays = sized-cut (lengths k i n) s long },
+      is ∙ ap (_++_ (bytesOf l)) (sym (ap (drop (length (bytesOf l))) is ∙ drop-append-seam (bytesOf l) (drop (sizeOf k i n) s))),
+    )
 
 -- ---- layers in a row
 
@@ -128,33 +100,41 @@ FitAll [] (l ∷ ls) = ⊥
 FitAll (k ∷ ks) [] = ⊥
 FitAll (k ∷ ks) (l ∷ ls) = Fits k l × FitAll ks ls
 
-pub row-reads : {A : Type 0} (j : ℕ) (ks : List Kind) (ls : List Layer) (rest : List ℕ) → FitAll ks ls
-    → (refuse : ℕ → ℕ → A) (next : List Layer → List ℕ → A) → readLayers j ks (fileOf ls ++ rest) refuse next ≡ next ls rest
-unfolding readLayers
-row-reads j [] [] rest h refuse next = refl
-row-reads j (k ∷ ks) (l ∷ ls) rest h refuse next =
-    rw (append-assoc (bytesOf l) (fileOf ls) rest)
-    (layer-reads k l (fileOf ls ++ rest) (h .0) _ _ ∙ row-reads (suc j) ks ls rest (h .1) refuse (λ ls. next (l ∷ ls)))
+-- nothing refuses the layers in front of some bytes
+abbrev pub AllClear : List Kind → List ℕ → Type 0
+AllClear [] s = Unit
+AllClear (k ∷ ks) s = Clear (faultsOf k s) × AllClear ks (restOf k s)
 
--- and what reading layers in a row comes to
-pub data AllCome (j : ℕ) (ks : List Kind) (s : List ℕ) : Type 1 where
-  layers : (ls : List Layer) (rest : List ℕ) → FitAll ks ls → s ≡ fileOf ls ++ rest
-      → ((A : Type 0) (refuse : ℕ → ℕ → A) (next : List Layer → List ℕ → A) → readLayers j ks s refuse next ≡ next ls rest) → AllCome j ks s
-  refusal : (n i : ℕ) → Number n → i < j + length ks
-      → ((A : Type 0) (refuse : ℕ → ℕ → A) (next : List Layer → List ℕ → A) → readLayers j ks s refuse next ≡ refuse n i) → AllCome j ks s
+-- they read as these layers, and nothing refuses them
+abbrev Reads : List Kind → List Layer → List ℕ → List ℕ → Type 0
+Reads ks ls rest s = (readLayers ks s ≡ (ls, rest)) × AllClear ks s
 
-pub row-comes : (j : ℕ) (ks : List Kind) (s : List ℕ) → AllCome j ks s
+pub row-reads : (ks : List Kind) (ls : List Layer) (rest : List ℕ) → FitAll ks ls → Reads ks ls rest (fileOf ls ++ rest)
 unfolding readLayers
-row-comes j [] s = layers [] s tt refl (λ A refuse next. refl)
-row-comes j (k ∷ ks) s = of (layer-comes k s) (row-comes (suc j) ks)
-  where
-    of : Comes k s → ((r : List ℕ) → AllCome (suc j) ks r) → AllCome j (k ∷ ks) s
-    of (refusal n small gives) others = refusal n j small (omega arith) (λ A refuse next. gives A (λ n. refuse n j) _)
-    of (layer l r fits is gives) others = then (others r)
-      where
-        then : AllCome (suc j) ks r → AllCome j (k ∷ ks) s
-        then (layers ls rest all are give) =
-            layers (l ∷ ls) rest (fits, all) (is ∙ ap (_++_ (bytesOf l)) are ∙ sym (append-assoc (bytesOf l) (fileOf ls) rest))
-            (λ A refuse next. gives A (λ n. refuse n j) _ ∙ give A refuse (λ ls. next (l ∷ ls)))
-        then (refusal n i small below give) =
-            refusal n i small (omega arith) (λ A refuse next. gives A (λ n. refuse n j) _ ∙ give A refuse (λ ls. next (l ∷ ls)))
+row-reads [] [] rest h = (refl, tt)
+row-reads (k ∷ ks) (l ∷ ls) rest h =
+    let r = fileOf ls ++ rest in
+    let more = subst (Reads ks ls rest) (sym (rest-reads k l r (h .0))) (row-reads ks ls rest (h .1)) in
+    subst (Reads (k ∷ ks) (l ∷ ls) rest) (sym (append-assoc (bytesOf l) (fileOf ls) rest))
+    (ap (λ (r : List Layer × List ℕ). (layerOf k (bytesOf l ++ (fileOf ls ++ rest)) ∷ r .0, r .1)) (more .0) ∙ rw (layer-reads k l r (h .0)), (layer-clear k l r (h .0), more .1))
+
+pub row-fits : (ks : List Kind) (s : List ℕ) → AllClear ks s → let r = readLayers ks s in FitAll ks (r .0) × (s ≡ fileOf (r .0) ++ r .1)
+unfolding readLayers
+row-fits [] s c = (tt, refl)
+row-fits (k ∷ ks) s c =
+    let one = layer-fits k s (c .0) in
+    let more = row-fits ks (restOf k s) (c .1) in
+    ((one .0, more .0), one .1 ∙ ap (_++_ (bytesOf (layerOf k s))) (more .1) ∙ sym (append-assoc (bytesOf (layerOf k s)) _ _))
+
+-- what nothing refuses is right, and what holds of each refusal, and of what is right where nothing refuses, holds of the answer
+module _ (right : Reading) where
+  pub row-clear : (j : ℕ) (ks : List Kind) (s : List ℕ) → AllClear ks s → refusingLayers j ks s right ≡ right
+  unfolding refusingLayers
+  row-clear j [] s c = refl
+  row-clear j (k ∷ ks) s c = clear (λ n. Refused n j) _ (faultsOf k s) (c .0) ∙ row-clear (suc j) ks (restOf k s) (c .1)
+
+  pub by-layers : (P : Reading → Type 0) (j : ℕ) (ks : List Kind) (s : List ℕ) → ((n i : ℕ) → P (Refused n i)) → (AllClear ks s → P right) → P (refusingLayers j ks s right)
+  unfolding refusingLayers
+  by-layers P j [] s bad good = good tt
+  by-layers P j (k ∷ ks) s bad good =
+      by-rows (λ n. Refused n j) _ P (faultsOf k s) (λ n. bad n j) (λ c. by-layers P (suc j) ks (restOf k s) bad (λ cs. good (c, cs)))

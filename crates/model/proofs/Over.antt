@@ -1,10 +1,8 @@
 -- Bytes written one behind the other. Assumes nothing.
-use mathlib.Core.Path.{_≡_, sym, ap, _∙_}
-use mathlib.Core.List.{List, _++_, append-assoc}
-use Prim.Native.Nat.{ℕ, _+_, _≤_}
+use Rattle.rules.proofs.Common.{ℕ, _+_, _≤_, List, _++_, _≡_, sym, ap, _∙_, length, take, drop, length-take, length-drop, length-append}
+use mathlib.Core.List.{append-assoc}
 use native.Mathlib.Nat.{add-assoc}
 use native.Mathlib.Omega.{arith}
-use lib.ListN.{length, take, drop, length-append, length-take, length-drop}
 use lib.Seq.{take-length, take-at, drop-append-add, drop-drop, paste}
 use Rattle.model.specs.Parts.{overwritten, Put}
 

@@ -1,44 +1,13 @@
 -- The number that a table of refusals gives, and tables one behind the other. Assumes nothing.
-use mathlib.Core.Path.{_≡_, refl, sym, ap, _∙_}
-use mathlib.Core.Bool.{true, false}
-use mathlib.Core.List.{List, [], _∷_, _++_, append-nil}
-use Prim.Native.Nat.{ℕ, _+_, _*_, _≤_}
-use native.Mathlib.Omega.{arith}
-use Rattle.rules.specs.Leaf.{_leaving_}
-use Rattle.rules.specs.Refusals.{Row, _when_, refusing}
-use Rattle.rules.proofs.Refused.{Clear}
-use Rattle.rules.proofs.Rows.{Each}
+use Rattle.rules.proofs.Common.{ℕ, _+_, _*_, true, false, List, [], _∷_, _++_, _≡_, ap}
+use Rattle.rules.specs.Refusals.{Row, _when_}
+use Rattle.rules.proofs.Refusals.{Clear}
 use Rattle.model.specs.Writer.{inLayer}
 use Rattle.model.specs.Parts.{faultIn}
-
-module _ {A : Type 0} (refuse : ℕ → A) (right : A) where
-  -- a table's refusal is that of each longer one
-  pub by-fault : (rows more : List Row) {r : ℕ} → r ≡ faultIn rows → (r ≡ 0 → ⊥) → refusing (rows ++ more) refuse right ≡ refuse r
-  by-fault [] more e some = absurd (some e)
-  by-fault (n when true ∷ rows) more e some = ap refuse (sym e)
-  by-fault (n when false ∷ rows) more e some = by-fault rows more e some
-
-  pub by-its-fault : (rows : List Row) {r : ℕ} → r ≡ faultIn rows → (r ≡ 0 → ⊥) → refusing rows refuse right ≡ refuse r
-  by-its-fault rows e some = rw (append-nil rows) at (by-fault rows [] e some)
-
-  -- where no test of the first table holds, the second decides
-  pub past : (rows more : List Row) → Clear rows → refusing (rows ++ more) refuse right ≡ refusing more refuse right
-  past [] more c = refl
-  past (n when t ∷ rows) more c = rw (c .0) (past rows more (c .1))
 
 -- a number that is not 0
 abbrev pub Some : ℕ → Type 0
 Some n = n ≡ 0 → ⊥
-
-pub no-fault : (rows : List Row) → Each Some rows → {r : ℕ} → r ≡ faultIn rows → r ≡ 0 → Clear rows
-no-fault [] all e none = tt
-no-fault (n when true ∷ rows) all e none = absurd (all .0 (sym e ∙ none))
-no-fault (n when false ∷ rows) all e none = (refl, no-fault rows (all .1) e none)
-
-pub fault-most : (most : ℕ) (rows : List Row) → Each (λ n. n ≤ most) rows → faultIn rows ≤ most
-fault-most most [] all = omega arith
-fault-most most (n when true ∷ rows) all = all .0
-fault-most most (n when false ∷ rows) all = fault-most most rows (all .1)
 
 -- a table with its layer
 module _ (l : ℕ) where
@@ -63,9 +32,3 @@ clear-both (n when t ∷ rows) more c = let rest = clear-both rows more (c .1) i
 pub clear-joined : (rows more : List Row) → Clear rows → Clear more → Clear (rows ++ more)
 clear-joined [] more c d = d
 clear-joined (n when t ∷ rows) more c d = (c .0, clear-joined rows more (c .1) d)
-
--- where 0 is answered, no test held
-pub answered : (rows : List Row) (out after : List ℕ) (right : ℕ × List ℕ) → Each Some rows → (0 leaving after) ≡ refusing rows (λ n. n leaving out) right → Clear rows
-answered [] out after right all e = tt
-answered (n when true ∷ rows) out after right all e = absurd (all .0 (sym (ap (λ (p : ℕ × List ℕ). p .0) e)))
-answered (n when false ∷ rows) out after right all e = (refl, answered rows out after right (all .1) e)

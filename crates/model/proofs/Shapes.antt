@@ -1,14 +1,9 @@
 -- What holds of each model that reads: its layers lie within the file, and their counts go together. Assumes nothing.
-use mathlib.Core.Path.{_≡_, subst}
-use mathlib.Core.Bool.{false}
-use mathlib.Core.List.{List}
-use Prim.Native.Nat.{ℕ}
+use Rattle.rules.proofs.Common.{ℕ, false, List, _≡_, subst, eqb, length}
 use native.Mathlib.Nat.{le-refl}
 use borrow.Author.Tests.{eqb-true, not-false}
-use lib.Dec.{eqb}
-use lib.ListN.{length}
-use Rattle.rules.proofs.Refused.{Clear}
-use Rattle.rules.proofs.Truth.{neither}
+use Rattle.rules.proofs.Refusals.{Clear}
+use Rattle.rules.proofs.Tests.{neither}
 use Rattle.model.specs.declared.Model.{Model}
 use Rattle.model.specs.declared.Reading.the-variants.{Good}
 use Rattle.model.specs.Model.{_≠_, countsIn, matchFaults, readOf}

@@ -2,33 +2,30 @@
 --     written-reads     what is written reads back as the same layers
 --     read-writes       what reads is written back byte for byte
 --     none-shared       two models that differ never share a file
-use mathlib.Core.Path.{_≡_, refl, sym, ap, subst, _∙_}
-use mathlib.Core.Bool.{false, not, true≢false}
-use mathlib.Core.List.{List, [], _∷_, _++_, map, map-append, append-nil}
-use Prim.Native.Nat.{ℕ, zero, suc, _+_, _*_, _≤_}
+use Rattle.rules.proofs.Common.{ℕ, zero, suc, _*_, _≤_, false, not, true≢false, List, [], _∷_, _++_, map, _≡_, refl, sym, ap, subst, _∙_, eqb, ltb}
+use Rattle.rules.proofs.Common.{length, getD, take, drop, length-drop}
+use mathlib.Core.List.{map-append}
 use native.Mathlib.Omega.{arith}
 use borrow.Author.Tests.{ltb-false, eqb-false, le-ltb, ne-eqb, eq-eqb}
-use lib.Dec.{eqb, ltb}
-use lib.ListN.{length, getD, take, drop, length-drop, length-map, take-append-drop}
+use lib.ListN.{length-map, take-append-drop}
 use lib.Seq.{take-append-seam, take-at, drop-at}
 use Rattle.rules.specs.Leaf.{_leaving_}
 use Rattle.rules.specs.Refusals.{_when_}
-use Rattle.rules.proofs.Refused.{Clear, clear}
-use Rattle.rules.proofs.Truth.{neither}
+use Rattle.rules.proofs.Refusals.{Clear, clear, none-held}
+use Rattle.rules.proofs.Tests.{neither}
 use Rattle.model.specs.declared.Kind.{Kind}
 use Rattle.model.specs.declared.Kind.the-variants.{Dense, Gru}
-use Rattle.model.specs.declared.Model.{Model}
 use Rattle.model.specs.Layer.{lengths, Layer}
 use Rattle.model.specs.Model.{_≠_, kinds, headersAt, modelOf, countsIn, matchFaults, readOf}
 use Rattle.model.specs.Writer.{layersGiven, fileOf, differ, inLayer, rowFaults, countsGiven, writerFaults, writeModel}
-use Rattle.model.specs.Laws.{layersRead, shapesOf, arraysIn, layerIn, ReadsBack, WritesBack, NoneShared, ArraysAreRead}
-use Rattle.model.proofs.Rows.{clear-shifted, clear-joined, answered}
+use Rattle.model.specs.Laws.{layersRead, shapesOf, arraysIn, ReadsBack, WritesBack, NoneShared, ArraysAreRead}
+use Rattle.model.proofs.Rows.{clear-shifted, clear-joined}
 use Rattle.model.proofs.Layer.{three}
-use Rattle.model.proofs.Inverse.{Sized, number-of, activation-of, number-small, FitAll, row-reads}
-use Rattle.model.proofs.File.{Holds, reads-back, same-layers, Written, writes-back}
+use Rattle.model.proofs.Inverse.{Sized, number-of, activation-of, number-small, FitAll}
+use Rattle.model.proofs.File.{Holds, reads-back, layers-read, same-layers, Written, writes-back}
 use Rattle.model.proofs.Shapes.{same}
 use Rattle.model.proofs.Arrays.{array-is}
-use Rattle.model.proofs.Accepted.{EachClear, accepted, some-faults}
+use Rattle.model.proofs.Accepted.{EachClear, accepted}
 
 -- ---- lengths
 
@@ -116,13 +113,13 @@ record Done (s : List ℕ) (xs : List (List ℕ)) (out after : List ℕ) : Type 
   left : after ≡ fileOf (layersGiven kinds s xs) ++ drop (length (fileOf (layersGiven kinds s xs))) out
 
 is-done : (s : List ℕ) (xs : List (List ℕ)) (out after : List ℕ) → (0 leaving after) ≡ writeModel s xs out → Done s xs out after
-unfolding writeModel countsGiven
+unfolding writeModel writerFaults rowFaults countsGiven
 is-done s xs out after e =
     let file = fileOf (layersGiven kinds s xs) in
     let ns = map length xs in
     let rows = 5 when (length s ≠ 18) ∷ writerFaults s ns (length file) (length out) in
     let right : ℕ × List ℕ = (0 leaving file ++ drop (length file) out) in
-    let c = answered rows out after right ((λ e. omega arith), some-faults s ns (length file) (length out)) e in
+    let c = none-held (λ (p : ℕ × List ℕ). p .0) (λ n. n leaving out) right (λ n. refl) rows tt (ap (λ (p : ℕ × List ℕ). p .0) (sym e)) in
     let a = accepted s ns (length file) (length out) (c .1) in
     let done : (0 leaving after) ≡ right = e ∙ clear (λ n. n leaving out) right rows c in
     record {
@@ -131,9 +128,6 @@ is-done s xs out after e =
       holds = record { fit = given-fit kinds s xs (a .layers); match = a .together; file = refl };
       left = ap (λ (p : ℕ × List ℕ). p .1) done;
     }
-
-layers-read : (ls : List Layer) → FitAll kinds ls → layersRead (fileOf ls) ≡ ls
-layers-read ls f = rw (append-nil (fileOf ls)) at (row-reads 0 kinds ls [] f (λ n j. []) (λ ls rest. ls))
 
 pub written-reads : ReadsBack
 written-reads s xs out after e =
@@ -172,21 +166,11 @@ writes-layers ls out fit match enough =
     (5 when (length s ≠ 18) ∷ writerFaults s ns (length file) (length out)) (none, c)
     ∙ ap (λ (ls : List Layer). 0 leaving fileOf ls ++ drop (length (fileOf ls)) out) back)
 
-contents-are-read : (s : List ℕ) {m : Model} (w : Written s m) → w .contents ≡ layersRead s
-contents-are-read s w = sym (ap layersRead (w .holds .file) ∙ layers-read (w .contents) (w .holds .fit))
-
 pub read-writes : WritesBack
-read-writes s out m e enough = of (rw (← e) at (writes-back s))
-  where
-    of : Written s m → (0 leaving s ++ drop (length s) out) ≡ writeModel (shapesOf (layersRead s)) (arraysIn (layersRead s)) out
-    of w =
-        let ls = w .contents in
-        let fit = w .holds .fit in
-        let read = contents-are-read s w in
-        let long : length (fileOf ls) ≤ length out = rw (← w .holds .file) enough in
-        rw (← w .holds .file, read) at (writes-layers ls out fit (w .holds .match) long)
+read-writes s out m e enough =
+    let w : Written s m = rw (← e) at (writes-back s) in
+    let long : length (fileOf (layersRead s)) ≤ length out = rw (← w .holds .file) enough in
+    rw (← w .holds .file) at (writes-layers (layersRead s) out (w .holds .fit) (w .holds .match) long)
 
 pub arrays-are-read : ArraysAreRead
-arrays-are-read s m e j h which =
-    let w : Written s m = rw (← e) at (writes-back s) in
-    rw (← e, ← contents-are-read s w) (array-is s w j h which)
+arrays-are-read s m e j h which = rw (← e) (array-is s (rw (← e) at (writes-back s)) j h which)

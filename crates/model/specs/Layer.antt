@@ -1,8 +1,5 @@
 -- One layer of a model file (rnn.rs, `read_dense` and `read_gru` in `from_bytes_impl`): as data, as bytes, and what reading it gives.
-use Prim.Native.Nat.{ℕ, zero, suc, _+_, _*_}
-use mathlib.Core.List.{List, [], _∷_, _++_}
-use lib.Dec.{eqb, ltb}
-use lib.ListN.{length, take, drop}
+use Rattle.rules.specs.Common.{ℕ, zero, suc, _+_, _*_, List, [], _∷_, _++_, eqb, ltb, length, getD, take, drop}
 use Rattle.rules.specs.Lists.{sum}
 use Rattle.rules.specs.Refusals.{Row, _when_, refusing}
 use Rattle.model.specs.declared.Activation.{Activation}
@@ -10,7 +7,6 @@ use Rattle.model.specs.declared.Activation.the-variants.{Tanh, Sigmoid, 
 use Rattle.model.specs.declared.Kind.{Kind}
 use Rattle.model.specs.declared.Kind.the-variants.{Dense, Gru}
 use Rattle.model.specs.declared.Header.{Header}
-use Rattle.model.specs.declared.Cursor.{Cursor}
 use Rattle.model.specs.declared.Step.{Step}
 use Rattle.model.specs.declared.Step.the-variants as step
 
@@ -66,23 +62,25 @@ headerFaults i n a =
 abbrev pub faults : Kind → ℕ → ℕ → ℕ → ℕ → List Row
 faults k i n a left = headerFaults i n a ++ 16 when ltb left (sizeOf k i n) ∷ []
 
--- read_dense and read_gru: what is made of the layer in front of some bytes and of the bytes behind it, or of a refusal
-unfoldable pub readLayer : {A : Type 0} → Kind → List ℕ → (ℕ → A) → (Layer → List ℕ → A) → A
-readLayer k (i ∷ n ∷ a ∷ s) refuse next =
-    refusing (faults k i n a (length s)) refuse
-    (next (record { inputs = i; neurons = n; activation = activationOf a; arrays = cut (lengths k i n) s }) (drop (sizeOf k i n) s))
-readLayer k (i ∷ n ∷ []) refuse next = refuse 11
-readLayer k (i ∷ []) refuse next = refuse 11
-readLayer k [] refuse next = refuse 11
+-- read_dense and read_gru: the layer in front of some bytes, its refusals, and the bytes behind it. A byte past the end counts as 0, and 11 refuses it
+abbrev pub layerOf : Kind → List ℕ → Layer
+layerOf k s =
+    let i = getD s 0 0 in
+    let n = getD s 1 0 in
+    record { inputs = i; neurons = n; activation = activationOf (getD s 2 0); arrays = cut (lengths k i n) (drop 3 s) }
+
+abbrev pub faultsOf : Kind → List ℕ → List Row
+faultsOf k s = 11 when ltb (length s) 3 ∷ faults k (getD s 0 0) (getD s 1 0) (getD s 2 0) (length (drop 3 s))
+
+abbrev pub restOf : Kind → List ℕ → List ℕ
+restOf k s = drop (length (bytesOf (layerOf k s))) s
 
 -- a layer's header, where it stands at a place of the file
 abbrev pub headerAt : ℕ → Layer → Header
 headerAt at l = record { inputs = l .inputs; neurons = l .neurons; activation = l .activation; start = at + 3 }
 
--- where reading starts
-abbrev pub origin : Cursor
-origin = record { at = 0 }
-
 -- what reading a layer at a place gives
 unfoldable pub stepAt : Kind → List ℕ → ℕ → Step
-stepAt k s at = readLayer k (drop at s) step.Refused (λ l rest. step.Layer (headerAt at l) (record { at = at + length (bytesOf l) }))
+stepAt k s at =
+    let l = layerOf k (drop at s) in
+    refusing (faultsOf k (drop at s)) step.Refused (step.Layer (headerAt at l) (record { at = at + length (bytesOf l) }))

@@ -1,11 +1,7 @@
 -- A model file: six layers in a row (rnn.rs, `from_bytes_impl`).
-use Prim.Native.Nat.{ℕ, suc, _+_}
-use mathlib.Core.Bool.{Bool, not, _||_}
-use mathlib.Core.List.{List, [], _∷_}
-use lib.Dec.{eqb}
-use lib.ListN.{length, getD}
+use Rattle.rules.specs.Common.{ℕ, suc, _+_, Bool, not, _||_, List, [], _∷_, map, eqb, length, getD}
 use Rattle.rules.specs.Refusals.{Row, _when_, refusing}
-use Rattle.model.specs.Layer.{Layer, bytesOf, readLayer, headerAt}
+use Rattle.model.specs.Layer.{Layer, bytesOf, layerOf, faultsOf, restOf, headerAt}
 use Rattle.model.specs.declared.Activation.the-variants.{Tanh}
 use Rattle.model.specs.declared.Kind.{Kind}
 use Rattle.model.specs.declared.Kind.the-variants.{Dense, Gru}
@@ -19,11 +15,15 @@ use Rattle.model.specs.declared.Reading.the-variants.{Good, Refused}
 abbrev pub kinds : List Kind
 kinds = Dense ∷ Gru ∷ Gru ∷ Gru ∷ Dense ∷ Dense ∷ []
 
--- let (layer, bytes) = read(bytes)?; for each kind in a row, the first of them layer j
-unfoldable pub readLayers : {A : Type 0} → ℕ → List Kind → List ℕ → (ℕ → ℕ → A) → (List Layer → List ℕ → A) → A
-readLayers j [] s refuse next = next [] s
-readLayers j (k ∷ ks) s refuse next =
-    readLayer k s (λ n. refuse n j) (λ l rest. readLayers (suc j) ks rest refuse (λ ls. next (l ∷ ls)))
+-- let (layer, bytes) = read(bytes); for each kind in a row
+unfoldable pub readLayers : List Kind → List ℕ → List Layer × List ℕ
+readLayers [] s = ([], s)
+readLayers (k ∷ ks) s = let r = readLayers ks (restOf k s) in (layerOf k s ∷ r .0, r .1)
+
+-- the first refusal of these layers, the first of them layer j; or what is right
+unfoldable pub refusingLayers : ℕ → List Kind → List ℕ → Reading → Reading
+refusingLayers j [] s right = right
+refusingLayers j (k ∷ ks) s right = refusing (faultsOf k s) (λ n. Refused n j) (refusingLayers (suc j) ks (restOf k s) right)
 
 -- the headers of layers in a row, the first of them at a place of the file
 abbrev pub headersAt : ℕ → List Layer → List Header
@@ -70,24 +70,20 @@ modelOf hs =
       «vad_output» = headerIn hs 5;
     }
 
--- and its counts
+-- and its headers in a row, and their counts
+abbrev pub headersIn : Model → List Header
+headersIn m = m .«input_dense» ∷ m .«vad_gru» ∷ m .«noise_gru» ∷ m .«denoise_gru» ∷ m .«denoise_output» ∷ m .«vad_output» ∷ []
+
 abbrev pub countsOf : Header → Counts
 countsOf h = record { inputs = h .inputs; neurons = h .neurons }
 
 abbrev pub countsIn : Model → List Counts
-countsIn m =
-    countsOf (m .«input_dense»)
-    ∷ countsOf (m .«vad_gru»)
-    ∷ countsOf (m .«noise_gru»)
-    ∷ countsOf (m .«denoise_gru»)
-    ∷ countsOf (m .«denoise_output»)
-    ∷ countsOf (m .«vad_output»)
-    ∷ []
+countsIn m = map countsOf (headersIn m)
 
--- the model, unless a row refuses it
-abbrev pub goodUnless : List Row → Model → Reading
-goodUnless rows m = refusing rows (λ n. Refused n 6) (Good m)
+-- the model, unless its counts or bytes behind it refuse it
+abbrev pub matchedWith : Model → ℕ → Reading
+matchedWith m left = refusing (matchFaults (countsIn m) left) (λ n. Refused n 6) (Good m)
 
 -- what reading a file gives
 unfoldable pub readOf : List ℕ → Reading
-readOf s = readLayers 0 kinds s Refused (λ ls rest. let m = modelOf (headersAt 0 ls) in goodUnless (matchFaults (countsIn m) (length rest)) m)
+readOf s = let r = readLayers kinds s in refusingLayers 0 kinds s (matchedWith (modelOf (headersAt 0 (r .0))) (length (r .1)))

@@ -1,8 +1,5 @@
 -- What the private functions of the reader and the writer promise and ask for.
-use Prim.Native.Nat.{ℕ, _+_, _<_}
-use mathlib.Core.Path.{_≡_}
-use mathlib.Core.List.{List, [], _∷_, _++_}
-use lib.ListN.{length, getD, take, drop}
+use Rattle.rules.specs.Common.{ℕ, _+_, _<_, List, [], _∷_, _++_, _≡_, length, getD, take, drop}
 use Rattle.rules.specs.Refusals.{Row, refusing}
 use Rattle.model.specs.Layer.{sizeOf, activationOf, faults}
 use Rattle.model.specs.Model.{countsAt}

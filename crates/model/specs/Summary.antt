@@ -1,7 +1,5 @@
 -- What a host is told of a file: thirty numbers, or a refusal and its layer in one number.
-use Prim.Native.Nat.{ℕ, _+_, _*_, _/_, _%_}
-use mathlib.Core.List.{List, [], _∷_}
-use lib.ListN.{length, getD}
+use Rattle.rules.specs.Common.{ℕ, _+_, _*_, _/_, _%_, List, [], _∷_, length, getD}
 use Rattle.rules.specs.Leaf.{_leaving_}
 use Rattle.rules.specs.Refusals.{_when_, refusing}
 use Rattle.rules.specs.Tab.{tab}

@@ -1,13 +1,8 @@
 -- A model file written (request 01): six layers' counts, activations and arrays in, the file's bytes out.
-use Prim.Native.Nat.{ℕ, suc, _+_, _*_, _≤_}
-use mathlib.Core.Bool.{Bool, true, false, _||_}
-use mathlib.Core.List.{List, [], _∷_, _++_, map}
-use mathlib.Core.Path.{_≡_}
-use lib.Dec.{ltb}
-use lib.ListN.{length, getD, take, drop}
+use Rattle.rules.specs.Common.{ℕ, suc, _+_, _*_, Bool, true, false, _||_, List, [], _∷_, _++_, map, ltb, length, getD, take, drop}
 use Rattle.rules.specs.Leaf.{_leaving_}
 use Rattle.rules.specs.Refusals.{Row, _when_, refusing}
-use Rattle.model.specs.Layer.{lengths, activationOf, activationNumber, Layer, joined, bytesOf, headerFaults}
+use Rattle.model.specs.Layer.{lengths, activationOf, Layer, joined, bytesOf, headerFaults}
 use Rattle.model.specs.Model.{_≠_, kinds, matchFaults}
 use Rattle.model.specs.declared.Kind.{Kind}
 use Rattle.model.specs.declared.Counts.{Counts}

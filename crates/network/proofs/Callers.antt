@@ -5,21 +5,16 @@
 --     kept                 every buffer keeps its length
 --     answered             a refusal is 5, and a model's refusal one of its table
 -- Assumes nothing.
-use mathlib.Core.Path.{_≡_, refl, sym, ap, _∙_}
-use mathlib.Core.Bool.{false}
-use mathlib.Core.List.{List, [], _∷_, _++_}
-use Prim.Native.Nat.{ℕ, _≤_}
+use Rattle.rules.proofs.Common.{ℕ, _≤_, false, List, [], _∷_, _++_, _≡_, refl, sym, ap, _∙_, length, take, drop, length-take, length-drop}
+use Rattle.rules.proofs.Common.{length-append, Float}
 use native.Mathlib.Omega.{arith}
-use lib.ListN.{length, take, drop, length-append, length-take, length-drop}
-use lib.Ieee.{Float}
 use Rattle.rules.specs.Refusals.{Row, _when_, wrong}
-use Rattle.rules.proofs.Refused.{clear, by-rows, Right, right, none-wrong, one-wrong}
-use Rattle.rules.proofs.Rows.{by-each}
+use Rattle.rules.proofs.Refusals.{clear, by-rows, Right, right, none-wrong, one-wrong, by-each}
 use Rattle.model.specs.Model.{readOf}
 use Rattle.model.specs.declared.Model.{Model}
 use Rattle.model.specs.declared.Reading.{Reading}
 use Rattle.model.specs.declared.Reading.the-variants as read
-use Rattle.network.specs.Compute.{Frame, frameOf, sixLayers, layersInPlace, Computing, computing, byReading, computed}
+use Rattle.network.specs.Compute.{Layered, layeredOf, sixLayers, layersInPlace, Outcome, outcomeOf, byReading, computed}
 use Rattle.network.specs.Parts.{Lengths}
 use Rattle.model.proofs.Bounds.{refused-in}
 use Rattle.network.specs.declared.Computed.{Computed}
@@ -59,15 +54,15 @@ module _ (gains voice vad noise denoise : List Float) (model : List ℕ) (featur
   fits : Right lengths → Fit
   fits = fit-of (length gains) (length voice) (length vad) (length noise) (length denoise) (length features)
 
-  abbrev refuse : ℕ → Computing
-  refuse n = computing (Refused n) gains voice vad noise denoise
+  abbrev refuse : ℕ → Outcome
+  refuse n = outcomeOf (Refused n) gains voice vad noise denoise
 
-  abbrev past : Computing
+  abbrev past : Outcome
   past =
-      byReading (readOf model) (λ m. record { answer = Done; left = layersInPlace model m vad noise denoise features })
-      (λ number layer. computing (Misread number layer) gains voice vad noise denoise)
+      byReading (readOf model) (λ m. record { answer = Done; layers = layersInPlace model m vad noise denoise features })
+      (λ number layer. outcomeOf (Misread number layer) gains voice vad noise denoise)
 
-  pub computed-wrong : (Fit → ⊥) → computing (Refused 5) gains voice vad noise denoise ≡ computed gains voice vad noise denoise model features
+  pub computed-wrong : (Fit → ⊥) → outcomeOf (Refused 5) gains voice vad noise denoise ≡ computed gains voice vad noise denoise model features
   unfolding computed
   computed-wrong misfit = rw (one-wrong lengths (λ r. misfit (fits r)))
 
@@ -76,28 +71,28 @@ module _ (gains voice vad noise denoise : List Float) (model : List ℕ) (featur
   passed fit = sym (clear refuse past rows (none (length gains) (length voice) (length vad) (length noise) (length denoise) (length features) fit, tt))
 
   pub computed-misread : Fit → {number layer : ℕ} → readOf model ≡ read.Refused number layer
-      → computing (Misread number layer) gains voice vad noise denoise ≡ computed gains voice vad noise denoise model features
+      → outcomeOf (Misread number layer) gains voice vad noise denoise ≡ computed gains voice vad noise denoise model features
   computed-misread fit {number} {layer} e = sym (ap (λ (r : Reading). byReading r good bad) e) ∙ passed fit
     where
-      good : Model → Computing
-      good m = record { answer = Done; left = layersInPlace model m vad noise denoise features }
+      good : Model → Outcome
+      good m = record { answer = Done; layers = layersInPlace model m vad noise denoise features }
 
-      bad : ℕ → ℕ → Computing
-      bad number layer = computing (Misread number layer) gains voice vad noise denoise
+      bad : ℕ → ℕ → Outcome
+      bad number layer = outcomeOf (Misread number layer) gains voice vad noise denoise
 
-  pub computed-done : Fit → {m : Model} {left : Frame} → readOf model ≡ read.Good m → left ≡ layersInPlace model m vad noise denoise features
-      → record { answer = Done; left = left } ≡ computed gains voice vad noise denoise model features
+  pub computed-done : Fit → {m : Model} {left : Layered} → readOf model ≡ read.Good m → left ≡ layersInPlace model m vad noise denoise features
+      → record { answer = Done; layers = left } ≡ computed gains voice vad noise denoise model features
   computed-done fit e l = rw (← passed fit, e, l)
 
   -- every buffer keeps its length
-  pub record Kept (f : Frame) : Type 0 where
+  pub record Kept (f : Layered) : Type 0 where
     pub gained : length (f .gains) ≡ length gains
     pub voiced : length (f .voice) ≡ length voice
     pub first : length (f .vad) ≡ length vad
     pub second : length (f .noise) ≡ length noise
     pub third : length (f .denoise) ≡ length denoise
 
-  as-held : Kept (frameOf gains voice vad noise denoise)
+  as-held : Kept (layeredOf gains voice vad noise denoise)
   as-held = record { gained = refl; voiced = refl; first = refl; second = refl; third = refl }
 
   -- a state whose first n places are another list of n
@@ -108,8 +103,8 @@ module _ (gains voice vad noise denoise : List Float) (model : List ℕ) (featur
   unfolding layersInPlace sixLayers
   done-kept fit m good =
       let few = few model m good in
-      let voiced = voice-fits model m good refl refl refl refl .answer in
-      let gained = gains-fit model m good refl refl refl refl refl refl .answer in
+      let voiced = voice-fits model m good refl refl refl .answer in
+      let gained = gains-fit model m good refl refl .answer in
       let f = sixLayers model m (take (m .«vad_gru» .neurons) vad) (take (m .«noise_gru» .neurons) noise) (take (m .«denoise_gru» .neurons) denoise) features in
       record {
         gained = length-denseAt model (m .«denoise_output») _ (gained .within) ∙ sym (gained .neurons) ∙ sym (fit .gained);
@@ -119,12 +114,12 @@ module _ (gains voice vad noise denoise : List Float) (model : List ℕ) (featur
         third = moved (m .«denoise_gru» .neurons) denoise (f .denoise) (omega (arith, few, fit .third)) (length-gruAt model (m .«denoise_gru») _ _);
       }
 
-  pub kept : Kept (computed gains voice vad noise denoise model features .left)
+  pub kept : Kept (computed gains voice vad noise denoise model features .layers)
   unfolding computed
-  kept = by-rows refuse past (λ o. Kept (o .left)) rows (λ n. as-held) (λ c. of (fits (right lengths (c .0))) (readOf model) refl)
+  kept = by-rows refuse past (λ o. Kept (o .layers)) rows (λ n. as-held) (λ c. of (fits (right lengths (c .0))) (readOf model) refl)
     where
       of : Fit → (r : Reading) → readOf model ≡ r
-          → Kept (byReading r (λ m. record { answer = Done; left = layersInPlace model m vad noise denoise features }) (λ number layer. computing (Misread number layer) gains voice vad noise denoise) .left)
+          → Kept (byReading r (λ m. record { answer = Done; layers = layersInPlace model m vad noise denoise features }) (λ number layer. outcomeOf (Misread number layer) gains voice vad noise denoise) .layers)
       of fit (read.Good m) e = done-kept fit m e
       of fit (read.Refused number layer) e = as-held
 
@@ -134,6 +129,6 @@ module _ (gains voice vad noise denoise : List Float) (model : List ℕ) (featur
   answered = by-each refuse past (λ o. Answered (o .answer)) rows (refl, tt) (of (readOf model) refl)
     where
       of : (r : Reading) → readOf model ≡ r
-          → Answered (byReading r (λ m. record { answer = Done; left = layersInPlace model m vad noise denoise features }) (λ number layer. computing (Misread number layer) gains voice vad noise denoise) .answer)
+          → Answered (byReading r (λ m. record { answer = Done; layers = layersInPlace model m vad noise denoise features }) (λ number layer. outcomeOf (Misread number layer) gains voice vad noise denoise) .answer)
       of (read.Good m) e = tt
       of (read.Refused number layer) e = let b = refused-in model (sym e) in (b .1, b .2)

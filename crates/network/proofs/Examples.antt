@@ -1,7 +1,6 @@
 -- The definitions at numbers that the Rust was run on: two neurons, three inputs, each activation. Assumes nothing.
-use mathlib.Core.Path.{_≡_, refl}
-use mathlib.Core.List.{List, [], _∷_, _++_, map}
-use lib.Ieee.{Float, binary32, isNan, lt, toBits, ofBits, neg, add, sub, mul, ofInt, toUnsigned}
+use Rattle.rules.proofs.Common.{List, [], _∷_, _++_, map, _≡_, refl, Float, binary32}
+use lib.Ieee.{isNan, lt, toBits, ofBits, neg, add, sub, mul, ofInt, toUnsigned}
 use Rattle.rules.specs.Loop.{loop}
 use Rattle.rules.specs.F32.{f32}
 use Rattle.numbers.specs.Tansig.{tansig}

@@ -1,34 +1,33 @@
 -- The layers of a model that reads, on lengths that are theirs. Assumes nothing.
-use mathlib.Core.Path.{_≡_, sym, _∙_}
-use mathlib.Core.List.{List}
-use Prim.Native.Nat.{ℕ, _≤_}
+use Rattle.rules.proofs.Common.{ℕ, _+_, _≤_, List, _≡_, refl, sym, _∙_, length}
 use native.Mathlib.Omega.{arith}
-use lib.ListN.{length}
 use Rattle.model.specs.Model.{readOf}
+use Rattle.model.specs.declared.Kind.the-variants.{Gru}
 use Rattle.model.specs.declared.Model.{Model}
 use Rattle.model.specs.declared.Reading.the-variants.{Good}
 use Rattle.model.proofs.Shapes.{shaped}
-use Rattle.network.specs.Parts.{VoiceFits, DenoiseFits}
+use Rattle.network.specs.Parts.{LayerFits, VoiceFits, DenoiseFits}
 
 module _ (bytes : List ℕ) (m : Model) (good : readOf bytes ≡ Good m) where
-  pub voice-fits : {hidden vad voice features : ℕ} → hidden ≡ m .«input_dense» .neurons → vad ≡ m .«vad_gru» .neurons → voice ≡ 1 → features ≡ 42
-      → VoiceFits m (length bytes) hidden vad voice features
-  voice-fits a b v f =
+  pub voice-fits : {hidden voice features : ℕ} → hidden ≡ m .«input_dense» .neurons → voice ≡ 1 → features ≡ 42 → VoiceFits m (length bytes) hidden voice features
+  voice-fits a v f =
       let s = shaped bytes (sym good) in
       record {
         front = record { within = s .layer0; neurons = a; inputs = f ∙ sym (s .features) };
-        state = record { within = s .layer1; neurons = b; inputs = a ∙ s .vad-reads };
-        answer = record { within = s .layer5; neurons = v ∙ sym (s .voice); inputs = b ∙ s .voice-reads };
+        state = record { within = s .layer1; neurons = refl; inputs = a ∙ s .vad-reads };
+        answer = record { within = s .layer5; neurons = v ∙ sym (s .voice); inputs = s .voice-reads };
       }
 
-  pub gains-fit : {hidden vad noise denoise gains features : ℕ} → hidden ≡ m .«input_dense» .neurons → vad ≡ m .«vad_gru» .neurons
-      → noise ≡ m .«noise_gru» .neurons → denoise ≡ m .«denoise_gru» .neurons → gains ≡ 22 → features ≡ 42 → DenoiseFits m (length bytes) hidden vad noise denoise gains features
-  gains-fit a b c d g f =
+  pub noise-fits : {hidden features : ℕ} → hidden ≡ m .«input_dense» .neurons → features ≡ 42
+      → LayerFits Gru (m .«noise_gru») (length bytes) (m .«noise_gru» .neurons) (hidden + m .«vad_gru» .neurons + features)
+  noise-fits a f = let s = shaped bytes (sym good) in record { within = s .layer2; neurons = refl; inputs = omega (arith, s .noise-reads) }
+
+  pub gains-fit : {gains features : ℕ} → gains ≡ 22 → features ≡ 42 → DenoiseFits m (length bytes) gains features
+  gains-fit g f =
       let s = shaped bytes (sym good) in
       record {
-        noisy = record { within = s .layer2; neurons = c; inputs = omega (arith, s .noise-reads) };
-        clean = record { within = s .layer3; neurons = d; inputs = omega (arith, s .denoise-reads) };
-        answer = record { within = s .layer4; neurons = g ∙ sym (s .gains); inputs = d ∙ s .gains-read };
+        state = record { within = s .layer3; neurons = refl; inputs = omega (arith, s .denoise-reads) };
+        answer = record { within = s .layer4; neurons = g ∙ sym (s .gains); inputs = s .gains-read };
       }
 
   -- a layer has at most 127 neurons

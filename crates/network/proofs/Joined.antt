@@ -1,19 +1,13 @@
 -- The parts of a layer, put together: from what each call leaves to the layer's definition. Assumes nothing.
-use mathlib.Core.Path.{_≡_, ap, _∙_}
-use mathlib.Core.List.{List, _++_, map}
-use Prim.Native.Nat.{ℕ, _+_, _*_, _≤_}
+use Rattle.rules.proofs.Common.{ℕ, _+_, _*_, _≤_, List, map, _≡_, _∙_, length, Float}
 use native.Mathlib.Omega.{arith}
-use lib.ListN.{length, take, drop}
-use lib.Ieee.{Float}
 use Rattle.rules.specs.Loop.{loop}
 use Rattle.rules.specs.F32.{part, _⊗_}
-use Rattle.rules.proofs.Called.{left}
+use Rattle.rules.proofs.Refusals.{left}
 use Rattle.matrix.specs.Sums.{MulAddFits, MulAdd}
 use Rattle.network.specs.Layers.{weightsScale, copied, activated, denseOf, gateSums, updateStep, resetStep, blendStep, gruOf, DenseArrays, GruArrays}
 use Rattle.network.specs.Parts.{GateFits}
-use Rattle.network.specs.Compute.{Frame, denseAt, gruAt, frameOf, sixLayers, layersInPlace}
 use Rattle.model.specs.declared.Activation.{Activation}
-use Rattle.model.specs.declared.Model.{Model}
 use Rattle.network.proofs.Listed.{activated-all}
 
 pub dense-joined : (weights bias : List ℕ) (activation : Activation) (input : List Float) {n k : ℕ} {a b r : List Float}
@@ -47,20 +41,3 @@ pub gru-joined : (weights recurrent bias : List ℕ) (activation : Activation) (
     → s ≡ loop (length state) (blendStep activation z h) state → s ≡ gruOf weights recurrent bias activation input state
 unfolding gruOf
 gru-joined weights recurrent bias activation input state lz ea la ez lr eb lb er lh eh es = es ∙ rw (ez, ea, eh, er, eb, la, lz, lb, lr, lh)
-
-pub six-joined : (bytes : List ℕ) (m : Model) (vad noise denoise features : List Float) {hidden vad′ noise′ denoise′ gains voice : List Float}
-    → hidden ≡ denseAt bytes (m .«input_dense») features → vad′ ≡ gruAt bytes (m .«vad_gru») hidden vad → voice ≡ denseAt bytes (m .«vad_output») vad′
-    → noise′ ≡ gruAt bytes (m .«noise_gru») (hidden ++ vad′ ++ features) noise
-    → denoise′ ≡ gruAt bytes (m .«denoise_gru») (vad′ ++ noise′ ++ features) denoise
-    → gains ≡ denseAt bytes (m .«denoise_output») denoise′ → frameOf gains voice vad′ noise′ denoise′ ≡ sixLayers bytes m vad noise denoise features
-unfolding sixLayers
-six-joined bytes m vad noise denoise features eh ea ev en ed eg = rw (eg, ev, ed, en, ea, eh)
-
--- the first places of each state were lent, a, b and c of them
-pub in-place-joined : (bytes : List ℕ) (m : Model) (vad noise denoise features : List Float) (a b c : ℕ) {gains voice vad′ noise′ denoise′ : List Float}
-    → a ≡ m .«vad_gru» .neurons → b ≡ m .«noise_gru» .neurons → c ≡ m .«denoise_gru» .neurons
-    → frameOf gains voice vad′ noise′ denoise′ ≡ sixLayers bytes m (take a vad) (take b noise) (take c denoise) features
-    → frameOf gains voice (vad′ ++ drop a vad) (noise′ ++ drop b noise) (denoise′ ++ drop c denoise) ≡ layersInPlace bytes m vad noise denoise features
-unfolding layersInPlace
-in-place-joined bytes m vad noise denoise features a b c ea eb ec e =
-    ap (λ (f : Frame). frameOf (f .gains) (f .voice) (f .vad ++ drop a vad) (f .noise ++ drop b noise) (f .denoise ++ drop c denoise)) e ∙ rw (ea, eb, ec)

@@ -1,11 +1,8 @@
 -- A layer's output has a place for each neuron, and a state keeps its length. Assumes nothing.
-use mathlib.Core.Path.{_≡_, _∙_}
-use mathlib.Core.List.{List}
-use Prim.Native.Nat.{ℕ}
-use lib.ListN.{length, length-set, length-map}
-use lib.Ieee.{Float}
+use Rattle.rules.proofs.Common.{ℕ, List, _≡_, _∙_, length, length-set, Float}
+use lib.ListN.{length-map}
 use Rattle.rules.specs.Loop.{loop}
-use Rattle.rules.proofs.Lengths.{same-length}
+use Rattle.rules.proofs.Loops.{same-length}
 use Rattle.rules.proofs.Places.{length-get}
 use Rattle.matrix.specs.Sums.{ofByte, mulAdd}
 use Rattle.matrix.proofs.Lengths.{length-mulAdd}

@@ -1,17 +1,12 @@
 -- The loops of a layer over whole lists: an activation is a map, and a gate's loop is a map and a loop behind it. Assumes nothing.
-use mathlib.Core.Path.{_≡_, sym, ap, _∙_}
-use mathlib.Core.List.{List, map, map-map}
-use Prim.Native.Nat.{ℕ, _<_}
+use Rattle.rules.proofs.Common.{ℕ, _<_, List, map, _≡_, sym, ap, _∙_, length, set, Float, binary32, nan}
+use mathlib.Core.List.{map-map}
 use native.Mathlib.Omega.{arith}
-use lib.ListN.{length, set}
-use lib.Ieee.{Float, binary32, nan}
 use Rattle.rules.specs.F32.{one, at, _⊕_, _⊖_, _⊗_}
 use Rattle.rules.specs.Loop.{loop}
-use Rattle.rules.proofs.Floats.{mul-swap}
-use Rattle.rules.proofs.Fused.{fused}
-use Rattle.rules.proofs.Mapped.{tab-map, each-map}
-use Rattle.rules.proofs.Runs.{loop-same}
-use Rattle.rules.proofs.Tabs.{getD-tab}
+use Rattle.floats.proofs.Signs.{mul-swap}
+use Rattle.rules.proofs.Lists.{fused, tab-map, each-map, getD-tab}
+use Rattle.rules.proofs.Loops.{loop-same}
 use Rattle.numbers.specs.Activations.{sigmoidIn, sigmoidApprox}
 use Rattle.numbers.specs.Tansig.{tansig}
 use Rattle.model.specs.declared.Activation.{Activation}

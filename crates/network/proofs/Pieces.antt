@@ -1,11 +1,8 @@
 -- Slices that are put into a buffer one after the other. Assumes nothing.
-use mathlib.Core.Path.{_≡_, sym, _∙_}
-use mathlib.Core.List.{List, _++_}
-use Prim.Native.Nat.{ℕ, _+_, _≤_, _<_}
+use Rattle.rules.proofs.Common.{ℕ, _+_, _≤_, _<_, List, _++_, _≡_, length, getD, take, set}
 use native.Mathlib.Nat.{zero-add}
 use native.Mathlib.Numerals.{add-one}
 use native.Mathlib.Omega.{arith}
-use lib.ListN.{length, getD, set, take}
 use lib.Seq.{paste, paste-suc, take-paste, take-length}
 
 module _ {A : Type 0} where
@@ -22,8 +19,10 @@ module _ {A : Type 0} where
       rw (e, same, whole, all)
 
   pub joined : (a b c d d₁ d₂ d₃ : List A) → take (0 + length a) d₁ ≡ take 0 d ++ a → take (length a + length b) d₂ ≡ take (length a) d₁ ++ b
-      → take (length a + length b + length c) d₃ ≡ take (length a + length b) d₂ ++ c → length d₃ ≡ length a + length b + length c → d₃ ≡ a ++ b ++ c
-  joined a b c d d₁ d₂ d₃ e e′ e″ l =
-      let first : take (length a) d₁ ≡ a = rw zero-add at e in
-      let whole : take (length a + length b + length c) d₃ ≡ d₃ = rw (← l) (take-length d₃) in
-      sym whole ∙ rw (e″, e′, first)
+      → take (length a + length b + length c) d₃ ≡ take (length a + length b) d₂ ++ c → take (length a + length b + length c) d₃ ≡ a ++ b ++ c
+  joined a b c d d₁ d₂ d₃ e e′ e″ = let first : take (length a) d₁ ≡ a = rw zero-add at e in rw (e″, e′, first)
+
+  -- the front of the buffer, where two of the slices are known otherwise
+  pub as-inputs : (a b c buf : List A) (k : ℕ) {a′ b′ : List A} → a ≡ a′ → b ≡ b′ → k ≡ length a + length b + length c
+      → take (length a + length b + length c) buf ≡ a ++ b ++ c → take k buf ≡ a′ ++ b′ ++ c
+  as-inputs a b c buf k ea eb l e = rw (l, e, ea, eb)

@@ -1,8 +1,5 @@
 -- `RnnState::compute` of rnn.rs: the six layers for one frame, on a model's bytes.
-use mathlib.Core.List.{List, [], _∷_, _++_}
-use Prim.Native.Nat.{ℕ}
-use lib.ListN.{length, take, drop}
-use lib.Ieee.{Float}
+use Rattle.rules.specs.Common.{ℕ, List, [], _∷_, _++_, length, take, drop, Float}
 use Rattle.rules.specs.Place.{get}
 use Rattle.rules.specs.Refusals.{_when_, refusing, wrong}
 use Rattle.model.specs.Array.{placeOf}
@@ -30,55 +27,71 @@ unfoldable pub gruAt : List ℕ → Header → List Float → List Float → Lis
 gruAt bytes h input state = gruOf (array bytes Gru h 0) (array bytes Gru h 1) (array bytes Gru h 2) (h .activation) input state
 
 -- what a frame leaves
-pub record Frame : Type 0 where
+pub record Layered : Type 0 where
   pub gains : List Float
   pub voice : List Float
   pub vad : List Float
   pub noise : List Float
   pub denoise : List Float
 
-abbrev pub frameOf : List Float → List Float → List Float → List Float → List Float → Frame
-frameOf gains voice vad noise denoise = record { gains = gains; voice = voice; vad = vad; noise = noise; denoise = denoise }
+abbrev pub layeredOf : List Float → List Float → List Float → List Float → List Float → Layered
+layeredOf gains voice vad noise denoise = record { gains = gains; voice = voice; vad = vad; noise = noise; denoise = denoise }
 
-unfoldable pub sixLayers : List ℕ → Model → List Float → List Float → List Float → List Float → Frame
+unfoldable pub sixLayers : List ℕ → Model → List Float → List Float → List Float → List Float → Layered
 sixLayers bytes m vad noise denoise features =
     let hidden = denseAt bytes (m .«input_dense») features in
     let vad′ = gruAt bytes (m .«vad_gru») hidden vad in
     let noise′ = gruAt bytes (m .«noise_gru») (hidden ++ vad′ ++ features) noise in
     let denoise′ = gruAt bytes (m .«denoise_gru») (vad′ ++ noise′ ++ features) denoise in
-    frameOf (denseAt bytes (m .«denoise_output») denoise′) (denseAt bytes (m .«vad_output») vad′) vad′ noise′ denoise′
+    layeredOf (denseAt bytes (m .«denoise_output») denoise′) (denseAt bytes (m .«vad_output») vad′) vad′ noise′ denoise′
 
 -- of 128 places of a state the layer has the first, one for each neuron; the others keep their values
-unfoldable pub layersInPlace : List ℕ → Model → List Float → List Float → List Float → List Float → Frame
+unfoldable pub layersInPlace : List ℕ → Model → List Float → List Float → List Float → List Float → Layered
 layersInPlace bytes m vad noise denoise features =
     let a = m .«vad_gru» .neurons in
     let b = m .«noise_gru» .neurons in
     let c = m .«denoise_gru» .neurons in
     let f = sixLayers bytes m (take a vad) (take b noise) (take c denoise) features in
-    frameOf (f .gains) (f .voice) (f .vad ++ drop a vad) (f .noise ++ drop b noise) (f .denoise ++ drop c denoise)
+    layeredOf (f .gains) (f .voice) (f .vad ++ drop a vad) (f .noise ++ drop b noise) (f .denoise ++ drop c denoise)
+
+-- the three states, side by side in one slice of 384 numbers
+unfoldable pub vadIn : List Float → List Float
+vadIn states = take 128 states
+
+unfoldable pub noiseIn : List Float → List Float
+noiseIn states = take 128 (drop 128 states)
+
+unfoldable pub denoiseIn : List Float → List Float
+denoiseIn states = drop 256 states
+
+abbrev pub layeredOn : List Float → List Float → List Float → Layered
+layeredOn gains voice states = layeredOf gains voice (vadIn states) (noiseIn states) (denoiseIn states)
 
 -- ---- the call
 
 -- what it returns, and what it leaves in the buffers that it was lent
-pub record Computing : Type 0 where
+pub record Outcome : Type 0 where
   pub answer : Computed
-  pub left : Frame
+  pub layers : Layered
 
-abbrev pub computing : Computed → List Float → List Float → List Float → List Float → List Float → Computing
-computing answer gains voice vad noise denoise =
-    record { answer = answer; left = frameOf gains voice vad noise denoise }
+abbrev pub outcomeOf : Computed → List Float → List Float → List Float → List Float → List Float → Outcome
+outcomeOf answer gains voice vad noise denoise =
+    record { answer = answer; layers = layeredOf gains voice vad noise denoise }
 
-abbrev pub byReading : Reading → (Model → Computing) → (ℕ → ℕ → Computing) → Computing
+abbrev pub outcomeOn : Computed → List Float → List Float → List Float → Outcome
+outcomeOn answer gains voice states = record { answer = answer; layers = layeredOn gains voice states }
+
+abbrev pub byReading : Reading → (Model → Outcome) → (ℕ → ℕ → Outcome) → Outcome
 byReading (read.Good m) good bad = good m
 byReading (read.Refused number layer) good bad = bad number layer
 
 -- a model that does not read comes back as its number and layer, after the lengths; a refusal leaves all as it was
-unfoldable pub computed : List Float → List Float → List Float → List Float → List Float → List ℕ → List Float → Computing
+unfoldable pub computed : List Float → List Float → List Float → List Float → List Float → List ℕ → List Float → Outcome
 computed gains voice vad noise denoise model features =
-    let refused : Computed → Computing = λ answer. computing answer gains voice vad noise denoise in
+    let refused : Computed → Outcome = λ answer. outcomeOf answer gains voice vad noise denoise in
     let lengths : List (ℕ × ℕ)
     = (length gains, 22) ∷ (length voice, 1) ∷ (length vad, 128)
     ∷ (length noise, 128) ∷ (length denoise, 128) ∷ (length features, 42) ∷ [] in
     refusing (5 when wrong lengths ∷ []) (λ n. refused (Refused n))
-    (byReading (readOf model) (λ m. record { answer = Done; left = layersInPlace model m vad noise denoise features })
+    (byReading (readOf model) (λ m. record { answer = Done; layers = layersInPlace model m vad noise denoise features })
     (λ number layer. refused (Misread number layer)))

@@ -1,9 +1,5 @@
 -- `copy_i8`, `DenseLayer::compute` and `GruLayer::compute` of rnn.rs.
-use mathlib.Core.Path.{_≡_}
-use Prim.Native.Nat.{ℕ, _+_, _*_, _≤_}
-use mathlib.Core.List.{List, map}
-use lib.ListN.{length, set}
-use lib.Ieee.{Float}
+use Rattle.rules.specs.Common.{ℕ, _+_, _*_, _≤_, List, map, _≡_, length, set, Float}
 use Rattle.rules.specs.Loop.{loop}
 use Rattle.rules.specs.F32.{f32, one, at, part, _⊕_, _⊖_, _⊗_}
 use Rattle.numbers.specs.Larger.{rectified}

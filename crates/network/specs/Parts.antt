@@ -1,10 +1,7 @@
 -- What the private functions promise and ask for.
-use mathlib.Core.Path.{_≡_}
-use mathlib.Core.List.{List}
-use Prim.Native.Nat.{ℕ, _+_, _*_, _≤_}
-use lib.ListN.{set}
-use lib.Ieee.{Float}
+use Rattle.rules.specs.Common.{ℕ, _+_, _*_, _≤_, List, _≡_, set, Float}
 use Rattle.rules.specs.F32.{one, at, _⊕_, _⊖_, _⊗_}
+use Rattle.rules.specs.Place.{Place}
 use Rattle.model.specs.Laws.{LiesIn}
 use Rattle.model.specs.declared.Kind.{Kind}
 use Rattle.model.specs.declared.Kind.the-variants.{Dense, Gru}
@@ -37,16 +34,19 @@ pub record LayerFits (kind : Kind) (h : Header) (bytes output input : ℕ) : Typ
   pub neurons : output ≡ h .neurons
   pub inputs : input ≡ h .inputs
 
--- the layers of a model that reads, on lengths that are theirs
-pub record VoiceFits (m : Model) (bytes hidden vad voice features : ℕ) : Type 0 where
-  pub front : LayerFits Dense (m .«input_dense») bytes hidden features
-  pub state : LayerFits Gru (m .«vad_gru») bytes vad hidden
-  pub answer : LayerFits Dense (m .«vad_output») bytes voice vad
+-- where a layer's state stands in the states, which start each at a place of its own: 0, 128 and 256
+abbrev pub stateAt : ℕ → Header → Place
+stateAt at h = record { at = at; size = h .neurons }
 
-pub record DenoiseFits (m : Model) (bytes hidden vad noise denoise gains features : ℕ) : Type 0 where
-  pub noisy : LayerFits Gru (m .«noise_gru») bytes noise (hidden + vad + features)
-  pub clean : LayerFits Gru (m .«denoise_gru») bytes denoise (vad + noise + features)
-  pub answer : LayerFits Dense (m .«denoise_output») bytes gains denoise
+-- the layers of a model that reads, on lengths that are theirs
+pub record VoiceFits (m : Model) (bytes hidden voice features : ℕ) : Type 0 where
+  pub front : LayerFits Dense (m .«input_dense») bytes hidden features
+  pub state : LayerFits Gru (m .«vad_gru») bytes (m .«vad_gru» .neurons) hidden
+  pub answer : LayerFits Dense (m .«vad_output») bytes voice (m .«vad_gru» .neurons)
+
+pub record DenoiseFits (m : Model) (bytes gains features : ℕ) : Type 0 where
+  pub state : LayerFits Gru (m .«denoise_gru») bytes (m .«denoise_gru» .neurons) (m .«vad_gru» .neurons + m .«noise_gru» .neurons + features)
+  pub answer : LayerFits Dense (m .«denoise_output») bytes gains (m .«denoise_gru» .neurons)
 
 pub record Lengths (gains voice vad noise denoise features : ℕ) : Type 0 where
   pub gained : gains ≡ 22

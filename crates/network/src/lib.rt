@@ -3,7 +3,7 @@
 ghost use mathlib.Core.Path.{_≡_};
 ghost use lib.ListN.{length};
 ghost use Rattle.rules.specs.Leaf.{Leaf, _leaving_};
-ghost use Rattle.network.specs.Compute.{computing, computed};
+ghost use Rattle.network.specs.Compute.{outcomeOf, outcomeOn, computed, vadIn, noiseIn, denoiseIn};
 ghost use Rattle.network.specs.Layers.{denseOf, DenseFits, gruOf, GruFits};
 
 mod layers;
@@ -103,8 +103,41 @@ pub enum Computed {
     Misread(u32, u32),
 }
 
-// The six layers for one frame: 22 gains and one voice probability from 42 features, and the three states, of 128 places each,
-// moved on.
+// The six layers for one frame: 22 gains and one voice probability from 42 features, and the three states, of 128 places each and
+// side by side in one slice of 384, moved on.
+pub fn compute_on(
+    gains: &mut [f32],
+    voice: &mut [f32],
+    states: &mut [f32],
+    model: &[u8],
+    features: &[f32],
+) -> Computed
+    ensures { λ r. ⌜ outcomeOn r (now (gains .exit)) (now (voice .exit)) (now (states .exit))
+        ≡ computed (now (gains .entry)) (now (voice .entry)) (vadIn (now (states .entry))) (noiseIn (now (states .entry)))
+        (denoiseIn (now (states .entry))) (now (model .entry)) (now (features .entry)) ⌝ }
+{
+    if gains.len() != 22 {
+        return Computed::Refused(5);
+    }
+    if voice.len() != 1 {
+        return Computed::Refused(5);
+    }
+    if states.len() != 384 {
+        return Computed::Refused(5);
+    }
+    if features.len() != 42 {
+        return Computed::Refused(5);
+    }
+    match model::read(model) {
+        Reading::Good(m) => {
+            six::frame(gains, voice, states, model, m, features);
+            Computed::Done
+        }
+        Reading::Refused(number, layer) => Computed::Misread(number, layer),
+    }
+}
+
+// The same, with each state in a slice of its own.
 pub fn compute(
     gains: &mut [f32],
     voice: &mut [f32],
@@ -114,16 +147,10 @@ pub fn compute(
     model: &[u8],
     features: &[f32],
 ) -> Computed
-    ensures { λ r. ⌜ computing r (now (gains .exit)) (now (voice .exit)) (now (vad .exit)) (now (noise .exit)) (now (denoise .exit))
+    ensures { λ r. ⌜ outcomeOf r (now (gains .exit)) (now (voice .exit)) (now (vad .exit)) (now (noise .exit)) (now (denoise .exit))
         ≡ computed (now (gains .entry)) (now (voice .entry)) (now (vad .entry)) (now (noise .entry)) (now (denoise .entry))
         (now (model .entry)) (now (features .entry)) ⌝ }
 {
-    if gains.len() != 22 {
-        return Computed::Refused(5);
-    }
-    if voice.len() != 1 {
-        return Computed::Refused(5);
-    }
     if vad.len() != 128 {
         return Computed::Refused(5);
     }
@@ -133,14 +160,11 @@ pub fn compute(
     if denoise.len() != 128 {
         return Computed::Refused(5);
     }
-    if features.len() != 42 {
-        return Computed::Refused(5);
-    }
-    match model::read(model) {
-        Reading::Good(m) => {
-            six::frame(gains, voice, vad, noise, denoise, model, m, features);
-            Computed::Done
-        }
-        Reading::Refused(number, layer) => Computed::Misread(number, layer),
-    }
+    let mut states = [0.0f32; 384];
+    six::join(&mut states, vad, noise, denoise);
+    let answer = compute_on(gains, voice, &mut states, model, features);
+    rules::copy(vad, &states[0..128]);
+    rules::copy(noise, &states[128..256]);
+    rules::copy(denoise, &states[256..384]);
+    answer
 }

@@ -2,13 +2,14 @@
 ghost use mathlib.Core.Path.{_≡_};
 ghost use mathlib.Core.List.{_++_};
 ghost use Prim.Native.Nat.{_+_, _≤_};
-ghost use lib.ListN.{length, take, drop};
+ghost use lib.ListN.{length, take};
 ghost use Rattle.numbers.specs.Tansig.{tansig};
 ghost use Rattle.model.specs.declared.Kind.the-variants.{Dense, Gru};
 ghost use Rattle.model.specs.declared.Reading.the-variants.{Good};
 ghost use Rattle.model.specs.Model.{readOf};
-ghost use Rattle.network.specs.Compute.{denseAt, gruAt, frameOf, sixLayers, layersInPlace};
-ghost use Rattle.network.specs.Parts.{LayerFits, VoiceFits, DenoiseFits, Lengths};
+ghost use Rattle.rules.specs.Place.{get, put};
+ghost use Rattle.network.specs.Compute.{denseAt, gruAt, layeredOn, layersInPlace, vadIn, noiseIn, denoiseIn};
+ghost use Rattle.network.specs.Parts.{stateAt, LayerFits, VoiceFits, DenoiseFits};
 use crate::layers;
 use model::Header;
 use model::Model;
@@ -23,9 +24,11 @@ fn put(buf: &mut [f32], at: usize, src: &[f32])
     }
 }
 
-fn join(buf: &mut [f32], first: &[f32], second: &[f32], third: &[f32])
-    requires { ⌜ length (now buf) ≡ length (now first) + length (now second) + length (now third) ⌝ }
-    ensures { λ _. ⌜ now (buf .exit) ≡ now (first .entry) ++ now (second .entry) ++ now (third .entry) ⌝ }
+// Three slices, one after the other, in the front of buf.
+pub(crate) fn join(buf: &mut [f32], first: &[f32], second: &[f32], third: &[f32])
+    requires { ⌜ length (now first) + length (now second) + length (now third) ≤ length (now buf) ⌝ }
+    ensures { λ _. ⌜ take (length (now (first .entry)) + length (now (second .entry)) + length (now (third .entry))) (now (buf .exit))
+        ≡ now (first .entry) ++ now (second .entry) ++ now (third .entry) ⌝ }
 {
     let a = first.len();
     let b = a + second.len();
@@ -52,17 +55,38 @@ fn dense(output: &mut [f32], table: &[f32; 201], bytes: &[u8], h: Header, input:
     );
 }
 
-fn gru(state: &mut [f32], table: &[f32; 201], bytes: &[u8], h: Header, input: &[f32])
-    requires { ⌜ (now table ≡ tansig) × LayerFits Gru h (length (now bytes)) (length (now state)) (length (now input)) ⌝ }
-    ensures { λ _. ⌜ now (state .exit) ≡ gruAt (now (bytes .entry)) h (now (input .entry)) (now (state .entry)) ⌝ }
+// The layer on the n numbers of `states` from `at` on.
+fn dense_on(
+    output: &mut [f32],
+    table: &[f32; 201],
+    bytes: &[u8],
+    h: Header,
+    states: &[f32],
+    at: usize,
+    n: usize,
+)
+    requires { ⌜ (now table ≡ tansig) × (at + n ≤ length (now states)) × LayerFits Dense h (length (now bytes)) (length (now output)) n ⌝ }
+    ensures { λ _. ⌜ now (output .exit) ≡ denseAt (now (bytes .entry)) h (get (record { at = at; size = n }) (now (states .entry))) ⌝ }
+{
+    let end = at + n;
+    dense(output, table, bytes, h, &states[at..end]);
+}
+
+// The layer whose state stands in `states` from `at` on, a place for each neuron.
+fn gru(states: &mut [f32], at: usize, table: &[f32; 201], bytes: &[u8], h: Header, input: &[f32])
+    requires { ⌜ (now table ≡ tansig) × (at + h .neurons ≤ length (now states))
+        × LayerFits Gru h (length (now bytes)) (h .neurons) (length (now input)) ⌝ }
+    ensures { λ _. ⌜ now (states .exit) ≡ put (stateAt at h) (now (states .entry))
+        (gruAt (now (bytes .entry)) h (now (input .entry)) (get (stateAt at h) (now (states .entry)))) ⌝ }
 {
     let start = h.start;
     let recurrent = start + 3 * h.inputs * h.neurons;
     let bias = recurrent + 3 * h.neurons * h.neurons;
     let end = bias + 3 * h.neurons;
+    let last = at + h.neurons;
     let activation = h.activation;
     layers::gru_alone(
-        state,
+        &mut states[at..last],
         table,
         &bytes[start..recurrent],
         &bytes[recurrent..bias],
@@ -72,170 +96,136 @@ fn gru(state: &mut [f32], table: &[f32; 201], bytes: &[u8], h: Header, input: &[
     );
 }
 
-// The layer on three slices, one after the other, over a lent buffer for them.
-fn gru_in(
-    state: &mut [f32],
-    buf: &mut [f32],
-    table: &[f32; 201],
-    bytes: &[u8],
-    h: Header,
-    first: &[f32],
-    second: &[f32],
-    third: &[f32],
-)
-    requires { ⌜ length (now buf) ≡ length (now first) + length (now second) + length (now third) ⌝ }
-    requires { ⌜ (now table ≡ tansig) × LayerFits Gru h (length (now bytes)) (length (now state))
-        (length (now first) + length (now second) + length (now third)) ⌝ }
-    ensures { λ _. ⌜ now (state .exit) ≡ gruAt (now (bytes .entry)) h (now (first .entry) ++ now (second .entry) ++ now (third .entry))
-        (now (state .entry)) ⌝ }
-{
-    join(buf, first, second, third);
-    gru(state, table, bytes, h, &buf[..]);
-}
-
-fn gru_over(
-    state: &mut [f32],
-    table: &[f32; 201],
-    bytes: &[u8],
-    h: Header,
-    first: &[f32],
-    second: &[f32],
-    third: &[f32],
-)
-    requires { ⌜ (now table ≡ tansig) × LayerFits Gru h (length (now bytes)) (length (now state))
-        (length (now first) + length (now second) + length (now third)) ⌝ }
-    ensures { λ _. ⌜ now (state .exit) ≡ gruAt (now (bytes .entry)) h (now (first .entry) ++ now (second .entry) ++ now (third .entry))
-        (now (state .entry)) ⌝ }
-{
-    let n = first.len() + second.len() + third.len();
-    let mut buf = [0.0f32; 128];
-    gru_in(state, &mut buf[0..n], table, bytes, h, first, second, third);
-}
-
 // input_dense, vad_gru and vad_output.
 fn voice_of(
     hidden: &mut [f32],
-    vad: &mut [f32],
+    states: &mut [f32],
     voice: &mut [f32],
     table: &[f32; 201],
     bytes: &[u8],
     m: Model,
     features: &[f32],
 )
-    requires { ⌜ (now table ≡ tansig) × VoiceFits m (length (now bytes)) (length (now hidden)) (length (now vad)) (length (now voice))
-        (length (now features)) ⌝ }
+    requires { ⌜ (now table ≡ tansig) × (length (now states) ≡ 384)
+        × VoiceFits m (length (now bytes)) (length (now hidden)) (length (now voice)) (length (now features)) ⌝ }
     ensures { λ _. ⌜ (now (hidden .exit) ≡ denseAt (now (bytes .entry)) (m .«input_dense») (now (features .entry)))
-        × (now (vad .exit) ≡ gruAt (now (bytes .entry)) (m .«vad_gru») (now (hidden .exit)) (now (vad .entry)))
-        × (now (voice .exit) ≡ denseAt (now (bytes .entry)) (m .«vad_output») (now (vad .exit))) ⌝ }
+        × (now (states .exit) ≡ put (stateAt 0 (m .«vad_gru»)) (now (states .entry))
+        (gruAt (now (bytes .entry)) (m .«vad_gru») (now (hidden .exit)) (get (stateAt 0 (m .«vad_gru»)) (now (states .entry)))))
+        × (now (voice .exit) ≡ denseAt (now (bytes .entry)) (m .«vad_output») (get (stateAt 0 (m .«vad_gru»)) (now (states .exit)))) ⌝ }
 {
     let input_dense = m.input_dense;
     let vad_gru = m.vad_gru;
     let vad_output = m.vad_output;
+    let n = vad_gru.neurons;
     dense(hidden, table, bytes, input_dense, features);
-    gru(vad, table, bytes, vad_gru, &hidden[..]);
-    dense(voice, table, bytes, vad_output, &vad[..]);
+    gru(states, 0, table, bytes, vad_gru, &hidden[..]);
+    dense_on(voice, table, bytes, vad_output, &states[..], 0, n);
 }
 
-// noise_gru, denoise_gru and denoise_output.
-fn gains_of(
-    noise: &mut [f32],
-    denoise: &mut [f32],
-    gains: &mut [f32],
+// noise_gru: its inputs are joined before its state is written.
+fn noise_of(
+    states: &mut [f32],
     table: &[f32; 201],
     bytes: &[u8],
     m: Model,
     hidden: &[f32],
-    vad: &[f32],
     features: &[f32],
 )
-    requires { ⌜ (now table ≡ tansig) × DenoiseFits m (length (now bytes)) (length (now hidden)) (length (now vad)) (length (now noise))
-        (length (now denoise)) (length (now gains)) (length (now features)) ⌝ }
-    ensures { λ _. ⌜ (now (noise .exit) ≡ gruAt (now (bytes .entry)) (m .«noise_gru»)
-        (now (hidden .entry) ++ now (vad .entry) ++ now (features .entry)) (now (noise .entry)))
-        × (now (denoise .exit) ≡ gruAt (now (bytes .entry)) (m .«denoise_gru»)
-        (now (vad .entry) ++ now (noise .exit) ++ now (features .entry)) (now (denoise .entry)))
-        × (now (gains .exit) ≡ denseAt (now (bytes .entry)) (m .«denoise_output») (now (denoise .exit))) ⌝ }
+    requires { ⌜ (now table ≡ tansig) × (length (now states) ≡ 384) × LayerFits Gru (m .«noise_gru») (length (now bytes)) (m .«noise_gru» .neurons)
+        (length (now hidden) + m .«vad_gru» .neurons + length (now features)) ⌝ }
+    ensures { λ _. ⌜ now (states .exit) ≡ put (stateAt 128 (m .«noise_gru»)) (now (states .entry))
+        (gruAt (now (bytes .entry)) (m .«noise_gru»)
+        (now (hidden .entry) ++ get (stateAt 0 (m .«vad_gru»)) (now (states .entry)) ++ now (features .entry))
+        (get (stateAt 128 (m .«noise_gru»)) (now (states .entry)))) ⌝ }
 {
     let noise_gru = m.noise_gru;
-    let denoise_gru = m.denoise_gru;
-    let denoise_output = m.denoise_output;
-    gru_over(noise, table, bytes, noise_gru, hidden, vad, features);
-    gru_over(
-        denoise,
-        table,
-        bytes,
-        denoise_gru,
-        vad,
-        &noise[..],
-        features,
-    );
-    dense(gains, table, bytes, denoise_output, &denoise[..]);
+    let n = m.vad_gru.neurons;
+    let inputs = noise_gru.inputs;
+    let mut buf = [0.0f32; 128];
+    join(&mut buf, hidden, &states[0..n], features);
+    gru(states, 128, table, bytes, noise_gru, &buf[0..inputs]);
 }
 
-// The six layers on states of their own lengths, over a lent buffer for the first one's output.
+// denoise_gru, likewise.
+fn denoise_of(states: &mut [f32], table: &[f32; 201], bytes: &[u8], m: Model, features: &[f32])
+    requires { ⌜ (now table ≡ tansig) × (length (now states) ≡ 384)
+        × LayerFits Gru (m .«denoise_gru») (length (now bytes)) (m .«denoise_gru» .neurons)
+        (m .«vad_gru» .neurons + m .«noise_gru» .neurons + length (now features)) ⌝ }
+    ensures { λ _. ⌜ now (states .exit) ≡ put (stateAt 256 (m .«denoise_gru»)) (now (states .entry))
+        (gruAt (now (bytes .entry)) (m .«denoise_gru»)
+        (get (stateAt 0 (m .«vad_gru»)) (now (states .entry)) ++ get (stateAt 128 (m .«noise_gru»)) (now (states .entry)) ++ now (features .entry))
+        (get (stateAt 256 (m .«denoise_gru»)) (now (states .entry)))) ⌝ }
+{
+    let denoise_gru = m.denoise_gru;
+    let n = m.vad_gru.neurons;
+    let end = 128 + m.noise_gru.neurons;
+    let inputs = denoise_gru.inputs;
+    let mut buf = [0.0f32; 128];
+    join(&mut buf, &states[0..n], &states[128..end], features);
+    gru(states, 256, table, bytes, denoise_gru, &buf[0..inputs]);
+}
+
+// denoise_gru and denoise_output.
+fn gains_of(
+    states: &mut [f32],
+    gains: &mut [f32],
+    table: &[f32; 201],
+    bytes: &[u8],
+    m: Model,
+    features: &[f32],
+)
+    requires { ⌜ (now table ≡ tansig) × (length (now states) ≡ 384)
+        × DenoiseFits m (length (now bytes)) (length (now gains)) (length (now features)) ⌝ }
+    ensures { λ _. ⌜ (now (states .exit) ≡ put (stateAt 256 (m .«denoise_gru»)) (now (states .entry))
+        (gruAt (now (bytes .entry)) (m .«denoise_gru»)
+        (get (stateAt 0 (m .«vad_gru»)) (now (states .entry)) ++ get (stateAt 128 (m .«noise_gru»)) (now (states .entry)) ++ now (features .entry))
+        (get (stateAt 256 (m .«denoise_gru»)) (now (states .entry)))))
+        × (now (gains .exit) ≡ denseAt (now (bytes .entry)) (m .«denoise_output») (get (stateAt 256 (m .«denoise_gru»)) (now (states .exit)))) ⌝ }
+{
+    let denoise_output = m.denoise_output;
+    let n = m.denoise_gru.neurons;
+    denoise_of(states, table, bytes, m, features);
+    dense_on(gains, table, bytes, denoise_output, &states[..], 256, n);
+}
+
+// The six layers, over a lent buffer for the first one's output.
 fn frame_in(
     hidden: &mut [f32],
     gains: &mut [f32],
     voice: &mut [f32],
-    vad: &mut [f32],
-    noise: &mut [f32],
-    denoise: &mut [f32],
+    states: &mut [f32],
     bytes: &[u8],
     m: Model,
     features: &[f32],
 )
-    requires { ⌜ VoiceFits m (length (now bytes)) (length (now hidden)) (length (now vad)) (length (now voice)) (length (now features)) ⌝ }
-    requires { ⌜ DenoiseFits m (length (now bytes)) (length (now hidden)) (length (now vad)) (length (now noise)) (length (now denoise))
-        (length (now gains)) (length (now features)) ⌝ }
-    ensures { λ _. ⌜ frameOf (now (gains .exit)) (now (voice .exit)) (now (vad .exit)) (now (noise .exit)) (now (denoise .exit))
-        ≡ sixLayers (now (bytes .entry)) m (now (vad .entry)) (now (noise .entry)) (now (denoise .entry)) (now (features .entry)) ⌝ }
+    requires { ⌜ (readOf (now bytes) ≡ Good m) × (length (now hidden) ≡ m .«input_dense» .neurons)
+        × (length (now gains) ≡ 22) × (length (now voice) ≡ 1) × (length (now states) ≡ 384) × (length (now features) ≡ 42) ⌝ }
+    ensures { λ _. ⌜ layeredOn (now (gains .exit)) (now (voice .exit)) (now (states .exit))
+        ≡ layersInPlace (now (bytes .entry)) m (vadIn (now (states .entry))) (noiseIn (now (states .entry)))
+        (denoiseIn (now (states .entry))) (now (features .entry)) ⌝ }
 {
     let table = numbers::table::all();
-    voice_of(hidden, vad, voice, &table, bytes, m, features);
-    gains_of(
-        noise,
-        denoise,
-        gains,
-        &table,
-        bytes,
-        m,
-        &hidden[..],
-        &vad[..],
-        features,
-    );
+    voice_of(hidden, states, voice, &table, bytes, m, features);
+    noise_of(states, &table, bytes, m, &hidden[..], features);
+    gains_of(states, gains, &table, bytes, m, features);
 }
 
-// The six layers of a model that reads, on states of 128 places.
+// The six layers of a model that reads.
 pub(crate) fn frame(
     gains: &mut [f32],
     voice: &mut [f32],
-    vad: &mut [f32],
-    noise: &mut [f32],
-    denoise: &mut [f32],
+    states: &mut [f32],
     bytes: &[u8],
     m: Model,
     features: &[f32],
 )
-    requires { ⌜ readOf (now bytes) ≡ Good m ⌝ }
-    requires { ⌜ Lengths (length (now gains)) (length (now voice)) (length (now vad)) (length (now noise)) (length (now denoise))
-        (length (now features)) ⌝ }
-    ensures { λ _. ⌜ frameOf (now (gains .exit)) (now (voice .exit)) (now (vad .exit)) (now (noise .exit)) (now (denoise .exit))
-        ≡ layersInPlace (now (bytes .entry)) m (now (vad .entry)) (now (noise .entry)) (now (denoise .entry)) (now (features .entry)) ⌝ }
+    requires { ⌜ (readOf (now bytes) ≡ Good m)
+        × (length (now gains) ≡ 22) × (length (now voice) ≡ 1) × (length (now states) ≡ 384) × (length (now features) ≡ 42) ⌝ }
+    ensures { λ _. ⌜ layeredOn (now (gains .exit)) (now (voice .exit)) (now (states .exit))
+        ≡ layersInPlace (now (bytes .entry)) m (vadIn (now (states .entry))) (noiseIn (now (states .entry)))
+        (denoiseIn (now (states .entry))) (now (features .entry)) ⌝ }
 {
-    let n0 = m.input_dense.neurons;
-    let n1 = m.vad_gru.neurons;
-    let n2 = m.noise_gru.neurons;
-    let n3 = m.denoise_gru.neurons;
+    let n = m.input_dense.neurons;
     let mut hidden = [0.0f32; 128];
-    frame_in(
-        &mut hidden[0..n0],
-        gains,
-        voice,
-        &mut vad[0..n1],
-        &mut noise[0..n2],
-        &mut denoise[0..n3],
-        bytes,
-        m,
-        features,
-    );
+    frame_in(&mut hidden[0..n], gains, voice, states, bytes, m, features);
 }

@@ -1,36 +1,15 @@
 -- The definitions of specs/ at single numbers, computed by antt from the definitions alone. `f32` takes the bit pattern of a number. Assumes nothing.
---     numbers-to-try     the list that the scope names: tansig, sigmoid, relu, roots
 --     narrowings         ties and the ends of the range, f64 pattern to f32 pattern
 --     filtered           three samples of the high-pass filter
 --     picks              which of two numbers `max`, `min` and `clamp` give
-use mathlib.Core.Path.{_≡_, refl}
-use mathlib.Core.List.{List, [], _∷_, map}
-use Prim.Native.Nat.{ℕ}
-use lib.Ieee.{Float, nan, binary32, binary64, isNan, lt, toBits, ofBits, neg, add, sub, mul, ofInt, toUnsigned}
+use Rattle.rules.proofs.Common.{ℕ, List, [], _∷_, map, _≡_, refl, Float, binary32, binary64, nan}
+use lib.Ieee.{isNan, lt, toBits, ofBits, add, sub, mul}
 use Rattle.rules.specs.F32.{f32}
 use Rattle.rules.specs.Loop.{loop}
 use Rattle.numbers.specs.declared.filter.Memory.{Memory}
-use Rattle.numbers.specs.Activations.{tansigIn, sigmoidIn, tansigApprox, sigmoidApprox}
 use Rattle.numbers.specs.Filter.{highPass, filterStep, filtered, memoryAfter, outputs}
-use Rattle.numbers.specs.Larger.{larger, smaller, clamped, rectified}
+use Rattle.numbers.specs.Larger.{larger, smaller, clamped}
 use Rattle.numbers.specs.Narrowed.{narrowed}
-use Rattle.numbers.specs.Root.{root}
-use Rattle.numbers.specs.Tansig.{tansig}
-
-pub numbers-to-try :
-    (tansigApprox (f32 0) ≡ f32 0)  -- tansig: 0 gives 0
-    × (tansigApprox (f32 0x4100_0000) ≡ f32 0x3F80_0000)  -- 8 gives 1
-    × (tansigApprox (f32 0xC100_0000) ≡ f32 0xBF80_0000)  -- -8 gives -1
-    × (tansigApprox nan ≡ f32 0)  -- NaN gives 0
-    × (sigmoidApprox (f32 0) ≡ f32 0x3F00_0000)  -- sigmoid: 0 gives 0.5
-    × (sigmoidApprox nan ≡ f32 0x3F00_0000)  -- NaN gives 0.5
-    × (rectified nan ≡ f32 0)  -- relu: NaN gives 0
-    × (root binary32 (f32 0x4080_0000) ≡ f32 0x4000_0000)  -- root: 4 gives 2
-    × (root binary32 (f32 0x4000_0000) ≡ f32 0x3FB5_04F3)  -- 2
-    × (root binary32 (f32 0xBF80_0000) ≡ nan)  -- -1 gives NaN
-    × (root binary32 (f32 0x8000_0000) ≡ f32 0x8000_0000)  -- -0 gives -0
-unfolding tansigIn sigmoidIn tansig root isNan lt ofBits neg add sub mul ofInt toUnsigned
-numbers-to-try = (refl, refl, refl, refl, refl, refl, refl, refl, refl, refl, refl)
 
 abbrev narrow : ℕ → ℕ
 narrow b = toBits binary32 (narrowed (ofBits binary64 b))

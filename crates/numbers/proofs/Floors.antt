@@ -1,31 +1,30 @@
 -- A number up to 200.5, added to 2 ^ 23 and taken from it again, is a whole number next to it; less 1 where that is above it, it is its whole part. Assumes nothing.
-use mathlib.Core.Path.{_≡_, refl, sym, ap, subst, _∙_}
-use mathlib.Core.Bool.{Bool, true, false, cond, true≢false}
+use Rattle.rules.proofs.Common.{ℕ, suc, _+_, _-_, _*_, _/_, _^_, _≤_, _<_, Bool, true, false, cond, true≢false, List, _≡_, refl, sym, ap, subst, _∙_}
+use Rattle.rules.proofs.Common.{eqb, T, pos, Float, binary32, nan, inf, fin, isNan, up, down}
 use mathlib.Core.Logic.{⊎-elim}
-use Prim.Native.Nat.{ℕ, suc, _+_, _-_, _*_, _/_, _^_, _≤_, _<_, suc-le-suc}
+use Prim.Native.Nat.{suc-le-suc}
 use native.Mathlib.Nat.{le-antisymm, le-of-lt, lt-of-lt-of-le, div-lt-iff-lt-mul, le-div-iff-mul-le, div-mul-le-self, mul-one, add-mul, suc-mul, mul-pos, mul-assoc, mul-right-comm, mul-le-mul-right, mul-lt-mul-of-pos-right, min-eq-left, eq-or-lt-of-le, div-one, mod-one}
 use native.Mathlib.Omega.{arith}
 use borrow.Author.Tests.{lt-ltb, le-ltb}
-use lib.IntN.{ℤ, pos, natAbs}
+use lib.IntN.{ℤ, natAbs}
 use lib.Signed.{nonNeg}
 use mir.Syntax.{w32}
 use mir.Val.{toZ, ofZ}
-use lib.Dec.{T, lit<, lit≤, eqb, eqb→eq}
+use lib.Dec.{lit<, lit≤, eqb→eq}
 use lib.Count.{trailingZeros}
-use lib.Ieee.{Float, nan, inf, fin, binary32, up, down, units, odd, round, size, sub, add, neg, sum, climb, span, ofBits, ofFields, ofInt, lt, toUnsigned, toSigned, inSigned, isNan}
+use lib.Ieee.{units, odd, round, size, sub, add, neg, sum, climb, span, ofBits, ofFields, ofInt, lt, toUnsigned, toSigned, inSigned}
 use lib.Ieee.Exact.{HasValue}
 use lib.Ieee.Back.{round-whole, positive-back}
 use lib.Ieee.Fits.{round-is, core, down-pos}
 use lib.Ieee.Nearest.{closest, closest-mono, closest-same}
 use Rattle.numbers.proofs.Pattern.{size-is}
 use Rattle.numbers.proofs.UpToEight.{Upto, in-table, half-up, within}
-use mathlib.Core.List.{List}
 use Rattle.numbers.specs.Activations.{magnitude, signOf, place, near, tansigIn}
 use Rattle.numbers.specs.Parts.{UpToEight, insideOf, entryIn, followed}
 use Rattle.rules.specs.F32.{f32, _⊕_, _⊖_, _⊗_}
 use Rattle.rules.proofs.Numbers.{casts}
-use Rattle.rules.proofs.Below.{at-each}
-use Rattle.rules.proofs.Floats.{same, floats}
+use Rattle.rules.proofs.Tests.{at-each}
+use Rattle.floats.proofs.Same.{same, floats}
 
 closest-scaled : (a c s : ℕ) → 0 < c → 0 < s → closest (a * s) (c * s) ≡ closest a c
 closest-scaled a c s C S = closest-same (a * s) (c * s) a c (mul-pos C S) C (mul-right-comm a s c ∙ mul-assoc a c s)

@@ -1,16 +1,15 @@
 -- `narrowed` is correctly rounded: no `f32` is nearer to the `f64` than the one that it gives, and of two that are as near it gives the one whose last digit is even
 -- (`narrowed-correct`). An infinity counts as 2 ^ 128, as IEEE 754 has it. It is shown of `round`, over the format (`round-correct`). Assumes nothing.
-use mathlib.Core.Path.{_≡_, refl, sym, ap, _∙_, subst}
+use Rattle.rules.proofs.Common.{ℕ, zero, suc, _+_, _-_, _*_, _/_, _%_, _^_, _≤_, _<_, Bool, true, false, cond, _≡_, refl, sym, ap, subst, _∙_, T}
+use Rattle.rules.proofs.Common.{Float, binary32, nan, inf, fin, up, down}
 use mathlib.Core.Logic.{inl, inr}
-use mathlib.Core.Bool.{Bool, true, false, Bool·beq, cond}
-use Prim.Native.Nat.{ℕ, zero, suc, _+_, _-_, _*_, _/_, _%_, _^_, _≤_, _<_}
+use mathlib.Core.Bool.{Bool·beq}
 use native.Mathlib.Nat.{le-refl, le-trans, le-of-eq, le-of-lt, lt-of-lt-of-le, lt-of-le-of-lt, lt-of-mul-lt-mul-right, eq-or-lt-of-le, not-le-of-lt, add-mul, zero-mul, mul-comm, mul-assoc, mul-left-comm, mul-right-comm, mul-pos, mul-le-mul-right, mul-lt-mul-of-pos-right, le-div-iff-mul-le, eq-of-mul-eq-mul-right}
 use native.Mathlib.Omega.{arith}
 use borrow.Author.Tests.{le-ltb}
 use lib.IntN.{ℤ}
-use lib.Dec.{T}
 use lib.Pow.{pow-add, pow-pos, pow-lt}
-use lib.Ieee.{Float, nan, inf, fin, Format, binary32, prec, emax, low, up, down, size, odd, units, round, fits}
+use lib.Ieee.{Format, prec, emax, low, size, odd, units, round, fits}
 use lib.Ieee.Digits.{size-reaches}
 use lib.Ieee.Fits.{two, two-le-pos, down-pos, round-is, round-fits}
 use lib.Ieee.Exact.{HasValue, units-val}

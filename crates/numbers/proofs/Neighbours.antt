@@ -1,8 +1,7 @@
 -- Which numbers of units a format holds: a * 2 ^ t, with a of p digits. Of those, none lies within 2 ^ k of q * 2 ^ k, but just below a power of two.
 -- q is what `round` keeps, and k is how many digits it drops. Assumes nothing.
-use mathlib.Core.Path.{_≡_, sym, ap, _∙_}
+use Rattle.rules.proofs.Common.{ℕ, suc, _+_, _-_, _*_, _%_, _^_, _≤_, _<_, _≡_, sym, ap, _∙_}
 use mathlib.Core.Logic.{_⊎_, inl, inr}
-use Prim.Native.Nat.{ℕ, suc, _+_, _-_, _*_, _%_, _^_, _≤_, _<_}
 use native.Mathlib.Nat.{le-trans, le-of-eq, le-of-lt, lt-of-lt-of-le, lt-of-le-of-lt, eq-or-lt-of-le, not-le-of-lt, sub-add-cancel, add-le-add, le-refl, mul-assoc, mul-mod-left, mul-le-mul-right, lt-of-mul-lt-mul-right, suc-mul, pow-suc}
 use native.Mathlib.Omega.{arith}
 use lib.Pow.{pow-add, pow-mono, shl-lt}

@@ -1,17 +1,16 @@
 -- The filter's loop, and its promise as its callers read it. Assumes nothing.
-use mathlib.Core.Path.{_≡_, refl, ap, _∙_}
-use mathlib.Core.List.{List, [], _∷_, _++_, append-nil}
-use Prim.Native.Nat.{ℕ, zero, suc, _+_, _≤_, _<_}
+use Rattle.rules.proofs.Common.{ℕ, zero, suc, _+_, _≤_, _<_, List, [], _∷_, _++_, _≡_, refl, ap, _∙_, T, length, drop, set, length-append, Float}
+use Rattle.rules.proofs.Common.{binary32, binary64}
+use mathlib.Core.List.{append-nil}
 use native.Mathlib.Numerals.{add-one}
 use native.Mathlib.Omega.{arith}
-use lib.ListN.{length, set, drop, length-append, drop-of-length-le}
-use lib.Dec.{T}
-use lib.Ieee.{Float, binary32, binary64, fits, add, sub, mul}
+use lib.ListN.{drop-of-length-le}
+use lib.Ieee.{fits, add, sub, mul}
 use Rattle.rules.specs.F32.{at}
 use Rattle.rules.specs.Leaf.{Leaf, _leaving_}
 use Rattle.rules.specs.Loop.{loop}
-use Rattle.rules.proofs.Leaves.{fitting}
-use Rattle.rules.proofs.Tabs.{front-more}
+use Rattle.rules.proofs.Refusals.{fitting}
+use Rattle.rules.proofs.Lists.{front-more}
 use Rattle.numbers.specs.declared.filter.Biquad.{Biquad}
 use Rattle.numbers.specs.declared.filter.Memory.{Memory}
 use Rattle.numbers.specs.declared.filter.Filtered.{Filtered}

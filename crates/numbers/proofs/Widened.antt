@@ -1,13 +1,12 @@
 -- An `f64` rounded to an `f32` where it stands: `shortened-bits` has its pattern. What an `f32` holds is narrowed to itself (`narrowed-held`). Assumes nothing.
-use mathlib.Core.Path.{_≡_, refl, sym, ap, _∙_, subst}
+use Rattle.rules.proofs.Common.{ℕ, zero, suc, _+_, _-_, _*_, _/_, _%_, _^_, _≤_, _<_, Bool, true, false, _≡_, refl, sym, ap, subst, _∙_, T, Float}
+use Rattle.rules.proofs.Common.{binary32, binary64, nan, inf, fin, up, down}
 use mathlib.Core.Logic.{inl, inr}
-use mathlib.Core.Bool.{Bool, true, false}
-use Prim.Native.Nat.{ℕ, zero, suc, _+_, _-_, _*_, _/_, _%_, _^_, _≤_, _<_, min}
+use Prim.Native.Nat.{min}
 use native.Mathlib.Nat.{le-of-eq, lt-of-lt-of-le, lt-of-le-of-lt, lt-of-mul-lt-mul-right, mul-assoc, mul-right-comm, zero-add, zero-mul, mul-lt-mul-of-pos-right}
 use native.Mathlib.Omega.{arith}
-use lib.Dec.{T}
 use lib.Pow.{pow-add, pow-pos, pow-mono, shl-lt}
-use lib.Ieee.{Float, nan, inf, fin, Format, binary32, binary64, low, up, down, round, fits, ofBits, toBits}
+use lib.Ieee.{Format, low, round, fits, ofBits, toBits}
 use lib.Ieee.Fits.{fits-widens, round-fits, nan-fits, inf-fits}
 use lib.Ieee.Bits.{ofBits-toBits, ofBits-fits}
 use lib.Ieee.Exact.{HasValue, round-exact}

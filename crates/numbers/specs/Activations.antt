@@ -1,9 +1,6 @@
 -- `tansig_approx` and `sigmoid_approx` of util.rs.
-use Prim.Native.Nat.{ℕ}
-use mathlib.Core.Bool.{cond}
-use mathlib.Core.List.{List}
-use lib.IntN.{pos}
-use lib.Ieee.{Float, binary32, neg, lt, isNan, ofInt, toUnsigned}
+use Rattle.rules.specs.Common.{ℕ, cond, List, pos, Float, binary32, ofInt, lt, neg, isNan}
+use lib.Ieee.{toUnsigned}
 use Rattle.rules.specs.F32.{f32, one, at, _⊕_, _⊖_, _⊗_}
 use Rattle.numbers.specs.Tansig.{tansig}
 

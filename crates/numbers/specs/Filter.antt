@@ -1,8 +1,5 @@
 -- `Biquad::filter` of util.rs, in `f64`. Every `f32` is an `f64`, so `x as f64` is x itself; `x as f32` is `narrowed`.
-use Prim.Native.Nat.{ℕ}
-use mathlib.Core.List.{List, [], _∷_, _++_}
-use lib.ListN.{length}
-use lib.Ieee.{Float}
+use Rattle.rules.specs.Common.{ℕ, List, [], _∷_, _++_, length, Float}
 use Rattle.rules.specs.F32.{f32, at}
 use Rattle.rules.specs.F64.{_+₆₄_, _-₆₄_, _*₆₄_}
 use Rattle.rules.specs.Loop.{loop}

@@ -1,10 +1,10 @@
 -- What is claimed of the numbers. The proofs are in proofs/Larger, proofs/NarrowCorrect and proofs/RootCorrect.
-use Prim.Native.Nat.{ℕ, zero, suc, _+_, _-_, _*_, _%_, _^_, _≤_, _<_}
-use mathlib.Core.Bool.{Bool, true, false, Bool·beq, cond}
-use mathlib.Core.Path.{_≡_}
+use Rattle.rules.specs.Common.{ℕ, zero, suc, _+_, _-_, _*_, _%_, _^_, _≤_, _<_, Bool, true, false, cond, _≡_, Float, binary32, nan, inf, fin, lt}
+use Rattle.rules.specs.Common.{isNan, up, down, round}
+use mathlib.Core.Bool.{Bool·beq}
 use lib.IntN.{ℤ}
 use lib.Dec.{T}
-use lib.Ieee.{Float, nan, inf, fin, Format, binary32, prec, low, up, down, round, fits, isNan, lt, eq}
+use lib.Ieee.{Format, prec, low, fits, eq}
 use lib.Ieee.Exact.{HasValue}
 use lib.Ieee.Scale.{overflow}
 use Rattle.numbers.specs.Larger.{larger, smaller}

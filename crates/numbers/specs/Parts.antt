@@ -1,10 +1,7 @@
 -- What the private functions promise and ask for.
-use mathlib.Core.Path.{_≡_}
-use Prim.Native.Nat.{ℕ, _+_, _*_, _≤_}
-use mathlib.Core.Bool.{Bool, true, false, cond}
-use mathlib.Core.List.{List}
-use lib.IntN.{pos}
-use lib.Ieee.{Float, nan, inf, fin, Format, binary32, binary64, up, down, neg, lt, isNan, hid, ones, top, ofBits, ofInt}
+use Rattle.rules.specs.Common.{ℕ, _+_, _*_, _≤_, Bool, true, false, cond, List, _≡_, pos, Float, binary32, binary64, nan, inf, fin, ofInt, lt, neg}
+use Rattle.rules.specs.Common.{isNan, up, down, ofBits}
+use lib.Ieee.{Format, hid, ones, top}
 use Rattle.rules.specs.F32.{f32, one, at, _⊖_, _⊗_}
 use Rattle.numbers.specs.Activations.{eight, magnitude, signOf, place, curve}
 use Rattle.numbers.specs.Narrowed.{narrowed}

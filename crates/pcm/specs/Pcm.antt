@@ -1,13 +1,7 @@
 -- Recorded bytes as samples, and samples as bytes, as a WAV file has them: the little end first, and the channels by turns. A sample is a number from -32768
 -- to 32767. A format is named by its bits: 16 and 24 are whole numbers, 32 is a float.
-use Prim.Native.Nat.{ℕ, _+_, _-_, _*_, _/_, _%_, _≤_, _<_, min}
-use mathlib.Core.Bool.{Bool, cond, _&&_}
-use mathlib.Core.List.{List}
-use mathlib.Core.Path.{_≡_}
-use lib.Dec.{eqb, ltb}
-use lib.IntN.{pos}
-use lib.ListN.{length}
-use lib.Ieee.{Float, nan, inf, fin, binary32, up, down, neg, le, ofInt, ofBits}
+use Rattle.rules.specs.Common.{ℕ, _+_, _-_, _*_, _/_, _%_, min, _≤_, _<_, Bool, cond, _&&_, List, _≡_, eqb, ltb, length, pos, Float, binary32, nan}
+use Rattle.rules.specs.Common.{inf, fin, ofInt, le, neg, up, down, ofBits}
 use Rattle.rules.specs.F32.{_⊗_, _⊘_, f32, at, natAt}
 use Rattle.rules.specs.Tab.{tab}
 use Rattle.numbers.specs.Larger.{clamped}

@@ -2,28 +2,21 @@
 --     Piece, piece-cleared, piece-accepted, piece-taken         a piece
 --     Resume, resume-cleared, resume-accepted, resume-taken     a resume
 -- Assumes nothing.
-use Prim.Native.Nat.{ℕ, _+_, _-_, _*_, _≤_}
+use Rattle.rules.proofs.Common.{ℕ, _+_, _-_, _*_, _≤_, true, List, _≡_, eqb, leb, length, Float}
 use native.Mathlib.Omega.{arith}
-use mathlib.Core.Bool.{true, false≢true}
-use mathlib.Core.List.{List}
-use mathlib.Core.Path.{_≡_}
-use borrow.Author.Tests.{eqb-true, leb-true, eq-eqb, le-leb, not-false}
-use lib.Dec.{eqb, leb}
-use lib.ListN.{length}
-use lib.Ieee.{Float}
-use Rattle.rules.proofs.Refused.{Clear, by-rows}
-use Rattle.rules.proofs.Truth.{both}
+use borrow.Author.Tests.{eqb-true, leb-true, eq-eqb, le-leb}
+use Rattle.rules.proofs.Tests.{both}
 use Rattle.samples.specs.Samples.{good}
 use Rattle.model.specs.Model.{readOf}
 use Rattle.frame.specs.declared.Hearing.{Hearing}
-use Rattle.frame.specs.declared.Reply.the-variants.{Done, Refused}
 use Rattle.frame.specs.declared.Way.{Way}
 use Rattle.frame.specs.Share.{SHARE}
 use Rattle.frame.specs.Reply.{passed}
 use Rattle.frame.specs.Frame.{counted, checked}
-use Rattle.pieces.specs.Pieces.{waitingIn, completes, frameAt, waitedOf, pieceFits, pieceRows, begun, piece, resumeFits, resumeRows, lastTests, resumeReply, resumed, resume}
-use Rattle.pieces.specs.Parts.{pieceReply}
-use Rattle.pieces.proofs.Tested.{last-passed}
+use Rattle.frame.proofs.Tables.{Clear, cleared}
+use Rattle.pieces.specs.Pieces.{waitingIn, completes, frameAt, waitedOf, pieceFits, pieceRows, begun, piece, resumeFits, resumeRows, resumed, resume}
+use Rattle.pieces.specs.Parts.{pieceReply, resumeReply}
+use Rattle.pieces.proofs.Tested.{not-not}
 
 -- ---- a piece
 
@@ -45,26 +38,24 @@ module _ (share : List Float) (waiting : ℕ) (samples : List Float) (out sums :
   pub piece-cleared : Clear (pieceRows share waiting samples out sums) → Piece share waiting samples out sums
   unfolding pieceFits
   piece-cleared c =
-      let p = both (leb waiting 479) _ (not-false _ (c .1 .0)) in
+      let p = both (leb waiting 479) _ (not-not 5 _ (c .1 .0)) in
       let q = both (leb 1 (length samples)) _ (p .1) in
       let r = both (leb (length samples) 4096) _ (q .1) in
       let s = both (leb (480 * completes waiting (length samples)) out) _ (r .1) in
       record {
-        size = eqb-true (length share) SHARE (not-false _ (c .0));
+        size = eqb-true (length share) SHARE (not-not 5 _ (c .0));
         waits = leb-true waiting 479 (p .0);
         some = leb-true 1 (length samples) (q .0);
         few = leb-true (length samples) 4096 (r .0);
         room = leb-true _ out (s .0);
         places = eqb-true sums 22 (s .1);
-        waited = not-false _ (c .1 .1 .0);
-        fine = not-false _ (c .1 .1 .1 .0);
+        waited = not-not 9 _ (c .1 .1 .0);
+        fine = not-not 9 _ (c .1 .1 .1 .0);
       }
 
   pub piece-accepted : passed (pieceReply share waiting samples out sums) ≡ true → Piece share waiting samples out sums
   unfolding pieceReply
-  piece-accepted =
-      by-rows Refused Done (λ r. passed r ≡ true → Piece share waiting samples out sums) (pieceRows share waiting samples out sums) (λ n e. absurd (false≢true e))
-      (λ c _. piece-cleared c)
+  piece-accepted e = piece-cleared (cleared (pieceRows share waiting samples out sums) e)
 
   fits : Piece share waiting samples out sums → pieceFits waiting (length samples) out sums ≡ true
   unfolding pieceFits
@@ -92,15 +83,11 @@ pub record Resume (share : List Float) (hearing : Hearing) (noted progress : ℕ
   pub fine : good samples ≡ true
 
 module _ (share : List Float) (hearing : Hearing) (noted progress : ℕ) (samples logs : List Float) (model : List ℕ) (out sums : ℕ) where
-  abbrev Taken : Type 0
-  Taken = Resume share hearing noted progress samples logs model out sums
-
-  pub resume-cleared : Clear (resumeRows share (hearing .index) noted progress samples (length logs) out sums)
-      → passed (checked (counted hearing) (readOf model)) ≡ true → good samples ≡ true
+  pub resume-cleared : Clear (resumeRows share hearing noted progress samples logs model out sums)
       → Resume share hearing noted progress samples logs model out sums
   unfolding resumeFits
-  resume-cleared c right fine =
-      let p = both (leb (hearing .index) 7) _ (not-false _ (c .1 .0)) in
+  resume-cleared c =
+      let p = both (leb (hearing .index) 7) _ (not-not 5 _ (c .1 .0)) in
       let q = both (leb 1 progress) _ (p .1) in
       let r = both (leb progress noted) _ (q .1) in
       let s = both (leb noted 4096) _ (r .1) in
@@ -108,7 +95,7 @@ module _ (share : List Float) (hearing : Hearing) (noted progress : ℕ) (sample
       let u = both (eqb (length logs) 22) _ (t .1) in
       let v = both (leb (480 * completes (waitedOf progress) (length samples)) out) _ (u .1) in
       record {
-        size = eqb-true (length share) SHARE (not-false _ (c .0));
+        size = eqb-true (length share) SHARE (not-not 5 _ (c .0));
         inside = leb-true (hearing .index) 7 (p .0);
         begun = leb-true 1 progress (q .0);
         within = leb-true progress noted (r .0);
@@ -117,17 +104,14 @@ module _ (share : List Float) (hearing : Hearing) (noted progress : ℕ) (sample
         taken = eqb-true (length logs) 22 (u .0);
         room = leb-true _ out (v .0);
         places = eqb-true sums 22 (v .1);
-        right = right;
-        fine = fine;
+        right = c .1 .1 .0;
+        fine = not-not 9 _ (c .1 .1 .1 .0);
       }
 
   pub resume-accepted : passed (resumeReply share hearing noted progress samples logs model out sums) ≡ true
       → Resume share hearing noted progress samples logs model out sums
   unfolding resumeReply
-  resume-accepted =
-      by-rows Refused (lastTests hearing model (good samples)) (λ r. passed r ≡ true → Taken)
-      (resumeRows share (hearing .index) noted progress samples (length logs) out sums) (λ n e. absurd (false≢true e))
-      (λ c e. let p = last-passed hearing model (good samples) e in resume-cleared c (p .0) (p .1))
+  resume-accepted e = resume-cleared (cleared (resumeRows share hearing noted progress samples logs model out sums) e)
 
   -- what is left of the samples, and the place of the frame under way
   pub within-samples : Resume share hearing noted progress samples logs model out sums → progress ≤ length samples
@@ -136,7 +120,8 @@ module _ (share : List Float) (hearing : Hearing) (noted progress : ℕ) (sample
   pub frame-fits : Resume share hearing noted progress samples logs model out sums → 480 * (frameAt progress - 1) + 480 ≤ out
   frame-fits k = omega (arith, k .room, k .same, k .begun, k .within)
 
-  suits : Taken → resumeFits (hearing .index) noted progress (length samples) (length logs) out sums ≡ true
+  suits : Resume share hearing noted progress samples logs model out sums
+      → resumeFits (hearing .index) noted progress (length samples) (length logs) out sums ≡ true
   unfolding resumeFits
   suits k =
       rw (
@@ -152,5 +137,5 @@ module _ (share : List Float) (hearing : Hearing) (noted progress : ℕ) (sample
 
   pub resume-taken : Resume share hearing noted progress samples logs model out sums
       → resume share hearing noted progress samples logs model out sums ≡ resumed share hearing progress samples logs model
-  unfolding resume resumeReply
+  unfolding resume
   resume-taken k = rw (eq-eqb (length share) SHARE (k .size), suits k, k .right, k .fine)

@@ -1,11 +1,5 @@
 -- What a call can give: what holds of every refusal, and of what is right where nothing is refused, holds of the call. Assumes nothing.
-use Prim.Native.Nat.{ℕ}
-use mathlib.Core.Bool.{cond}
-use mathlib.Core.List.{List}
-use mathlib.Core.Path.{_≡_}
-use lib.ListN.{length}
-use lib.Ieee.{Float}
-use Rattle.rules.proofs.Refused.{by-rows}
+use Rattle.rules.proofs.Common.{ℕ, Bool, false, not, List, _≡_, eqb, length, Float}
 use Rattle.samples.specs.Samples.{good}
 use Rattle.model.specs.Model.{readOf}
 use Rattle.model.specs.declared.Reading.the-variants.{Refused as Unread}
@@ -13,34 +7,38 @@ use Rattle.frame.specs.declared.Hearing.{Hearing}
 use Rattle.frame.specs.declared.Reply.{Reply}
 use Rattle.frame.specs.declared.Reply.the-variants.{Refused, Misread}
 use Rattle.frame.specs.declared.Way.{Way}
-use Rattle.frame.specs.Reply.{passed}
-use Rattle.pieces.specs.Pieces.{Outcome, refused, pieceRows, begun, piece, resumeRows, lastTests, resumeReply, resumed, resume}
+use Rattle.frame.specs.Effect.{Effect, refusal}
+use Rattle.frame.specs.Reply.{passed, _when_}
+use Rattle.frame.specs.Share.{SHARE}
+use Rattle.frame.proofs.Tables.{by-number, by-rows}
+use Rattle.pieces.specs.Pieces.{waitingIn, pieceFits, pieceRows, begun, piece, resumeFits, resumeRows, resumed, resume}
 use Rattle.pieces.proofs.Accepted.{Piece, piece-cleared, Resume, resume-cleared}
-use Rattle.pieces.proofs.Tested.{last-tests-by}
+use Rattle.pieces.proofs.Tested.{by-model}
 
-module _ (share : List Float) (P : Outcome → Type 0) (bad : (n : ℕ) → P (refused (Refused n) share)) where
+module _ (share : List Float) (P : Effect Reply → Type 0) (bad : (n : ℕ) → P (refusal (Refused n) share)) where
+  abbrev Of : Reply → Type 0
+  Of reply = P (refusal reply share)
+
+  -- a row that refuses where a test does not hold
+  row : (n : ℕ) (t : Bool) → passed (n when not t) ≡ false → Of (n when not t)
+  row n t = by-number Of bad n (not t)
+
   pub piece-by : (way : Way) (waiting : ℕ) (samples : List Float) (out sums : ℕ) → (Piece share waiting samples out sums → P (begun share way waiting samples))
       → P (piece share way waiting samples out sums)
   unfolding piece
   piece-by way waiting samples out sums h =
-      by-rows (λ n. refused (Refused n) share) (begun share way waiting samples) P (pieceRows share waiting samples out sums) bad
+      by-rows share (begun share way waiting samples) P (pieceRows share waiting samples out sums)
+      (row 5 (eqb (length share) SHARE), (row 5 (pieceFits waiting (length samples) out sums), (row 9 (good (waitingIn waiting share)), (row 9 (good samples), tt))))
       (λ c. h (piece-cleared share waiting samples out sums c))
 
   -- a model that is refused comes with what the reader says of it
-  module _ (hearing : Hearing) (noted progress : ℕ) (samples logs : List Float) (model : List ℕ) (out sums : ℕ) where
-    abbrev right : Outcome
-    right = resumed share hearing progress samples logs model
-
-    abbrev given : Reply → Outcome
-    given reply = cond (passed reply) right (refused reply share)
-
-    pub resume-by : ((n l : ℕ) → Unread n l ≡ readOf model → P (refused (Misread n l) share))
-        → (Resume share hearing noted progress samples logs model out sums → P (resumed share hearing progress samples logs model))
-        → P (resume share hearing noted progress samples logs model out sums)
-    unfolding resume resumeReply
-    resume-by misread h =
-        by-rows Refused (lastTests hearing model (good samples)) (λ r. P (given r))
-        (resumeRows share (hearing .index) noted progress samples (length logs) out sums) bad
-        (λ c.
-        last-tests-by hearing model (good samples) (λ r. P (given r)) bad misread
-        (λ p g. h (resume-cleared share hearing noted progress samples logs model out sums c p g)))
+  pub resume-by : (hearing : Hearing) (noted progress : ℕ) (samples logs : List Float) (model : List ℕ) (out sums : ℕ)
+      → ((n l : ℕ) → Unread n l ≡ readOf model → P (refusal (Misread n l) share))
+      → (Resume share hearing noted progress samples logs model out sums → P (resumed share hearing progress samples logs model))
+      → P (resume share hearing noted progress samples logs model out sums)
+  unfolding resume
+  resume-by hearing noted progress samples logs model out sums misread h =
+      let fits = resumeFits (hearing .index) noted progress (length samples) (length logs) out sums in
+      by-rows share (resumed share hearing progress samples logs model) P (resumeRows share hearing noted progress samples logs model out sums)
+      (row 5 (eqb (length share) SHARE), (row 5 fits, (by-model hearing model Of bad misread, (row 9 (good samples), tt))))
+      (λ c. h (resume-cleared share hearing noted progress samples logs model out sums c))

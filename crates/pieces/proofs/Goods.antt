@@ -1,14 +1,9 @@
 -- Good samples stay good: together, in part, and with zeros behind them. Assumes nothing.
-use Prim.Native.Nat.{ℕ, zero, suc}
-use mathlib.Core.Bool.{true}
-use mathlib.Core.List.{List, [], _∷_, _++_}
-use mathlib.Core.Path.{_≡_, refl}
-use lib.ListN.{getD, take, drop}
-use lib.Ieee.{Float, le, ofBits}
+use Rattle.rules.proofs.Common.{ℕ, zero, suc, true, List, [], _∷_, _++_, _≡_, refl, getD, take, drop, Float}
+use lib.Ieee.{le, ofBits}
 use Rattle.rules.specs.F32.{f32}
-use Rattle.rules.specs.Place.{Place, get}
 use Rattle.rules.specs.Tab.{tab}
-use Rattle.rules.proofs.Truth.{both}
+use Rattle.rules.proofs.Tests.{both}
 use Rattle.samples.specs.Samples.{goodSample, good}
 use Rattle.pieces.specs.Pieces.{paddedTo}
 
@@ -37,10 +32,6 @@ pub good-drop : (n : ℕ) (xs : List Float) → good xs ≡ true → good (drop 
 good-drop zero xs e = e
 good-drop (suc n) [] e = e
 good-drop (suc n) (x ∷ xs) e = good-drop n xs (head x xs e .1)
-
-pub good-get : (p : Place) (xs : List Float) → good xs ≡ true → good (get p xs) ≡ true
-unfolding get
-good-get p xs e = good-take (p .size) (drop (p .at) xs) (good-drop (p .at) xs e)
 
 -- 0 is a good sample
 zero-good : goodSample (f32 0) ≡ true

@@ -1,146 +1,116 @@
 -- The two halves of a frame: their lengths; and that they are refused nothing with right lengths, good samples and a model that passes.
 --     first-length, second-length     a half keeps the length of its part
---     sums-length, out-length         what a half writes, where it is not refused
---     first-done, first-passes        the first half, refused nothing
---     second-passes, second-told      the second, which is silent or heard
+--     first-passes, second-passes     a half, refused nothing
 -- Assumes nothing.
-use Prim.Native.Nat.{ℕ, _≤_}
-use mathlib.Core.Bool.{Bool, true, false, cond, false≢true}
-use mathlib.Core.List.{List, [], _∷_}
-use mathlib.Core.Path.{_≡_, refl, ap, _∙_}
-use lib.ListN.{length}
-use lib.Ieee.{Float, lt}
-use Rattle.rules.specs.F32.{f32}
+use Rattle.rules.proofs.Common.{ℕ, _≤_, Bool, true, false, cond, false≢true, List, [], _∷_, _≡_, refl, sym, ap, _∙_, length, Float}
 use Rattle.rules.specs.Place.{get}
-use Rattle.rules.proofs.Tabs.{length-tab}
+use Rattle.rules.specs.Written.{all, firstIn}
+use Rattle.rules.proofs.Lists.{length-tab}
 use Rattle.samples.specs.Samples.{good}
 use Rattle.model.specs.Model.{readOf}
 use Rattle.model.specs.declared.Model.{Model}
 use Rattle.model.specs.declared.Reading.{Reading}
 use Rattle.model.specs.declared.Reading.the-variants.{Good, Refused as Unread}
-use Rattle.features.specs.Silence.{energy, soundOf}
-use Rattle.features.specs.declared.Sound.the-variants as sound
+use Rattle.features.specs.Silence.{energy, isSilent}
 use Rattle.frame.specs.declared.Hearing.{Hearing}
 use Rattle.frame.specs.declared.Reply.{Reply}
-use Rattle.frame.specs.declared.Reply.the-variants.{Done, Silent, Heard, Refused}
+use Rattle.frame.specs.declared.Reply.the-variants.{Done, Refused}
 use Rattle.frame.specs.declared.Way.{Way}
 use Rattle.frame.specs.Reply.{passed}
 use Rattle.frame.specs.Share.{PART, keptEx}
 use Rattle.frame.specs.Heard.{Spoken, spoken}
-use Rattle.frame.specs.Frame.{Effect, refusal, plusHundredth, overlapped, done1, counted, sounded, done3, modelled, call3, checked}
+use Rattle.frame.specs.Effect.{Effect, refusal}
+use Rattle.frame.specs.Frame.{plusHundredth, silent, heard, overlapped, done1, counted, done3, modelled, call3, checked}
 use Rattle.frame.proofs.Done.{call1-done, call2-done, call3-done}
 use Rattle.halves.specs.Ways.{lagBy, remembered, forwardBy}
-use Rattle.halves.specs.Halves.{buffer, lookedBack, firstHalf, secondHalf}
+use Rattle.halves.specs.Halves.{lookedBack, firstHalf, secondHalf}
 use Rattle.halves.proofs.Cases.{doneFirst, whole-after-1, first-half-by, second-half-by}
 use Rattle.halves.proofs.Kept.{first-half-keeps, second-half-keeps}
 use Rattle.halves.proofs.Onward.{first-half-done, second-half-done}
 use Rattle.halves.proofs.EitherWay.{lag-fits, length-forward, whole-remembered}
 
 -- a half that is refused nothing leaves a part of a share, and one buffer of n numbers
-pub record Halved (n : ℕ) (f : Effect) : Type 0 where
-  pub passes : passed (f .reply) ≡ true
-  pub part : length (f .share) ≡ PART
-  pub writes : f .written ≡ buffer f ∷ []
-  pub fills : length (buffer f) ≡ n
+pub record Halved (n : ℕ) (f : Effect Reply) : Type 0 where
+  pub passes : passed (f .answer) ≡ true
+  pub part : length (f .kept) ≡ PART
+  pub writes : f .written ≡ all (firstIn (f .written)) ∷ []
+  pub fills : length (firstIn (f .written)) ≡ n
 
--- it wrote one buffer of n numbers, unless it is refused
-record Wrote (n : ℕ) (f : Effect) : Type 0 where
-  one : f .written ≡ buffer f ∷ []
-  size : length (buffer f) ≡ n
+abbrev Halves : ℕ → Effect Reply → Type 0
+Halves n f = length (f .kept) ≡ PART → passed (f .answer) ≡ true → Halved n f
 
-abbrev Writes : ℕ → Effect → Type 0
-Writes n f = passed (f .reply) ≡ true → Wrote n f
-
--- what is silent or heard
-pub data Told : Reply → Type 0 where
-  silent : Told Silent
-  heard : (voice energy : Float) → Told (Heard voice energy)
+refuses : {n : ℕ} {reply : Reply} {share : List Float} → passed reply ≡ false → Halves n (refusal reply share)
+refuses e k p = absurd (false≢true (sym e ∙ p))
 
 -- ---- the first half
 
 module _ (part : List Float) (way : Way) (samples : List Float) (sums : ℕ) where
-  pub first-length : length part ≡ PART → length (firstHalf part way samples sums .share) ≡ PART
+  pub first-length : length part ≡ PART → length (firstHalf part way samples sums .kept) ≡ PART
   first-length whole = first-half-keeps part way samples sums .size ∙ whole
 
-  first-wrote : Writes 22 (firstHalf part way samples sums)
+  first-halves : Halves 22 (firstHalf part way samples sums)
   unfolding plusHundredth
-  first-wrote = first-half-by part (Writes 22) (λ n e. absurd (false≢true e)) way samples sums (λ _ _ _. record { one = refl; size = length-tab 22 _ })
-
-  pub sums-length : passed (firstHalf part way samples sums .reply) ≡ true → length (buffer (firstHalf part way samples sums)) ≡ 22
-  sums-length e = first-wrote e .size
+  first-halves =
+      first-half-by part (Halves 22) (λ n. refuses refl) way samples sums (λ _ _ k e. record { passes = e; part = k; writes = refl; fills = length-tab 22 _ })
 
 module _ (part : List Float) (way : Way) (samples : List Float) (whole : length part ≡ PART) (l : length samples ≡ 480) (g : good samples ≡ true) where
-  pub first-done : firstHalf part way samples 22 ≡ doneFirst part way samples
+  first-done : firstHalf part way samples 22 ≡ doneFirst part way samples
   first-done =
       let a = done1 part samples in
-      let two =
-      call2-done (remembered way (a .share)) (whole-remembered (a .share) way (whole-after-1 part samples whole l)) (forwardBy way (buffer a)) (lagBy way (a .share)) 960 22 (length-forward way (buffer a)) refl refl (lag-fits way (a .share)) in
-      first-half-done part whole way samples 22 l refl ∙ rw (call1-done part whole samples 960 l refl g, two)
+      let window = firstIn (a .written) in
+      let noted = whole-remembered (a .kept) way (whole-after-1 part samples whole l) in
+      first-half-done part whole way samples 22 l refl
+      ∙ rw (
+        call1-done part whole samples 960 l refl g,
+        call2-done (remembered way (a .kept)) noted (forwardBy way window) (lagBy way (a .kept)) 960 22 (length-forward way window) refl refl (lag-fits way (a .kept)),
+      )
 
   pub first-passes : Halved 22 (firstHalf part way samples 22)
-  first-passes =
-      let e : passed (firstHalf part way samples 22 .reply) ≡ true = ap (λ (f : Effect). passed (f .reply)) first-done in
-      let w = first-wrote part way samples 22 e in
-      record { passes = e; part = first-length part way samples 22 whole; writes = w .one; fills = w .size }
+  first-passes = first-halves part way samples 22 (first-length part way samples 22 whole) (ap (λ (f : Effect Reply). passed (f .answer)) first-done)
 
 -- ---- the second half
 
 module _ (part : List Float) (hearing : Hearing) (logs : List Float) (model : List ℕ) where
-  abbrev half : ℕ → Effect
-  half out = secondHalf part hearing logs model out
-
   module _ (out : ℕ) where
-    pub second-length : length part ≡ PART → length (secondHalf part hearing logs model out .share) ≡ PART
+    pub second-length : length part ≡ PART → length (secondHalf part hearing logs model out .kept) ≡ PART
     second-length whole = second-half-keeps part hearing logs model out .size ∙ whole
 
-    second-wrote : Writes 480 (half out)
+    second-halves : Halves 480 (secondHalf part hearing logs model out)
     unfolding overlapped
-    second-wrote =
-        second-half-by part (Writes 480) (λ n e. absurd (false≢true e)) hearing logs model out (λ n l _ e. absurd (false≢true e))
-        (λ _ _. record { one = refl; size = length-tab 480 _ })
-        (λ _ _ _ _ _ _. record { one = refl; size = length-tab 480 _ })
-
-    pub out-length : passed (secondHalf part hearing logs model out .reply) ≡ true
-        → length (buffer (secondHalf part hearing logs model out)) ≡ 480
-    out-length e = second-wrote e .size
-
-    pub second-told : passed (secondHalf part hearing logs model out .reply) ≡ true
-        → Told (secondHalf part hearing logs model out .reply)
-    second-told =
-        second-half-by part (λ f. passed (f .reply) ≡ true → Told (f .reply)) (λ n e. absurd (false≢true e)) hearing logs model out (λ n l _ e. absurd (false≢true e))
-        (λ _ _. silent)
-        (λ e m _ _ _ _. heard _ e)
+    second-halves =
+        second-half-by part (Halves 480) (λ n. refuses refl) hearing logs model out (λ n l _. refuses refl)
+        (λ _ k e. record { passes = e; part = k; writes = refl; fills = length-tab 480 _ })
+        (λ _ _ _ _ _ k e. record { passes = e; part = k; writes = refl; fills = length-tab 480 _ })
 
   module _ (whole : length part ≡ PART) (l : length logs ≡ 22) (i : hearing .index ≤ 7) (right : passed (checked (counted hearing) (readOf model)) ≡ true) where
-    abbrev three : Effect
-    three = call3 part hearing (forwardBy (hearing .way) (lookedBack part)) logs model 961
+    abbrev spectrum : List Float
+    spectrum = forwardBy (hearing .way) (lookedBack part)
 
-    -- a frame is silent or heard, and so never refused for its sound
-    sounds : (m : Model) → passed (done3 part (hearing .index) (forwardBy (hearing .way) (lookedBack part)) logs model m .reply) ≡ true
-    unfolding done3 soundOf
-    sounds m = go (lt (energy (get keptEx part)) (f32 0x3D23D70A)) (energy (get keptEx part)) (spoken part (hearing .index) (forwardBy (hearing .way) (lookedBack part)) logs model m)
+    abbrev three : Model → Effect Reply
+    three m = done3 part (hearing .index) spectrum logs model m
+
+    -- a frame is silent or heard
+    sounds : (m : Model) → passed (three m .answer) ≡ true
+    unfolding done3
+    sounds m = go (isSilent (energy (get keptEx part))) (energy (get keptEx part)) (spoken part (hearing .index) spectrum logs model m)
       where
-        go : (t : Bool) (e : Float) (s : Spoken) → passed (sounded (cond t sound.Silent (sound.Heard e)) part s .reply) ≡ true
+        go : (t : Bool) (e : Float) (s : Spoken) → passed (cond t (silent part) (heard e s) .answer) ≡ true
         go true e s = refl
         go false e s = refl
 
-    by-reading : (r : Reading) → passed (checked (counted hearing) r) ≡ true
-        → passed (modelled (counted hearing) r part (done3 part (hearing .index) (forwardBy (hearing .way) (lookedBack part)) logs model) .reply) ≡ true
+    by-reading : (r : Reading) → passed (checked (counted hearing) r) ≡ true → passed (modelled (counted hearing) r part three .answer) ≡ true
     unfolding checked
     by-reading (Unread n k) e = e
     by-reading (Good m) e = go (counted hearing m) e
       where
-        go : (t : Bool) → passed (cond t Done (Refused 8)) ≡ true
-            → passed (cond t (done3 part (hearing .index) (forwardBy (hearing .way) (lookedBack part)) logs model m) (refusal (Refused 8) part) .reply) ≡ true
+        go : (t : Bool) → passed (cond t Done (Refused 8)) ≡ true → passed (cond t (three m) (refusal (Refused 8) part) .answer) ≡ true
         go true e = sounds m
         go false e = e
 
-    three-passes : passed (three .reply) ≡ true
-    three-passes = rw (call3-done part whole hearing (forwardBy (hearing .way) (lookedBack part)) logs model 961 (length-forward (hearing .way) (lookedBack part)) l refl i) (by-reading (readOf model) right)
+    three-passes : passed (call3 part hearing spectrum logs model 961 .answer) ≡ true
+    three-passes =
+        rw (call3-done part whole hearing spectrum logs model 961 (length-forward (hearing .way) (lookedBack part)) l refl i) (by-reading (readOf model) right)
 
     pub second-passes : Halved 480 (secondHalf part hearing logs model 480)
     second-passes =
-        let done = second-half-done part whole hearing logs model 480 l refl i refl in
-        let e : passed (half 480 .reply) ≡ true = rw (done, three-passes) three-passes in
-        let w = second-wrote 480 e in
-        record { passes = e; part = second-length 480 whole; writes = w .one; fills = w .size }
+        second-halves 480 (second-length 480 whole) (rw (second-half-done part whole hearing logs model 480 l refl i refl, three-passes) three-passes)

@@ -5,6 +5,5 @@ pub mod Halved
 pub mod Kept
 pub mod Padding
 mod Serve
-mod Settled
 pub mod Shares
 pub mod Tested

@@ -1,16 +1,14 @@
 -- A list with zeros behind it, number by number. Assumes nothing.
-use Prim.Native.Nat.{ℕ, zero, suc, _+_, _-_, _≤_, _<_}
+use Rattle.rules.proofs.Common.{ℕ, zero, suc, _+_, _-_, _≤_, _<_, List, [], _∷_, _++_, _≡_, refl, sym, ap, _∙_, length, getD, take, replicate}
+use Rattle.rules.proofs.Common.{length-take, length-append, Float, nan}
 use native.Mathlib.Nat.{zero-add, not-suc-le-zero, le-of-suc-le-suc}
 use native.Mathlib.Omega.{arith}
-use mathlib.Core.List.{List, [], _∷_, _++_}
-use mathlib.Core.Path.{_≡_, refl, sym, ap, _∙_}
-use lib.ListN.{length, getD, take, length-append, length-take, replicate, length-replicate, getD-replicate, List·getD-append, List·getD-eq-default}
+use lib.ListN.{length-replicate, getD-replicate, List·getD-append, List·getD-eq-default}
 use lib.Seq.{getD-append-add, getD-take, ext-getD}
-use lib.Ieee.{Float, nan}
 use Rattle.rules.specs.F32.{at, f32, zeros}
 use Rattle.rules.specs.Place.{get}
 use Rattle.rules.specs.Tab.{tab}
-use Rattle.rules.proofs.Tabs.{tab-getD, length-tab, getD-tab}
+use Rattle.rules.proofs.Lists.{tab-getD, length-tab, getD-tab}
 use Rattle.pieces.specs.Pieces.{paddedTo}
 
 same-at : {A : Type 0} (l : List A) (i : ℕ) (d e : A) → i < length l → getD l i d ≡ getD l i e

@@ -3,14 +3,10 @@
 --     frame-waits, waits-frame       the one place, where the other is written
 --     waiting-back, frame-back       what was put there is what is read
 --     waits-length, frame-length     a share keeps its length
-use Prim.Native.Nat.{ℕ, _+_, _≤_}
+use Rattle.rules.proofs.Common.{ℕ, _+_, _≤_, List, _++_, _≡_, sym, _∙_, length, take, drop, length-take, Float}
 use native.Mathlib.Omega.{arith}
-use mathlib.Core.List.{List, _++_}
 use mathlib.Core.Logic.{inr}
-use mathlib.Core.Path.{_≡_, sym, _∙_}
-use lib.ListN.{length, take, drop, length-take}
 use lib.Seq.{take-at, drop-at}
-use lib.Ieee.{Float}
 use Rattle.rules.specs.Place.{get, put}
 use Rattle.rules.proofs.Places.{length-get, length-put, get-put, get-put-apart, get-get, put-put}
 use Rattle.frame.specs.Share.{SHARE, PART}

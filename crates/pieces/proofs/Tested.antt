@@ -1,47 +1,49 @@
--- The tests behind the lengths.
+-- The rows of a table of refusals, and the tests behind the lengths.
+--     not-not          a row that refuses where a test does not hold
+--     by-model         the row of a model
 --     last-tests-by    what holds of every refusal of theirs, and of Done where the model is right and the samples are fine, holds of them
 --     last-passed      they passed
 -- Assumes nothing.
-use Prim.Native.Nat.{ℕ}
-use mathlib.Core.Bool.{Bool, true, false, cond, false≢true}
-use mathlib.Core.List.{List}
-use mathlib.Core.Path.{_≡_, refl}
+use Rattle.rules.proofs.Common.{ℕ, Bool, true, false, cond, not, true≢false, List, [], _∷_, _≡_, refl}
+use borrow.Author.Tests.{not-false}
 use Rattle.model.specs.Model.{readOf}
 use Rattle.model.specs.declared.Reading.{Reading}
 use Rattle.model.specs.declared.Reading.the-variants.{Good, Refused as Unread}
 use Rattle.frame.specs.declared.Hearing.{Hearing}
 use Rattle.frame.specs.declared.Reply.{Reply}
 use Rattle.frame.specs.declared.Reply.the-variants.{Done, Refused, Misread}
-use Rattle.frame.specs.Reply.{passed}
+use Rattle.frame.specs.Reply.{passed, _when_, firstRefusal}
 use Rattle.frame.specs.Frame.{counted, checked}
-use Rattle.pieces.specs.Pieces.{lastTests}
+use Rattle.frame.proofs.Tables.{cleared, not-when, by-number, by-each}
 
-module _ (hearing : Hearing) (model : List ℕ) (fine : Bool) where
-  abbrev Right : Type 0
-  Right = passed (checked (counted hearing) (readOf model)) ≡ true
+pub not-not : (n : ℕ) (t : Bool) → passed (n when not t) ≡ true → t ≡ true
+not-not n t h = not-false t (not-when n (not t) h)
 
-  abbrev given : Reply → Reply
-  given reply = cond (passed reply) (cond fine Done (Refused 9)) reply
+module _ (hearing : Hearing) (model : List ℕ) where
+  abbrev row : Reply
+  row = checked (counted hearing) (readOf model)
 
   -- a model that is refused comes with what the reader says of it
-  pub last-tests-by : (P : Reply → Type 0) → ((n : ℕ) → P (Refused n)) → ((n l : ℕ) → Unread n l ≡ readOf model → P (Misread n l))
-      → (Right → fine ≡ true → P Done) → P (lastTests hearing model fine)
+  pub by-model : (P : Reply → Type 0) → ((n : ℕ) → P (Refused n)) → ((n l : ℕ) → Unread n l ≡ readOf model → P (Misread n l))
+      → passed (checked (counted hearing) (readOf model)) ≡ false → P (checked (counted hearing) (readOf model))
   unfolding checked
-  last-tests-by P bad misread = by-reading (readOf model) refl
+  by-model P bad misread = by-reading (readOf model) refl
     where
-      by-samples : (t : Bool) → (t ≡ true → P Done) → P (cond t Done (Refused 9))
-      by-samples true k = k refl
-      by-samples false k = bad 9
+      by-count : (t : Bool) → passed (cond t Done (Refused 8)) ≡ false → P (cond t Done (Refused 8))
+      by-count true h = absurd (true≢false h)
+      by-count false h = bad 8
 
-      by-count : (t : Bool) → (passed (cond t Done (Refused 8)) ≡ true → fine ≡ true → P Done) → P (given (cond t Done (Refused 8)))
-      by-count true k = by-samples fine (k refl)
-      by-count false k = bad 8
+      by-reading : (r : Reading) → r ≡ readOf model → passed (checked (counted hearing) r) ≡ false → P (checked (counted hearing) r)
+      by-reading (Unread n l) e h = misread n l e
+      by-reading (Good m) e h = by-count (counted hearing m) h
 
-      by-reading : (r : Reading) → r ≡ readOf model
-          → (passed (checked (counted hearing) r) ≡ true → fine ≡ true → P Done) → P (given (checked (counted hearing) r))
-      by-reading (Unread n l) e k = misread n l e
-      by-reading (Good m) e k = by-count (counted hearing m) k
+  module _ (fine : Bool) where
+    pub last-tests-by : (P : Reply → Type 0) → ((n : ℕ) → P (Refused n)) → ((n l : ℕ) → Unread n l ≡ readOf model → P (Misread n l))
+        → (passed (checked (counted hearing) (readOf model)) ≡ true → fine ≡ true → P Done)
+        → P (firstRefusal (checked (counted hearing) (readOf model) ∷ 9 when not fine ∷ []))
+    last-tests-by P bad misread k =
+        by-each P (row ∷ 9 when not fine ∷ []) (by-model P bad misread, (by-number P bad 9 (not fine), tt)) (λ c. k (c .0) (not-not 9 fine (c .1 .0)))
 
-  pub last-passed : passed (lastTests hearing model fine) ≡ true → Right × (fine ≡ true)
-  last-passed =
-      last-tests-by (λ r. passed r ≡ true → Right × (fine ≡ true)) (λ _ e. absurd (false≢true e)) (λ _ _ _ e. absurd (false≢true e)) (λ p f _. (p, f))
+    pub last-passed : passed (firstRefusal (checked (counted hearing) (readOf model) ∷ 9 when not fine ∷ [])) ≡ true
+        → (passed (checked (counted hearing) (readOf model)) ≡ true) × (fine ≡ true)
+    last-passed e = let c = cleared (row ∷ 9 when not fine ∷ []) e in (c .0, not-not 9 fine (c .1 .0))

@@ -1,12 +1,14 @@
 -- For the parts of the code.
-use Prim.Native.Nat.{ℕ}
-use mathlib.Core.List.{List}
-use lib.Ieee.{Float}
-use Rattle.rules.specs.Refusals.{refusing}
+use Rattle.rules.specs.Common.{ℕ, List, Float}
+use Rattle.frame.specs.Reply.{firstRefusal}
+use Rattle.frame.specs.declared.Hearing.{Hearing}
 use Rattle.frame.specs.declared.Reply.{Reply}
-use Rattle.frame.specs.declared.Reply.the-variants.{Done, Refused}
-use Rattle.pieces.specs.Pieces.{pieceRows}
+use Rattle.pieces.specs.Pieces.{pieceRows, resumeRows}
 
--- the refusal of a piece, or Done
+-- the refusal of a piece and of a resume, or Done
 unfoldable pub pieceReply : List Float → ℕ → List Float → ℕ → ℕ → Reply
-pieceReply share waiting samples out sums = refusing (pieceRows share waiting samples out sums) Refused Done
+pieceReply share waiting samples out sums = firstRefusal (pieceRows share waiting samples out sums)
+
+unfoldable pub resumeReply : List Float → Hearing → ℕ → ℕ → List Float → List Float → List ℕ → ℕ → ℕ → Reply
+resumeReply share hearing piece progress samples logs model out sums =
+    firstRefusal (resumeRows share hearing piece progress samples logs model out sums)

@@ -2,7 +2,8 @@
 ghost use mathlib.Core.Path.{_≡_};
 ghost use mathlib.Core.List.{[], _∷_};
 ghost use lib.ListN.{length};
-ghost use Rattle.pieces.specs.Pieces.{pieceFits, piece, PieceWorked};
+ghost use Rattle.frame.specs.Effect.{Worked};
+ghost use Rattle.pieces.specs.Pieces.{pieceFits, piece};
 ghost use Rattle.pieces.specs.Parts.{pieceReply};
 use frame::Reply;
 use frame::Way;
@@ -54,7 +55,7 @@ pub fn piece(
     out: &mut [f32],
     sums: &mut [f32],
 ) -> Reply
-    ensures { λ r. ⌜ PieceWorked
+    ensures { λ r. ⌜ Worked
         (piece (now (share .entry)) way waiting (now (samples .entry)) (length (now (out .entry))) (length (now (sums .entry))))
         r (now (share .exit)) (now (out .entry) ∷ now (sums .entry) ∷ []) (now (out .exit) ∷ now (sums .exit) ∷ []) ⌝ }
 {

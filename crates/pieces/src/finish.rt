@@ -1,13 +1,18 @@
 // A resume: the frame under way is finished, and the rest of its piece waits or begins the next one.
-ghost use mathlib.Core.Bool.{true};
+ghost use mathlib.Core.Bool.{true, not};
 ghost use mathlib.Core.Path.{_≡_};
 ghost use mathlib.Core.List.{[], _∷_};
 ghost use Prim.Native.Nat.{_≤_};
 ghost use lib.ListN.{length, drop};
 ghost use Rattle.rules.specs.Written.{nothing};
 ghost use Rattle.samples.specs.Samples.{good};
+ghost use Rattle.model.specs.Model.{readOf};
 ghost use Rattle.frame.specs.declared.Reply.the-variants.{Done};
-ghost use Rattle.pieces.specs.Pieces.{further, resumeFits, lastTests, resumeReply, resume, PieceWorked};
+ghost use Rattle.frame.specs.Effect.{Worked};
+ghost use Rattle.frame.specs.Reply.{_when_, firstRefusal};
+ghost use Rattle.frame.specs.Frame.{counted, checked};
+ghost use Rattle.pieces.specs.Pieces.{further, resumeFits, resume};
+ghost use Rattle.pieces.specs.Parts.{resumeReply};
 use frame::Hearing;
 use frame::Reply;
 use frame::Way;
@@ -51,7 +56,7 @@ fn resume_fits(
 
 // Refusals 7 to 9, behind the lengths, or Done.
 pub fn last_tests(hearing: Hearing, model: &[u8], fine: bool) -> Reply
-    ensures { λ r. ⌜ r ≡ lastTests hearing (now (model .entry)) fine ⌝ }
+    ensures { λ r. ⌜ r ≡ firstRefusal (checked (counted hearing) (readOf (now (model .entry))) ∷ 9 when not fine ∷ []) ⌝ }
 {
     let reply = frame::check(model, hearing);
     if !frame::passed(reply) {
@@ -99,7 +104,7 @@ fn resume_reply(
 // The samples from `from` on wait, or the first 480 of them begin a frame, and 22 sums are written.
 fn go_on(share: &mut [f32], way: Way, samples: &[f32], from: usize, sums: &mut [f32])
     requires { ⌜ (length (now share) ≡ 6144) × (from ≤ length (now samples)) × (good (now samples) ≡ true) × (length (now sums) ≡ 22) ⌝ }
-    ensures { λ _. ⌜ PieceWorked (further Done (now (share .entry)) way (drop from (now (samples .entry))) nothing)
+    ensures { λ _. ⌜ Worked (further Done (now (share .entry)) way (drop from (now (samples .entry))) nothing)
         Done (now (share .exit)) ([] ∷ now (sums .entry) ∷ []) ([] ∷ now (sums .exit) ∷ []) ⌝ }
 {
     if samples.len() - from < 480 {
@@ -123,7 +128,7 @@ pub fn resume(
     out: &mut [f32],
     sums: &mut [f32],
 ) -> Reply
-    ensures { λ r. ⌜ PieceWorked
+    ensures { λ r. ⌜ Worked
         (resume (now (share .entry)) hearing piece progress
         (now (samples .entry)) (now (logs .entry)) (now (model .entry)) (length (now (out .entry))) (length (now (sums .entry))))
         r (now (share .exit)) (now (out .entry) ∷ now (sums .entry) ∷ []) (now (out .exit) ∷ now (sums .exit) ∷ []) ⌝ }

@@ -4,12 +4,12 @@ ghost use mathlib.Core.Path.{_≡_};
 ghost use Prim.Native.Nat.{_+_, _≤_};
 ghost use lib.ListN.{length};
 ghost use Rattle.rules.specs.Place.{get, put};
-ghost use Rattle.rules.specs.Written.{from, over};
+ghost use Rattle.rules.specs.Written.{from, over, firstIn};
 ghost use Rattle.samples.specs.Samples.{good};
 ghost use Rattle.model.specs.Model.{readOf};
 ghost use Rattle.frame.specs.Reply.{passed};
 ghost use Rattle.frame.specs.Frame.{counted, checked};
-ghost use Rattle.halves.specs.Halves.{buffer, firstHalf, secondHalf};
+ghost use Rattle.halves.specs.Halves.{firstHalf, secondHalf};
 ghost use Rattle.pieces.specs.Pieces.{framePart};
 use frame::Hearing;
 use frame::PART;
@@ -20,8 +20,8 @@ use frame::Way;
 pub(crate) fn enter(share: &mut [f32], way: Way, samples: &[f32], sums: &mut [f32])
     requires { ⌜ (length (now share) ≡ 6144) × (length (now samples) ≡ 480) × (good (now samples) ≡ true) × (length (now sums) ≡ 22) ⌝ }
     ensures { λ _. ⌜ now (share .exit)
-        ≡ put framePart (now (share .entry)) (firstHalf (get framePart (now (share .entry))) way (now (samples .entry)) 22 .share) ⌝ }
-    ensures { λ _. ⌜ now (sums .exit) ≡ buffer (firstHalf (get framePart (now (share .entry))) way (now (samples .entry)) 22) ⌝ }
+        ≡ put framePart (now (share .entry)) (firstHalf (get framePart (now (share .entry))) way (now (samples .entry)) 22 .kept) ⌝ }
+    ensures { λ _. ⌜ now (sums .exit) ≡ firstIn (firstHalf (get framePart (now (share .entry))) way (now (samples .entry)) 22 .written) ⌝ }
 {
     halves::first_half(&mut share[0..PART], way, samples, sums);
 }
@@ -38,13 +38,13 @@ pub(crate) fn leave(
     requires { ⌜ (length (now share) ≡ 6144) × (hearing .index ≤ 7) × (length (now logs) ≡ 22) × (start + 480 ≤ length (now out)) ⌝ }
     requires { ⌜ passed (checked (counted hearing) (readOf (now model))) ≡ true ⌝ }
     ensures { λ r. ⌜ r
-        ≡ secondHalf (get framePart (now (share .entry))) hearing (now (logs .entry)) (now (model .entry)) 480 .reply ⌝ }
+        ≡ secondHalf (get framePart (now (share .entry))) hearing (now (logs .entry)) (now (model .entry)) 480 .answer ⌝ }
     ensures { λ _. ⌜ now (share .exit)
         ≡ put framePart (now (share .entry))
-        (secondHalf (get framePart (now (share .entry))) hearing (now (logs .entry)) (now (model .entry)) 480 .share) ⌝ }
+        (secondHalf (get framePart (now (share .entry))) hearing (now (logs .entry)) (now (model .entry)) 480 .kept) ⌝ }
     ensures { λ _. ⌜ now (out .exit)
         ≡ over (from start
-        (buffer (secondHalf (get framePart (now (share .entry))) hearing (now (logs .entry)) (now (model .entry)) 480)))
+        (firstIn (secondHalf (get framePart (now (share .entry))) hearing (now (logs .entry)) (now (model .entry)) 480 .written)))
         (now (out .entry)) ⌝ }
 {
     let end = start + 480;

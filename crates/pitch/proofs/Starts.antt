@@ -1,9 +1,6 @@
 -- Where a lag's sum begins: at +0.0 among the fours, at -0.0 behind them. Assumes nothing.
-use mathlib.Core.Path.{_≡_}
-use mathlib.Core.List.{List}
-use Prim.Native.Nat.{ℕ, _<_, _≤_}
+use Rattle.rules.proofs.Common.{ℕ, _≤_, _<_, List, _≡_, Float, neg}
 use borrow.Author.Tests.{lt-ltb, le-ltb}
-use lib.Ieee.{Float, neg}
 use Rattle.rules.specs.F32.{f32}
 use Rattle.pitch.specs.Xcorr.{corr, wholeFours, lagOf}
 

@@ -1,15 +1,11 @@
 -- Sums of four lags in a row: `sums-begin`, `sums-more` and `sums-ended` are their loop's, and `lags-stored` and `sixteen-stored` are of the loops that store them. Assumes nothing.
-use mathlib.Core.Path.{_≡_, refl, ap, _∙_}
-use mathlib.Core.List.{List}
-use Prim.Native.Nat.{ℕ, _+_, _≤_}
+use Rattle.rules.proofs.Common.{ℕ, _+_, _≤_, List, _≡_, refl, ap, _∙_, length, Float}
 use native.Mathlib.Nat.{add-assoc}
 use native.Mathlib.Omega.{arith}
-use lib.Ieee.{Float}
-use lib.ListN.{length}
 use Rattle.rules.specs.F32.{_⊕_, _⊗_, at, f32}
 use Rattle.rules.specs.Loop.{loop}
 use Rattle.rules.proofs.Loops.{more}
-use Rattle.rules.proofs.Filling.{Filling, filling-more}
+use Rattle.rules.proofs.Lists.{Filling, filling-more}
 use Rattle.pitch.specs.Xcorr.{termStep, corr, wholeFours, lagOf}
 use Rattle.pitch.specs.Parts.{fourOf, fourSums, addFour, fourLags, sixteenLags, storeFour, storeSixteen}
 use Rattle.pitch.specs.declared.lanes.Four.{Four}

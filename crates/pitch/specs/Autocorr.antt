@@ -1,9 +1,5 @@
 -- `celt_autocorr` of pitch.rs.
-use mathlib.Core.Path.{_≡_}
-use mathlib.Core.List.{List}
-use Prim.Native.Nat.{ℕ, _+_, _-_, _≤_}
-use lib.Ieee.{Float}
-use lib.ListN.{length, take}
+use Rattle.rules.specs.Common.{ℕ, _+_, _-_, _≤_, List, _≡_, length, take, Float}
 use Rattle.rules.specs.Loop.{range}
 use Rattle.rules.specs.F32.{_⊕_, _⊗_, at, f32}
 use Rattle.rules.specs.Tab.{tab}

@@ -1,20 +1,11 @@
 -- `pitch_downsample` of pitch.rs: 1,728 numbers to 864.
-use mathlib.Core.Path.{_≡_}
-use mathlib.Core.Bool.{cond}
-use mathlib.Core.List.{List, [], _∷_}
-use Prim.Native.Nat.{ℕ, _+_, _-_, _*_}
-use lib.Dec.{eqb}
-use lib.IntN.{pos}
-use lib.Ieee.{Float, binary32, ofInt}
+use Rattle.rules.specs.Common.{ℕ, _+_, _-_, _*_, cond, List, [], _∷_, _≡_, eqb, pos, Float, binary32, ofInt}
 use Rattle.rules.specs.Loop.{loop}
 use Rattle.rules.specs.Tab.{tab}
-use Rattle.rules.specs.F32.{_⊕_, _⊖_, _⊗_, _⊘_, at, f32, one}
+use Rattle.rules.specs.F32.{_⊕_, _⊖_, _⊗_, _⊘_, at, f32, one, two}
 use Rattle.pitch.specs.Autocorr.{celtAutocorr}
 use Rattle.pitch.specs.Fir.{fir5}
 use Rattle.pitch.specs.Lpc.{lpcOf}
-
-abbrev two : Float
-two = f32 0x40000000
 
 -- x_lp[i] = ((x[2 * i - 1] + x[2 * i + 1]) / 2.0 + x[2 * i]) / 2.0, and x_lp[0] = (x[1] / 2.0 + x[0]) / 2.0
 abbrev pub halvedAt : List Float → ℕ → Float

@@ -1,9 +1,6 @@
 -- `lpc` of pitch.rs.
-use mathlib.Core.List.{List}
-use mathlib.Core.Bool.{cond}
-use Prim.Native.Nat.{ℕ, _+_, _-_, _/_}
-use lib.Ieee.{Float, neg, eq, lt}
-use lib.ListN.{length, set}
+use Rattle.rules.specs.Common.{ℕ, _+_, _-_, _/_, cond, List, length, set, Float, lt, neg}
+use lib.Ieee.{eq}
 use Rattle.rules.specs.Loop.{loop, walk, Flow, go, stop, value}
 use Rattle.rules.specs.F32.{_⊕_, _⊖_, _⊗_, _⊘_, at, f32, zeros}
 

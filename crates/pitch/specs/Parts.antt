@@ -1,8 +1,5 @@
 -- For the private functions: four and sixteen lags in a row, summed side by side.
-use mathlib.Core.List.{List}
-use Prim.Native.Nat.{ℕ, _+_, _-_, _%_}
-use lib.Ieee.{Float}
-use lib.ListN.{set}
+use Rattle.rules.specs.Common.{ℕ, _+_, _-_, _%_, List, set, Float}
 use Rattle.rules.specs.Loop.{loop}
 use Rattle.rules.specs.F32.{_⊕_, _⊗_, at, f32}
 use Rattle.pitch.specs.Xcorr.{termStep, corr}

@@ -1,10 +1,5 @@
 -- `pitch_xcorr` of pitch.rs, by the plain loop that its comment gives: for each lag a sum in index order.
-use mathlib.Core.Bool.{cond}
-use mathlib.Core.List.{List}
-use Prim.Native.Nat.{ℕ, _+_, _-_, _%_, _≤_, _<_}
-use lib.Ieee.{Float, neg}
-use lib.Dec.{ltb}
-use lib.ListN.{length}
+use Rattle.rules.specs.Common.{ℕ, _+_, _-_, _%_, _≤_, _<_, cond, List, ltb, length, Float, neg}
 use Rattle.rules.specs.Loop.{loop}
 use Rattle.rules.specs.F32.{_⊕_, _⊗_, at, f32}
 use Rattle.rules.specs.Tab.{tab}

@@ -1,13 +1,8 @@
 -- The pitches of `find_best_pitch`: both are lags that were tried, and the first is 0 where no correlation is positive. Assumes nothing.
-use mathlib.Core.Path.{_≡_, refl, ap, _∙_}
-use mathlib.Core.Bool.{Bool, true, false}
-use mathlib.Core.List.{List}
-use Prim.Native.Nat.{ℕ, _<_}
+use Rattle.rules.proofs.Common.{ℕ, _<_, Bool, true, false, List, _≡_, refl, ap, _∙_, length, Float, lt, neg}
 use native.Mathlib.Omega.{arith}
-use lib.Ieee.{Float, neg, lt}
-use lib.ListN.{length}
 use Rattle.rules.specs.F32.{_⊗_, at, f32, one}
-use Rattle.rules.proofs.Runs.{kept}
+use Rattle.rules.proofs.Loops.{kept}
 use Rattle.pitch_search.specs.Best.{Search, searched, startNorm, considered, slid, pitchStep, best, bestOf, firstOf, secondOf}
 use Rattle.pitch_search.specs.Laws.{FirstIsTried, SecondIsTried, FirstOfNone}
 

@@ -1,9 +1,5 @@
 -- `find_best_pitch` of pitch.rs.
-use mathlib.Core.List.{List}
-use mathlib.Core.Bool.{cond}
-use Prim.Native.Nat.{ℕ, _+_, _≤_}
-use lib.Ieee.{Float, neg, lt}
-use lib.ListN.{length}
+use Rattle.rules.specs.Common.{ℕ, _+_, _≤_, cond, List, length, Float, lt, neg}
 use Rattle.rules.specs.Loop.{loop}
 use Rattle.rules.specs.F32.{_⊕_, _⊖_, _⊗_, at, f32, one}
 use Rattle.numbers.specs.Larger.{larger}

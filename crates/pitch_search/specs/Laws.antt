@@ -1,10 +1,5 @@
 -- What is claimed of the two pitches of `find_best_pitch`. The proofs are in proofs/Firsts.
-use mathlib.Core.Path.{_≡_}
-use mathlib.Core.Bool.{false}
-use mathlib.Core.List.{List}
-use Prim.Native.Nat.{ℕ, _<_}
-use lib.Ieee.{Float, lt}
-use lib.ListN.{length}
+use Rattle.rules.specs.Common.{ℕ, _<_, false, List, _≡_, length, Float, lt}
 use Rattle.rules.specs.F32.{at, f32}
 use Rattle.pitch_search.specs.Best.{bestOf, firstOf, secondOf}
 

@@ -1,6 +1,6 @@
 -- Rust's f64 operators, each rounded by itself.
-use lib.Ieee.{Float, binary64, add, sub, mul, ofBits}
-use Prim.Native.Nat.{ℕ}
+use Rattle.rules.specs.Common.{ℕ, Float, binary64, ofBits}
+use lib.Ieee.{add, sub, mul}
 
 infixl 65 _+₆₄_ _-₆₄_
 infixl 70 _*₆₄_

@@ -1,7 +1,5 @@
 -- Lists of numbers, as files and blocks of bytes have them.
-use Prim.Native.Nat.{ℕ, _+_, _<_}
-use mathlib.Core.List.{List, [], _∷_}
-use lib.ListN.{getD}
+use Rattle.rules.specs.Common.{ℕ, _+_, _<_, List, [], _∷_, getD}
 
 -- every number is a byte
 abbrev pub Bytes : List ℕ → Type 0

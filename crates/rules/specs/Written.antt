@@ -1,8 +1,5 @@
--- What a call writes to a lent buffer, whatever the buffer held. Laws: proofs/Writing.antt.
-use Prim.Native.Nat.{ℕ}
-use mathlib.Core.List.{List, [], _∷_}
-use lib.ListN.{length, getD}
-use lib.Ieee.{Float}
+-- What a call writes to a lent buffer, whatever the buffer held. Laws: proofs/Places.antt.
+use Rattle.rules.specs.Common.{ℕ, List, [], _∷_, length, getD, Float}
 use Rattle.rules.specs.Place.{put}
 
 -- all of it; or these numbers from a place on, where the others stay

@@ -1,7 +1,6 @@
 -- `goodSample` at its ends and beyond, computed from the definition alone. `f32` takes the bit pattern of a number. Assumes nothing.
-use mathlib.Core.Bool.{true, false}
-use mathlib.Core.Path.{_≡_, refl}
-use lib.Ieee.{le, nan, ofBits}
+use Rattle.rules.proofs.Common.{true, false, _≡_, refl, nan}
+use lib.Ieee.{le, ofBits}
 use Rattle.rules.specs.F32.{f32}
 use Rattle.samples.specs.Samples.{goodSample}
 

@@ -1,12 +1,8 @@
 -- The loop over the samples: what it has passed is good, so that the samples are good exactly if the rest is. Assumes nothing.
-use Prim.Native.Nat.{ℕ, suc, _+_, _≤_, _<_}
+use Rattle.rules.proofs.Common.{ℕ, suc, _+_, _≤_, _<_, true, false, List, _∷_, _≡_, ap, _∙_, length, drop, Float, nan, le}
 use native.Mathlib.Numerals.{add-one}
-use mathlib.Core.Bool.{true, false}
-use mathlib.Core.List.{List, _∷_}
-use mathlib.Core.Path.{_≡_, ap, _∙_}
-use lib.ListN.{length, drop, drop-of-length-le}
+use lib.ListN.{drop-of-length-le}
 use lib.Seq.{drop-cons}
-use lib.Ieee.{Float, le, nan}
 use Rattle.rules.specs.F32.{at, f32}
 use Rattle.samples.specs.Samples.{good}
 

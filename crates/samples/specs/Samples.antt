@@ -1,7 +1,5 @@
 -- Which samples are taken, from request 05.
-use mathlib.Core.Bool.{Bool, true, _&&_}
-use mathlib.Core.List.{List, [], _∷_}
-use lib.Ieee.{Float, le}
+use Rattle.rules.specs.Common.{Bool, true, _&&_, List, [], _∷_, Float, le}
 use Rattle.rules.specs.F32.{f32}
 
 -- −32768 to 32767, both ends among them; NaN is not

@@ -1,19 +1,16 @@
 -- What reads is written: the bytes before it, and behind them what is written for the sheet that was read. Assumes nothing.
-use mathlib.Core.Path.{_≡_, refl, sym, ap, _∙_}
-use mathlib.Core.Bool.{Bool, true, false, not, cond}
-use mathlib.Core.List.{List, [], _∷_, _++_}
-use Prim.Native.Nat.{ℕ, zero, suc, _+_, _*_, _-_, _%_, _≤_, _<_}
+use Rattle.rules.proofs.Common.{ℕ, zero, suc, _+_, _-_, _*_, _%_, _≤_, _<_, Bool, true, false, cond, not, List, [], _∷_, _++_, _≡_, refl, sym, ap}
+use Rattle.rules.proofs.Common.{_∙_, eqb, ltb, length, getD, take, drop, length-drop}
 use native.Mathlib.Nat.{add-zero}
 use native.Mathlib.Omega.{arith}
 use borrow.Author.Tests.{le-ltb, ltb-false, eqb-true, not-true, not-false}
-use lib.Dec.{eqb, ltb}
-use lib.ListN.{length, getD, take, drop, length-drop, take-append-drop}
+use lib.ListN.{take-append-drop}
 use lib.Seq.{take-all, getD-drop, drop-drop, take-add}
 use Rattle.rules.specs.Lists.{sum, Bytes}
 use Rattle.rules.specs.Tab.{tab}
-use Rattle.rules.proofs.Refused.{Clear, by-rows}
-use Rattle.rules.proofs.Tabs.{tab-getD}
-use Rattle.rules.proofs.Truth.{both, neither}
+use Rattle.rules.proofs.Refusals.{Clear, by-rows}
+use Rattle.rules.proofs.Lists.{tab-getD}
+use Rattle.rules.proofs.Tests.{both, neither}
 use Rattle.sheet.specs.Sheet.{four, kind, recordOf, recordsOf, trailerOf, bytesOf}
 use Rattle.sheet.specs.End.{fromFour, zeros, good, run, entryOf, entriesOf, trailer, distance, number, sideByte, padded, sumNoted, start, records, faults, End, sheet, refused, endOf}
 use Rattle.sheet.specs.Written.{kinds}

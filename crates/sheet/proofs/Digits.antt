@@ -1,7 +1,5 @@
 -- A number and its four bytes. Assumes nothing.
-use mathlib.Core.Path.{_≡_, sym, ap, _∙_}
-use mathlib.Core.List.{List, [], _∷_, _++_}
-use Prim.Native.Nat.{ℕ, _+_, _*_, _/_, _%_, _<_}
+use Rattle.rules.proofs.Common.{ℕ, _+_, _*_, _/_, _%_, _<_, List, [], _∷_, _++_, _≡_, sym, ap, _∙_}
 use native.Mathlib.Nat.{add-zero, div-div-eq-div-mul}
 use native.Mathlib.Omega.{arith}
 use Rattle.sheet.specs.Sheet.{four}

@@ -1,8 +1,5 @@
 -- Files read and mended by the definitions, as two computed lists. Assumes nothing.
-use mathlib.Core.Path.{_≡_, refl}
-use mathlib.Core.List.{List, [], _∷_, _++_, map}
-use Prim.Native.Nat.{ℕ}
-use lib.ListN.{take, drop, set, replicate}
+use Rattle.rules.proofs.Common.{ℕ, List, [], _∷_, _++_, map, _≡_, refl, take, drop, set, replicate}
 use Rattle.sheet.specs.Sheet.{four, recordOf, trailerOf, bytesOf}
 use Rattle.sheet.specs.End.{fromFour, zeros, good, run, entryOf, entriesOf, distance, number, sideByte, padded, sumNoted, start, records, faults, endOf, readOf}
 use Rattle.sheet.specs.Mended.{kept, Mended, mended}

@@ -1,11 +1,6 @@
 -- What stands at a place of some bytes, byte by byte. Assumes nothing.
-use mathlib.Core.Path.{_≡_}
-use mathlib.Core.Bool.{not, _&&_}
-use mathlib.Core.List.{List}
-use Prim.Native.Nat.{ℕ, _+_, _*_}
+use Rattle.rules.proofs.Common.{ℕ, _+_, _*_, not, _&&_, List, _≡_, eqb, ltb, getD, drop}
 use native.Mathlib.Nat.{add-zero}
-use lib.Dec.{eqb, ltb}
-use lib.ListN.{getD, drop}
 use lib.Seq.{getD-drop}
 use Rattle.sheet.specs.End.{fromFour, zeros, good, entryOf}
 

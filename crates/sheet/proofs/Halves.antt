@@ -1,18 +1,14 @@
 -- How the reader's two halves come together: refusals 31 to 33, and 34 and 35. Assumes nothing.
-use mathlib.Core.Path.{_≡_, refl, sym, ap, _∙_}
-use mathlib.Core.Bool.{true, false}
-use mathlib.Core.List.{List, [], _∷_, _++_}
-use Prim.Native.Nat.{ℕ, zero, suc, _+_, _*_, _-_, _%_, _≤_, _<_, _^_}
+use Rattle.rules.proofs.Common.{ℕ, zero, suc, _+_, _-_, _*_, _%_, _^_, _≤_, _<_, true, false, List, [], _∷_, _≡_, refl, sym, ap, _∙_, length, getD}
+use Rattle.rules.proofs.Common.{take, drop, length-take, length-drop}
 use native.Mathlib.Omega.{arith}
 use borrow.Author.Tests.{lt-ltb, le-ltb, eq-eqb, ne-eqb, le-leb, lt-leb, ltb-false, eqb-true, not-false}
-use lib.ListN.{length, getD, take, drop, length-take, length-drop}
 use lib.Seq.{take-all, getD-drop, drop-drop}
 use Rattle.rules.specs.Leaf.{_leaving_}
 use Rattle.rules.specs.Lists.{sum}
-use Rattle.rules.specs.Refusals.{Row, _when_, refusing}
-use Rattle.rules.proofs.Refused.{Clear, by-rows}
-use Rattle.rules.proofs.Rows.{along}
-use Rattle.rules.proofs.Truth.{neither}
+use Rattle.rules.specs.Refusals.{refusing}
+use Rattle.rules.proofs.Refusals.{Clear, clear, by-rows, passed-clear, along, stopped-so}
+use Rattle.rules.proofs.Tests.{neither}
 use Rattle.sheet.specs.End.{fromFour, run, entryOf, entriesOf, distance, number, sideByte, padded, zeros, sumNoted, start, records, faults, End, sheet, refused, endOf, readingOf, readOf}
 use Rattle.sheet.specs.Asked.{entryIn}
 use Rattle.sheet.specs.Parts.{pointed, Pointed, checked}
@@ -44,16 +40,6 @@ module _ (s : List ℕ) where
 
 -- ---- a table tried in two parts
 
-passed : (xs ys : List Row) (g w : Reading) {a b c : ℕ} → Good a b c ≡ refusing xs Refused g → refusing (xs ++ ys) Refused w ≡ refusing ys Refused w
-passed [] ys g w e = refl
-passed (n when true ∷ xs) ys g w e = absurd (let z : _≡_ {A = ℕ} 0 1 = cc in omega arith)
-passed (n when false ∷ xs) ys g w e = passed xs ys g w e
-
-stopped : (xs ys : List Row) (w : Reading) (a b c : ℕ) {m : ℕ} → Refused m ≡ refusing xs Refused (Good a b c) → Refused m ≡ refusing (xs ++ ys) Refused w
-stopped [] ys w a b c e = absurd (let z : _≡_ {A = ℕ} 0 1 = cc in omega arith)
-stopped (n when true ∷ xs) ys w a b c e = e
-stopped (n when false ∷ xs) ys w a b c e = stopped xs ys w a b c e
-
 pub length-entries : (n : ℕ) (s : List ℕ) → length (entriesOf n s) ≡ n
 unfolding entriesOf
 length-entries zero s = refl
@@ -72,11 +58,14 @@ module _ (s : List ℕ) where
 
   pub read-checked : {a n side : ℕ} → Good a n side ≡ pointed s → checked s ≡ readOf s
   unfolding faults
-  read-checked e = sym (read-rows ∙ passed (take 3 (faults s)) (drop 3 (faults s)) _ _ e)
+  read-checked e =
+      let first = passed-clear Refused _ (take 3 (faults s)) (λ n e. absurd (let z : _≡_ {A = ℕ} 0 1 = cc in omega arith)) e in
+      sym (read-rows ∙ clear Refused _ (take 3 (faults s)) first)
 
   pub read-refused : {m : ℕ} → Refused m ≡ pointed s → Refused m ≡ readOf s
   unfolding faults
-  read-refused e = stopped (take 3 (faults s)) (drop 3 (faults s)) _ (start s) (number s) (sideByte s) e ∙ sym read-rows
+  read-refused e =
+      sym (read-rows ∙ stopped-so Refused _ Refused _ (take 3 (faults s)) (λ n e. cc) (λ e. absurd (let z : _≡_ {A = ℕ} 0 1 = cc in omega arith)) e)
 
   -- records that a trailer points to end where it starts
   pub ends-at : Clear (take 3 (faults s)) → start s + 8 * number s + 16 ≡ length s

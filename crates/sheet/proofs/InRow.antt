@@ -1,15 +1,13 @@
 -- A sheet in parts: each answer of the call that lays records, and that parts in a row are the whole. Assumes nothing.
-use mathlib.Core.Path.{_≡_, refl, sym, ap, _∙_}
-use mathlib.Core.Bool.{true, false}
-use mathlib.Core.List.{List, [], _∷_, _++_, append-assoc}
-use Prim.Native.Nat.{ℕ, _+_, _*_, _%_, _≤_, _<_}
+use Rattle.rules.proofs.Common.{ℕ, _+_, _*_, _%_, _≤_, _<_, true, false, List, [], _∷_, _++_, _≡_, refl, sym, ap, _∙_, length, getD, drop, set}
+use Rattle.rules.proofs.Common.{length-append}
+use mathlib.Core.List.{append-assoc}
 use native.Mathlib.Omega.{arith}
 use borrow.Author.Tests.{lt-ltb, le-ltb, eq-eqb, ne-eqb}
-use lib.ListN.{length, getD, set, drop, length-append}
 use Rattle.rules.specs.Leaf.{_leaving_}
 use Rattle.rules.specs.Lists.{sum}
-use Rattle.rules.proofs.Leaves.{leave-both}
-use Rattle.rules.proofs.Stores.{all-stored}
+use Rattle.rules.proofs.Refusals.{leave-both}
+use Rattle.rules.proofs.Places.{all-stored}
 use Rattle.sheet.specs.Sheet.{four, recordsOf, trailerOf, bytesOf}
 use Rattle.sheet.specs.Rows.{Tally, withRecords, recordsLaid}
 use Rattle.sheet.specs.Laws.{inRow, together, PartsAreWhole}

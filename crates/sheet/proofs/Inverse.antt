@@ -1,14 +1,12 @@
 -- What is written reads: a sheet that fits, behind any bytes, reads as it was given and starts where they end. Assumes nothing.
-use mathlib.Core.Path.{_≡_, refl, sym, ap, _∙_}
-use mathlib.Core.Bool.{true}
-use mathlib.Core.List.{List, [], _∷_, _++_, append-assoc}
-use Prim.Native.Nat.{ℕ, suc, _+_, _*_, _-_, _%_, _≤_}
+use Rattle.rules.proofs.Common.{ℕ, suc, _+_, _-_, _*_, _%_, _≤_, true, List, [], _∷_, _++_, _≡_, refl, sym, ap, _∙_, length, getD, take, drop}
+use Rattle.rules.proofs.Common.{length-append}
+use mathlib.Core.List.{append-assoc}
 use native.Mathlib.Omega.{arith}
 use borrow.Author.Tests.{le-ltb, eq-eqb, ltb-false, not-false}
-use lib.ListN.{length, getD, take, drop, length-append}
 use lib.Seq.{take-at, drop-at, take-append-seam, drop-append-seam}
 use Rattle.rules.specs.Lists.{sum}
-use Rattle.rules.proofs.Refused.{Clear, clear}
+use Rattle.rules.proofs.Refusals.{Clear, clear}
 use Rattle.sheet.specs.Sheet.{four, Sheet, kind, recordOf, recordsOf, trailerOf, bytesOf}
 use Rattle.sheet.specs.End.{fromFour, zeros, good, run, entryOf, entriesOf, trailer, distance, number, sideByte, padded, sumNoted, start, records, faults, sheet, refused, endOf, readingOf, readOf}
 use Rattle.sheet.specs.Written.{kinds, writtenFaults}

@@ -1,12 +1,7 @@
 -- The run of good records that mending keeps: no longer one of one side stands in front (`no-longer`). Assumes nothing.
-use mathlib.Core.Path.{_≡_, refl, ap}
-use mathlib.Core.Bool.{Bool, true, false, cond}
-use mathlib.Core.List.{List}
-use Prim.Native.Nat.{ℕ, zero, suc, _+_, _*_, _/_, _≤_, _<_}
+use Rattle.rules.proofs.Common.{ℕ, zero, suc, _+_, _*_, _/_, _≤_, _<_, Bool, true, false, cond, List, _≡_, refl, ap, ltb, length, getD, take, drop}
 use native.Mathlib.Omega.{arith}
 use borrow.Author.Tests.{lt-ltb, le-ltb, ltb-false}
-use lib.Dec.{ltb}
-use lib.ListN.{length, getD, take, drop}
 use Rattle.rules.specs.Lists.{Bytes}
 use Rattle.sheet.specs.Sheet.{recordsOf}
 use Rattle.sheet.specs.End.{good, run, entriesOf}

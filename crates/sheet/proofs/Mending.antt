@@ -1,18 +1,14 @@
 -- Mending: what is claimed of it (`mends`), and how its code comes to the answer. Assumes nothing.
-use mathlib.Core.Path.{_≡_, refl, sym, ap, _∙_}
-use mathlib.Core.Bool.{Bool, true, false, not, cond, _&&_, true≢false}
-use mathlib.Core.List.{List, [], _∷_, _++_, append-assoc}
-use Prim.Native.Nat.{ℕ, _+_, _*_, _-_, _≤_}
+use Rattle.rules.proofs.Common.{ℕ, _+_, _-_, _*_, _≤_, Bool, true, false, cond, not, _&&_, true≢false, List, [], _∷_, _++_, _≡_, refl, sym, ap, _∙_}
+use Rattle.rules.proofs.Common.{eqb, ltb, length, getD, take, drop, length-take, length-drop, length-append}
+use mathlib.Core.List.{append-assoc}
 use native.Mathlib.Omega.{arith}
 use borrow.Author.Tests.{le-ltb, eq-eqb, ne-eqb, ltb-false, eqb-false}
-use lib.Dec.{eqb, ltb}
-use lib.ListN.{length, getD, take, drop, length-append, length-take, length-drop}
 use lib.Seq.{take-all, take-at, drop-at, take-append-seam, drop-append-seam, drop-drop, take-take, take-add}
 use Rattle.rules.specs.Leaf.{_leaving_}
 use Rattle.rules.specs.Lists.{sum, Bytes}
 use Rattle.rules.specs.Refusals.{_when_, refusing}
-use Rattle.rules.proofs.Refused.{Clear, clear}
-use Rattle.rules.proofs.Cleared.{none-held}
+use Rattle.rules.proofs.Refusals.{Clear, clear, none-held}
 use Rattle.sheet.specs.Sheet.{trailerOf, bytesOf}
 use Rattle.sheet.specs.End.{readOf}
 use Rattle.sheet.specs.Mended.{kept, torn, readsAt, recordsIn, Mended, mended, mendFaults, mendOf}

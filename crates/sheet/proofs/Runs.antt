@@ -1,17 +1,13 @@
 -- Runs of good records, and sums of bytes, as loops go through them. Assumes nothing.
-use mathlib.Core.Path.{_≡_, refl, sym}
-use mathlib.Core.Bool.{true, false, not}
-use mathlib.Core.List.{List, [], _∷_, _++_}
-use Prim.Native.Nat.{ℕ, zero, suc, _+_, _*_, _-_, _≤_, _<_}
+use Rattle.rules.proofs.Common.{ℕ, zero, suc, _+_, _-_, _*_, _≤_, _<_, true, false, not, List, [], _∷_, _++_, _≡_, refl, sym, ltb, length, getD, take}
+use Rattle.rules.proofs.Common.{drop}
 use native.Mathlib.Nat.{zero-add}
 use native.Mathlib.Numerals.{add-one}
 use native.Mathlib.Omega.{arith}
 use borrow.Author.Tests.{lt-ltb, le-ltb, ltb-false, not-true}
-use lib.Dec.{ltb}
-use lib.ListN.{length, getD, take, drop}
 use lib.Seq.{drop-drop, drop-cons, take-suc}
 use Rattle.rules.specs.Lists.{sum}
-use Rattle.rules.proofs.Truth.{both}
+use Rattle.rules.proofs.Tests.{both}
 use Rattle.sheet.specs.Sheet.{kind}
 use Rattle.sheet.specs.End.{good, run}
 use Rattle.sheet.specs.Written.{kinds}

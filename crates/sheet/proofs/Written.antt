@@ -1,14 +1,10 @@
 -- The writer and the reader, each the other's inverse. Assumes nothing.
-use mathlib.Core.Path.{_≡_, refl, sym, ap, _∙_}
-use mathlib.Core.List.{List, _++_}
-use Prim.Native.Nat.{ℕ, _≤_}
+use Rattle.rules.proofs.Common.{ℕ, _≤_, List, _++_, _≡_, refl, sym, ap, _∙_, length, drop, length-append}
 use native.Mathlib.Omega.{arith}
 use borrow.Author.Tests.{le-ltb}
-use lib.ListN.{length, drop, length-append}
 use lib.Seq.{take-at, drop-append-seam}
 use Rattle.rules.specs.Leaf.{_leaving_}
-use Rattle.rules.proofs.Refused.{Clear, clear}
-use Rattle.rules.proofs.Cleared.{none-held}
+use Rattle.rules.proofs.Refusals.{Clear, clear, none-held}
 use Rattle.sheet.specs.Sheet.{Sheet, bytesOf, sizeOf}
 use Rattle.sheet.specs.End.{sheet}
 use Rattle.sheet.specs.Written.{writtenFaults, writtenOf}

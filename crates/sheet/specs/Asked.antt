@@ -1,9 +1,5 @@
 -- What a host is told of a file, in numbers: what is returned, and what its buffer then holds.
-use Prim.Native.Nat.{ℕ}
-use mathlib.Core.Bool.{not}
-use mathlib.Core.List.{List, [], _∷_}
-use lib.Dec.{eqb, leb}
-use lib.ListN.{length, getD}
+use Rattle.rules.specs.Common.{ℕ, not, List, [], _∷_, eqb, leb, length, getD}
 use Rattle.rules.specs.Leaf.{_leaving_}
 use Rattle.rules.specs.Refusals.{_when_, refusing}
 use Rattle.sheet.specs.End.{End, sheet, refused, endOf, readOf}

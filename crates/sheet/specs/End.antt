@@ -1,9 +1,5 @@
 -- What stands at the end of some bytes: the sheet and the bytes before it, or a refusal.
-use Prim.Native.Nat.{ℕ, zero, suc, _+_, _*_, _-_, _%_}
-use mathlib.Core.Bool.{Bool, not, cond, _&&_, _||_}
-use mathlib.Core.List.{List, [], _∷_}
-use lib.Dec.{eqb, ltb}
-use lib.ListN.{length, getD, take, drop}
+use Rattle.rules.specs.Common.{ℕ, zero, suc, _+_, _-_, _*_, _%_, Bool, cond, not, _&&_, _||_, List, [], _∷_, eqb, ltb, length, getD, take, drop}
 use Rattle.rules.specs.Lists.{sum}
 use Rattle.rules.specs.Refusals.{Row, _when_, refusing}
 use Rattle.sheet.specs.Sheet.{Sheet}

@@ -1,10 +1,6 @@
 -- What is claimed of a sheet: of its writer and its reader, each the other's inverse (document 02, request 02; proofs/Written), of mending (request 14; proofs/Mending),
 -- and of a sheet in parts (proofs/InRow).
-use Prim.Native.Nat.{ℕ, _+_, _*_, _≤_}
-use mathlib.Core.Bool.{true, false}
-use mathlib.Core.List.{List, [], _∷_, _++_}
-use mathlib.Core.Path.{_≡_}
-use lib.ListN.{length, getD, take, drop}
+use Rattle.rules.specs.Common.{ℕ, _+_, _*_, _≤_, true, false, List, [], _∷_, _++_, _≡_, length, getD, take, drop}
 use Rattle.rules.specs.Leaf.{_leaving_}
 use Rattle.rules.specs.Lists.{Bytes}
 use Rattle.sheet.specs.Sheet.{Sheet, recordsOf, trailerOf, bytesOf, sizeOf}

@@ -1,9 +1,5 @@
 -- Mending a torn sheet (document 02, request 14), given the file and where its audio ends: what is written, and how many records it has.
-use Prim.Native.Nat.{ℕ, _/_}
-use mathlib.Core.Bool.{Bool, false, not, cond, _&&_}
-use mathlib.Core.List.{List, [], _∷_, _++_}
-use lib.Dec.{eqb, ltb}
-use lib.ListN.{length, getD, take, drop}
+use Rattle.rules.specs.Common.{ℕ, _/_, Bool, false, cond, not, _&&_, List, [], _∷_, _++_, eqb, ltb, length, getD, take, drop}
 use Rattle.rules.specs.Leaf.{_leaving_}
 use Rattle.rules.specs.Refusals.{Row, _when_, refusing}
 use Rattle.sheet.specs.Sheet.{Sheet, bytesOf}

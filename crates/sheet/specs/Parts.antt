@@ -1,9 +1,5 @@
 -- What the private functions promise and ask for.
-use mathlib.Core.Path.{_≡_}
-use mathlib.Core.List.{List, [], _∷_, _++_}
-use Prim.Native.Nat.{ℕ, _+_, _*_, _≤_, _<_, _^_}
-use lib.Dec.{ltb}
-use lib.ListN.{length, take, drop, getD}
+use Rattle.rules.specs.Common.{ℕ, _+_, _*_, _^_, _≤_, _<_, List, [], _∷_, _++_, _≡_, ltb, length, getD, take, drop}
 use Rattle.rules.specs.Leaf.{_leaving_}
 use Rattle.rules.specs.Lists.{sum}
 use Rattle.rules.specs.Refusals.{_when_, refusing}

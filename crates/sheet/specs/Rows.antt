@@ -1,9 +1,5 @@
 -- A sheet written in parts: the records of some entries at a time, and at the end a trailer. What is returned, and what the buffers then hold.
-use Prim.Native.Nat.{ℕ, _+_, _*_, _%_}
-use mathlib.Core.Bool.{not}
-use mathlib.Core.List.{List, [], _∷_, _++_}
-use lib.Dec.{eqb, ltb}
-use lib.ListN.{length, getD, drop}
+use Rattle.rules.specs.Common.{ℕ, _+_, _*_, _%_, not, List, [], _∷_, _++_, eqb, ltb, length, getD, drop}
 use Rattle.rules.specs.Leaf.{_leaving_}
 use Rattle.rules.specs.Lists.{sum}
 use Rattle.rules.specs.Refusals.{Row, _when_, refusing}

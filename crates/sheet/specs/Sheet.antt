@@ -1,7 +1,5 @@
 -- A side sheet (document 02, request 02): as data, and as bytes.
-use Prim.Native.Nat.{ℕ, _+_, _*_, _/_, _%_}
-use mathlib.Core.List.{List, [], _∷_, _++_}
-use lib.ListN.{length}
+use Rattle.rules.specs.Common.{ℕ, _+_, _*_, _/_, _%_, List, [], _∷_, _++_, length}
 use Rattle.rules.specs.Lists.{sum}
 
 -- a number as four bytes, little end first: modulo 2^32

@@ -1,9 +1,5 @@
 -- What writing a sheet gives: what is returned, and what the buffer then holds.
-use Prim.Native.Nat.{ℕ, _+_}
-use mathlib.Core.Bool.{Bool, true, not, _&&_}
-use mathlib.Core.List.{List, [], _∷_, _++_}
-use lib.Dec.{ltb}
-use lib.ListN.{length, drop}
+use Rattle.rules.specs.Common.{ℕ, _+_, Bool, true, not, _&&_, List, [], _∷_, _++_, ltb, length, drop}
 use Rattle.rules.specs.Leaf.{_leaving_}
 use Rattle.rules.specs.Refusals.{Row, _when_, refusing}
 use Rattle.sheet.specs.Sheet.{Sheet, kind, bytesOf, sizeOf}

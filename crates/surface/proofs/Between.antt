@@ -4,45 +4,44 @@
 --     rows         a row of pieces
 --     between      what specs/Between.antt claims
 -- Assumes nothing.
-use Prim.Native.Nat.{ℕ, _+_, _-_, _*_, _/_, _≤_, _<_}
+use Rattle.rules.proofs.Common.{ℕ, _+_, _-_, _*_, _/_, _≤_, _<_, Bool, true, false, cond, _&&_, List, [], _∷_, _++_, map, _≡_, refl, sym, ap, ap₂}
+use Rattle.rules.proofs.Common.{_∙_, eqb, leb, length, getD, drop, length-drop, Float}
 use native.Mathlib.Omega.{arith}
-use mathlib.Core.Bool.{Bool, true, false, cond, _&&_}
-use mathlib.Core.List.{List, [], _∷_, _++_, append-assoc}
-use mathlib.Core.Path.{_≡_, refl, sym, ap, ap₂, _∙_}
-use borrow.Author.Tests.{eqb-true, eqb-false, ltb-true, ltb-false, not-false}
-use lib.Dec.{eqb, ltb, leb}
-use lib.ListN.{length, getD, drop, length-drop}
+use mathlib.Core.List.{append-assoc}
+use borrow.Author.Tests.{eqb-true, eqb-false, not-false}
+use lib.ListN.{length-map}
 use lib.Seq.{drop-drop, drop-append-add}
-use lib.Ieee.{Float}
 use Rattle.rules.specs.Place.{get, put}
-use Rattle.rules.specs.Written.{Written, from, nothing, numbersIn}
-use Rattle.rules.proofs.Places.{length-get}
-use Rattle.rules.proofs.Truth.{both}
-use Rattle.rules.proofs.Wholes.{get-whole, put-whole}
+use Rattle.rules.specs.Written.{Written, from, nothing, numbersIn, firstIn}
+use Rattle.rules.proofs.Places.{length-get, get-whole, put-whole}
+use Rattle.rules.proofs.Tests.{both}
+use Rattle.desk.specs.declared.Answer.{Answer}
+use Rattle.frame.specs.Effect.{Effect}
 use Rattle.frame.specs.declared.Reply.{Reply}
 use Rattle.frame.specs.declared.Reply.the-variants.{Done}
 use Rattle.frame.specs.Reply.{passed}
 use Rattle.frame.specs.Share.{SHARE}
-use Rattle.halves.specs.Halves.{buffer}
 use Rattle.pieces.specs.Pieces.{waitingIn, waits}
 use Rattle.pieces.proofs.Shares.{waiting-length, waits-length}
 use Rattle.desk.specs.declared.Record.{Record}
 use Rattle.desk.specs.Gate.{PIECE, shareOf, gate, isDue, inRange, inPieces, underWay}
-use Rattle.desk.specs.Desk.{Ask, piece, resume, holding, Given, desk}
+use Rattle.desk.specs.Desk.{Ask, piece, resume, desk}
 use Rattle.desk.specs.Surface.{heardOf, besides, hosted}
 use Rattle.desk.proofs.Apart.{placed, its-own, own-share, other-share, same-length}
 use Rattle.desk.proofs.Ranged.{open-range}
-use Rattle.desk.proofs.Settled.{refused-keeps}
+use Rattle.desk.proofs.Kept.{refused-keeps}
 use Rattle.desk.proofs.Turned.{none}
-use Rattle.dictation.specs.Dictation.{Lent, Dictated, dictate}
+use Rattle.dictation.specs.Dictation.{Lent, Told, Dictated, dictate, dictatedOn}
 use Rattle.dictation.proofs.Joins.{first, second, shareAfter, recAfter, dictate-more, dictate-none, after-length, share-size, washed, then, again, rejoin}
-use Rattle.dictation.proofs.Taken.{onward, ends, pauses, piece-passed, resume-passed}
+use Rattle.dictation.proofs.Taken.{onward, ends, pauses, piece-passed}
 use Rattle.dictation.proofs.Follows.{place, following, follows}
-use Rattle.whole.specs.Taking.{Told, answersOf}
+use Rattle.dictation.proofs.Cuts.{short, long}
+use Rattle.whole.specs.Taking.{answersOf}
+use Rattle.whole.proofs.Dictations.{answers-both}
 use Rattle.isolation.specs.Run.{On, State, recordAt, given, after, ended, done, desks, expand}
 use Rattle.isolation.proofs.Runs.{record-after, store-after}
 use Rattle.surface.specs.Surface.{ask, surface, madeOf}
-use Rattle.surface.specs.Between.{resumes, InARow, lastPiece, morePieces, inBuffer, sumsTold, Between}
+use Rattle.surface.specs.Between.{asGiven, resumes, InARow, lastPiece, morePieces, inBuffer, sumsTold, Between}
 use Rattle.surface.proofs.Expanded.{expands}
 use Rattle.surface.proofs.Numbers.{zero-is-done}
 use Rattle.surface.proofs.Outputs.{column, wrote, first-written, piece-none, piece-unheard, resume-heard, row-hands, outputs-are, answers-are, sums-are}
@@ -56,16 +55,16 @@ record Left : Type 0 where
 
 left : Record → List Float → List Ask → Left
 left b xs [] = record { rec = b; share = xs }
-left b xs (a ∷ more) = let o = desk 1 0 b xs a in left (o .answer .rec) (o .store) more
+left b xs (a ∷ more) = let o = desk 1 0 b xs a in left (o .answer .rec) (o .kept) more
 
 AllDone : Record → List Float → List Ask → Type 0
 AllDone b xs [] = Unit
-AllDone b xs (a ∷ more) = let o = desk 1 0 b xs a in (passed (o .answer .reply) ≡ true) × AllDone (o .answer .rec) (o .store) more
+AllDone b xs (a ∷ more) = let o = desk 1 0 b xs a in (passed (o .answer .reply) ≡ true) × AllDone (o .answer .rec) (o .kept) more
 
 -- what they write to buffer k
 written : ℕ → Record → List Float → List Ask → List Float
 written k b xs [] = []
-written k b xs (a ∷ more) = let o = desk 1 0 b xs a in wrote k a o ++ written k (o .answer .rec) (o .store) more
+written k b xs (a ∷ more) = let o = desk 1 0 b xs a in wrote k a o ++ written k (o .answer .rec) (o .kept) more
 
 -- a row of calls and then another
 record Splits (first rest : List Ask) (b : Record) (xs : List Float) : Type 0 where
@@ -79,15 +78,15 @@ unfolding left AllDone written
 split [] rest b xs all = record { before = tt; behind = all; leads = refl; writes = λ k. refl }
 split (a ∷ first) rest b xs all =
     let o = desk 1 0 b xs a in
-    let l = left (o .answer .rec) (o .store) first in
-    let s = split first rest (o .answer .rec) (o .store) (all .1) in
+    let l = left (o .answer .rec) (o .kept) first in
+    let s = split first rest (o .answer .rec) (o .kept) (all .1) in
     record {
       before = (all .0, s .before);
       behind = s .behind;
       leads = s .leads;
       writes =
           λ k. ap (λ (x : List Float). wrote k a o ++ x) (s .writes k)
-          ∙ sym (append-assoc (wrote k a o) (written k (o .answer .rec) (o .store) first) (written k (l .rec) (l .share) rest));
+          ∙ sym (append-assoc (wrote k a o) (written k (o .answer .rec) (o .kept) first) (written k (l .rec) (l .share) rest));
     }
 
 -- ---- any run, for one side
@@ -110,19 +109,19 @@ module _ (n s : ℕ) (h : s < n) where
       next : State
       next = after desks n st c
 
-      was : Given
+      was : Effect Answer
       was = desk n (c .side) (recordAt (c .side) st) (st .store) (c .call)
 
       sized : length (next .store) ≡ n * SHARE
       sized = rw (store-after n st c) (same-length n (c .side) (recordAt (c .side) st) (st .store) (c .call) l ∙ l)
 
-      o : Given
+      o : Effect Answer
       o = desk 1 0 b xs (c .call)
 
       here : c .side ≡ s → was ≡ placed s (st .store) o
       here same = rw (same, its-own n s (recordAt s st) (st .store) (c .call) l h, e, f)
 
-      back : c .side ≡ s → get (shareOf s) (next .store) ≡ o .store
+      back : c .side ≡ s → get (shareOf s) (next .store) ≡ o .kept
       back same = rw (store-after n st c, same, own-share n s (recordAt s st) (st .store) (c .call) l h, e, f)
 
       -- it passed where 0 is returned
@@ -142,9 +141,9 @@ module _ (n s : ℕ) (h : s < n) where
           (λ k. cond t (numbersIn (getD (given desks n st c .returned .told) k nothing)) [] ++ column k n s next cs)
       go true t true p ih =
           let k = here (eqb-true (c .side) s t) in
-          let r = ih (o .answer .rec) (o .store) (noted true t ∙ ap (λ (g : Given). g .answer .rec) k) (back (eqb-true (c .side) s t)) in
+          let r = ih (o .answer .rec) (o .kept) (noted true t ∙ ap (λ (g : Effect Answer). g .answer .rec) k) (back (eqb-true (c .side) s t)) in
           record {
-            all = (ap (λ (g : Given). passed (g .answer .reply)) (sym k) ∙ is-done ∙ p, r .all);
+            all = (ap (λ (g : Effect Answer). passed (g .answer .reply)) (sym k) ∙ is-done ∙ p, r .all);
             rec = r .rec;
             share = r .share;
             writes = λ i. ap₂ (λ (x y : List Float). x ++ y) (told i ∙ ap (wrote i (c .call)) k) (r .writes i);
@@ -170,85 +169,63 @@ module _ (n s : ℕ) (h : s < n) where
 -- ---- the resumes of a piece
 
 module _ (store : List Float) (size : length store ≡ 1 * SHARE) (samples : List Float) (some : 1 ≤ length samples) (room : ℕ) where
-  module _ (o : Given) (rec : Record) (reply : Reply) (share rest : List Float) (progress : ℕ) (w : Written)
-      (e : o ≡ onward 0 store rec reply share rest (length samples) progress w) where
-    short : o .answer .rec .piece ≡ 0 → length rest < 480
-    short z = go (ltb (length rest) 480) refl
-      where
-        go : (t : Bool) → ltb (length rest) 480 ≡ t → length rest < 480
-        go true f = ltb-true (length rest) 480 f
-        go false f =
-            let q = e ∙ pauses 0 store rec reply share rest (length samples) progress w (ltb-false (length rest) 480 f) in
-            let z′ : length samples ≡ 0 = rw q at z in
-            absurd (omega arith)
-
-    long : (l : Lent) → passed (desk 1 0 (o .answer .rec) (o .store) (resume samples (l .logs) (l .model) room 22) .answer .reply) ≡ true → 480 ≤ length rest
-    long l p = go (ltb (length rest) 480) refl
-      where
-        go : (t : Bool) → ltb (length rest) 480 ≡ t → 480 ≤ length rest
-        go false f = ltb-false (length rest) 480 f
-        go true f =
-            let there = put (shareOf 0) store (waits share rest) in
-            let q = e ∙ ends 0 store rec reply share rest (length samples) progress w (ltb-true (length rest) 480 f) in
-            let t = resume-passed 1 0 (holding 1 rec (length rest) 0 0) there samples (l .logs) (l .model) room 22 (rw q at p) in
-            absurd (omega (arith, t .1 .begun))
-
   -- a row of calls is this dictation, with its share in a store; the sums of its first frame stand in what was given before, with what is told besides
-  record Dictates (o : Given) (us : List Written) (ls : List Lent) (rest : List Float) (d : Dictated) : Type 0 where
-    rec : left (o .answer .rec) (o .store) (resumes samples room ls) .rec ≡ d .rec
-    share : left (o .answer .rec) (o .store) (resumes samples room ls) .share ≡ put (shareOf 0) store (d .store)
-    out : written 0 (o .answer .rec) (o .store) (resumes samples room ls) ≡ d .out
-    sums : numbersIn (getD (o .written ++ us) 1 nothing) ++ written 1 (o .answer .rec) (o .store) (resumes samples room ls) ≡ sumsTold (d .told)
-    heard : written 2 (o .answer .rec) (o .store) (resumes samples room ls) ≡ answersOf (d .told)
-    count : length ls ≡ length rest / 480
+  record Dictates (o : Effect Answer) (us : List Written) (gs : List (List Float × List ℕ)) (rest : List Float) (d : Dictated) : Type 0 where
+    rec : left (o .answer .rec) (o .kept) (resumes samples room gs) .rec ≡ d .rec
+    share : left (o .answer .rec) (o .kept) (resumes samples room gs) .share ≡ put (shareOf 0) store (d .kept)
+    out : written 0 (o .answer .rec) (o .kept) (resumes samples room gs) ≡ d .out
+    sums : numbersIn (getD (o .written ++ us) 1 nothing) ++ written 1 (o .answer .rec) (o .kept) (resumes samples room gs) ≡ sumsTold (d .told)
+    heard : written 2 (o .answer .rec) (o .kept) (resumes samples room gs) ≡ answersOf (d .told)
+    count : length gs ≡ length rest / 480
 
-  resumed : (ls : List Lent) (o : Given) (us : List Written) (rec : Record) (reply : Reply) (share rest : List Float) (progress k : ℕ) (ys : List Float)
+  resumed : (gs : List (List Float × List ℕ)) (o : Effect Answer) (us : List Written) (rec : Record) (reply : Reply) (share rest : List Float) (progress k : ℕ) (ys : List Float)
       → o ≡ onward 0 store rec reply share rest (length samples) progress (from k ys)
-      → length share ≡ SHARE → drop progress samples ≡ drop 480 rest → 1 ≤ progress → AllDone (o .answer .rec) (o .store) (resumes samples room ls)
-      → left (o .answer .rec) (o .store) (resumes samples room ls) .rec .piece ≡ 0
-      → Dictates o us ls rest (dictate rec share rest ls)
+      → length share ≡ SHARE → drop progress samples ≡ drop 480 rest → 1 ≤ progress → AllDone (o .answer .rec) (o .kept) (resumes samples room gs)
+      → left (o .answer .rec) (o .kept) (resumes samples room gs) .rec .piece ≡ 0
+      → Dictates o us gs rest (dictate rec share rest (map asGiven gs))
   unfolding left AllDone written
   resumed [] o us rec reply share rest progress k ys e full same begun all z =
       let w = from k ys in
-      let little = short o rec reply share rest progress w e z in
+      let little = short 1 0 store samples some o rec reply share rest progress w e z in
       let q = e ∙ ends 0 store rec reply share rest (length samples) progress w little in
       let none = dictate-none rec share rest in
       record {
-        rec = ap (λ (g : Given). g .answer .rec) q ∙ sym (ap (λ (x : Dictated). x .rec) none);
-        share = ap (λ (g : Given). g .store) q ∙ sym (ap (λ (x : Dictated). put (shareOf 0) store (x .store)) none);
+        rec = ap (λ (g : Effect Answer). g .answer .rec) q ∙ sym (ap (λ (x : Dictated). x .rec) none);
+        share = ap (λ (g : Effect Answer). g .kept) q ∙ sym (ap (λ (x : Dictated). put (shareOf 0) store (x .kept)) none);
         out = sym (ap (λ (x : Dictated). x .out) none);
-        sums = ap (λ (g : Given). numbersIn (getD (g .written ++ us) 1 nothing) ++ []) q ∙ sym (ap (λ (x : Dictated). sumsTold (x .told)) none);
+        sums = ap (λ (g : Effect Answer). numbersIn (getD (g .written ++ us) 1 nothing) ++ []) q ∙ sym (ap (λ (x : Dictated). sumsTold (x .told)) none);
         heard = sym (ap (λ (x : Dictated). answersOf (x .told)) none);
         count = omega arith;
       }
-  resumed (l ∷ more) o us rec reply share rest progress k ys e full same begun all z =
+  resumed (g ∷ more) o us rec reply share rest progress k ys e full same begun all z =
       let w = from k ys in
-      let enough = long o rec reply share rest progress w e l (all .0) in
+      let l = asGiven g in
+      let enough = long 1 0 store samples some o rec reply share rest progress w e (g .0) (g .1) room (all .0) in
       let q = e ∙ pauses 0 store rec reply share rest (length samples) progress w enough in
-      let a = resume samples (l .logs) (l .model) room 22 in
-      let there = desk 1 0 (o .answer .rec) (o .store) a in
+      let a = resume samples (g .0) (g .1) room 22 in
+      let there = desk 1 0 (o .answer .rec) (o .kept) a in
       let here : there ≡ following 1 0 (omega arith) store size samples rec share rest l progress room full same =
-      ap (λ (g : Given). desk 1 0 (g .answer .rec) (g .store) a) q in
-      let g = follows 1 0 (omega arith) store size samples rec share rest l progress room full same (ap (λ (x : Given). passed (x .answer .reply)) (sym here) ∙ all .0) in
+      ap (λ (x : Effect Answer). desk 1 0 (x .answer .rec) (x .kept) a) q in
+      let f = follows 1 0 (omega arith) store size samples rec share rest l progress room full same (ap (λ (x : Effect Answer). passed (x .answer .reply)) (sym here) ∙ all .0) in
       let y = second rec share rest l in
       let rec′ = recAfter rec share rest l in
       let share′ = shareAfter rec share rest l in
-      let nx = here ∙ g .1 in
-      let samples-out : wrote 0 a there ≡ buffer y =
+      let nx = here ∙ f .1 in
+      let samples-out : wrote 0 a there ≡ firstIn (y .written) =
       ap (wrote 0 a) nx
-      ∙ first-written 0 store rec′ (y .reply) share′ (drop 480 rest) (length samples) (progress + 480) (place progress) (buffer y) (besides a (y .reply)) in
-      let answered : wrote 2 a there ≡ heardOf (y .reply) =
-      resume-heard 1 0 (o .answer .rec) (o .store) samples room (l .logs) (l .model) (all .0) ∙ ap (λ (x : Given). heardOf (x .answer .reply)) nx in
+      ∙ first-written 0 store rec′ (y .answer) share′ (drop 480 rest) (length samples) (progress + 480) (place progress) (firstIn (y .written)) (besides a (y .answer)) in
+      let answered : wrote 2 a there ≡ heardOf (y .answer) =
+      resume-heard 1 0 (o .answer .rec) (o .kept) samples room (g .0) (g .1) (all .0) ∙ ap (λ (x : Effect Answer). heardOf (x .answer .reply)) nx in
       let ih =
-      resumed more there (besides a (there .answer .reply)) rec′ (y .reply) share′ (drop 480 rest) (progress + 480) (place progress) (buffer y) nx
+      resumed more there (besides a (there .answer .reply)) rec′ (y .answer) share′ (drop 480 rest) (progress + 480) (place progress) (firstIn (y .written)) nx
       (after-length rec share rest l full) (sym (drop-drop 480 progress samples) ∙ ap (drop 480) same) (omega arith) (all .1) z in
-      let d = dictate-more rec share rest l more in
+      let d = dictate-more rec share rest l (map asGiven more) in
       record {
         rec = ih .rec ∙ sym (ap (λ (x : Dictated). x .rec) d);
-        share = ih .share ∙ sym (ap (λ (x : Dictated). put (shareOf 0) store (x .store)) d);
+        share = ih .share ∙ sym (ap (λ (x : Dictated). put (shareOf 0) store (x .kept)) d);
         out = ap₂ (λ (x y : List Float). x ++ y) samples-out (ih .out) ∙ sym (ap (λ (x : Dictated). x .out) d);
         sums =
-            ap₂ (λ (x y : List Float). x ++ y) (ap (λ (x : Given). numbersIn (getD (x .written ++ us) 1 nothing)) q) (ih .sums)
+            ap₂ (λ (x y : List Float). x ++ y) (ap (λ (x : Effect Answer). numbersIn (getD (x .written ++ us) 1 nothing)) q) (ih .sums)
             ∙ sym (ap (λ (x : Dictated). sumsTold (x .told)) d);
         heard = ap₂ (λ (x y : List Float). x ++ y) answered (ih .heard) ∙ sym (ap (λ (x : Dictated). answersOf (x .told)) d);
         count = omega (arith, ih .count, length-drop 480 rest, enough);
@@ -272,16 +249,16 @@ at-rest n side rec len e = go (eqb (rec .piece) 0) refl
 
 record Is (b : Record) (xs : List Float) (asks : List Ask) (d : Dictated) : Type 0 where
   rec : left b xs asks .rec ≡ d .rec
-  share : left b xs asks .share ≡ d .store
+  share : left b xs asks .share ≡ d .kept
   out : written 0 b xs asks ≡ d .out
   sums : written 1 b xs asks ≡ sumsTold (d .told)
   heard : written 2 b xs asks ≡ answersOf (d .told)
 
 -- one piece, resumed to its end
-module _ (x : List Float) (room : ℕ) (ls : List Lent) (b : Record) (xs : List Float) (full : length xs ≡ SHARE) where
-  one-piece : AllDone b xs (piece x room 22 ∷ resumes x room ls) → left b xs (piece x room 22 ∷ resumes x room ls) .rec .piece ≡ 0
+module _ (x : List Float) (room : ℕ) (gs : List (List Float × List ℕ)) (b : Record) (xs : List Float) (full : length xs ≡ SHARE) where
+  one-piece : AllDone b xs (piece x room 22 ∷ resumes x room gs) → left b xs (piece x room 22 ∷ resumes x room gs) .rec .piece ≡ 0
       → let all = waitingIn (b .waiting) xs ++ x in
-      Is b xs (piece x room 22 ∷ resumes x room ls) (dictate b xs all ls) × (length ls ≡ length all / 480)
+      Is b xs (piece x room 22 ∷ resumes x room gs) (dictate b xs all (map asGiven gs)) × (length gs ≡ length all / 480)
   unfolding left AllDone written
   one-piece all z =
       let o = desk 1 0 b xs (piece x room 22) in
@@ -294,14 +271,14 @@ module _ (x : List Float) (room : ℕ) (ls : List Lent) (b : Record) (xs : List 
       let sum : b .waiting + (480 - b .waiting) ≡ 480 = omega (arith, k .waits) in
       let same : drop (480 - b .waiting) x ≡ drop 480 (ws ++ x) = sym (rw (waited, sum) at (drop-append-add ws x (480 - b .waiting))) in
       let r =
-      resumed xs (omega (arith, full)) x (k .some) room ls o [] b Done (waits share []) (ws ++ x) (480 - b .waiting) 0 []
+      resumed xs (omega (arith, full)) x (k .some) room gs o [] b Done (waits share []) (ws ++ x) (480 - b .waiting) 0 []
       (t .2) (waits-length share (k .size) []) same (omega (arith, k .waits)) (all .1) z in
       let clean =
-      washed b share [] (ws ++ x) ls (k .size) ∙ ap (λ (t : List Float). dictate b t (waitingIn (b .waiting) t ++ x) ls) its in
-      let behind : ℕ → List Float = λ i. written i (o .answer .rec) (o .store) (resumes x room ls) in (
+      washed b share [] (ws ++ x) (map asGiven gs) (k .size) ∙ ap (λ (t : List Float). dictatedOn b t x (map asGiven gs)) its in
+      let behind : ℕ → List Float = λ i. written i (o .answer .rec) (o .kept) (resumes x room gs) in (
         record {
           rec = r .rec ∙ ap (λ (d : Dictated). d .rec) clean;
-          share = r .share ∙ put-whole xs SHARE full _ ∙ ap (λ (d : Dictated). d .store) clean;
+          share = r .share ∙ put-whole xs SHARE full _ ∙ ap (λ (d : Dictated). d .kept) clean;
           out = ap (λ (u : List Float). u ++ behind 0) (piece-none 1 0 b xs x room (all .0)) ∙ r .out ∙ ap (λ (d : Dictated). d .out) clean;
           sums = r .sums ∙ ap (λ (d : Dictated). sumsTold (d .told)) clean;
           heard = ap (λ (u : List Float). u ++ behind 2) (piece-unheard 1 0 b xs x room (all .0)) ∙ r .heard ∙ ap (λ (d : Dictated). answersOf (d .told)) clean;
@@ -312,38 +289,36 @@ module _ (x : List Float) (room : ℕ) (ls : List Lent) (b : Record) (xs : List 
 -- a row begins with a piece
 begins : {asks : List Ask} {ys : List Float} {ms : List Lent} → InARow asks ys ms → (b : Record) (xs : List Float) → AllDone b xs asks → b .piece ≡ 0
 unfolding AllDone
-begins (lastPiece x o ls) b xs all = at-rest 1 0 b (length xs) (piece-passed 1 0 b xs x o 22 (all .0) .0)
-begins (morePieces x o ls r) b xs all = at-rest 1 0 b (length xs) (piece-passed 1 0 b xs x o 22 (all .0) .0)
+begins (lastPiece x o gs) b xs all = at-rest 1 0 b (length xs) (piece-passed 1 0 b xs x o 22 (all .0) .0)
+begins (morePieces x o gs r) b xs all = at-rest 1 0 b (length xs) (piece-passed 1 0 b xs x o 22 (all .0) .0)
 
 -- what is told of frames, and of others behind them
 sums-both : (fs gs : List Told) → sumsTold (fs ++ gs) ≡ sumsTold fs ++ sumsTold gs
 sums-both [] gs = refl
 sums-both (f ∷ fs) gs = ap (λ (x : List Float). f .0 ++ x) (sums-both fs gs) ∙ sym (append-assoc (f .0) (sumsTold fs) (sumsTold gs))
 
-pub answers-both : (fs gs : List Told) → answersOf (fs ++ gs) ≡ answersOf fs ++ answersOf gs
-answers-both [] gs = refl
-answers-both (f ∷ fs) gs = ap (λ (x : List Float). heardOf (f .1) ++ x) (answers-both fs gs) ∙ sym (append-assoc (heardOf (f .1)) (answersOf fs) (answersOf gs))
-
 rows : {asks : List Ask} {ys : List Float} {ms : List Lent} → InARow asks ys ms → (b : Record) (xs : List Float) → length xs ≡ SHARE → AllDone b xs asks
-    → left b xs asks .rec .piece ≡ 0 → Is b xs asks (dictate b xs (waitingIn (b .waiting) xs ++ ys) ms)
-rows (lastPiece x room ls) b xs full all z = one-piece x room ls b xs full all z .0
-rows (morePieces x room ls {asks} {ys} {ms} r) b xs full all z =
-    let s = split (piece x room 22 ∷ resumes x room ls) asks b xs all in
-    let l = left b xs (piece x room 22 ∷ resumes x room ls) in
-    let p = one-piece x room ls b xs full (s .before) (begins r (l .rec) (l .share) (s .behind)) in
+    → left b xs asks .rec .piece ≡ 0 → Is b xs asks (dictatedOn b xs ys ms)
+rows (lastPiece x room gs) b xs full all z = one-piece x room gs b xs full all z .0
+rows (morePieces x room gs {asks} {ys} {ms} r) b xs full all z =
+    let s = split (piece x room 22 ∷ resumes x room gs) asks b xs all in
+    let l = left b xs (piece x room 22 ∷ resumes x room gs) in
+    let ls = map asGiven gs in
+    let p = one-piece x room gs b xs full (s .before) (begins r (l .rec) (l .share) (s .behind)) in
     let k = p .0 in
     let these = waitingIn (b .waiting) xs ++ x in
+    let many = length-map gs asGiven in
     let d = dictate b xs these ls in
     let more = again d ys ms in
     let ih =
     rows r (l .rec) (l .share) (ap length (k .share) ∙ share-size b xs these ls full) (s .behind) (ap (λ (q : Left). q .rec .piece) (sym (s .leads)) ∙ z) in
-    let on : dictate (l .rec) (l .share) (waitingIn (l .rec .waiting) (l .share) ++ ys) ms ≡ more = rw (k .rec, k .share) in
-    let joined : then d more ≡ dictate b xs (waitingIn (b .waiting) xs ++ (x ++ ys)) (ls ++ ms) =
-    sym (rejoin b xs these ys ls ms full (omega (arith, p .1)) (omega (arith, p .1)))
+    let on : dictatedOn (l .rec) (l .share) ys ms ≡ more = rw (k .rec, k .share) in
+    let joined : then d more ≡ dictatedOn b xs (x ++ ys) (ls ++ ms) =
+    sym (rejoin b xs these ys ls ms full (omega (arith, many, p .1)) (omega (arith, many, p .1)))
     ∙ ap (λ (t : List Float). dictate b xs t (ls ++ ms)) (append-assoc (waitingIn (b .waiting) xs) x ys) in
     record {
       rec = ap (λ (q : Left). q .rec) (s .leads) ∙ ih .rec ∙ ap (λ (e : Dictated). e .rec) on ∙ ap (λ (e : Dictated). e .rec) joined;
-      share = ap (λ (q : Left). q .share) (s .leads) ∙ ih .share ∙ ap (λ (e : Dictated). e .store) on ∙ ap (λ (e : Dictated). e .store) joined;
+      share = ap (λ (q : Left). q .share) (s .leads) ∙ ih .share ∙ ap (λ (e : Dictated). e .kept) on ∙ ap (λ (e : Dictated). e .kept) joined;
       out =
           s .writes 0 ∙ ap₂ (λ (u v : List Float). u ++ v) (k .out) (ih .out ∙ ap (λ (e : Dictated). e .out) on)
           ∙ ap (λ (e : Dictated). e .out) joined;

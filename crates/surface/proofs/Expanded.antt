@@ -3,28 +3,24 @@
 --     frame-runs, take-runs, one-call     each of the calls
 --     expands, our-calls        any run of them, and what is claimed over it
 -- Assumes nothing.
-use Prim.Native.Nat.{ℕ, zero, suc}
-use mathlib.Core.Bool.{Bool, true, false, cond}
-use mathlib.Core.List.{List, [], _∷_, _++_, map}
-use mathlib.Core.Path.{_≡_, refl, sym, ap, fun-ext, _∙_}
+use Rattle.rules.proofs.Common.{ℕ, zero, suc, Bool, true, false, cond, List, [], _∷_, _++_, map, _≡_, refl, sym, ap, _∙_, eqb, length, Float}
+use mathlib.Core.Path.{fun-ext}
 use borrow.Author.Tests.{eqb-true, eq-eqb}
-use lib.Dec.{eqb}
-use lib.ListN.{length}
-use lib.Ieee.{Float}
 use Rattle.rules.specs.Loop.{loop}
 use Rattle.rules.specs.Tab.{tab}
 use Rattle.rules.specs.Written.{firstIn}
 use Rattle.logs.specs.Log10.{logsOf}
+use Rattle.frame.specs.Effect.{Effect, refusal}
 use Rattle.frame.specs.declared.Reply.{Reply}
 use Rattle.frame.specs.Reply.{passed}
 use Rattle.pieces.specs.Pieces.{completes}
 use Rattle.desk.specs.declared.Answer.{Answer}
 use Rattle.desk.specs.declared.Record.{Record}
 use Rattle.desk.specs.Gate.{BENCHES}
-use Rattle.desk.specs.Desk.{Ask, firstHalf, secondHalf, piece, resume, Given, desk}
+use Rattle.desk.specs.Desk.{Ask, firstHalf, secondHalf, piece, resume, desk}
 use Rattle.desk.specs.Surface.{numbersOf, recordIn, handedBack, hosted}
-use Rattle.desk.proofs.Settled.{refused-keeps}
-use Rattle.whole.specs.Whole.{unchanged, frameReply, frameBegins, frameEnds, takeReply, Taking, takeFrames, takeBegins, takeEnds, takenAs}
+use Rattle.desk.proofs.Kept.{refused-keeps}
+use Rattle.whole.specs.Whole.{frameReply, frameBegins, frameEnds, takeReply, Taking, takeFrames, takeBegins, takeEnds, takenAs}
 use Rattle.whole.specs.Whole as whole
 use Rattle.whole.specs.Surface.{hostedFrame, hostedTake}
 use Rattle.whole.proofs.Dictations.{take-done}
@@ -63,7 +59,7 @@ handed : (n side : ℕ) (rec : Record) (store : List Float) (a : Ask)
     → let o = desk n side rec store a in handedBack (o .answer) (numbersOf rec) ≡ numbersOf (o .answer .rec)
 handed n side rec store a = go (passed (o .answer .reply)) refl
   where
-    o : Given
+    o : Effect Answer
     o = desk n side rec store a
 
     go : (t : Bool) → passed (o .answer .reply) ≡ t → cond t (numbersOf (o .answer .rec)) (numbersOf rec) ≡ numbersOf (o .answer .rec)
@@ -73,23 +69,23 @@ handed n side rec store a = go (passed (o .answer .reply)) refl
 module _ (n side : ℕ) (st : State) where
   again : (rec : Record) (store : List Float) (a : Ask)
       → let o = desk n side rec store a in
-      after desks n (leaving st side (numbersOf rec) store) (on side a) ≡ leaving st side (numbersOf (o .answer .rec)) (o .store)
+      after desks n (leaving st side (numbersOf rec) store) (on side a) ≡ leaving st side (numbersOf (o .answer .rec)) (o .kept)
   unfolding hosted recordIn
   again rec store a =
       let mine : cond (eqb side side) (numbersOf rec) (st .numbers side) ≡ numbersOf rec = rw (eq-eqb side side refl) in
       let o = desk n side rec store a in
       let first = leaving st side (numbersOf rec) store in
-      ap (λ (ns : List ℕ). let g = desk n side (recordIn ns) store a in leaving first side (handedBack (g .answer) ns) (g .store)) mine
-      ∙ ap (λ (r : Record). let g = desk n side r store a in leaving first side (handedBack (g .answer) (numbersOf rec)) (g .store)) (reads rec)
-      ∙ ap (λ (ns : List ℕ). leaving first side ns (o .store)) (handed n side rec store a)
-      ∙ ap (λ (f : ℕ → List ℕ). record { numbers = f; store = o .store }) (fun-ext (λ s. over side s (numbersOf (o .answer .rec)) (numbersOf rec) (st .numbers s)))
+      ap (λ (ns : List ℕ). let g = desk n side (recordIn ns) store a in leaving first side (handedBack (g .answer) ns) (g .kept)) mine
+      ∙ ap (λ (r : Record). let g = desk n side r store a in leaving first side (handedBack (g .answer) (numbersOf rec)) (g .kept)) (reads rec)
+      ∙ ap (λ (ns : List ℕ). leaving first side ns (o .kept)) (handed n side rec store a)
+      ∙ ap (λ (f : ℕ → List ℕ). record { numbers = f; store = o .kept }) (fun-ext (λ s. over side s (numbersOf (o .answer .rec)) (numbersOf rec) (st .numbers s)))
 
   begun : (a : Ask) → let o = desk n side (recordAt side st) (st .store) a in
-      passed (o .answer .reply) ≡ true → leaving st side (numbersOf (o .answer .rec)) (o .store) ≡ after desks n st (on side a)
+      passed (o .answer .reply) ≡ true → leaving st side (numbersOf (o .answer .rec)) (o .kept) ≡ after desks n st (on side a)
   unfolding hosted
   begun a p =
       let o = desk n side (recordAt side st) (st .store) a in
-      ap (λ (ns : List ℕ). leaving st side ns (o .store)) (sym (back (o .answer) (st .numbers side) p))
+      ap (λ (ns : List ℕ). leaving st side ns (o .kept)) (sym (back (o .answer) (st .numbers side) p))
 
   pub unmoved : leaving st side (st .numbers side) (st .store) ≡ st
   unmoved = ap (λ (f : ℕ → List ℕ). record { numbers = f; store = st .store }) (fun-ext (λ s. own side s (st .numbers)))
@@ -101,8 +97,8 @@ map-more f (y ∷ xs) x = ap (λ (cs : List (On Ask)). f y ∷ cs) (map-more f x
 -- ---- each of the calls, on a side with its record
 
 -- so many calls of the desk lead to what was given
-abbrev Leads : ℕ → ℕ → State → List Ask → Given → Type 0
-Leads n side st asks o = leaving st side (handedBack (o .answer) (st .numbers side)) (o .store) ≡ ended desks n st (map (on side) asks)
+abbrev Leads : ℕ → ℕ → State → List Ask → Effect Answer → Type 0
+Leads n side st asks o = leaving st side (handedBack (o .answer) (st .numbers side)) (o .kept) ≡ ended desks n st (map (on side) asks)
 
 module _ (n side : ℕ) (st : State) where
   abbrev ns : List ℕ
@@ -112,7 +108,7 @@ module _ (n side : ℕ) (st : State) where
   rec = recordAt side st
 
   -- a call that is refused is made of none
-  none-runs : (reply : Reply) → passed reply ≡ false → Leads n side st [] (unchanged (recordAt side st) (st .store) reply)
+  none-runs : (reply : Reply) → passed reply ≡ false → Leads n side st [] (refusal (record { reply = reply; rec = recordAt side st }) (st .store))
   unfolding ended
   none-runs reply p = ap (λ (t : Bool). leaving st side (cond t (numbersOf rec) ns) (st .store)) p ∙ unmoved n side st
 
@@ -124,24 +120,24 @@ module _ (n side : ℕ) (st : State) where
       reply : Reply
       reply = frameReply n side rec (length (st .store)) x m o
 
-      one : Given
+      one : Effect Answer
       one = frameBegins n side rec (st .store) x
 
       second : Ask
       second = secondHalf (logsOf (firstIn (one .written))) m o
 
-      two : Given
+      two : Effect Answer
       two = frameEnds n side rec (st .store) x m o
 
       go : (t : Bool) → passed reply ≡ t → Leads n side st (cond t (firstHalf x 22 ∷ second ∷ []) []) (whole.frame n side rec (st .store) x m o)
       go true p =
           let h = two-halves n side rec (st .store) x m o p in
-          ap (λ (g : Given). leaving st side (handedBack (g .answer) ns) (g .store)) (h .2)
-          ∙ ap (λ (r : List ℕ). leaving st side r (two .store)) (back (two .answer) ns (h .1))
-          ∙ sym (again n side st (one .answer .rec) (one .store) second)
+          ap (λ (g : Effect Answer). leaving st side (handedBack (g .answer) ns) (g .kept)) (h .2)
+          ∙ ap (λ (r : List ℕ). leaving st side r (two .kept)) (back (two .answer) ns (h .1))
+          ∙ sym (again n side st (one .answer .rec) (one .kept) second)
           ∙ ap (λ (s : State). after desks n s (on side second)) (begun n side st (firstHalf x 22) (h .0))
       go false p =
-          ap (λ (g : Given). leaving st side (handedBack (g .answer) ns) (g .store)) (refused-is n side rec (st .store) x m o p)
+          ap (λ (g : Effect Answer). leaving st side (handedBack (g .answer) ns) (g .kept)) (refused-is n side rec (st .store) x m o p)
           ∙ none-runs reply p
 
   module _ (x : List Float) (m : List ℕ) (o : ℕ) where
@@ -176,7 +172,7 @@ module _ (n side : ℕ) (st : State) where
         end = takeEnds n side rec (st .store) x m o
 
         go : (t : Bool) → passed reply ≡ t
-            → Leads n side st (cond t (piece x o 22 ∷ tab k resumed) []) (cond t (takenAs reply end) (unchanged rec (st .store) reply))
+            → Leads n side st (cond t (piece x o 22 ∷ tab k resumed) []) (cond t (takenAs reply end) (refusal (record { reply = reply; rec = rec }) (st .store)))
         go true p =
             ap (λ (t : Bool). leaving st side (cond t (numbersOf (end .rec)) ns) (end .store)) p
             ∙ steps (take-done n side rec (st .store) x m o a p .0) k

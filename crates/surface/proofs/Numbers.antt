@@ -1,18 +1,12 @@
 -- What a call returns is a number of the table, and 0 exactly where it is done. Assumes nothing.
-use Prim.Native.Nat.{ℕ, _*_, _-_, _≤_}
+use Rattle.rules.proofs.Common.{ℕ, _-_, _*_, _≤_, Bool, true, false, cond, not, true≢false, List, [], _∷_, _++_, _≡_, refl, sym, subst, eqb, leb, ltb}
+use Rattle.rules.proofs.Common.{length, drop, Float}
 use native.Mathlib.Omega.{arith}
-use mathlib.Core.Bool.{Bool, true, false, cond, not, true≢false}
-use mathlib.Core.List.{List, [], _∷_, _++_}
-use mathlib.Core.Path.{_≡_, refl, sym, subst}
 use borrow.Author.Tests.{ne-eqb}
-use lib.Dec.{eqb, ltb}
-use lib.ListN.{length, drop}
-use lib.Ieee.{Float, lt}
-use Rattle.rules.specs.F32.{f32}
 use Rattle.rules.specs.Place.{get, put}
-use Rattle.rules.specs.Refusals.{Row, _when_, refusing, wrong}
+use Rattle.rules.specs.Refusals.{wrong}
 use Rattle.rules.specs.Written.{from, nothing, firstIn}
-use Rattle.rules.proofs.Rows.{Each, by-each}
+use Rattle.rules.proofs.Refusals as gates
 use Rattle.samples.specs.Samples.{good}
 use Rattle.logs.specs.Log10.{logsOf}
 use Rattle.model.specs.Model.{readOf}
@@ -21,28 +15,30 @@ use Rattle.model.specs.declared.Reading.{Reading}
 use Rattle.model.specs.declared.Reading.the-variants.{Good, Refused as Unread}
 use Rattle.model.proofs.Bounds.{refused-in}
 use Rattle.lag.specs.Lag.{ownLag}
-use Rattle.features.specs.Silence.{energy, soundOf}
-use Rattle.features.specs.declared.Sound.{Sound}
+use Rattle.features.specs.Silence.{energy, isSilent}
+use Rattle.frame.specs.Effect.{Effect, refusal, unless}
 use Rattle.frame.specs.declared.Reply.{Reply}
 use Rattle.frame.specs.declared.Reply.the-variants.{Done, Silent, Heard, Numbered, Refused, Misread}
 use Rattle.frame.specs.declared.Way.{Way}
 use Rattle.frame.specs.declared.Hearing.{Hearing}
-use Rattle.frame.specs.Reply.{passed}
-use Rattle.frame.specs.Share.{PART, inputMem, keptEx}
-use Rattle.frame.specs.Heard.{Spoken, spoken}
-use Rattle.frame.specs.Frame.{Effect, refusal, unless, sounded, done3, counted, checked, modelled}
+use Rattle.frame.specs.Reply.{passed, _when_, firstRefusal}
+use Rattle.frame.specs.Share.{SHARE, PART, inputMem, keptEx}
+use Rattle.frame.specs.Heard.{spoken}
+use Rattle.frame.specs.Frame.{done3, counted, checked, modelled}
 use Rattle.frame.specs.Frame as frames
+use Rattle.frame.proofs.Tables.{by-rows, by-each}
 use Rattle.halves.specs.Own as own
 use Rattle.halves.specs.Ways.{lagBy, remembered, forwardBy}
 use Rattle.halves.specs.Halves as halves
-use Rattle.pieces.specs.Pieces.{framePart, waitingIn, waits, frameAt, refused, lastTests, resumeReply, resumed}
+use Rattle.pieces.specs.Pieces.{framePart, waitingIn, waits, frameAt}
 use Rattle.pieces.specs.Pieces as pieces
 use Rattle.pieces.proofs.Kept.{further-reply}
 use Rattle.desk.specs.declared.Record.{Record}
 use Rattle.desk.specs.Gate.{PIECE, refusals, gate, shareOf}
-use Rattle.desk.specs.Desk.{Ask, opening, call1, call2, call2Own, call3, call4, firstHalf, secondHalf, piece, resume, callOf, opened, onShare, desk}
+use Rattle.desk.specs.Desk.{Ask, opening, call1, call2, call2Own, call3, call4, firstHalf, secondHalf, piece, resume, callOf, opened, onShare, admitted, desk}
 use Rattle.desk.specs.Surface.{recordIn, replyNumber, hosted}
-use Rattle.whole.specs.Whole.{unchanged, tested, frameReply, frameBegins, frameEnds, takeRows, takeReply, takeEnds, takenAs}
+use Rattle.desk.proofs.Answered.{replied-by}
+use Rattle.whole.specs.Whole.{frameRows, frameReply, frameBegins, frameEnds, takeRows, takeReply, takeEnds, takenAs}
 use Rattle.whole.specs.Whole as whole
 use Rattle.whole.specs.Surface.{hostedFrame, hostedTake}
 use Rattle.surface.specs.Surface.{Request, ask, frame, take, called, ZeroIsDone}
@@ -98,34 +94,44 @@ checks same s = go (readOf s) refl
     go (Unread n l) e = misread s n l e
     go (Good m) e = pick (same m) Done (Refused 8) tt eight
 
-tests : (hearing : Hearing) (s : List ℕ) (fine : Bool) → Known (lastTests hearing s fine)
-tests hearing s fine =
-    let reply = checked (counted hearing) (readOf s) in
-    pick (passed reply) (cond fine Done (Refused 9)) reply (pick fine Done (Refused 9) tt nine) (checks (counted hearing) s)
+-- ---- rows
+
+row : (n : ℕ) → Known (Refused n) → (t : Bool) → passed (n when t) ≡ false → Known (n when t)
+row n k true h = k
+row n k false h = tt
+
+-- the gate's
+of-gate : (n side : ℕ) (b : Record) (len call : ℕ) → eqb (gate n side b len call) 0 ≡ false → Known (Refused (gate n side b len call))
+unfolding gate
+of-gate n side b len call =
+    gates.by-each (λ k. k) 0 (λ k. eqb k 0 ≡ false → Known (Refused k)) (refusals n side b len call)
+    ((λ _. one), ((λ _. two), ((λ _. two), ((λ _. three), ((λ _. four), tt))))) (λ e. absurd (true≢false e))
+
+gated : (n side : ℕ) (b : Record) (len call : ℕ) → let number = gate n side b len call in Known (number when not (eqb number 0))
+gated n side b len call = go (eqb number 0) refl
+  where
+    number : ℕ
+    number = gate n side b len call
+
+    go : (t : Bool) → eqb number 0 ≡ t → Known (number when not t)
+    go true e = tt
+    go false e = of-gate n side b len call e
 
 -- ---- the calls of a frame
 
-sounds : (e : Float) (share : List Float) (s : Spoken) → Known (sounded (soundOf e) share s .reply)
-unfolding soundOf
-sounds e share s = go (lt e (f32 0x3D23D70A))
-  where
-    go : (t : Bool) → Known (sounded (cond t Sound.Silent (Sound.Heard e)) share s .reply)
-    go true = tt
-    go false = tt
-
 module _ (share : List Float) where
-  abbrev KnownOf : Effect → Type 0
-  KnownOf f = Known (f .reply)
+  abbrev KnownOf : Effect Reply → Type 0
+  KnownOf f = Known (f .answer)
 
-  by-one : (a : ℕ) (s : Bool) (f : Effect) → Known (Refused a) → KnownOf f → KnownOf (unless (a when s ∷ []) share f)
+  by-one : (a : ℕ) (s : Bool) (f : Effect Reply) → Known (Refused a) → KnownOf f → KnownOf (unless (a when s ∷ []) share f)
   by-one a true f k h = k
   by-one a false f k h = h
 
-  by-two : (a b : ℕ) (s t : Bool) (f : Effect) → Known (Refused a) → Known (Refused b) → KnownOf f → KnownOf (unless (a when s ∷ b when t ∷ []) share f)
+  by-two : (a b : ℕ) (s t : Bool) (f : Effect Reply) → Known (Refused a) → Known (Refused b) → KnownOf f → KnownOf (unless (a when s ∷ b when t ∷ []) share f)
   by-two a b true t f k l h = k
   by-two a b false t f k l h = by-one b t f l h
 
-  either : (t : Bool) (f g : Effect) → KnownOf f → KnownOf g → KnownOf (cond t f g)
+  either : (t : Bool) (f g : Effect Reply) → KnownOf f → KnownOf g → KnownOf (cond t f g)
   either true f g h k = h
   either false f g h k = k
 
@@ -149,137 +155,142 @@ module _ (share : List Float) where
       by-two 5 5 (wrong ((length share, PART) ∷ (length x, 961) ∷ (length logs, 22) ∷ (out, 961) ∷ [])) (ltb 7 (hearing .index))
       (modelled (counted hearing) (readOf model) share (done3 share (hearing .index) x logs model)) five five (go (readOf model) refl)
     where
-      go : (r : Reading) → readOf model ≡ r → KnownOf (modelled (counted hearing) r share (done3 share (hearing .index) x logs model))
-      go (Unread n l) e = misread model n l e
-      go (Good m) e = either (counted hearing m) (done3 share (hearing .index) x logs model m) (refusal (Refused 8) share) (sounds (energy (get keptEx share)) share (spoken share (hearing .index) x logs model m)) eight
+      e : Float
+      e = energy (get keptEx share)
 
-  of-4 : (so-far heard : ℕ) (x : List Float) (out : ℕ) → KnownOf (frames.call4 share so-far heard x out)
+      go : (r : Reading) → readOf model ≡ r → KnownOf (modelled (counted hearing) r share (done3 share (hearing .index) x logs model))
+      go (Unread n l) q = misread model n l q
+      go (Good m) q =
+          either (counted hearing m) (done3 share (hearing .index) x logs model m) (refusal (Refused 8) share)
+          (either (isSilent e) (frames.silent share) (frames.heard e (spoken share (hearing .index) x logs model m)) tt tt) eight
+
+  of-4 : (x : List Float) (out : ℕ) → KnownOf (frames.call4 share x out)
   unfolding frames.call4
-  of-4 so-far heard x out =
-      by-one 5 (wrong ((length share, PART) ∷ (length x, 960) ∷ (out, 480) ∷ [])) (frames.done4 share so-far heard x) five tt
+  of-4 x out = by-one 5 (wrong ((length share, PART) ∷ (length x, 960) ∷ (out, 480) ∷ [])) (frames.done4 share x) five tt
 
 module _ (share : List Float) where
-  of-first : (way : Way) (x : List Float) (s : ℕ) → Known (halves.firstHalf share way x s .reply)
+  of-first : (way : Way) (x : List Float) (s : ℕ) → Known (halves.firstHalf share way x s .answer)
   unfolding halves.firstHalf
   of-first way x s =
       let a = frames.call1 share x 960 in
-      let b = halves.analysed (a .share) way (halves.buffer a) s in
-      by-one share 5 (wrong ((length share, PART) ∷ (length x, 480) ∷ (s, 22) ∷ [])) (cond (passed (a .reply)) b a) five
-      (either share (passed (a .reply)) b a (of-2 (remembered way (a .share)) (forwardBy way (halves.buffer a)) (lagBy way (a .share)) 960 s) (of-1 share x 960))
+      let b = halves.analysed (a .kept) way (firstIn (a .written)) s in
+      by-one share 5 (wrong ((length share, PART) ∷ (length x, 480) ∷ (s, 22) ∷ [])) (cond (passed (a .answer)) b a) five
+      (either share (passed (a .answer)) b a (of-2 (remembered way (a .kept)) (forwardBy way (firstIn (a .written))) (lagBy way (a .kept)) 960 s) (of-1 share x 960))
 
   of-second : (hearing : Hearing) (logs : List Float) (model : List ℕ) (out : ℕ)
-      → Known (halves.secondHalf share hearing logs model out .reply)
+      → Known (halves.secondHalf share hearing logs model out .answer)
   unfolding halves.secondHalf
   of-second hearing logs model out =
       let a = frames.call3 share hearing (forwardBy (hearing .way) (halves.lookedBack share)) logs model 961 in
       let k = of-3 share hearing (forwardBy (hearing .way) (halves.lookedBack share)) logs model 961 in
-      let b = halves.synthesised (a .reply) (a .share) (hearing .way) (halves.buffer a) out in
-      by-two share 5 5 (wrong ((length share, PART) ∷ (length logs, 22) ∷ (out, 480) ∷ [])) (ltb 7 (hearing .index)) (cond (passed (a .reply)) b a) five five
-      (either share (passed (a .reply)) b a k k)
+      let b = halves.synthesised (a .answer) (a .kept) (hearing .way) (firstIn (a .written)) out in
+      by-two share 5 5 (wrong ((length share, PART) ∷ (length logs, 22) ∷ (out, 480) ∷ [])) (ltb 7 (hearing .index)) (cond (passed (a .answer)) b a) five five
+      (either share (passed (a .answer)) b a k k)
 
 -- ---- pieces
 
-of-piece : (share : List Float) (way : Way) (waiting : ℕ) (x : List Float) (out sums : ℕ) → Known (pieces.piece share way waiting x out sums .reply)
+of-piece : (share : List Float) (way : Way) (waiting : ℕ) (x : List Float) (out sums : ℕ) → Known (pieces.piece share way waiting x out sums .answer)
 unfolding pieces.piece
 of-piece share way waiting x out sums =
-    by-each (λ n. refused (Refused n) share) (pieces.begun share way waiting x) (λ o. Known (o .reply)) (pieces.pieceRows share waiting x out sums)
-    (five, (five, (nine, (nine, tt)))) (rw (further-reply Done (waits share []) way (waitingIn waiting share ++ x) nothing) tt)
+    by-rows share (pieces.begun share way waiting x) (λ o. Known (o .answer)) (pieces.pieceRows share waiting x out sums) (
+      row 5 five (not (eqb (length share) SHARE)),
+      (row 5 five (not (pieces.pieceFits waiting (length x) out sums)), (row 9 nine (not (good (waitingIn waiting share))), (row 9 nine (not (good x)), tt))),
+    )
+    (λ _. rw (further-reply Done (waits share []) way (waitingIn waiting share ++ x) nothing) tt)
 
 of-resume : (share : List Float) (hearing : Hearing) (size progress : ℕ) (x logs : List Float) (model : List ℕ) (out sums : ℕ)
-    → Known (pieces.resume share hearing size progress x logs model out sums .reply)
-unfolding pieces.resume resumeReply
-of-resume share hearing size progress x logs model out sums = go (passed reply)
-  where
-    reply : Reply
-    reply = resumeReply share hearing size progress x logs model out sums
-
-    half : Effect
-    half = halves.secondHalf (get framePart share) hearing logs model 480
-
-    go : (t : Bool) → Known (cond t (resumed share hearing progress x logs model) (refused reply share) .reply)
-    go true =
-        rw (further-reply (half .reply) (put framePart share (half .share)) (hearing .way) (drop progress x) (from (480 * (frameAt progress - 1)) (halves.buffer half)))
-        (of-second (get framePart share) hearing logs model 480)
-    go false =
-        by-each Refused (lastTests hearing model (good x)) Known (pieces.resumeRows share (hearing .index) size progress x (length logs) out sums)
-        (five, (five, tt)) (tests hearing model (good x))
+    → Known (pieces.resume share hearing size progress x logs model out sums .answer)
+unfolding pieces.resume
+of-resume share hearing size progress x logs model out sums =
+    let half = halves.secondHalf (get framePart share) hearing logs model 480 in
+    let place = 480 * (frameAt progress - 1) in
+    let fits = pieces.resumeFits (hearing .index) size progress (length x) (length logs) out sums in
+    by-rows share (pieces.resumed share hearing progress x logs model) (λ o. Known (o .answer)) (pieces.resumeRows share hearing size progress x logs model out sums)
+    (row 5 five (not (eqb (length share) SHARE)), (row 5 five (not fits), ((λ _. checks (counted hearing) model), (row 9 nine (not (good x)), tt))))
+    (λ _.
+    rw (further-reply (half .answer) (put framePart share (half .kept)) (hearing .way) (drop progress x) (from place (firstIn (half .written))))
+    (of-second (get framePart share) hearing logs model 480))
 
 -- ---- the desk
 
-of-opening : (share : List Float) (s : List ℕ) → Known (opened share (readOf s) .reply)
+of-opening : (share : List Float) (s : List ℕ) → Known (opened share (readOf s) .answer)
 of-opening share s = go (readOf s) refl
   where
-    go : (r : Reading) → readOf s ≡ r → Known (opened share r .reply)
+    go : (r : Reading) → readOf s ≡ r → Known (opened share r .answer)
     go (Good m) e = tt
     go (Unread n l) e = misread s n l e
 
-of-share : (b : Record) (share : List Float) (a : Ask) → Known (onShare b share a .reply)
+of-share : (b : Record) (share : List Float) (a : Ask) → Known (onShare b share a .answer)
 of-share b share (opening w m) = of-opening share m
 of-share b share (call1 x w) = of-1 (get framePart share) x w
 of-share b share (call2 x l w s) = of-2 (get framePart share) x l w s
 of-share b share (call2Own x w s) = of-sister (get framePart share) x w s
 of-share b share (call3 x l m o) = of-3 (get framePart share) (b .hearing) x l m o
-of-share b share (call4 x o) = of-4 (get framePart share) (b .frame) (b .heard) x o
+of-share b share (call4 x o) = of-4 (get framePart share) x o
 of-share b share (firstHalf x s) = of-first (get framePart share) (b .hearing .way) x s
 of-share b share (secondHalf l m o) = of-second (get framePart share) (b .hearing) l m o
 of-share b share (piece x o s) = of-piece share (b .hearing .way) (b .waiting) x o s
 of-share b share (resume x l m o s) = of-resume share (b .hearing) (b .piece) (b .progress) x l m o s
 
-of-gate : (n side : ℕ) (b : Record) (len call : ℕ) → eqb (gate n side b len call) 0 ≡ false → Known (Refused (gate n side b len call))
-unfolding gate
-of-gate n side b len call =
-    by-each (λ k. k) 0 (λ k. eqb k 0 ≡ false → Known (Refused k)) (refusals n side b len call)
-    ((λ _. one), ((λ _. two), ((λ _. two), ((λ _. three), ((λ _. four), tt))))) (λ e. absurd (true≢false e))
-
 of-desk : (n side : ℕ) (b : Record) (store : List Float) (a : Ask) → Known (desk n side b store a .answer .reply)
 unfolding desk
-of-desk n side b store a = go (eqb (gate n side b (length store) (callOf a)) 0) refl
+of-desk n side b store a = replied-by b a (admitted b share a number .answer) Known (λ _. tt) (go (eqb number 0) refl)
   where
     share : List Float
     share = get (shareOf side) store
 
-    go : (t : Bool) → eqb (gate n side b (length store) (callOf a)) 0 ≡ t
-        → Known (cond t (onShare b share a) (refused (Refused (gate n side b (length store) (callOf a))) share) .reply)
+    number : ℕ
+    number = gate n side b (length store) (callOf a)
+
+    go : (t : Bool) → eqb number 0 ≡ t → Known (cond t (onShare b share a) (refusal (Refused number) share) .answer)
     go true e = of-share b share a
     go false e = of-gate n side b (length store) (callOf a) e
 
 -- ---- a frame and a take
 
-of-tested : (n side : ℕ) (b : Record) (len call : ℕ) (rows : List Row) (model : List ℕ) (x : List Float) → Each (λ k. Known (Refused k)) rows
-    → Known (tested (gate n side b len call) b rows model x)
-of-tested n side b len call rows model x numbers = go (eqb (gate n side b len call) 0) refl
-  where
-    last : Reply
-    last = lastTests (b .hearing) model (good x)
-
-    go : (t : Bool) → eqb (gate n side b len call) 0 ≡ t → Known (cond t (refusing rows Refused last) (Refused (gate n side b len call)))
-    go true e = by-each Refused last Known rows numbers (tests (b .hearing) model (good x))
-    go false e = of-gate n side b len call e
-
 of-frame : (n side : ℕ) (b : Record) (store x : List Float) (model : List ℕ) (out : ℕ) → Known (whole.frame n side b store x model out .answer .reply)
 unfolding whole.frame frameReply
 of-frame n side b store x model out = go (passed reply)
   where
-    reply : Reply
-    reply = frameReply n side b (length store) x model out
+    rows : List Reply
+    rows = frameRows n side b (length store) x model out
 
-    go : (t : Bool) → Known (cond t (frameEnds n side b store x model out) (unchanged b store reply) .answer .reply)
+    reply : Reply
+    reply = firstRefusal rows
+
+    go : (t : Bool) → Known (cond t (frameEnds n side b store x model out) (refusal (record { reply = reply; rec = b }) store) .answer .reply)
     go true =
-        let a = frameBegins n side b store x in of-desk n side (a .answer .rec) (a .store) (secondHalf (logsOf (firstIn (a .written))) model out)
-    go false = of-tested n side b (length store) 1 (5 when wrong ((length x, 480) ∷ (out, 480) ∷ []) ∷ []) model x (five, tt)
+        let a = frameBegins n side b store x in of-desk n side (a .answer .rec) (a .kept) (secondHalf (logsOf (firstIn (a .written))) model out)
+    go false =
+        by-each Known rows (
+          (λ _. gated n side b (length store) 1),
+          (row 5 five (wrong ((length x, 480) ∷ (out, 480) ∷ [])), ((λ _. checks (counted (b .hearing)) model), (row 9 nine (not (good x)), tt))),
+        )
+        (λ _. tt)
 
 of-take : (n side : ℕ) (b : Record) (store x : List Float) (model : List ℕ) (out answers : ℕ)
     → Known (whole.take n side b store x model out answers .answer .reply)
 unfolding whole.take takeReply
 of-take n side b store x model out answers = go (passed reply)
   where
+    rows : List Reply
+    rows = takeRows n side b store x model out answers
+
     reply : Reply
-    reply = takeReply n side b store x model out answers
+    reply = firstRefusal rows
 
     known : Known reply
-    known = of-tested n side b (length store) PIECE (takeRows b (length x) out answers) model (waitingIn (b .waiting) (get (shareOf side) store) ++ x) (five, (five, tt))
+    known =
+        let fits = pieces.pieceFits (b .waiting) (length x) out 22 in
+        let room = leb (3 * pieces.completes (b .waiting) (length x)) answers in
+        let all = waitingIn (b .waiting) (get (shareOf side) store) ++ x in
+        by-each Known rows (
+          (λ _. gated n side b (length store) PIECE),
+          (row 5 five (not fits), (row 5 five (not room), ((λ _. checks (counted (b .hearing)) model), (row 9 nine (not (good all)), tt)))),
+        )
+        (λ _. tt)
 
-    go : (t : Bool) → Known (cond t (takenAs reply (takeEnds n side b store x model out)) (unchanged b store reply) .answer .reply)
+    go : (t : Bool) → Known (cond t (takenAs reply (takeEnds n side b store x model out)) (refusal (record { reply = reply; rec = b }) store) .answer .reply)
     go true = known
     go false = known
 

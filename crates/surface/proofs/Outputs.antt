@@ -4,20 +4,18 @@
 --     told-is, received-is         one call, where what it is made of are pieces and resumes, and any run
 --     own-asks                     any run in which a side makes no whole calls
 -- Assumes nothing.
-use Prim.Native.Nat.{ℕ, zero, suc, _-_, _≤_, _<_}
+use Rattle.rules.proofs.Common.{ℕ, zero, suc, _-_, _≤_, _<_, Bool, true, false, cond, _&&_, false≢true, List, [], _∷_, _++_, map, _≡_, refl, sym, ap}
+use Rattle.rules.proofs.Common.{ap₂, subst, _∙_, eqb, ltb, length, getD, drop, Float}
 use native.Mathlib.Omega.{arith}
-use mathlib.Core.Bool.{Bool, true, false, cond, _&&_, false≢true}
-use mathlib.Core.List.{List, [], _∷_, _++_, map, append-assoc, append-nil}
-use mathlib.Core.Path.{_≡_, refl, sym, ap, ap₂, subst, _∙_}
+use mathlib.Core.List.{append-assoc, append-nil}
 use borrow.Author.Tests.{eq-eqb}
-use lib.Dec.{eqb, ltb}
-use lib.ListN.{length, getD, drop}
-use lib.Ieee.{Float}
 use Rattle.rules.specs.Loop.{loop}
 use Rattle.rules.specs.Place.{get}
 use Rattle.rules.specs.Tab.{tab}
 use Rattle.rules.specs.Written.{Written, all, from, nothing, numbersIn, firstIn}
 use Rattle.logs.specs.Log10.{logsOf}
+use Rattle.desk.specs.declared.Answer.{Answer}
+use Rattle.frame.specs.Effect.{Effect, refusal}
 use Rattle.frame.specs.declared.Reply.{Reply}
 use Rattle.frame.specs.declared.Reply.the-variants.{Done, Silent, Heard, Numbered, Refused, Misread}
 use Rattle.frame.specs.Reply.{passed}
@@ -25,12 +23,12 @@ use Rattle.pieces.specs.Pieces.{waitingIn, waits, completes, further}
 use Rattle.pieces.specs.Pieces as pieces
 use Rattle.desk.specs.declared.Record.{Record}
 use Rattle.desk.specs.Gate.{shareOf}
-use Rattle.desk.specs.Desk.{Ask, opening, call1, call2, call2Own, call3, call4, firstHalf, secondHalf, piece, resume, Given, desk}
+use Rattle.desk.specs.Desk.{Ask, opening, call1, call2, call2Own, call3, call4, firstHalf, secondHalf, piece, resume, desk}
 use Rattle.desk.specs.Surface.{numbersOf, recordIn, replyNumber, heardOf, besides, telling, hosted}
 use Rattle.desk.proofs.Buffers.{buffers}
 use Rattle.dictation.specs.Dictation.{Lent}
 use Rattle.dictation.proofs.Taken.{onward, piece-passed}
-use Rattle.whole.specs.Whole.{unchanged, frameReply, frameBegins, takeReply, Taking, takeFrames, takeEnds, takenAs}
+use Rattle.whole.specs.Whole.{frameReply, frameBegins, takeReply, Taking, takeFrames, takeEnds, takenAs}
 use Rattle.whole.specs.Whole as whole
 use Rattle.whole.specs.Surface.{hostedFrame, hostedTake}
 use Rattle.whole.proofs.Dictations.{take-done}
@@ -46,7 +44,7 @@ abbrev pub column : ℕ → ℕ → ℕ → State → List (On Ask) → List Flo
 column k n s st cs = inBuffer desks (λ _. k) n s st cs
 
 -- what a call of the desk wrote to it, as a host has it
-abbrev pub wrote : ℕ → Ask → Given → List Float
+abbrev pub wrote : ℕ → Ask → Effect Answer → List Float
 wrote k a o = numbersIn (getD (o .written ++ besides a (o .answer .reply)) k nothing)
 
 -- ---- pieces and resumes
@@ -75,13 +73,13 @@ hands-split : (xs ys : List Ask) → AllHands (xs ++ ys) → AllHands xs × AllH
 hands-split [] ys h = (tt, h)
 hands-split (x ∷ xs) ys h = let k = hands-split xs ys (h .1) in ((h .0, k .0), k .1)
 
-resumes-hand : (x : List Float) (o : ℕ) (ls : List Lent) → AllHands (resumes x o ls)
+resumes-hand : (x : List Float) (o : ℕ) (gs : List (List Float × List ℕ)) → AllHands (resumes x o gs)
 resumes-hand x o [] = tt
-resumes-hand x o (l ∷ ls) = (tt, resumes-hand x o ls)
+resumes-hand x o (g ∷ gs) = (tt, resumes-hand x o gs)
 
 pub row-hands : {asks : List Ask} {ys : List Float} {ms : List Lent} → InARow asks ys ms → AllHands asks
-row-hands (lastPiece x o ls) = (tt, resumes-hand x o ls)
-row-hands (morePieces x o ls {asks} r) = (tt, hands-both (resumes x o ls) asks (resumes-hand x o ls) (row-hands r))
+row-hands (lastPiece x o gs) = (tt, resumes-hand x o gs)
+row-hands (morePieces x o gs {asks} r) = (tt, hands-both (resumes x o gs) asks (resumes-hand x o gs) (row-hands r))
 
 -- ---- runs one after the other
 
@@ -274,7 +272,7 @@ module _ (which : Request → ℕ) (k : ℕ) (asked : (a : Ask) → which (ask a
             ≡ column k n s st (map (on side) (cond t (firstHalf x 22 ∷ second ∷ []) []))
         go true p h = absurd ((rw (mine, zero-back _ (two-halves n side rec (st .store) x m o p .0)) at h) .0)
         go false p h =
-            ap (λ (g : Given). numbersIn (getD (telling g .written) (which (frame x m o)) nothing)) (refused-is n side rec (st .store) x m o p)
+            ap (λ (g : Effect Answer). numbersIn (getD (telling g .written) (which (frame x m o)) nothing)) (refused-is n side rec (st .store) x m o p)
             ∙ rw p
     told-is (take x m o a) h = go (passed reply) refl
       where
@@ -282,7 +280,7 @@ module _ (which : Request → ℕ) (k : ℕ) (asked : (a : Ask) → which (ask a
         reply = takeReply n side rec (st .store) x m o a
 
         go : (t : Bool) → passed reply ≡ t
-            → numbersIn (getD (cond t (takenAs reply (takeEnds n side rec (st .store) x m o)) (unchanged rec (st .store) reply) .written) (which (take x m o a)) nothing)
+            → numbersIn (getD (cond t (takenAs reply (takeEnds n side rec (st .store) x m o)) (refusal (record { reply = reply; rec = rec }) (st .store)) .written) (which (take x m o a)) nothing)
             ≡ column k n s st (map (on side) (cond t (piece x o 22 ∷ tab (completes (rec .waiting) (length x)) (resumed n side st x m o)) []))
         go true p = takes side mine st x m o a p
         go false p = refl

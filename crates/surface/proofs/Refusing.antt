@@ -1,17 +1,15 @@
 -- A refusal changes nothing, whichever call it is. Assumes nothing.
-use Prim.Native.Nat.{ℕ}
-use mathlib.Core.Bool.{Bool, false, cond}
-use mathlib.Core.List.{List, [], _++_}
-use mathlib.Core.Path.{_≡_, refl, ap, _∙_}
+use Rattle.rules.proofs.Common.{ℕ, Bool, false, cond, List, [], _++_, _≡_, refl, ap, _∙_}
 use Rattle.rules.specs.Written.{Written}
-use Rattle.rules.proofs.Writing.{to-none}
+use Rattle.rules.proofs.Places.{to-none}
+use Rattle.frame.specs.Effect.{Effect}
 use Rattle.frame.specs.declared.Reply.{Reply}
 use Rattle.frame.specs.Reply.{passed}
 use Rattle.desk.specs.declared.Answer.{Answer}
-use Rattle.desk.specs.Desk.{Ask, opening, call1, call2, call2Own, call3, call4, firstHalf, secondHalf, piece, resume, Given, desk}
+use Rattle.desk.specs.Desk.{Ask, opening, call1, call2, call2Own, call3, call4, firstHalf, secondHalf, piece, resume, desk}
 use Rattle.desk.specs.Surface.{numbersOf, recordIn, toldBesides, besides, hosted, handedBack}
 use Rattle.desk.proofs.Buffers.{buffersOf, buffers}
-use Rattle.desk.proofs.Settled.{refused-keeps}
+use Rattle.desk.proofs.Kept.{refused-keeps}
 use Rattle.whole.specs.Whole as whole
 use Rattle.whole.specs.Surface.{hostedFrame, hostedTake}
 use Rattle.whole.proofs.Halves.{frame-leaves, take-leaves}
@@ -49,8 +47,8 @@ refused-leaves n side ns store (ask a) e =
 refused-leaves n side ns store (frame x m out) e =
     let o = whole.frame n side (recordIn ns) store x m out in
     let same = frame-leaves n side (recordIn ns) store x m out e in
-    (handed (o .answer) ns e, ap (λ (g : Given). g .store) same, neither (ap (λ (g : Given). g .written) same) (untold (o .answer .reply) e))
+    (handed (o .answer) ns e, ap (λ (g : Effect Answer). g .kept) same, neither (ap (λ (g : Effect Answer). g .written) same) (untold (o .answer .reply) e))
 refused-leaves n side ns store (take x m out answers) e =
     let o = whole.take n side (recordIn ns) store x m out answers in
     let same = take-leaves n side (recordIn ns) store x m out answers e in
-    (handed (o .answer) ns e, ap (λ (g : Given). g .store) same, ap (λ (g : Given). g .written) same)
+    (handed (o .answer) ns e, ap (λ (g : Effect Answer). g .kept) same, ap (λ (g : Effect Answer). g .written) same)

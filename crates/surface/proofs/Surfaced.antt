@@ -2,36 +2,33 @@
 --     plans, does                  the plan of each, and that it is
 --     our-surface, starts-anew     what specs/Surface.antt claims
 -- Assumes nothing.
-use Prim.Native.Nat.{ℕ, zero, suc}
+use Rattle.rules.proofs.Common.{ℕ, zero, suc, _*_, Bool, true, false, cond, not, List, [], _∷_, _++_, _≡_, refl, sym, ap, _∙_, eqb, leb, length, getD}
+use Rattle.rules.proofs.Common.{drop, Float}
 use native.Mathlib.Omega.{arith}
-use mathlib.Core.Bool.{Bool, true, false, cond}
-use mathlib.Core.List.{List, [], _∷_, _++_}
-use mathlib.Core.Path.{_≡_, refl, sym, ap, _∙_}
 use borrow.Author.Tests.{eq-eqb}
-use lib.Dec.{eqb}
-use lib.ListN.{length, getD}
-use lib.Ieee.{Float}
 use Rattle.rules.specs.F32.{zeros}
 use Rattle.rules.specs.Loop.{loop}
 use Rattle.rules.specs.Place.{get}
-use Rattle.rules.specs.Refusals.{Row, _when_, refusing, wrong}
 use Rattle.rules.specs.Written.{Written, from, nothing, numbersIn, firstIn}
 use Rattle.rules.proofs.Places.{length-get}
 use Rattle.samples.specs.Samples.{good}
 use Rattle.logs.specs.Log10.{logsOf}
+use Rattle.model.specs.Model.{readOf}
+use Rattle.frame.specs.Effect.{Effect, refusal}
 use Rattle.frame.specs.declared.Reply.{Reply}
 use Rattle.frame.specs.declared.Reply.the-variants.{Refused}
-use Rattle.frame.specs.Reply.{passed}
+use Rattle.frame.specs.Frame.{counted, checked}
+use Rattle.frame.specs.Reply.{passed, _when_, firstRefusal}
 use Rattle.frame.specs.declared.Way.{Way}
 use Rattle.frame.specs.Share.{SHARE}
-use Rattle.pieces.specs.Pieces.{waitingIn, completes, lastTests}
+use Rattle.pieces.specs.Pieces.{waitingIn, completes, pieceFits}
 use Rattle.desk.specs.declared.Answer.{Answer}
 use Rattle.desk.specs.declared.Record.{Record}
 use Rattle.desk.specs.Gate.{BENCHES, PIECE, gate, shareOf}
-use Rattle.desk.specs.Desk.{opening, firstHalf, secondHalf, piece, resume, closed, Given, desk}
+use Rattle.desk.specs.Desk.{opening, firstHalf, secondHalf, piece, resume, closed, desk}
 use Rattle.desk.specs.Surface.{numbersOf, recordIn, besides, toldBesides, heardOf, telling, hosted}
 use Rattle.desk.proofs.Apart.{its-own, anew}
-use Rattle.whole.specs.Whole.{unchanged, frameReply, frameEnds, takeRows, takeReply, Taking, takeFrames, takeBegins, takeEnds, takenAs}
+use Rattle.whole.specs.Whole.{frameRows, frameReply, frameEnds, takeReply, Taking, takeFrames, takeBegins, takeEnds, takenAs}
 use Rattle.whole.specs.Whole as whole
 use Rattle.whole.specs.Surface.{hostedFrame, hostedTake}
 use Rattle.isolation.specs.Plan.{Plan, answers, asks, enters, Came, came, perform}
@@ -40,18 +37,15 @@ use Rattle.isolation.specs.Run.{on}
 use Rattle.surface.specs.Surface.{Request, ask, frame, take, called, surface, OurSurface, Anew}
 use Rattle.isolation.proofs.Isolated.{lone, next, in-any-run, alone-lone, isolated, undisturbed}
 
-abbrev pub cameOf : Given → Came (List Written)
-cameOf o = came (o .answer .reply) (o .written) (o .answer .rec) (o .store)
-
--- behind the gate: 5 by these rows, then 7 to 9
-abbrev behind : Record → List Row → List ℕ → List Float → Reply
-behind b rows model samples = refusing rows Refused (lastTests (b .hearing) model (good samples))
+abbrev pub cameOf : Effect Answer → Came (List Written)
+cameOf o = came (o .answer .reply) (o .written) (o .answer .rec) (o .kept)
 
 -- ---- a frame
 
 module _ (samples : List Float) (model : List ℕ) (out : ℕ) where
+  -- the rows behind the gate's
   abbrev frameRight : Record → Reply
-  frameRight b = behind b (5 when wrong ((length samples, 480) ∷ (out, 480) ∷ []) ∷ []) model samples
+  frameRight b = firstRefusal (drop 1 (frameRows 0 0 b 0 samples model out))
 
   abbrev halves : Plan (List Written)
   halves = asks (firstHalf samples 22) (λ _ w. asks (secondHalf (logsOf (firstIn w)) model out) (λ a v. answers (a .reply) (v ++ toldBesides (a .reply))))
@@ -71,14 +65,15 @@ module _ (samples : List Float) (model : List ℕ) (out : ℕ) where
       r = frameRight b
 
       inner : (u : Bool) → passed r ≡ u
-          → cameOf (telling (cond u (frameEnds n side b store samples model out) (unchanged b store r)))
+          → cameOf (telling (cond u (frameEnds n side b store samples model out) (refusal (record { reply = r; rec = b }) store)))
           ≡ perform n side b store (cond u halves (answers r []))
       inner true e = refl
       inner false e = rw e
 
       go : (t : Bool)
-          → let reply = cond t r (Refused number) in
-          cameOf (telling (cond (passed reply) (frameEnds n side b store samples model out) (unchanged b store reply)))
+          → let row = number when not t in
+          let reply = cond (passed row) r row in
+          cameOf (telling (cond (passed reply) (frameEnds n side b store samples model out) (refusal (record { reply = reply; rec = b }) store)))
           ≡ cond t (perform n side b store (cond (passed r) halves (answers r []))) (came (Refused number) [] b store)
       go true = inner (passed r) refl
       go false = refl
@@ -115,8 +110,17 @@ module _ (samples : List Float) (model : List ℕ) (out : ℕ) where
       frames-do n side j (λ g. asks (resume samples (logsOf (g .sums)) model out 22) (λ a w. next (handedOn g a w))) t
 
   module _ (answered : ℕ) where
+    -- the rows behind the gate's, by the share
+    abbrev rowsBehind : Record → List Float → List Reply
+    rowsBehind b share =
+        5 when not (pieceFits (b .waiting) (length samples) out 22)
+        ∷ 5 when not (leb (3 * completes (b .waiting) (length samples)) answered)
+        ∷ checked (counted (b .hearing)) (readOf model)
+        ∷ 9 when not (good (waitingIn (b .waiting) share ++ samples))
+        ∷ []
+
     abbrev takeRight : Record → List Float → Reply
-    takeRight b share = behind b (takeRows b (length samples) out answered) model (waitingIn (b .waiting) share ++ samples)
+    takeRight b share = firstRefusal (rowsBehind b share)
 
     abbrev steps : Record → Reply → Plan (List Written)
     steps b r =
@@ -139,7 +143,7 @@ module _ (samples : List Float) (model : List ℕ) (out : ℕ) where
         r = takeRight b (get (shareOf side) store)
 
         inner : (u : Bool)
-            → cameOf (cond u (takenAs r (takeEnds n side b store samples model out)) (unchanged b store r))
+            → cameOf (cond u (takenAs r (takeEnds n side b store samples model out)) (refusal (record { reply = r; rec = b }) store))
             ≡ perform n side b store (cond u (steps b r) (answers r []))
         inner true =
             sym (frames-do n side (completes (b .waiting) (length samples)) (λ h. answers r (from 0 (h .out) ∷ from 0 (h .answers) ∷ []))
@@ -147,8 +151,9 @@ module _ (samples : List Float) (model : List ℕ) (out : ℕ) where
         inner false = refl
 
         go : (t : Bool)
-            → let reply = cond t r (Refused number) in
-            cameOf (cond (passed reply) (takenAs reply (takeEnds n side b store samples model out)) (unchanged b store reply))
+            → let row = number when not t in
+            let reply = cond (passed row) r row in
+            cameOf (cond (passed reply) (takenAs reply (takeEnds n side b store samples model out)) (refusal (record { reply = reply; rec = b }) store))
             ≡ cond t (perform n side b store (cond (passed r) (steps b r) (answers r []))) (came (Refused number) [] b store)
         go true = inner (passed r)
         go false = refl

@@ -1,32 +1,29 @@
 -- Cutting, with others in between: however a bench's samples are cut, into takes or pieces, whatever other benches do in between, and however often a call
 -- of its own is refused, it is one dictation of its samples. What is claimed; the proof is in proofs/Between.antt.
-use Prim.Native.Nat.{ℕ, _*_, _<_}
-use mathlib.Core.Bool.{cond}
-use mathlib.Core.List.{List, [], _∷_, _++_, map}
-use mathlib.Core.Path.{_≡_}
-use lib.Dec.{eqb}
-use lib.ListN.{length, getD}
-use lib.Ieee.{Float}
+use Rattle.rules.specs.Common.{ℕ, _*_, _<_, cond, List, [], _∷_, _++_, map, _≡_, eqb, length, getD, Float}
 use Rattle.rules.specs.Place.{get}
 use Rattle.rules.specs.Written.{Written, nothing, numbersIn}
 use Rattle.frame.specs.Share.{SHARE}
-use Rattle.pieces.specs.Pieces.{waitingIn}
 use Rattle.desk.specs.Gate.{shareOf}
 use Rattle.desk.specs.Desk.{Ask, piece, resume}
-use Rattle.dictation.specs.Dictation.{Lent, dictate}
-use Rattle.whole.specs.Taking.{Told, answersOf}
+use Rattle.dictation.specs.Dictation.{Lent, Told, dictatedOn}
+use Rattle.whole.specs.Taking.{answersOf}
 use Rattle.isolation.specs.Isolation.{own}
 use Rattle.isolation.specs.Run.{Kind, On, State, recordAt, given, after, ended, done, desks, expand}
 use Rattle.surface.specs.Surface.{Request, ask, frame, take, surface, madeOf}
 
--- calls that hand samples in, piece by piece, each resumed with its samples and its output, for as many frames as are lent to
-abbrev pub resumes : List Float → ℕ → List Lent → List Ask
-resumes x o ls = map (λ l. resume x (l .logs) (l .model) o 22) ls
+-- a resume is given logarithms and a model: these are lent to its frame, whatever its sums are
+abbrev pub asGiven : List Float × List ℕ → Lent
+asGiven g = record { logs = λ _. g .0; model = g .1 }
+
+-- calls that hand samples in, piece by piece, each resumed with its samples and its output, for as many frames as are given
+abbrev pub resumes : List Float → ℕ → List (List Float × List ℕ) → List Ask
+resumes x o gs = map (λ g. resume x (g .0) (g .1) o 22) gs
 
 pub data InARow : List Ask → List Float → List Lent → Type 0 where
-  lastPiece : (x : List Float) (o : ℕ) (ls : List Lent) → InARow (piece x o 22 ∷ resumes x o ls) x ls
-  morePieces : (x : List Float) (o : ℕ) (ls : List Lent) {asks : List Ask} {ys : List Float} {ms : List Lent}
-      → InARow asks ys ms → InARow (piece x o 22 ∷ resumes x o ls ++ asks) (x ++ ys) (ls ++ ms)
+  lastPiece : (x : List Float) (o : ℕ) (gs : List (List Float × List ℕ)) → InARow (piece x o 22 ∷ resumes x o gs) x (map asGiven gs)
+  morePieces : (x : List Float) (o : ℕ) (gs : List (List Float × List ℕ)) {asks : List Ask} {ys : List Float} {ms : List Lent}
+      → InARow asks ys ms → InARow (piece x o 22 ∷ resumes x o gs ++ asks) (x ++ ys) (map asGiven gs ++ ms)
 
 -- the numbers that side s receives in a run, in order: of each call, those in one of its buffers
 unfoldable pub inBuffer : {C : Type 0} → Kind C (List Written) → (C → ℕ) → ℕ → ℕ → State → List (On C) → List Float
@@ -53,8 +50,7 @@ Between n =
     → (calls : List (On Request)) (samples : List Float) (lent : List Lent)
     → let asks = expand surface madeOf n st calls in let end = ended surface n st calls in
     InARow (done desks n s st asks) samples lent → recordAt s end .piece ≡ 0
-    → let b = recordAt s st in let share = get (shareOf s) (st .store) in
-    let d = dictate b share (waitingIn (b .waiting) share ++ samples) lent in
-    (recordAt s end ≡ d .rec) × (get (shareOf s) (end .store) ≡ d .store) × (inBuffer surface (λ _. 0) n s st calls ≡ d .out)
+    → let d = dictatedOn (recordAt s st) (get (shareOf s) (st .store)) samples lent in
+    (recordAt s end ≡ d .rec) × (get (shareOf s) (end .store) ≡ d .kept) × (inBuffer surface (λ _. 0) n s st calls ≡ d .out)
     × (inBuffer surface answersAt n s st calls ≡ answersOf (d .told)) × (inBuffer desks (λ _. 1) n s st asks ≡ sumsTold (d .told))
     × ((mine : List Ask) → own s calls ≡ map ask mine → inBuffer surface (λ _. 1) n s st calls ≡ sumsTold (d .told))

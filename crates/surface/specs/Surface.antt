@@ -1,21 +1,17 @@
 -- Every call of the C surface that touches the store, by what its contract cites, and what is claimed of all of them. The proofs are in proofs/.
-use Prim.Native.Nat.{ℕ, _*_, _≤_, _<_}
-use mathlib.Core.Bool.{true, false, cond}
-use mathlib.Core.List.{List, [], _∷_}
-use mathlib.Core.Path.{_≡_}
-use lib.Dec.{eqb}
-use lib.ListN.{length}
-use lib.Ieee.{Float}
+use Rattle.rules.specs.Common.{ℕ, _*_, _≤_, _<_, true, false, cond, List, [], _∷_, _≡_, eqb, length, Float}
 use Rattle.rules.specs.Tab.{tab}
 use Rattle.rules.specs.Written.{Written, firstIn}
 use Rattle.logs.specs.Log10.{logsOf}
 use Rattle.frame.specs.declared.Reply.the-variants.{Refused, Misread}
 use Rattle.frame.specs.declared.Way.{Way}
+use Rattle.frame.specs.Effect.{Effect}
 use Rattle.frame.specs.Reply.{passed}
 use Rattle.frame.specs.Share.{SHARE}
 use Rattle.pieces.specs.Pieces.{completes}
+use Rattle.desk.specs.declared.Answer.{Answer}
 use Rattle.desk.specs.Gate.{BENCHES}
-use Rattle.desk.specs.Desk.{Ask, opening, firstHalf, secondHalf, piece, resume, Given}
+use Rattle.desk.specs.Desk.{Ask, opening, firstHalf, secondHalf, piece, resume}
 use Rattle.desk.specs.Surface.{replyNumber, hosted}
 use Rattle.whole.specs.Surface.{hostedFrame, hostedTake}
 use Rattle.whole.specs.Whole.{frameReply, frameBegins, takeReply, takeFrames, takeBegins}
@@ -29,13 +25,13 @@ pub data Request : Type 0 where
   frame : (samples : List Float) (model : List ℕ) (out : ℕ) → Request
   take : (samples : List Float) (model : List ℕ) (out answers : ℕ) → Request
 
-abbrev pub called : ℕ → ℕ → List ℕ → List Float → Request → Given
+abbrev pub called : ℕ → ℕ → List ℕ → List Float → Request → Effect Answer
 called n side ns store (ask a) = hosted n side ns store a
 called n side ns store (frame x m o) = hostedFrame n side ns store x m o
 called n side ns store (take x m o a) = hostedTake n side ns store x m o a
 
 abbrev pub surface : Kind Request (List Written)
-surface n side ns store c = let o = called n side ns store c in gives ns (o .answer) (o .written) (o .store)
+surface n side ns store c = let o = called n side ns store c in gives ns (o .answer) (o .written) (o .kept)
 
 -- ---- apart: whatever is called on whatever benches. The desk's calls by themselves are requests, and so apart too
 

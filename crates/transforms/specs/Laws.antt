@@ -1,21 +1,12 @@
 -- What is claimed of the transforms' sums, which start from +0: none of them is ever -0. So a product of a zero may be added with either sign. The proofs are in
 -- proofs/Sound.antt.
-use mathlib.Core.Bool.{Bool, true, false}
-use mathlib.Core.List.{List}
-use Prim.Native.Nat.{ℕ, zero, suc}
+use Rattle.rules.specs.Common.{ℕ, List, Float, binary32}
 use lib.Dec.{T}
-use lib.Ieee.{Float, nan, inf, fin, binary32, fits}
+use lib.Ieee.{fits}
 use Rattle.rules.specs.F32.{_⊕_, at, f32}
 use Rattle.rules.specs.Loop.{loop, range}
+use Rattle.floats.specs.Plain.{plain}
 use Rattle.transforms.specs.Transform.{forwardStep, inverseStep}
-
--- anything but -0
-abbrev pub plain : Float → Bool
-plain nan = true
-plain (inf s) = true
-plain (fin false m e) = true
-plain (fin true zero e) = false
-plain (fin true (suc m) e) = true
 
 -- after n terms of a bin's part
 abbrev pub ForwardPlain : Type 0

@@ -1,12 +1,13 @@
 // The forward sums: the bins k, 480 - k, 240 + k and 240 - k, each with its two parts.
 ghost use mathlib.Core.Path.{_≡_};
-ghost use Prim.Native.Nat.{_+_, _*_, _/_, _%_, _≤_, _<_};
+ghost use Prim.Native.Nat.{_+_, _*_, _%_, _≤_, _<_};
 ghost use lib.ListN.{length};
-ghost use Rattle.rules.specs.F32.{at};
-ghost use Rattle.rules.specs.Tab.{tab};
+ghost use mathlib.Core.List.{List};
+ghost use lib.Ieee.{Float};
+ghost use Rattle.rules.specs.Spectrum.{binOf};
 ghost use Rattle.transforms.specs.Cosine.{cosine};
-ghost use Rattle.transforms.specs.Transform.{partOf};
-ghost use Rattle.transforms.specs.Parts.{kept, turnOn, binPart, binSums, binTurn, binSpot, Turning, BinRun};
+ghost use Rattle.transforms.specs.Transform.{bin, partOf, forwardOf};
+ghost use Rattle.transforms.specs.Parts.{extended, plusTerms, sumsOf, Reached, kept, Keeps, binLane, binPart};
 use crate::lanes::Four;
 use crate::lanes::Places;
 use crate::lanes::Run;
@@ -21,9 +22,9 @@ use crate::lanes::spot;
 use crate::lanes::times;
 
 // Term n of each sum, where n is j more than a multiple of 4.
-fn turn(s: Sums, p: Four, q: Four, j: usize) -> Sums
+fn add_terms(s: Sums, p: Four, q: Four, j: usize) -> Sums
     requires { ⌜ j < 4 ⌝ }
-    ensures { λ r. ⌜ r ≡ binTurn j s p q ⌝ }
+    ensures { λ r. ⌜ r ≡ plusTerms binLane (λ i. i % 2) j s p q ⌝ }
 {
     Sums {
         s0: ahead(s.s0, p, q, 0),
@@ -39,21 +40,20 @@ fn turn(s: Sums, p: Four, q: Four, j: usize) -> Sums
 
 // Sample n.
 fn step(s: Sums, x: &[f32], table: &[f32; 1200], m: Places, k: usize, n: usize, j: usize) -> Sums
-    requires { ⌜ length (now x) ≡ 960 ⌝ }
-    requires { ⌜ Turning (now table) m k n ⌝ }
-    requires { ⌜ (n % 4 ≡ j) × (s ≡ binSums (now x) k n) ⌝ }
-    ensures { λ r. ⌜ r ≡ binSums (now (x .entry)) k (n + 1) ⌝ }
+    requires { ⌜ (length (now x) ≡ 960) × (n < 960) × (n % 4 ≡ j) ⌝ }
+    requires { ⌜ Reached (binPart (now x)) (now table) k n s m ⌝ }
+    ensures { λ r. ⌜ r ≡ sumsOf (binPart (now (x .entry)) (n + 1)) k ⌝ }
 {
     let v = x[n];
     let p = times(v, read(table, m, k, n, 0));
     let q = times(v, read(table, m, k, n, 240));
-    turn(s, p, q, j)
+    add_terms(s, p, q, j)
 }
 
 fn four_steps(t: Run, x: &[f32], table: &[f32; 1200], k: usize, n: usize) -> Run
-    requires { ⌜ BinRun (now x) (now table) k n t ⌝ }
-    requires { ⌜ (n % 4 ≡ 0) × (n + 4 ≤ 960) ⌝ }
-    ensures { λ r. ⌜ BinRun (now (x .entry)) (now (table .entry)) k (n + 1 + 1 + 1 + 1) r ⌝ }
+    requires { ⌜ (length (now x) ≡ 960) × (n + 4 ≤ 960) × (n % 4 ≡ 0) ⌝ }
+    requires { ⌜ Reached (binPart (now x)) (now table) k n (t .s) (t .m) ⌝ }
+    ensures { λ r. ⌜ Reached (binPart (now (x .entry))) (now (table .entry)) k (n + 1 + 1 + 1 + 1) (r .s) (r .m) ⌝ }
 {
     let b = n + 1;
     let c = b + 1;
@@ -71,8 +71,8 @@ fn four_steps(t: Run, x: &[f32], table: &[f32; 1200], k: usize, n: usize) -> Run
 
 // The bins that k, k + 1, k + 2 and k + 3 share out.
 fn four_bins(x: &[f32], table: &[f32; 1200], k: usize) -> Sums
-    requires { ⌜ (length (now x) ≡ 960) × (now table ≡ turnOn cosine) × (k < 124) ⌝ }
-    ensures { λ r. ⌜ r ≡ binSums (now (x .entry)) k 960 ⌝ }
+    requires { ⌜ (length (now x) ≡ 960) × (now table ≡ extended cosine) × (k < 124) ⌝ }
+    ensures { λ r. ⌜ r ≡ sumsOf (binPart (now (x .entry)) 960) k ⌝ }
 {
     let mut t = Run {
         s: all_of(0.0),
@@ -92,8 +92,8 @@ fn four_bins(x: &[f32], table: &[f32; 1200], k: usize) -> Sums
 // The bins of k = 0 to 123; those of 121 to 123 are there twice, which is cheaper than a shorter block.
 pub(crate) fn all_bins(parts: &mut [f32], x: &[f32], table: &[f32; 1200])
     requires { ⌜ length (now parts) ≡ 992 ⌝ }
-    requires { ⌜ (length (now x) ≡ 960) × (now table ≡ turnOn cosine) ⌝ }
-    ensures { λ _. ⌜ now (parts .exit) ≡ tab 992 (kept (binPart (now (x .entry)) 960)) ⌝ }
+    requires { ⌜ (length (now x) ≡ 960) × (now table ≡ extended cosine) ⌝ }
+    ensures { λ _. ⌜ Keeps (binPart (now (x .entry)) 960) 992 (now (parts .exit)) ⌝ }
 {
     for g in 0..31 {
         let s = four_bins(x, table, 4 * g);
@@ -104,7 +104,7 @@ pub(crate) fn all_bins(parts: &mut [f32], x: &[f32], table: &[f32; 1200])
 // 1 for an imaginary part.
 fn part_of(j: usize) -> usize
     requires { ⌜ j < 961 ⌝ }
-    ensures { λ r. ⌜ (r ≡ partOf j / 240) × (r ≤ 1) ⌝ }
+    ensures { λ r. ⌜ (240 * r ≡ partOf j) × (r ≤ 1) ⌝ }
 {
     if j == 0 {
         return 0;
@@ -115,7 +115,7 @@ fn part_of(j: usize) -> usize
 // Where number j of the spectrum is kept.
 fn bin_spot(j: usize) -> usize
     requires { ⌜ j < 961 ⌝ }
-    ensures { λ r. ⌜ r ≡ binSpot j ⌝ }
+    ensures { λ r. ⌜ (r < 992) × ((x : List Float) → kept (binPart x 960) r ≡ bin x (binOf j) (partOf j)) ⌝ }
 {
     let b = (j + 1) / 2;
     let r = part_of(j);
@@ -133,7 +133,7 @@ fn bin_spot(j: usize) -> usize
 
 pub(crate) fn spread(out: &mut [f32], parts: &[f32; 992])
     requires { ⌜ length (now out) ≡ 961 ⌝ }
-    ensures { λ _. ⌜ now (out .exit) ≡ tab 961 (λ j. at (now (parts .entry)) (binSpot j)) ⌝ }
+    ensures { λ _. ⌜ ((x : List Float) → Keeps (binPart x 960) 992 (now (parts .entry)) → now (out .exit) ≡ forwardOf x) ⌝ }
 {
     for j in 0..961 {
         out[j] = parts[bin_spot(j)];

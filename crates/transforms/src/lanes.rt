@@ -1,10 +1,14 @@
 // What both transforms share: eight sums, each for four neighbours, and how a product adds to them. The compiler keeps the sums in registers of four, which hangs
 // on their being stored four neighbours side by side: stored straight into the spectrum, they cost twice the time.
 ghost use mathlib.Core.Path.{_≡_};
-ghost use Prim.Native.Nat.{_+_, _*_, _%_, _≤_, _<_};
-ghost use lib.ListN.{length};
-ghost use Rattle.transforms.specs.Transform.{turned};
-ghost use Rattle.transforms.specs.Parts.{four, plusFour, lessFour, timesFour, aheadFour, backFour, places, turnOn, allOf, spot, storeFour, storeSums, Turning};
+ghost use Prim.Native.Nat.{ℕ, _+_, _*_, _%_, _≤_, _<_};
+ghost use lib.ListN.{length, take};
+ghost use lib.Ieee.{Float};
+ghost use Rattle.rules.specs.F32.{_⊕_, _⊖_, _⊗_};
+ghost use Rattle.rules.specs.Tab.{tab};
+ghost use Rattle.transforms.specs.Cosine.{cosine};
+ghost use Rattle.transforms.specs.Transform.{wave};
+ghost use Rattle.transforms.specs.Parts.{fourOf, both, plusTerm, places, extended, sumsOf, kept, Keeps};
 
 // A number for each of four neighbours.
 pub(crate) struct Four {
@@ -41,7 +45,7 @@ pub(crate) struct Run {
 }
 
 fn plus(x: Four, y: Four) -> Four
-    ensures { λ r. ⌜ r ≡ plusFour x y ⌝ }
+    ensures { λ r. ⌜ r ≡ both _⊕_ x y ⌝ }
 {
     Four {
         a: x.a + y.a,
@@ -52,7 +56,7 @@ fn plus(x: Four, y: Four) -> Four
 }
 
 fn less(x: Four, y: Four) -> Four
-    ensures { λ r. ⌜ r ≡ lessFour x y ⌝ }
+    ensures { λ r. ⌜ r ≡ both _⊖_ x y ⌝ }
 {
     Four {
         a: x.a - y.a,
@@ -63,7 +67,7 @@ fn less(x: Four, y: Four) -> Four
 }
 
 pub(crate) fn times(v: f32, y: Four) -> Four
-    ensures { λ r. ⌜ r ≡ timesFour v y ⌝ }
+    ensures { λ r. ⌜ r ≡ both _⊗_ (fourOf (λ i. v) 0) y ⌝ }
 {
     Four {
         a: v * y.a,
@@ -75,7 +79,7 @@ pub(crate) fn times(v: f32, y: Four) -> Four
 
 // The next term of sums w quarters on, of the indices ahead: by the products p, and q a quarter on. The callers' w is known when it is compiled.
 pub(crate) fn ahead(s: Four, p: Four, q: Four, w: usize) -> Four
-    ensures { λ r. ⌜ r ≡ aheadFour w s p q ⌝ }
+    ensures { λ r. ⌜ r ≡ plusTerm w s p q ⌝ }
 {
     let t = w % 4;
     if t == 0 {
@@ -92,7 +96,7 @@ pub(crate) fn ahead(s: Four, p: Four, q: Four, w: usize) -> Four
 
 // The same of the indices back from there.
 pub(crate) fn back(s: Four, p: Four, q: Four, w: usize) -> Four
-    ensures { λ r. ⌜ r ≡ backFour w s p q ⌝ }
+    ensures { λ r. ⌜ r ≡ plusTerm (3 * w) s p q ⌝ }
 {
     let t = w % 4;
     if t == 0 {
@@ -108,7 +112,7 @@ pub(crate) fn back(s: Four, p: Four, q: Four, w: usize) -> Four
 }
 
 pub(crate) fn all_of(v: f32) -> Sums
-    ensures { λ r. ⌜ r ≡ allOf v ⌝ }
+    ensures { λ r. ⌜ r ≡ sumsOf (λ s k. v) 0 ⌝ }
 {
     let f = Four {
         a: v,
@@ -151,9 +155,8 @@ pub(crate) fn next(m: Places, k: usize, n: usize) -> Places
 
 // The cosines at the places of k * n, or a quarter on.
 pub(crate) fn read(table: &[f32; 1200], m: Places, k: usize, n: usize, quarter: usize) -> Four
-    requires { ⌜ Turning (now table) m k n ⌝ }
-    requires { ⌜ quarter ≤ 240 ⌝ }
-    ensures { λ r. ⌜ r ≡ four (λ i. turned i n quarter) k ⌝ }
+    requires { ⌜ (now table ≡ extended cosine) × (m ≡ places k n) × (quarter ≤ 240) ⌝ }
+    ensures { λ r. ⌜ r ≡ fourOf (λ i. wave i n quarter) k ⌝ }
 {
     let a = m.a + quarter;
     let b = m.b + quarter;
@@ -167,19 +170,21 @@ pub(crate) fn read(table: &[f32; 1200], m: Places, k: usize, n: usize, quarter: 
     }
 }
 
-// A turn and a quarter.
-pub(crate) fn turn_on(table: &mut [f32], cosine: &[f32; 960])
+// The cosines of a turn and a quarter.
+pub(crate) fn extend(table: &mut [f32], cosine: &[f32; 960])
     requires { ⌜ length (now table) ≡ 1200 ⌝ }
-    ensures { λ _. ⌜ now (table .exit) ≡ turnOn (now (cosine .entry)) ⌝ }
+    ensures { λ _. ⌜ now (table .exit) ≡ extended (now (cosine .entry)) ⌝ }
 {
     for i in 0..1200 {
         table[i] = cosine[i % 960];
     }
 }
 
+// Behind the first numbers of any list, its next four.
 fn put_four(parts: &mut [f32], at: usize, v: Four)
     requires { ⌜ (length (now parts) ≡ 992) × (at + 4 ≤ 992) ⌝ }
-    ensures { λ _. ⌜ now (parts .exit) ≡ storeFour (now (parts .entry)) at v ⌝ }
+    ensures { λ _. ⌜ ((f : ℕ → Float) → v ≡ fourOf f at
+        → take at (now (parts .entry)) ≡ tab at f → take (at + 4) (now (parts .exit)) ≡ tab (at + 4) f) ⌝ }
 {
     parts[at] = v.a;
     parts[at + 1] = v.b;
@@ -187,9 +192,11 @@ fn put_four(parts: &mut [f32], at: usize, v: Four)
     parts[at + 3] = v.d;
 }
 
+// Behind the sums of the neighbours before them, those of the next four.
 pub(crate) fn put(parts: &mut [f32], at: usize, s: Sums)
     requires { ⌜ (length (now parts) ≡ 992) × (at + 32 ≤ 992) ⌝ }
-    ensures { λ _. ⌜ now (parts .exit) ≡ storeSums (now (parts .entry)) at s ⌝ }
+    ensures { λ _. ⌜ ((f : ℕ → ℕ → Float) (g : ℕ) → at ≡ 32 * g → s ≡ sumsOf f (4 * g)
+        → Keeps f at (now (parts .entry)) → Keeps f (at + 32) (now (parts .exit))) ⌝ }
 {
     let b = at + 4;
     let c = b + 4;
@@ -211,7 +218,7 @@ pub(crate) fn put(parts: &mut [f32], at: usize, s: Sums)
 // Where sum s of neighbour k is kept.
 pub(crate) fn spot(s: usize, k: usize) -> usize
     requires { ⌜ (s < 8) × (k < 124) ⌝ }
-    ensures { λ r. ⌜ r ≡ spot s k ⌝ }
+    ensures { λ r. ⌜ (r < 992) × ((f : ℕ → ℕ → Float) → kept f r ≡ f s k) ⌝ }
 {
     k / 4 * 32 + 4 * s + k % 4
 }

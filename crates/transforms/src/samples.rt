@@ -2,10 +2,11 @@
 ghost use mathlib.Core.Path.{_≡_};
 ghost use Prim.Native.Nat.{_+_, _*_, _%_, _≤_, _<_};
 ghost use lib.ListN.{length};
-ghost use Rattle.rules.specs.F32.{at};
-ghost use Rattle.rules.specs.Tab.{tab};
+ghost use mathlib.Core.List.{List};
+ghost use lib.Ieee.{Float};
 ghost use Rattle.transforms.specs.Cosine.{cosine};
-ghost use Rattle.transforms.specs.Parts.{kept, turnOn, wholePart, wholeSums, sampleSums, sampleTurn, sampleSpot, Turning, SampleRun};
+ghost use Rattle.transforms.specs.Transform.{sample, inverseOf};
+ghost use Rattle.transforms.specs.Parts.{extended, plusTerms, sumsOf, Reached, kept, Keeps, sampleLane, samplePart, wholePart};
 use crate::lanes::Four;
 use crate::lanes::Places;
 use crate::lanes::Run;
@@ -20,9 +21,9 @@ use crate::lanes::spot;
 use crate::lanes::times;
 
 // The real part, at r = 0, or the imaginary part, at r = 1, of a bin that is j more than a multiple of 4.
-fn turn(s: Sums, p: Four, q: Four, j: usize, r: usize) -> Sums
+fn add_terms(s: Sums, p: Four, q: Four, j: usize, r: usize) -> Sums
     requires { ⌜ (j < 4) × (r < 2) ⌝ }
-    ensures { λ t. ⌜ t ≡ sampleTurn j r s p q ⌝ }
+    ensures { λ t. ⌜ t ≡ plusTerms sampleLane (λ i. r) j s p q ⌝ }
 {
     Sums {
         s0: ahead(s.s0, p, q, r),
@@ -38,37 +39,35 @@ fn turn(s: Sums, p: Four, q: Four, j: usize, r: usize) -> Sums
 
 // Bin k, which is taken twice.
 fn step(s: Sums, x: &[f32], table: &[f32; 1200], m: Places, n: usize, k: usize, j: usize) -> Sums
-    requires { ⌜ (length (now x) ≡ 961) × (0 < k) × (k < 480) ⌝ }
-    requires { ⌜ Turning (now table) m n k ⌝ }
-    requires { ⌜ (k % 4 ≡ j) × (s ≡ sampleSums (now x) n k) ⌝ }
-    ensures { λ r. ⌜ r ≡ sampleSums (now (x .entry)) n (k + 1) ⌝ }
+    requires { ⌜ (length (now x) ≡ 961) × (0 < k) × (k < 480) × (k % 4 ≡ j) ⌝ }
+    requires { ⌜ Reached (samplePart (now x)) (now table) n k s m ⌝ }
+    ensures { λ r. ⌜ r ≡ sumsOf (samplePart (now (x .entry)) (k + 1)) n ⌝ }
 {
     let i = 2 * k;
     let v = 2.0 * x[i - 1];
     let w = 2.0 * x[i];
     let p = read(table, m, n, k, 0);
     let q = read(table, m, n, k, 240);
-    let h = turn(s, times(v, p), times(v, q), j, 0);
-    turn(h, times(w, p), times(w, q), j, 1)
+    let h = add_terms(s, times(v, p), times(v, q), j, 0);
+    add_terms(h, times(w, p), times(w, q), j, 1)
 }
 
 // Bin 480, whose real part is taken once.
 fn last_step(s: Sums, x: &[f32], table: &[f32; 1200], m: Places, n: usize) -> Sums
     requires { ⌜ length (now x) ≡ 961 ⌝ }
-    requires { ⌜ Turning (now table) m n 480 ⌝ }
-    requires { ⌜ s ≡ sampleSums (now x) n 480 ⌝ }
-    ensures { λ r. ⌜ r ≡ wholeSums (now (x .entry)) n ⌝ }
+    requires { ⌜ Reached (samplePart (now x)) (now table) n 480 s m ⌝ }
+    ensures { λ r. ⌜ r ≡ sumsOf (wholePart (now (x .entry))) n ⌝ }
 {
     let v = x[959];
     let p = times(v, read(table, m, n, 480, 0));
     let q = times(v, read(table, m, n, 480, 240));
-    turn(s, p, q, 0, 0)
+    add_terms(s, p, q, 0, 0)
 }
 
 fn four_steps(t: Run, x: &[f32], table: &[f32; 1200], n: usize, k: usize) -> Run
-    requires { ⌜ SampleRun (now x) (now table) n k t ⌝ }
-    requires { ⌜ (k % 4 ≡ 1) × (k + 4 ≤ 480) ⌝ }
-    ensures { λ r. ⌜ SampleRun (now (x .entry)) (now (table .entry)) n (k + 1 + 1 + 1 + 1) r ⌝ }
+    requires { ⌜ (length (now x) ≡ 961) × (k + 4 ≤ 480) × (k % 4 ≡ 1) ⌝ }
+    requires { ⌜ Reached (samplePart (now x)) (now table) n k (t .s) (t .m) ⌝ }
+    ensures { λ r. ⌜ Reached (samplePart (now (x .entry))) (now (table .entry)) n (k + 1 + 1 + 1 + 1) (r .s) (r .m) ⌝ }
 {
     let b = k + 1;
     let c = b + 1;
@@ -86,8 +85,9 @@ fn four_steps(t: Run, x: &[f32], table: &[f32; 1200], n: usize, k: usize) -> Run
 
 // Bins 477 to 480.
 fn last_steps(t: Run, x: &[f32], table: &[f32; 1200], n: usize) -> Sums
-    requires { ⌜ SampleRun (now x) (now table) n 477 t ⌝ }
-    ensures { λ r. ⌜ r ≡ wholeSums (now (x .entry)) n ⌝ }
+    requires { ⌜ length (now x) ≡ 961 ⌝ }
+    requires { ⌜ Reached (samplePart (now x)) (now table) n 477 (t .s) (t .m) ⌝ }
+    ensures { λ r. ⌜ r ≡ sumsOf (wholePart (now (x .entry))) n ⌝ }
 {
     let sa = step(t.s, x, table, t.m, n, 477, 1);
     let ma = next(t.m, n, 477);
@@ -100,8 +100,8 @@ fn last_steps(t: Run, x: &[f32], table: &[f32; 1200], n: usize) -> Sums
 
 // The samples that n, n + 1, n + 2 and n + 3 share out.
 fn four_samples(x: &[f32], table: &[f32; 1200], n: usize) -> Sums
-    requires { ⌜ (length (now x) ≡ 961) × (now table ≡ turnOn cosine) × (n < 124) ⌝ }
-    ensures { λ r. ⌜ r ≡ wholeSums (now (x .entry)) n ⌝ }
+    requires { ⌜ (length (now x) ≡ 961) × (now table ≡ extended cosine) × (n < 124) ⌝ }
+    ensures { λ r. ⌜ r ≡ sumsOf (wholePart (now (x .entry))) n ⌝ }
 {
     let mut t = Run {
         s: all_of(0.0 + x[0]),
@@ -120,8 +120,8 @@ fn four_samples(x: &[f32], table: &[f32; 1200], n: usize) -> Sums
 
 pub(crate) fn all_samples(parts: &mut [f32], x: &[f32], table: &[f32; 1200])
     requires { ⌜ length (now parts) ≡ 992 ⌝ }
-    requires { ⌜ (length (now x) ≡ 961) × (now table ≡ turnOn cosine) ⌝ }
-    ensures { λ _. ⌜ now (parts .exit) ≡ tab 992 (kept (wholePart (now (x .entry)))) ⌝ }
+    requires { ⌜ (length (now x) ≡ 961) × (now table ≡ extended cosine) ⌝ }
+    ensures { λ _. ⌜ Keeps (wholePart (now (x .entry))) 992 (now (parts .exit)) ⌝ }
 {
     for g in 0..31 {
         let s = four_samples(x, table, 4 * g);
@@ -132,7 +132,7 @@ pub(crate) fn all_samples(parts: &mut [f32], x: &[f32], table: &[f32; 1200])
 // Where sample n is kept.
 fn sample_spot(n: usize) -> usize
     requires { ⌜ n < 960 ⌝ }
-    ensures { λ r. ⌜ r ≡ sampleSpot n ⌝ }
+    ensures { λ r. ⌜ (r < 992) × ((x : List Float) → kept (wholePart x) r ≡ sample x n) ⌝ }
 {
     if n < 121 {
         return spot(0, n);
@@ -160,7 +160,7 @@ fn sample_spot(n: usize) -> usize
 
 pub(crate) fn spread(out: &mut [f32], parts: &[f32; 992])
     requires { ⌜ length (now out) ≡ 960 ⌝ }
-    ensures { λ _. ⌜ now (out .exit) ≡ tab 960 (λ n. at (now (parts .entry)) (sampleSpot n)) ⌝ }
+    ensures { λ _. ⌜ ((x : List Float) → Keeps (wholePart x) 992 (now (parts .entry)) → now (out .exit) ≡ inverseOf x) ⌝ }
 {
     for n in 0..960 {
         out[n] = parts[sample_spot(n)];

@@ -1,12 +1,8 @@
 -- The first 34 bytes from a place on tell all that a step of a reading asks. Assumes nothing.
-use mathlib.Core.Path.{_≡_, refl, sym, ap, _∙_}
-use mathlib.Core.Bool.{Bool, true, false}
-use mathlib.Core.List.{List}
-use Prim.Native.Nat.{ℕ, _+_, _≤_, min}
+use Rattle.rules.proofs.Common.{ℕ, _+_, _≤_, Bool, true, false, List, _≡_, refl, sym, ap, _∙_, ltb, length, getD, take, drop, length-take}
+use Prim.Native.Nat.{min}
 use native.Mathlib.Omega.{arith}
 use borrow.Author.Tests.{le-ltb, ltb-true, ltb-false}
-use lib.Dec.{ltb}
-use lib.ListN.{length, getD, take, drop, length-take}
 use lib.Seq.{take-all, getD-take}
 use Rattle.sheet.specs.End.{fromFour}
 use Rattle.sheet.proofs.Fields.{four-at}

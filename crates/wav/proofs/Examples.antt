@@ -1,8 +1,5 @@
 -- Seals and heads by the definitions, as computed lists. Assumes nothing.
-use mathlib.Core.Path.{_≡_, refl}
-use mathlib.Core.List.{List, [], _∷_, _++_, map}
-use Prim.Native.Nat.{ℕ}
-use lib.ListN.{take, drop, set}
+use Rattle.rules.proofs.Common.{ℕ, List, [], _∷_, _++_, map, _≡_, refl, take, drop, set}
 use Rattle.rules.specs.Loop.{loop}
 use Rattle.rules.specs.Tab.{tab}
 use Rattle.checksum.specs.Checksum.{table, crc, crc32}

@@ -1,10 +1,7 @@
 -- What stands at a place of some bytes. Assumes nothing.
-use mathlib.Core.Path.{_≡_}
-use mathlib.Core.List.{List}
-use Prim.Native.Nat.{ℕ, _+_, _*_, _/_, _≤_, _<_, _^_}
+use Rattle.rules.proofs.Common.{ℕ, _+_, _*_, _/_, _^_, _≤_, _<_, List, _≡_, getD, drop}
 use native.Mathlib.Nat.{add-zero, mul-le-mul-right}
 use native.Mathlib.Omega.{arith}
-use lib.ListN.{getD, drop}
 use lib.Seq.{getD-drop}
 use Rattle.wav.specs.Chunks.{fromTwo}
 

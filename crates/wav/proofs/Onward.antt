@@ -1,13 +1,8 @@
 -- A reading moves on. Assumes nothing.
-use mathlib.Core.Path.{_≡_, refl, ap, _∙_}
-use mathlib.Core.Bool.{Bool, true, false, cond, not, _&&_, _||_}
-use mathlib.Core.List.{List, [], _∷_}
-use Prim.Native.Nat.{ℕ, _+_, _≤_, _%_}
+use Rattle.rules.proofs.Common.{ℕ, _+_, _%_, _≤_, Bool, true, false, cond, not, _&&_, _||_, List, [], _∷_, _≡_, refl, ap, _∙_, eqb, ltb, length, drop}
 use native.Mathlib.Omega.{arith}
 use borrow.Author.Tests.{eqb-true}
-use lib.Dec.{eqb, ltb}
-use lib.ListN.{length, drop}
-use Rattle.rules.proofs.Rows.{by-each}
+use Rattle.rules.proofs.Refusals.{by-each}
 use Rattle.sheet.specs.End.{fromFour}
 use Rattle.wav.specs.Chunks.{RIFF, WAVE, FMT, DATA, frontOf, pastChunk, formatFaults, formatted, chunkOf, stepOf}
 use Rattle.wav.specs.Laws.{Onward}

@@ -1,10 +1,9 @@
 -- A seal laid into a buffer, and each answer of its reader. Assumes nothing.
-use mathlib.Core.Path.{_≡_, refl}
-use mathlib.Core.List.{List, [], _++_, append-nil}
-use Prim.Native.Nat.{ℕ, _+_, _*_, _-_, _≤_, _<_}
+use Rattle.rules.proofs.Common.{ℕ, _+_, _-_, _*_, _≤_, _<_, List, [], _++_, _≡_, refl, length, take, drop, length-drop, length-append}
+use mathlib.Core.List.{append-nil}
 use native.Mathlib.Omega.{arith}
 use borrow.Author.Tests.{lt-ltb, le-ltb, eq-eqb, ne-eqb}
-use lib.ListN.{length, take, drop, length-append, length-drop, drop-of-length-le}
+use lib.ListN.{drop-of-length-le}
 use lib.Seq.{take-at, drop-at}
 use Rattle.checksum.specs.Checksum.{crc32}
 use Rattle.sheet.specs.Sheet.{four}

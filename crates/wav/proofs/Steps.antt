@@ -1,9 +1,7 @@
 -- Each answer of a step of a reading. Assumes nothing.
-use mathlib.Core.Path.{_≡_}
-use mathlib.Core.List.{List}
-use Prim.Native.Nat.{ℕ, _+_, _*_, _/_, _≤_, _<_, min}
+use Rattle.rules.proofs.Common.{ℕ, _+_, _*_, _/_, _≤_, _<_, List, _≡_, length, drop}
+use Prim.Native.Nat.{min}
 use borrow.Author.Tests.{lt-ltb, le-ltb, eq-eqb, ne-eqb}
-use lib.ListN.{length, drop}
 use Rattle.sheet.specs.End.{fromFour}
 use Rattle.wav.specs.Chunks.{RIFF, WAVE, FMT, DATA, fromTwo, frontOf, pastChunk, tagIn, formatOf, formatIn, channelsIn, formatFaults, formatted, chunkOf}
 use Rattle.wav.specs.declared.chunks.Head.{Head}

@@ -1,9 +1,5 @@
 -- The head of a WAV file, read chunk by chunk: of the file's bytes from a place on, what the next step of a reading finds. Four letters are a number, little end first.
-use Prim.Native.Nat.{ℕ, _+_, _*_, _/_, _%_, min}
-use mathlib.Core.Bool.{Bool, not, cond, _&&_, _||_}
-use mathlib.Core.List.{List, [], _∷_}
-use lib.Dec.{eqb, ltb}
-use lib.ListN.{length, getD, drop}
+use Rattle.rules.specs.Common.{ℕ, _+_, _*_, _/_, _%_, min, Bool, cond, not, _&&_, _||_, List, [], _∷_, eqb, ltb, length, getD, drop}
 use Rattle.rules.specs.Leaf.{_leaving_}
 use Rattle.rules.specs.Refusals.{Row, _when_, refusing}
 use Rattle.sheet.specs.End.{fromFour}

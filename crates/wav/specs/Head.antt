@@ -1,9 +1,5 @@
 -- The head of the WAV files that the box writes: one channel of 16 bits.
-use Prim.Native.Nat.{ℕ, _+_, _*_, _%_, min}
-use mathlib.Core.Bool.{not}
-use mathlib.Core.List.{List, [], _∷_, _++_}
-use lib.Dec.{eqb}
-use lib.ListN.{length}
+use Rattle.rules.specs.Common.{ℕ, _+_, _*_, _%_, min, not, List, [], _∷_, _++_, eqb, length}
 use Rattle.rules.specs.Leaf.{_leaving_}
 use Rattle.rules.specs.Refusals.{_when_, refusing}
 use Rattle.sheet.specs.Sheet.{four}

@@ -1,8 +1,5 @@
 -- What is claimed of seals and of heads. The proofs are in proofs/: Sealed, Onward, Enough, Back.
-use Prim.Native.Nat.{ℕ, zero, suc, _+_, _-_, _≤_, _<_, _^_}
-use mathlib.Core.List.{List, _++_}
-use mathlib.Core.Path.{_≡_}
-use lib.ListN.{take, drop}
+use Rattle.rules.specs.Common.{ℕ, zero, suc, _+_, _-_, _^_, _≤_, _<_, List, _++_, _≡_, take, drop}
 use Rattle.sheet.specs.Sheet.{four}
 use Rattle.wav.specs.Seal.{nameOf, sealOf, sealRead}
 use Rattle.wav.specs.Chunks.{unread, stepOf}

@@ -1,9 +1,5 @@
 -- The seal of a recording: as data, as its 24 bytes, and as they are read. Four letters are a number, little end first.
-use Prim.Native.Nat.{ℕ, _+_, _*_, _/_}
-use mathlib.Core.Bool.{Bool, not, cond, _&&_, _||_}
-use mathlib.Core.List.{List, [], _∷_, _++_}
-use lib.Dec.{eqb, ltb}
-use lib.ListN.{length, take, drop}
+use Rattle.rules.specs.Common.{ℕ, _+_, _*_, _/_, Bool, cond, not, _&&_, _||_, List, [], _∷_, _++_, eqb, ltb, length, take, drop}
 use Rattle.rules.specs.Leaf.{_leaving_}
 use Rattle.rules.specs.Refusals.{Row, _when_, refusing}
 use Rattle.checksum.specs.Checksum.{crc32}

@@ -1,34 +1,27 @@
 -- What is known of a call that none of the tests refused.
---     Past, passed-by                  the gate let it through, its rows are clear, the model is right and the samples are good
 --     Frame, frame-accepted            a frame
 --     Take, take-accepted, take-known  a take; fits-sizes, its numbers
 --     good-bad, good-rest, good-both   samples behind others: whether all are good; logs-length, of our logarithms
 -- Assumes nothing.
-use Prim.Native.Nat.{ℕ, _*_, _≤_}
-use mathlib.Core.Bool.{Bool, true, false, cond, _&&_, true≢false, false≢true}
-use mathlib.Core.List.{List, [], _∷_, _++_}
-use mathlib.Core.Path.{_≡_, refl, sym, ap, _∙_}
-use borrow.Author.Tests.{eqb-true, leb-true, not-false}
-use lib.Dec.{eqb, leb}
-use lib.ListN.{length}
-use lib.Ieee.{Float}
+use Rattle.rules.proofs.Common.{ℕ, _*_, _≤_, Bool, true, false, _&&_, true≢false, false≢true, List, [], _∷_, _++_, _≡_, refl, sym, ap, _∙_, leb}
+use Rattle.rules.proofs.Common.{length, Float}
+use borrow.Author.Tests.{eqb-true, leb-true}
 use Rattle.rules.specs.Place.{get}
-use Rattle.rules.specs.Refusals.{Row, _when_, refusing, wrong}
-use Rattle.rules.proofs.Refused.{Clear, by-rows, right}
-use Rattle.rules.proofs.Tabs.{length-tab}
-use Rattle.rules.proofs.Truth.{both}
+use Rattle.rules.proofs.Refusals.{right}
+use Rattle.rules.proofs.Lists.{length-tab}
+use Rattle.rules.proofs.Tests.{both}
 use Rattle.samples.specs.Samples.{goodSample, good}
 use Rattle.logs.specs.Log10.{logsOf}
 use Rattle.model.specs.Model.{readOf}
 use Rattle.frame.specs.declared.Reply.{Reply}
-use Rattle.frame.specs.declared.Reply.the-variants.{Refused}
 use Rattle.frame.specs.Reply.{passed}
 use Rattle.frame.specs.Frame.{counted, checked}
-use Rattle.pieces.specs.Pieces.{waitingIn, completes, pieceFits, lastTests}
-use Rattle.pieces.proofs.Tested.{last-passed}
+use Rattle.frame.proofs.Tables.{cleared, not-when}
+use Rattle.pieces.specs.Pieces.{waitingIn, completes, pieceFits}
+use Rattle.pieces.proofs.Tested.{not-not}
 use Rattle.desk.specs.declared.Record.{Record}
 use Rattle.desk.specs.Gate.{PIECE, gate, shareOf}
-use Rattle.whole.specs.Whole.{tested, frameReply, takeRows, takeReply}
+use Rattle.whole.specs.Whole.{frameRows, frameReply, takeRows, takeReply}
 
 -- ---- good samples behind others
 
@@ -58,32 +51,6 @@ pub logs-length : (sums : List Float) → length (logsOf sums) ≡ 22
 unfolding logsOf
 logs-length sums = length-tab 22 _
 
--- ---- past the tests
-
-pub record Past (number : ℕ) (rec : Record) (rows : List Row) (model : List ℕ) (samples : List Float) : Type 0 where
-  pub gated : number ≡ 0
-  pub clear : Clear rows
-  pub right : passed (checked (counted (rec .hearing)) (readOf model)) ≡ true
-  pub fine : good samples ≡ true
-
-module _ (number : ℕ) (rec : Record) (rows : List Row) (model : List ℕ) (samples : List Float) where
-  abbrev behind : Reply
-  behind = lastTests (rec .hearing) model (good samples)
-
-  abbrev past : Type 0
-  past = Past number rec rows model samples
-
-  pub passed-by : passed (tested number rec rows model samples) ≡ true → Past number rec rows model samples
-  passed-by = go (eqb number 0) refl
-    where
-      go : (t : Bool) → eqb number 0 ≡ t → passed (cond t (refusing rows Refused behind) (Refused number)) ≡ true → past
-      go true e =
-          by-rows Refused behind (λ r. passed r ≡ true → past) rows (λ n q. absurd (false≢true q))
-          (λ c q.
-          let l = last-passed (rec .hearing) model (good samples) q in
-          record { gated = eqb-true number 0 e; clear = c; right = l .0; fine = l .1 })
-      go false e = λ p. absurd (false≢true p)
-
 -- ---- a frame
 
 pub record Frame (n side : ℕ) (rec : Record) (store samples : List Float) (model : List ℕ) (out : ℕ) : Type 0 where
@@ -97,10 +64,9 @@ module _ (n side : ℕ) (rec : Record) (store samples : List Float) (model : Lis
   pub frame-accepted : passed (frameReply n side rec (length store) samples model out) ≡ true → Frame n side rec store samples model out
   unfolding frameReply
   frame-accepted p =
-      let lengths : List (ℕ × ℕ) = (length samples, 480) ∷ (out, 480) ∷ [] in
-      let k = passed-by (gate n side rec (length store) 1) rec (5 when wrong lengths ∷ []) model samples p in
-      let l = right lengths (k .clear .0) in
-      record { gated = k .gated; size = l .0; room = l .1 .0; right = k .right; fine = k .fine }
+      let c = cleared (frameRows n side rec (length store) samples model out) p in
+      let l = right ((length samples, 480) ∷ (out, 480) ∷ []) (not-when 5 _ (c .1 .0)) in
+      record { gated = eqb-true _ 0 (not-not _ _ (c .0)); size = l .0; room = l .1 .0; right = c .1 .1 .0; fine = not-not 9 _ (c .1 .1 .1 .0) }
 
 -- ---- a take
 
@@ -115,14 +81,13 @@ module _ (n side : ℕ) (rec : Record) (store samples : List Float) (model : Lis
   pub take-accepted : passed (takeReply n side rec store samples model out answers) ≡ true → Take n side rec store samples model out answers
   unfolding takeReply
   take-accepted p =
-      let all = waitingIn (rec .waiting) (get (shareOf side) store) ++ samples in
-      let k = passed-by (gate n side rec (length store) PIECE) rec (takeRows rec (length samples) out answers) model all p in
+      let c = cleared (takeRows n side rec store samples model out answers) p in
       record {
-        gated = k .gated;
-        fits = not-false _ (k .clear .0);
-        told = leb-true _ answers (not-false _ (k .clear .1 .0));
-        right = k .right;
-        fine = k .fine;
+        gated = eqb-true _ 0 (not-not _ _ (c .0));
+        fits = not-not 5 _ (c .1 .0);
+        told = leb-true _ answers (not-not 5 _ (c .1 .1 .0));
+        right = c .1 .1 .1 .0;
+        fine = not-not 9 _ (c .1 .1 .1 .1 .0);
       }
 
   pub take-known : {r : Reply} → r ≡ takeReply n side rec store samples model out answers → passed r ≡ true → Take n side rec store samples model out answers

@@ -1,21 +1,15 @@
 -- A frame is its two halves.
---     let-in          a call that the gate lets through
 --     first-wrote     an accepted frame's first half is done, and writes its sums
 --     refused         a refused frame leaves everything
 --     halved          the two halves, as the code calls them
 -- Assumes nothing.
-use Prim.Native.Nat.{ℕ, _*_, _<_}
+use Rattle.rules.proofs.Common.{ℕ, _*_, _<_, true, false, List, [], _∷_, _≡_, refl, sym, ap, _∙_, length, Float}
 use native.Mathlib.Omega.{arith}
-use mathlib.Core.Bool.{true, false}
-use mathlib.Core.List.{List, [], _∷_, map}
-use mathlib.Core.Path.{_≡_, refl, sym, ap, _∙_}
-use borrow.Author.Tests.{eq-eqb}
-use lib.ListN.{length}
-use lib.Ieee.{Float}
-use Rattle.rules.specs.Place.{get, put}
+use Rattle.rules.specs.Place.{get}
 use Rattle.rules.specs.Written.{all, firstIn}
 use Rattle.rules.proofs.Places.{length-get}
 use Rattle.logs.specs.Log10.{logsOf}
+use Rattle.frame.specs.Effect.{Effect, Worked}
 use Rattle.frame.specs.declared.Reply.{Reply}
 use Rattle.frame.specs.Share.{SHARE, PART}
 use Rattle.frame.specs.Reply.{passed}
@@ -24,17 +18,12 @@ use Rattle.pieces.specs.Pieces.{framePart}
 use Rattle.pieces.proofs.Halved.{Halved, first-passes}
 use Rattle.desk.specs.declared.Record.{Record}
 use Rattle.desk.specs.declared.Answer.{Answer}
-use Rattle.desk.specs.Gate.{gate, shareOf}
-use Rattle.desk.specs.Desk.{Ask, firstHalf, secondHalf, callOf, answered, onShare, Given, desk, Served}
+use Rattle.desk.specs.Gate.{shareOf}
+use Rattle.desk.specs.Desk.{Ask, firstHalf, secondHalf, desk}
+use Rattle.desk.proofs.Answered.{let-in}
 use Rattle.desk.proofs.Turned.{through}
 use Rattle.whole.specs.Whole.{frameReply, frame}
 use Rattle.whole.proofs.Accepted.{Frame, frame-accepted}
-
-pub let-in : (n side : ℕ) (rec : Record) (store : List Float) (ask : Ask) → gate n side rec (length store) (callOf ask) ≡ 0
-    → let f = onShare rec (get (shareOf side) store) ask in
-    desk n side rec store ask ≡ record { answer = answered rec ask (f .reply); store = put (shareOf side) store (f .share); written = f .written }
-unfolding desk
-let-in n side rec store ask e = rw (eq-eqb (gate n side rec (length store) (callOf ask)) 0 e)
 
 -- a frame's part of a side's share
 abbrev pub partOf : ℕ → List Float → List Float
@@ -52,18 +41,15 @@ module _ (n side : ℕ) (rec : Record) (store samples : List Float) (model : Lis
       first-passes (partOf side store) (rec .hearing .way) samples (part-length n side store (t .0) (t .1)) (k .size) (k .fine)
 
   pub first-wrote : let one = desk n side rec store (firstHalf samples 22) in one .written ≡ all (firstIn (one .written)) ∷ []
-  first-wrote =
-      let f = halves.firstHalf (partOf side store) (rec .hearing .way) samples 22 in
-      let e = ap (λ (o : Given). o .written) (let-in n side rec store (firstHalf samples 22) (k .gated)) ∙ ap (map all) (first-halved .writes) in
-      rw e
+  first-wrote = rw (let-in rec (firstHalf samples 22) n side store (k .gated)) (first-halved .writes)
 
 module _ (n side : ℕ) (rec : Record) (store samples : List Float) (model : List ℕ) (held : List Float) where
   pub refused : {r : Reply} → r ≡ frameReply n side rec (length store) samples model (length held) → passed r ≡ false
-      → Served (frame n side rec store samples model (length held)) (record { reply = r; rec = rec }) store (held ∷ []) (held ∷ [])
+      → Worked (frame n side rec store samples model (length held)) (record { reply = r; rec = rec }) store (held ∷ []) (held ∷ [])
   unfolding frame
-  refused e p = rw (← e, p) (record { answers = refl; stores = refl; writes = refl })
+  refused e p = rw (← e, p) (record { answers = refl; keeps = refl; writes = refl })
 
-  abbrev one : Given
+  abbrev one : Effect Answer
   one = desk n side rec store (firstHalf samples 22)
 
   -- what the second half is asked
@@ -72,13 +58,13 @@ module _ (n side : ℕ) (rec : Record) (store samples : List Float) (model : Lis
 
   pub halved : {r : Reply} {z sums logs s₁ s₂ out : List Float} {a₁ a₂ : Answer}
       → r ≡ frameReply n side rec (length store) samples model (length held) → passed r ≡ true
-      → Served (desk n side rec store (firstHalf samples 22)) a₁ s₁ (z ∷ []) (sums ∷ []) → logs ≡ logsOf sums
-      → Served (desk n side (a₁ .rec) s₁ (secondHalf logs model (length held))) a₂ s₂ (held ∷ []) (out ∷ [])
-      → Served (frame n side rec store samples model (length held)) a₂ s₂ (held ∷ []) (out ∷ [])
+      → Worked (desk n side rec store (firstHalf samples 22)) a₁ s₁ (z ∷ []) (sums ∷ []) → logs ≡ logsOf sums
+      → Worked (desk n side (a₁ .rec) s₁ (secondHalf logs model (length held))) a₂ s₂ (held ∷ []) (out ∷ [])
+      → Worked (frame n side rec store samples model (length held)) a₂ s₂ (held ∷ []) (out ∷ [])
   unfolding frame
   halved {r} {z} {sums} {logs} {s₁} {s₂} {out} {a₁} {a₂} e p first lent second =
       let q : passed (frameReply n side rec (length store) samples model (length held)) ≡ true = ap passed (sym e) ∙ p in
       let wrote = first-wrote n side rec store samples model (length held) (frame-accepted n side rec store samples model (length held) q) in
       let all-sums : sums ∷ [] ≡ firstIn (one .written) ∷ [] = first .writes ∙ rw wrote in
       let filled : sums ≡ firstIn (one .written) = cc in
-      rw q (rw (first .answers, first .stores, lent, filled) at second)
+      rw q (rw (first .answers, first .keeps, lent, filled) at second)

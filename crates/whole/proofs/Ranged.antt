@@ -5,56 +5,45 @@
 --     frame-no-out                 a frame with no place for its samples is refused
 --     take-by                      what holds of a take, by its tests
 -- Assumes nothing.
-use Prim.Native.Nat.{ℕ, zero, suc}
+use Rattle.rules.proofs.Common.{ℕ, zero, suc, _*_, Bool, true, false, cond, not, false≢true, List, [], _∷_, _++_, _≡_, refl, sym, _∙_, eqb, leb}
+use Rattle.rules.proofs.Common.{length, Float}
 use native.Mathlib.Omega.{arith}
-use mathlib.Core.Bool.{Bool, true, false, cond, false≢true}
-use mathlib.Core.List.{List, [], _∷_, _++_}
-use mathlib.Core.Path.{_≡_, refl, sym, _∙_}
 use borrow.Author.Tests.{not-false}
-use lib.Dec.{eqb}
-use lib.ListN.{length}
-use lib.Ieee.{Float}
 use Rattle.rules.specs.Loop.{loop}
 use Rattle.rules.specs.Place.{get}
-use Rattle.rules.specs.Refusals.{Row, _when_, refusing, wrong}
+use Rattle.rules.specs.Refusals.{wrong}
 use Rattle.rules.specs.Written.{firstIn}
-use Rattle.rules.proofs.Refused.{by-rows}
 use Rattle.samples.specs.Samples.{good}
 use Rattle.logs.specs.Log10.{logsOf}
+use Rattle.model.specs.Model.{readOf}
 use Rattle.model.proofs.Bounds.{refused-in}
+use Rattle.desk.specs.declared.Answer.{Answer}
+use Rattle.frame.specs.Effect.{Effect, refusal}
 use Rattle.frame.specs.declared.Reply.{Reply}
-use Rattle.frame.specs.declared.Reply.the-variants.{Refused}
-use Rattle.frame.specs.Reply.{passed}
-use Rattle.pieces.specs.Pieces.{waitingIn, completes, lastTests}
-use Rattle.pieces.proofs.Tested.{last-tests-by}
+use Rattle.frame.specs.Reply.{passed, _when_}
+use Rattle.frame.specs.Frame.{counted, checked}
+use Rattle.frame.proofs.Tables.{by-number, by-each}
+use Rattle.pieces.specs.Pieces.{waitingIn, completes, pieceFits}
+use Rattle.pieces.proofs.Tested.{by-model}
 use Rattle.desk.specs.declared.Record.{Record}
 use Rattle.desk.specs.Gate.{PIECE, inRange, gate, shareOf}
-use Rattle.desk.specs.Desk.{Ask, secondHalf, piece, resume, Given, desk}
+use Rattle.desk.specs.Desk.{Ask, secondHalf, piece, resume, desk}
 use Rattle.desk.proofs.Buffers.{buffers}
 use Rattle.desk.proofs.Ranged.{range-kept}
 use Rattle.desk.proofs.Replies.{SmallSeven, small}
-use Rattle.desk.proofs.Settled.{refused-keeps}
+use Rattle.desk.proofs.Kept.{refused-keeps}
 use Rattle.desk.proofs.Turned.{none}
-use Rattle.whole.specs.Whole.{unchanged, tested, frameReply, frameBegins, frameEnds, frame, takeRows, takeReply, Taking, takeStep, takeFrames, takeBegins, takeEnds, takenAs, take}
+use Rattle.whole.specs.Whole.{frameRows, frameReply, frameBegins, frameEnds, frame, takeRows, takeReply, Taking, takeStep, takeFrames, takeBegins, takeEnds, takenAs, take}
 use Rattle.whole.proofs.Accepted.{frame-accepted, take-accepted}
 
--- ---- the tests before a call
+-- ---- the rows of a table
 
-module _ (number : ℕ) (rec : Record) (rows : List Row) (model : List ℕ) (samples : List Float) where
-  tested-small : SmallSeven (tested number rec rows model samples)
-  tested-small = go (eqb number 0)
-    where
-      behind : Reply
-      behind = lastTests (rec .hearing) model (good samples)
+numbered : (n : ℕ) (t : Bool) → passed (n when t) ≡ false → SmallSeven (n when t)
+numbered = by-number SmallSeven (λ _. tt)
 
-      behind-small : SmallSeven behind
-      behind-small =
-          last-tests-by (rec .hearing) model (good samples) SmallSeven (λ _. tt)
-          (λ n l e. let r = refused-in model e in (r .1, r .2)) (λ _ _. tt)
-
-      go : (t : Bool) → SmallSeven (cond t (refusing rows Refused behind) (Refused number))
-      go true = by-rows Refused behind SmallSeven rows (λ _. tt) (λ _. behind-small)
-      go false = tt
+module _ (rec : Record) (model : List ℕ) where
+  modelled : passed (checked (counted (rec .hearing)) (readOf model)) ≡ false → SmallSeven (checked (counted (rec .hearing)) (readOf model))
+  modelled = by-model (rec .hearing) model SmallSeven (λ _. tt) (λ n l e. let r = refused-in model e in (r .1, r .2))
 
 -- the gate lets no other record through
 let-in-range : (n side : ℕ) (rec : Record) (len call : ℕ) → gate n side rec len call ≡ 0 → inRange rec ≡ true
@@ -67,31 +56,35 @@ module _ (n side : ℕ) (rec : Record) (store samples : List Float) (model : Lis
     abbrev reply : Reply
     reply = frameReply n side rec (length store) samples model out
 
-    abbrev one : Given
+    abbrev one : Effect Answer
     one = frameBegins n side rec store samples
 
     abbrev asked : Ask
     asked = secondHalf (logsOf (firstIn (one .written))) model out
 
-    abbrev two : Given
+    abbrev two : Effect Answer
     two = frameEnds n side rec store samples model out
 
     -- what holds of its second half, where no test refuses it, and of a refusal, holds of a frame
-    frame-by : (P : Given → Type 0) → (passed reply ≡ true → P two) → (passed reply ≡ false → P (unchanged rec store reply))
+    frame-by : (P : Effect Answer → Type 0) → (passed reply ≡ true → P two) → (passed reply ≡ false → P (refusal (record { reply = reply; rec = rec }) store))
         → P (frame n side rec store samples model out)
     unfolding frame
     frame-by P two-halves refused = go (passed reply) refl
       where
-        go : (t : Bool) → passed reply ≡ t → P (cond t two (unchanged rec store reply))
+        go : (t : Bool) → passed reply ≡ t → P (cond t two (refusal (record { reply = reply; rec = rec }) store))
         go true e = two-halves e
         go false e = refused e
 
     reply-small : SmallSeven reply
     unfolding frameReply
-    reply-small = tested-small (gate n side rec (length store) 1) rec (5 when wrong ((length samples, 480) ∷ (out, 480) ∷ []) ∷ []) model samples
+    reply-small =
+        let number = gate n side rec (length store) 1 in
+        let lengths : List (ℕ × ℕ) = (length samples, 480) ∷ (out, 480) ∷ [] in
+        by-each SmallSeven (frameRows n side rec (length store) samples model out)
+        (numbered number (not (eqb number 0)), (numbered 5 (wrong lengths), (modelled rec model, (numbered 9 (not (good samples)), tt)))) (λ _. tt)
 
     pub frame-small : SmallSeven (frame n side rec store samples model out .answer .reply)
-    frame-small = frame-by (λ o. SmallSeven (o .answer .reply)) (λ _. small n side (one .answer .rec) (one .store) asked) (λ _. reply-small)
+    frame-small = frame-by (λ o. SmallSeven (o .answer .reply)) (λ _. small n side (one .answer .rec) (one .kept) asked) (λ _. reply-small)
 
     pub frame-range : passed (frame n side rec store samples model out .answer .reply) ≡ true
         → (inRange rec ≡ true) × (inRange (frame n side rec store samples model out .answer .rec) ≡ true)
@@ -99,12 +92,12 @@ module _ (n side : ℕ) (rec : Record) (store samples : List Float) (model : Lis
         frame-by (λ o. passed (o .answer .reply) ≡ true → (inRange rec ≡ true) × (inRange (o .answer .rec) ≡ true))
         (λ p q.
         let k = frame-accepted n side rec store samples model out p in
-        (let-in-range n side rec (length store) 1 (k .gated), range-kept n side (one .answer .rec) (one .store) asked q .1))
+        (let-in-range n side rec (length store) 1 (k .gated), range-kept n side (one .answer .rec) (one .kept) asked q .1))
         (λ f q. absurd (false≢true (sym f ∙ q)))
 
     pub frame-buffers : length (frame n side rec store samples model out .written) ≡ cond (passed (frame n side rec store samples model out .answer .reply)) 1 0
     frame-buffers =
-        frame-by (λ o. length (o .written) ≡ cond (passed (o .answer .reply)) 1 0) (λ _. buffers n side (one .answer .rec) (one .store) asked) (λ f. rw f)
+        frame-by (λ o. length (o .written) ≡ cond (passed (o .answer .reply)) 1 0) (λ _. buffers n side (one .answer .rec) (one .kept) asked) (λ f. rw f)
 
   pub frame-no-out : passed (frame n side rec store samples model 0 .answer .reply) ≡ false
   frame-no-out =
@@ -135,24 +128,30 @@ module _ (n side : ℕ) where
       taken = takeReply n side rec store samples model out answers
 
       -- what holds of its end, where no test refuses it, and of a refusal, holds of a take
-      pub take-by : (P : Given → Type 0)
+      pub take-by : (P : Effect Answer → Type 0)
           → (passed (takeReply n side rec store samples model out answers) ≡ true
           → P (takenAs (takeReply n side rec store samples model out answers) (takeEnds n side rec store samples model out)))
           → (passed (takeReply n side rec store samples model out answers) ≡ false
-          → P (unchanged rec store (takeReply n side rec store samples model out answers)))
+          → P (refusal (record { reply = takeReply n side rec store samples model out answers; rec = rec }) store))
           → P (take n side rec store samples model out answers)
       unfolding take
       take-by P ends refused = go (passed taken) refl
         where
-          go : (t : Bool) → passed taken ≡ t → P (cond t (takenAs taken (takeEnds n side rec store samples model out)) (unchanged rec store taken))
+          go : (t : Bool) → passed taken ≡ t → P (cond t (takenAs taken (takeEnds n side rec store samples model out)) (refusal (record { reply = taken; rec = rec }) store))
           go true e = ends e
           go false e = refused e
 
       taken-small : SmallSeven taken
       unfolding takeReply
       taken-small =
-          tested-small (gate n side rec (length store) PIECE) rec (takeRows rec (length samples) out answers) model
-          (waitingIn (rec .waiting) (get (shareOf side) store) ++ samples)
+          let number = gate n side rec (length store) PIECE in
+          let room = leb (3 * completes (rec .waiting) (length samples)) answers in
+          let all = waitingIn (rec .waiting) (get (shareOf side) store) ++ samples in
+          by-each SmallSeven (takeRows n side rec store samples model out answers) (
+            numbered number (not (eqb number 0)),
+            (numbered 5 (not (pieceFits (rec .waiting) (length samples) out 22)), (numbered 5 (not room), (modelled rec model, (numbered 9 (not (good all)), tt)))),
+          )
+          (λ _. tt)
 
       pub take-small : SmallSeven (take n side rec store samples model out answers .answer .reply)
       take-small = take-by (λ o. SmallSeven (o .answer .reply)) (λ _. taken-small) (λ _. taken-small)

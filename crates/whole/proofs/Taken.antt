@@ -3,22 +3,18 @@
 --     refused     a refused take leaves everything
 --     took        a piece, and a step for each frame that it completes
 -- Assumes nothing.
-use Prim.Native.Nat.{ℕ}
-use mathlib.Core.Bool.{true, false}
-use mathlib.Core.List.{List, [], _∷_}
-use mathlib.Core.Path.{_≡_, refl, ap, ap₂, _∙_}
-use lib.ListN.{length, getD}
-use lib.Ieee.{Float}
+use Rattle.rules.proofs.Common.{ℕ, true, false, List, [], _∷_, _≡_, refl, ap, ap₂, _∙_, length, getD, Float}
 use Rattle.rules.specs.F32.{zeros}
 use Rattle.rules.specs.Place.{put}
 use Rattle.rules.specs.Written.{onto}
 use Rattle.logs.specs.Log10.{logsOf}
+use Rattle.frame.specs.Effect.{Effect, Worked}
 use Rattle.frame.specs.declared.Reply.{Reply}
 use Rattle.frame.specs.Reply.{passed}
 use Rattle.pieces.specs.Pieces.{completes}
 use Rattle.desk.specs.declared.Record.{Record}
 use Rattle.desk.specs.declared.Answer.{Answer}
-use Rattle.desk.specs.Desk.{piece, resume, Given, desk, Served}
+use Rattle.desk.specs.Desk.{piece, resume, desk}
 use Rattle.desk.specs.Surface.{heardOf}
 use Rattle.whole.specs.Whole.{takeReply, take}
 use Rattle.whole.specs.Parts.{Midway, midway, behind, three, stepOf, stepsOf}
@@ -26,16 +22,16 @@ use Rattle.whole.proofs.Accepted.{take-known}
 use Rattle.whole.proofs.Followed.{ends}
 
 -- a call with two buffers
-called : {o : Given} {a : Answer} {s out sums out′ sums′ : List Float} → Served o a s (out ∷ sums ∷ []) (out′ ∷ sums′ ∷ []) → (answers : List Float)
+called : {o : Effect Answer} {a : Answer} {s out sums out′ sums′ : List Float} → Worked o a s (out ∷ sums ∷ []) (out′ ∷ sums′ ∷ []) → (answers : List Float)
     → midway (a .rec) s out′ sums′ answers ≡ behind o out sums answers
 called {o} {a} {s} {out} {sums} {out′} {sums′} w answers =
     let first : out′ ≡ getD (onto (o .written) (out ∷ sums ∷ [])) 0 [] = ap (λ (l : List (List Float)). getD l 0 []) (w .writes) in
     let second : sums′ ≡ getD (onto (o .written) (out ∷ sums ∷ [])) 1 [] = ap (λ (l : List (List Float)). getD l 1 []) (w .writes) in
-    rw (w .answers, w .stores, first, second)
+    rw (w .answers, w .keeps, first, second)
 
 module _ (n side : ℕ) (samples : List Float) (model : List ℕ) where
   pub stepped : (j : ℕ) (rec : Record) (store answers : List Float) {out sums logs s out′ sums′ answers′ : List Float} {a : Answer} → length sums ≡ 22 → logs ≡ logsOf sums
-      → Served (desk n side rec store (resume samples logs model (length out) (length sums))) a s (out ∷ sums ∷ []) (out′ ∷ sums′ ∷ [])
+      → Worked (desk n side rec store (resume samples logs model (length out) (length sums))) a s (out ∷ sums ∷ []) (out′ ∷ sums′ ∷ [])
       → answers′ ≡ put (three j) answers (heardOf (a .reply))
       → midway (a .rec) s out′ sums′ answers′ ≡ stepOf n side samples model j (midway rec store out sums answers)
   stepped j rec store answers {out} {sums} {logs} {s} {out′} {sums′} {answers′} {a} size lent w told =
@@ -46,17 +42,17 @@ module _ (n side : ℕ) (samples : List Float) (model : List ℕ) where
 
   module _ (rec : Record) (store out answers : List Float) where
     pub refused : {r : Reply} → r ≡ takeReply n side rec store samples model (length out) (length answers) → passed r ≡ false
-        → Served (take n side rec store samples model (length out) (length answers)) (record { reply = r; rec = rec }) store
+        → Worked (take n side rec store samples model (length out) (length answers)) (record { reply = r; rec = rec }) store
         (out ∷ answers ∷ []) (out ∷ answers ∷ [])
     unfolding take
-    refused e p = rw (← e, p) (record { answers = refl; stores = refl; writes = refl })
+    refused e p = rw (← e, p) (record { answers = refl; keeps = refl; writes = refl })
 
     pub took : {r : Reply} {s out′ sums′ s₂ out₂ sums₂ answers₂ : List Float} {a : Answer} {last : Record}
         → r ≡ takeReply n side rec store samples model (length out) (length answers) → passed r ≡ true
-        → Served (desk n side rec store (piece samples (length out) 22)) a s (out ∷ zeros 22 ∷ []) (out′ ∷ sums′ ∷ [])
+        → Worked (desk n side rec store (piece samples (length out) 22)) a s (out ∷ zeros 22 ∷ []) (out′ ∷ sums′ ∷ [])
         → midway last s₂ out₂ sums₂ answers₂
         ≡ stepsOf (completes (rec .waiting) (length samples)) n side samples model (midway (a .rec) s out′ sums′ answers)
-        → Served (take n side rec store samples model (length out) (length answers)) (record { reply = r; rec = last }) s₂
+        → Worked (take n side rec store samples model (length out) (length answers)) (record { reply = r; rec = last }) s₂
         (out ∷ answers ∷ []) (out₂ ∷ answers₂ ∷ [])
     unfolding take
     took {r} {last = last} e p w t =
@@ -65,7 +61,7 @@ module _ (n side : ℕ) (samples : List Float) (model : List ℕ) where
         rw (← e, p)
         (record {
           answers = ap (λ (b : Record). record { reply = r; rec = b }) (ap (λ (x : Midway). x .rec) t′ ∙ k .recs);
-          stores = ap (λ (x : Midway). x .store) t′ ∙ k .stores;
+          keeps = ap (λ (x : Midway). x .store) t′ ∙ k .stores;
           writes =
               ap₂ (λ (x y : List Float). x ∷ y ∷ []) (ap (λ (x : Midway). x .out) t′ ∙ k .out) (ap (λ (x : Midway). x .answers) t′ ∙ k .told);
         })

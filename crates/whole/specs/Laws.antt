@@ -1,13 +1,9 @@
 -- A frame and a take in one call: what is claimed. The proofs are in proofs/Halves.antt.
-use Prim.Native.Nat.{ℕ}
-use mathlib.Core.Bool.{true, false}
-use mathlib.Core.List.{List}
-use mathlib.Core.Path.{_≡_}
-use lib.ListN.{length}
-use lib.Ieee.{Float}
+use Rattle.rules.specs.Common.{ℕ, true, false, List, _≡_, length, Float}
+use Rattle.frame.specs.Effect.{refusal}
 use Rattle.frame.specs.Reply.{passed}
 use Rattle.desk.specs.declared.Record.{Record}
-use Rattle.whole.specs.Whole.{unchanged, frameReply, frameBegins, frameEnds, frame, take}
+use Rattle.whole.specs.Whole.{frameReply, frameBegins, frameEnds, frame, take}
 
 -- a frame that is accepted is its two halves: neither is refused, and what the second gives is what the frame gives
 abbrev pub TwoHalves : Type 0
@@ -23,11 +19,11 @@ abbrev pub FrameLeaves : Type 0
 FrameLeaves =
     (n side : ℕ) (rec : Record) (store samples : List Float) (model : List ℕ) (out : ℕ)
     → let o = frame n side rec store samples model out in
-    passed (o .answer .reply) ≡ false → o ≡ unchanged rec store (o .answer .reply)
+    passed (o .answer .reply) ≡ false → o ≡ refusal (record { reply = o .answer .reply; rec = rec }) store
 
 -- and so does a take
 abbrev pub TakeLeaves : Type 0
 TakeLeaves =
     (n side : ℕ) (rec : Record) (store samples : List Float) (model : List ℕ) (out answers : ℕ)
     → let o = take n side rec store samples model out answers in
-    passed (o .answer .reply) ≡ false → o ≡ unchanged rec store (o .answer .reply)
+    passed (o .answer .reply) ≡ false → o ≡ refusal (record { reply = o .answer .reply; rec = rec }) store

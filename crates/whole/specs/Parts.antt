@@ -1,14 +1,13 @@
 -- For the parts of the code: a take between two calls, with the buffers that they are lent.
-use Prim.Native.Nat.{ℕ, _*_}
-use mathlib.Core.List.{List, [], _∷_}
-use lib.ListN.{length, getD}
-use lib.Ieee.{Float}
+use Rattle.rules.specs.Common.{ℕ, _*_, List, [], _∷_, length, getD, Float}
 use Rattle.rules.specs.Loop.{loop}
 use Rattle.rules.specs.Place.{Place, put}
 use Rattle.rules.specs.Written.{onto}
 use Rattle.logs.specs.Log10.{logsOf}
+use Rattle.frame.specs.Effect.{Effect}
+use Rattle.desk.specs.declared.Answer.{Answer}
 use Rattle.desk.specs.declared.Record.{Record}
-use Rattle.desk.specs.Desk.{resume, Given, desk}
+use Rattle.desk.specs.Desk.{resume, desk}
 use Rattle.desk.specs.Surface.{heardOf}
 
 pub record Midway : Type 0 where
@@ -22,9 +21,9 @@ abbrev pub midway : Record → List Float → List Float → List Float → List
 midway rec store out sums answers = record { rec = rec; store = store; out = out; sums = sums; answers = answers }
 
 -- after a call, which was lent the output and the sums
-abbrev pub behind : Given → List Float → List Float → List Float → Midway
+abbrev pub behind : Effect Answer → List Float → List Float → List Float → Midway
 behind o out sums answers =
-    let held = onto (o .written) (out ∷ sums ∷ []) in midway (o .answer .rec) (o .store) (getD held 0 []) (getD held 1 []) answers
+    let held = onto (o .written) (out ∷ sums ∷ []) in midway (o .answer .rec) (o .kept) (getD held 0 []) (getD held 1 []) answers
 
 -- where the answers of frame j stand, from 0
 abbrev pub three : ℕ → Place

@@ -2,7 +2,7 @@
 ghost use mathlib.Core.List.{[], _∷_};
 ghost use lib.ListN.{length};
 ghost use Rattle.desk.specs.Gate.{BENCHES};
-ghost use Rattle.desk.specs.Desk.{Served};
+ghost use Rattle.frame.specs.Effect.{Worked};
 ghost use Rattle.whole.specs.Whole.{frame};
 use desk::Answer;
 use desk::Record;
@@ -17,7 +17,7 @@ pub fn frame(
     model: &[u8],
     out: &mut [f32],
 ) -> Answer
-    ensures { λ r. ⌜ Served
+    ensures { λ r. ⌜ Worked
         (frame BENCHES (side .0) rec (now (store .entry)) (now (samples .entry)) (now (model .entry)) (length (now (out .entry))))
         r (now (store .exit)) (now (out .entry) ∷ []) (now (out .exit) ∷ []) ⌝ }
 {

@@ -4,7 +4,7 @@ ghost use mathlib.Core.Path.{_≡_};
 ghost use Prim.Native.Nat.{_+_, _*_, _≤_};
 ghost use lib.ListN.{length};
 ghost use Rattle.desk.specs.Gate.{BENCHES};
-ghost use Rattle.desk.specs.Desk.{Served};
+ghost use Rattle.frame.specs.Effect.{Worked};
 ghost use Rattle.whole.specs.Whole.{take};
 ghost use Rattle.whole.specs.Parts.{midway, stepOf, stepsOf};
 use desk::Answer;
@@ -70,7 +70,7 @@ pub fn take(
     out: &mut [f32],
     answers: &mut [f32],
 ) -> Answer
-    ensures { λ r. ⌜ Served
+    ensures { λ r. ⌜ Worked
         (take BENCHES (side .0) rec (now (store .entry)) (now (piece .entry)) (now (model .entry))
         (length (now (out .entry))) (length (now (answers .entry))))
         r (now (store .exit)) (now (out .entry) ∷ now (answers .entry) ∷ []) (now (out .exit) ∷ now (answers .exit) ∷ []) ⌝ }

@@ -1,10 +1,8 @@
 -- `bands::add_bins` meets its contract. The loop's invariant: the two sums held in locals, put in their places, are what the turns so far give.
 -- Assumes nothing.
-use mathlib.Core.Path.{_≡_, _∙_}
-use Prim.Native.Nat.{_≤_, _<_, _+_, _-_}
+use Rattle.rules.proofs.Common.{_+_, _-_, _≤_, _<_, _≡_, _∙_, length-set}
 use native.Mathlib.Omega.{arith}
 use denote.Ref.{now}
-use lib.ListN.{length-set}
 use Rattle.rules.specs.Loop.{range}
 use Rattle.rules.proofs.Loops.{turns, range-begin, range-more, range-ended}
 use Rattle.rules.proofs.Numbers.{casts}

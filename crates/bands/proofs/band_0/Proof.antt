@@ -1,6 +1,5 @@
 -- `bands::band_0` meets its contract. Assumes nothing.
-use mathlib.Core.Path.{_≡_, _∙_}
-use Prim.Native.Nat.{ℕ}
+use Rattle.rules.proofs.Common.{ℕ, _≡_, _∙_}
 use native.Mathlib.Omega.{arith}
 use denote.Ref.{now}
 use Rattle.rules.proofs.Loops.{turns}

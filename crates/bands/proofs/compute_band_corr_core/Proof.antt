@@ -1,19 +1,17 @@
 -- `bands::compute_band_corr_core` meets its contract. The loop begins at band 1, after band 0. Assumes nothing.
-use mathlib.Core.Path.{_≡_, _∙_}
-use Prim.Native.Nat.{_≤_, _-_}
+use Rattle.rules.proofs.Common.{_-_, _≤_, _≡_, _∙_, length, length-set}
 use native.Mathlib.Omega.{arith}
-use lib.ListN.{length, length-set}
 use Rattle.rules.specs.Loop.{loop}
 use Rattle.rules.proofs.Loops.{turns, more, ended}
 use Rattle.rules.specs.F32.{zeros}
-use Rattle.bands.specs.Bands.{edges, corrBand, bandCorr}
+use Rattle.bands.specs.Bands.{edges, inBand, corrStep, bandCorr}
 use Rattle.bands.proofs.Shares.{any-band}
 use Rattle.bands.proofs.compute_band_corr_core.Statement.{statement}
 use Rattle.bands.proofs.compute_band_corr_core.Tie as tie
 
 abbrev Inv-loop : tie.InvT-loop
 Inv-loop out₀ x p table i₀ out i =
-    (1 ≤ i) × (i ≤ 21) × (length out ≡ 22) × (table ≡ edges) × (out ≡ loop i (corrBand x p) (zeros 22))
+    (1 ≤ i) × (i ≤ 21) × (length out ≡ 22) × (table ≡ edges) × (out ≡ loop i (inBand (corrStep x p)) (zeros 22))
 
 abbrev μ-loop : tie.MeasureT-loop
 μ-loop out₀ x p table i₀ out i = 21 - i

@@ -1,6 +1,5 @@
 -- `bands::dct_scaled` meets its contract: the scale is the one computed, and a NaN stays one. Assumes nothing.
-use mathlib.Core.Path.{sym, subst}
-use lib.Dec.{T}
+use Rattle.rules.proofs.Common.{sym, subst, T}
 use lib.Ieee.{div, mul, ofBits}
 use lib.Ieee.Compare.{differs-from-itself}
 use borrow.Author.Needs.{needs}

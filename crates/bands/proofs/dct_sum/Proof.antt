@@ -1,6 +1,5 @@
 -- `bands::dct_sum` meets its contract. Assumes nothing.
-use mathlib.Core.Path.{_≡_}
-use Prim.Native.Nat.{_≤_, _-_}
+use Rattle.rules.proofs.Common.{_-_, _≤_, _≡_}
 use Rattle.rules.specs.Loop.{loop}
 use Rattle.rules.specs.F32.{f32}
 use Rattle.rules.proofs.Loops.{turns}

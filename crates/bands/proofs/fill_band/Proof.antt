@@ -1,9 +1,7 @@
 -- `bands::fill_band` meets its contract. Assumes nothing.
-use mathlib.Core.Path.{_≡_, refl}
-use Prim.Native.Nat.{_≤_, _+_, _-_}
+use Rattle.rules.proofs.Common.{_+_, _-_, _≤_, _≡_, refl, length, length-set}
 use native.Mathlib.Omega.{arith}
 use denote.Ref.{now}
-use lib.ListN.{length, length-set}
 use Rattle.rules.specs.Loop.{loop}
 use Rattle.rules.specs.F32.{at}
 use Rattle.rules.proofs.Loops.{turns, begin, more, ended}

@@ -1,20 +1,18 @@
 -- `bands::interp_band_gain_core` meets its contract. Assumes nothing.
-use mathlib.Core.Path.{_≡_, _∙_}
-use Prim.Native.Nat.{_≤_, _-_}
+use Rattle.rules.proofs.Common.{_-_, _≤_, _≡_, _∙_, length}
 use native.Mathlib.Omega.{arith}
 use denote.Ref.{now}
-use lib.ListN.{length}
 use Rattle.rules.specs.Loop.{loop}
 use Rattle.rules.proofs.Loops.{turns, begin, more, ended}
 use Rattle.rules.specs.F32.{zeros}
-use Rattle.bands.specs.Bands.{edges, gainBand, bandGain}
+use Rattle.bands.specs.Bands.{edges, inBand, gainStep, bandGain}
 use Rattle.bands.proofs.Shares.{zeros-of}
 use Rattle.bands.proofs.interp_band_gain_core.Statement.{statement}
 use Rattle.bands.proofs.interp_band_gain_core.Tie as tie
 
 abbrev Inv-loop : tie.InvT-loop
 Inv-loop out₀ bands table i₀ out i =
-    (i ≤ 21) × (length out ≡ 481) × (table ≡ edges) × (out ≡ loop i (gainBand bands) (zeros 481))
+    (i ≤ 21) × (length out ≡ 481) × (table ≡ edges) × (out ≡ loop i (inBand (gainStep bands)) (zeros 481))
 
 abbrev μ-loop : tie.MeasureT-loop
 μ-loop out₀ bands table i₀ out i = 21 - i

@@ -1,8 +1,6 @@
 -- The loop's invariant: from the register on, the bytes that are left come to what all of them come to. Assumes nothing.
-use mathlib.Core.Path.{_≡_, refl, sym, _∙_}
-use Prim.Native.Nat.{_≤_, _-_}
+use Rattle.rules.proofs.Common.{_-_, _≤_, _≡_, refl, sym, _∙_, length, drop}
 use native.Mathlib.Omega.{arith}
-use lib.ListN.{length, drop}
 use Rattle.rules.proofs.Loops.{turns}
 use Rattle.checksum.specs.Checksum.{crc}
 use Rattle.checksum.proofs.Parts.{crc-more, crc-ended}

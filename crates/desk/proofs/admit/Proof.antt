@@ -1,8 +1,7 @@
 -- `desk::admit` meets its contract. Assumes nothing.
 use borrow.Author.Needs.{needs}
 use native.Mathlib.Omega.{arith}
-use Prim.Native.Nat.{_*_, _<_}
-use mathlib.Core.Path.{_≡_, refl, sym, _∙_}
+use Rattle.rules.proofs.Common.{_*_, _<_, _≡_, refl, sym, _∙_}
 use Rattle.frame.specs.Share.{SHARE}
 use Rattle.desk.specs.Gate.{BENCHES}
 use Rattle.desk.proofs.Turned.{through}

@@ -1,10 +1,7 @@
 -- `desk::all_zero` meets its contract: each answer by the tests that lead to it. Assumes nothing.
 use borrow.Author.Needs.{needs}
 use borrow.Author.Tests.{eq-eqb}
-use Prim.Native.Nat.{ℕ}
-use mathlib.Core.Bool.{true}
-use mathlib.Core.Path.{_≡_}
-use lib.Dec.{eqb}
+use Rattle.rules.proofs.Common.{ℕ, true, _≡_, eqb}
 use Rattle.rules.proofs.Tests.{tests, answered-no, answered-yes}
 use Rattle.desk.specs.declared.Record.{Record}
 use Rattle.desk.specs.Gate.{idle, wayNumber, allZero}

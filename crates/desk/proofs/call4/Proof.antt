@@ -1,7 +1,7 @@
 -- `desk::call4` meets its contract: the gate turns it away, or a frame's part of the side's share is lent to `frame::call4`. Assumes nothing.
 use borrow.Author.Needs.{needs}
 use Rattle.rules.specs.Place.{get, put}
-use Rattle.desk.proofs.Serve.{turned-away, call4-served}
+use Rattle.desk.proofs.Serve.{turned-away, framed}
 use Rattle.desk.proofs.call4.Statement.{statement}
 use Rattle.desk.proofs.call4.Tie as tie
 
@@ -10,7 +10,7 @@ unfolding get put
 returns-2 c =
     let k = c .before .before .before .before .before in
     let o = k .before .before .before in
-    call4-served _ _ _ _ _ _ _ _ _ _ _ _ _ _ (o .before .admit .ensures .number) (o .if1 .left) (o .before .admit .ensures .share) (k .call4 .ensures) (c .told .ensures)
+    framed _ _ _ _ _ _ _ _ (o .before .admit .ensures .number) (o .if1 .left) (o .before .admit .ensures .share) (k .call4 .ensures) (λ e. rw e) (c .told-fourth .ensures)
 
 pub call4-spec : {M : Type 1} → statement M
 unfolding get put
@@ -25,7 +25,7 @@ call4-spec =
     (λ c. search needs)  -- part-call4-start
     (λ c. search needs)  -- part-call4-end
     (λ c κs. search needs)  -- call4-requires
-    (λ c κs. search needs)  -- told-requires
+    (λ c κs. search needs)  -- told-fourth-requires
     (λ c. search needs)  -- same-length
     (λ c. search needs)  -- same-length-2
     returns-2)

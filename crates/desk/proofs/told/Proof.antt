@@ -6,7 +6,7 @@ use Rattle.desk.proofs.told.Tie as tie
 
 returns-2 : tie.Need-returns-2
 returns-2 c =
-    let hearing = c .before .before .before in
+    let hearing = c .before .before in
     let due = hearing .before in
     let done = answered-yes (due .before .before .passed .ensures) (due .before .if1 .left) in
     search (
@@ -14,7 +14,6 @@ returns-2 c =
       done,
       due .next-due .ensures,
       hearing .next-hearing .ensures,
-      c .before .before .next-frame .ensures,
       c .before .next-heard .ensures,
       c .record-of .ensures,
     )
@@ -27,7 +26,6 @@ told-spec =
     (λ c. search (tests, answered-no (c .before .passed .ensures) (c .if1 .taken)))  -- returns
     (λ c κs. search needs)  -- next-due-requires
     (λ c κs. search needs)  -- next-hearing-requires
-    (λ c κs. search needs)  -- next-frame-requires
     (λ c κs. search needs)  -- next-heard-requires
     (λ c κs. search needs)  -- record-of-requires
     returns-2)

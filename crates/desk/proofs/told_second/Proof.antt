@@ -7,11 +7,10 @@ use Rattle.desk.proofs.told_second.Tie as tie
 
 returns-2 : tie.Need-returns-2
 returns-2 c =
-    let o = c .before .before in
-    let t = o .before .before in
+    let t = c .before .before in
     let e = t .before in
     let a = e .before .before .args in
-    lastly (a .rec) (a .reply) (answered-yes (e .before .passed .ensures) (e .if1 .left)) (t .told .ensures) (o .one-more .ensures) (c .before .told2 .ensures)
+    lastly (a .rec) (a .reply) (answered-yes (e .before .passed .ensures) (e .if1 .left)) (t .told .ensures) (c .numbered .ensures)
 
 pub told-second-spec : {M : Type 1} → statement M
 told-second-spec =
@@ -20,6 +19,5 @@ told-second-spec =
     (λ c κs. search needs)  -- passed-requires
     (λ c. search (tests, answered-no (c .before .passed .ensures) (c .if1 .taken)))  -- returns
     (λ c κs. search needs)  -- told-requires
-    (λ c κs. search needs)  -- one-more-requires
-    (λ c κs. search needs)  -- told-requires-2
+    (λ c κs. search needs)  -- numbered-requires
     returns-2)

@@ -1,6 +1,5 @@
 -- `desk::way_number` meets its contract: each arm by its variant. Assumes nothing.
 use borrow.Author.Needs.{needs}
-use Rattle.rules.proofs.Tests.{tests}
 use Rattle.desk.proofs.way_number.Statement.{statement}
 use Rattle.desk.proofs.way_number.Tie as tie
 

@@ -1,13 +1,11 @@
 -- `features::apply_gains` meets its contract. Assumes nothing.
-use Prim.Native.Nat.{_≤_, _-_}
-use mathlib.Core.Path.{refl}
+use Rattle.rules.proofs.Common.{_-_, _≤_, refl, nan}
 use native.Mathlib.Omega.{arith}
-use lib.Ieee.{nan}
 use Rattle.rules.specs.F32.{_⊗_, at}
 use Rattle.rules.specs.Leaf.{done, refused}
-use Rattle.rules.proofs.Leaves.{leaves}
-use Rattle.rules.proofs.Filling.{Filling, fills, filling-more, filling-ahead}
-use Rattle.bands.specs.Spectrum.{binOf}
+use Rattle.rules.proofs.Refusals.{leaves}
+use Rattle.rules.proofs.Lists.{Filling, fills, filling-more, filling-ahead}
+use Rattle.rules.specs.Spectrum.{binOf}
 use Rattle.features.specs.Pitch.{applied}
 use Rattle.features.proofs.apply_gains.Statement.{statement}
 use Rattle.features.proofs.apply_gains.Tie as tie

@@ -1,10 +1,7 @@
 -- `features::compute_features` meets its contract: a refusal by the test, else what its parts ensure. Assumes nothing.
-use mathlib.Core.Path.{_≡_, refl}
-use mathlib.Core.List.{List}
-use Prim.Native.Nat.{ℕ}
+use Rattle.rules.proofs.Common.{ℕ, List, _≡_, refl, Float}
 use native.Mathlib.Omega.{arith}
 use borrow.Author.Needs.{needs}
-use lib.Ieee.{Float}
 use Rattle.rules.specs.Leaf.{done, refused, _leaving_}
 use Rattle.features.specs.Features.{featuresOf}
 use Rattle.features.proofs.compute_features.Statement.{statement}

@@ -1,12 +1,10 @@
 -- `features::hold_gains` meets its contract. Assumes nothing.
-use Prim.Native.Nat.{_≤_, _-_}
-use mathlib.Core.Path.{refl}
+use Rattle.rules.proofs.Common.{_-_, _≤_, refl, nan}
 use native.Mathlib.Omega.{arith}
-use lib.Ieee.{nan}
 use Rattle.rules.specs.F32.{at}
 use Rattle.rules.specs.Leaf.{done, refused}
-use Rattle.rules.proofs.Leaves.{leave-both}
-use Rattle.rules.proofs.Filling.{Filling, fills, filling-more, filling-ahead}
+use Rattle.rules.proofs.Refusals.{leave-both}
+use Rattle.rules.proofs.Lists.{Filling, fills, filling-more, filling-ahead}
 use Rattle.features.specs.Gains.{atLeast, gained}
 use Rattle.features.proofs.hold_gains.Statement.{statement}
 use Rattle.features.proofs.hold_gains.Tie as tie

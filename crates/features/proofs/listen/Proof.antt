@@ -1,6 +1,5 @@
 -- `features::listen` meets its contract: a refusal by the test, else what the energy sum makes of it. Assumes nothing.
-use mathlib.Core.Path.{_≡_, refl, ap, _∙_}
-use Prim.Native.Nat.{_≤_, _-_}
+use Rattle.rules.proofs.Common.{_-_, _≤_, _≡_, refl, ap, _∙_}
 use native.Mathlib.Omega.{arith}
 use borrow.Author.Needs.{needs}
 use Rattle.rules.specs.Leaf.{done, refused}

@@ -1,8 +1,7 @@
 -- `feed::feed` meets its contract: the tests, and then its parts over an array. Assumes nothing.
-use Prim.Native.Nat.{_≤_}
-use mathlib.Core.Path.{refl, sym, _∙_}
+use Rattle.rules.proofs.Common.{_≤_, refl, sym, _∙_}
 use borrow.Author.Needs.{needs}
-use Rattle.rules.proofs.Called.{left}
+use Rattle.rules.proofs.Refusals.{left}
 use Rattle.rules.proofs.Tests.{answered-yes}
 use Rattle.desk.specs.Gate.{gate}
 use Rattle.feed.proofs.Handed.{turned, shut, fed, sized, part-length, ready}

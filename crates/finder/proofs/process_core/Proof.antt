@@ -1,7 +1,7 @@
 -- `finder::process_core` meets its contract. Assumes nothing.
 use native.Mathlib.Omega.{arith}
 use borrow.Author.Needs.{needs}
-use Rattle.rules.proofs.Called.{left as fitted}
+use Rattle.rules.proofs.Refusals.{left as fitted}
 use Rattle.finder.proofs.Joined.{place-small, processed}
 use Rattle.finder.proofs.process_core.Statement.{statement}
 use Rattle.finder.proofs.process_core.Tie as tie

@@ -1,11 +1,8 @@
 -- `frame::call1` meets its contract. Assumes nothing.
-use mathlib.Core.List.{List, [], _∷_}
-use mathlib.Core.Path.{refl, ap, ap₂, _∙_}
+use Rattle.rules.proofs.Common.{List, [], _∷_, refl, ap, ap₂, _∙_, length, length-set, length-drop, length-append, Float}
 use native.Mathlib.Omega.{arith}
 use borrow.Author.Needs.{needs}
 use denote.Ref.{now}
-use lib.ListN.{length, length-set, length-append, length-drop}
-use lib.Ieee.{Float}
 use Rattle.rules.specs.Place.{get, put}
 use Rattle.rules.proofs.Places.{put-sets}
 use Rattle.rules.proofs.Tests.{tests, answered-no, answered-yes}
@@ -48,8 +45,8 @@ returns-5 c =
       at-get memHpX share 1 (omega arith),
     )
     (record {
-      replies = refl;
-      shares =
+      answers = refl;
+      keeps =
           put-sets (put inputMem share (w .last .0)) (memoryList (w .result)) 3192 (simp (length-append, length-drop) (omega arith))
           ∙ ap₂ (λ (mem : List Float) (m : Memory). put memHpX (put inputMem share mem) (memoryList m)) (w .ensures .1 .0) (w .ensures .0);
       writes = ap (λ (l : List Float). l ∷ []) (w .ensures .1 .1);

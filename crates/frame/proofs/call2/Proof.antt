@@ -1,12 +1,9 @@
 -- `frame::call2` meets its contract. Assumes nothing.
-use mathlib.Core.List.{List, [], _∷_}
-use mathlib.Core.Path.{refl, ap, ap₂, _∙_}
+use Rattle.rules.proofs.Common.{List, [], _∷_, refl, ap, ap₂, _∙_, length, length-take, length-drop, Float}
 use native.Mathlib.Omega.{arith}
 use borrow.Author.Needs.{needs}
 use denote.Ref.{now}
-use lib.ListN.{length, length-take, length-drop}
-use lib.Ieee.{Float}
-use Rattle.rules.proofs.Called.{left as fitted}
+use Rattle.rules.proofs.Refusals.{left as fitted}
 use Rattle.rules.proofs.Tests.{tests}
 use Rattle.bands.specs.Windowed.{windowed}
 use Rattle.frame.specs.Frame.{call2}
@@ -45,8 +42,8 @@ returns-6 c =
     let window = fitted (w .apply-window .ensures) (record { into = omega arith; from = simp (length-take, length-drop) (omega arith) }) in
     rw (call2-done share (omega arith) (now (a .spectrum)) lag (length (now (a .window))) (length (now (a .sums))) (omega arith) (omega arith) (omega arith) (omega arith))
     (record {
-      replies = refl;
-      shares = n .note .ensures .0;
+      answers = refl;
+      keeps = n .note .ensures .0;
       writes = ap₂ (λ (x y : List Float). x ∷ y ∷ []) (window ∙ ap windowed (looked-at share lag (omega arith) (omega arith))) (n .note .ensures .1);
     })
 

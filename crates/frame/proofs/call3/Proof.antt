@@ -1,9 +1,8 @@
 -- `frame::call3` meets its contract. Assumes nothing.
-use mathlib.Core.List.{[], _∷_}
+use Rattle.rules.proofs.Common.{[], _∷_, length}
 use native.Mathlib.Omega.{arith}
 use borrow.Author.Needs.{needs}
 use denote.Ref.{now}
-use lib.ListN.{length}
 use Rattle.model.specs.Model.{readOf}
 use Rattle.rules.proofs.Tests.{tests, answered-no, answered-yes}
 use Rattle.frame.specs.Frame.{counted, done3, call3}

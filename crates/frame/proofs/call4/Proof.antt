@@ -1,15 +1,10 @@
 -- `frame::call4` meets its contract. Assumes nothing.
-use Prim.Native.Nat.{ℕ}
-use mathlib.Core.List.{List, [], _∷_}
-use mathlib.Core.Path.{ap}
+use Rattle.rules.proofs.Common.{List, [], _∷_, refl, ap, length, Float}
 use native.Mathlib.Omega.{arith}
 use borrow.Author.Needs.{needs}
 use denote.Ref.{now}
-use lib.ListN.{length}
-use lib.Ieee.{Float}
 use Rattle.rules.specs.Place.{get, put}
 use Rattle.rules.proofs.Tests.{tests}
-use Rattle.frame.specs.declared.Reply.the-variants.{Numbered}
 use Rattle.frame.specs.Share.{synthesisMem}
 use Rattle.frame.specs.Frame.{call4}
 use Rattle.frame.proofs.Done.{call4-done}
@@ -31,12 +26,12 @@ returns-3 c = search tests
 returns-4 : tie.Need-returns-4
 unfolding put get
 returns-4 c =
-    let w = c .before .before .before .before .before in
+    let w = c .before .before .before .before in
     let a = w .before .before .before .before .before .before .before .before .before .args in
-    rw (call4-done (now (a .share)) (omega arith) (a .frame) (a .heard) (now (a .inverse)) (length (now (a .out))) (omega arith) (omega arith))
+    rw (call4-done (now (a .share)) (omega arith) (now (a .inverse)) (length (now (a .out))) (omega arith) (omega arith))
     (record {
-      replies = ap (λ (f : ℕ). Numbered f (a .heard)) (c .one-more .ensures);
-      shares = ap (put synthesisMem (now (a .share))) (w .synthesise .ensures .0);
+      answers = refl;
+      keeps = ap (put synthesisMem (now (a .share))) (w .synthesise .ensures .0);
       writes = ap (λ (l : List Float). l ∷ []) (w .synthesise .ensures .1);
     })
 
@@ -51,7 +46,6 @@ call4-spec =
     (λ c. search needs)  -- part-synthesise-start
     (λ c. search needs)  -- part-synthesise-end
     (λ c κs. search needs)  -- synthesise-requires
-    (λ c κs. search needs)  -- one-more-requires
     (λ c. search needs)  -- same-length
     (λ c. search needs)  -- same-length-2
     returns-4)

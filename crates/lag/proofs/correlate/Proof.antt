@@ -2,7 +2,7 @@
 use native.Mathlib.Omega.{arith}
 use borrow.Author.Needs.{needs}
 use lib.ListN.{length-take, length-drop}
-use Rattle.rules.proofs.Called.{left as fitted}
+use Rattle.rules.proofs.Refusals.{left as fitted}
 use Rattle.lag.proofs.Joined.{correlated}
 use Rattle.lag.proofs.correlate.Statement.{statement}
 use Rattle.lag.proofs.correlate.Tie as tie

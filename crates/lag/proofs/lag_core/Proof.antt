@@ -1,7 +1,7 @@
 -- `lag::lag_core` meets its contract: the first pitch is below 294. Assumes nothing.
 use native.Mathlib.Omega.{arith}
 use borrow.Author.Needs.{needs}
-use Rattle.rules.proofs.Called.{left as fitted}
+use Rattle.rules.proofs.Refusals.{left as fitted}
 use Rattle.lag.proofs.Joined.{small-of, lagged}
 use Rattle.lag.proofs.lag_core.Statement.{statement}
 use Rattle.lag.proofs.lag_core.Tie as tie

@@ -1,6 +1,5 @@
 -- `lag::lag_of` meets its contract: a refusal by the test, else what the core ensures. Assumes nothing.
-use mathlib.Core.Path.{refl, ap}
-use Prim.Native.Nat.{ℕ}
+use Rattle.rules.proofs.Common.{ℕ, refl, ap}
 use borrow.Author.Needs.{needs}
 use Rattle.rules.specs.Leaf.{done, refused}
 use Rattle.lag.specs.declared.OwnLag.{OwnLag}

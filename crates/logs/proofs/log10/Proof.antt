@@ -1,9 +1,7 @@
 -- `logs::log10` meets its contract: each way through it is a case of proofs/Special. Assumes nothing.
 use borrow.Author.Needs.{needs}
-use mathlib.Core.Path.{sym, ap, _∙_, subst}
-use mathlib.Core.Bool.{not}
-use lib.Dec.{T}
-use lib.Ieee.{binary32, binary64, fits, isNan, div, neg, ofBits}
+use Rattle.rules.proofs.Common.{not, sym, ap, subst, _∙_, T, binary32, binary64, isNan}
+use lib.Ieee.{fits, div, neg, ofBits}
 use lib.Ieee.Fits.{and-i, fits-widens}
 use lib.Ieee.Positive.{above}
 use Rattle.numbers.proofs.Special.{above-zero, zero-tested, below-tested, above-real}

@@ -1,16 +1,14 @@
 -- `logs::log_of_bits` meets its contract. Assumes nothing.
 use borrow.Author.Needs.{needs}
-use mathlib.Core.Path.{ap, _∙_}
+use Rattle.rules.proofs.Common.{ℕ, _^_, _≤_, ap, _∙_, T, pos, Float, binary64}
 use native.Mathlib.Omega.{arith}
-use Prim.Native.Nat.{ℕ, _≤_, _^_}
-use lib.Dec.{T, le→leb}
-use lib.IntN.{pos}
-use lib.Ieee.{Float, binary64, inFloat}
+use lib.Dec.{le→leb}
+use lib.Ieee.{inFloat}
 use Rattle.numbers.proofs.NoNan.{real-pattern}
 use Rattle.rules.specs.F64.{f64, _+₆₄_, _-₆₄_, _*₆₄_}
 use Rattle.logs.specs.Tables.{twoHigh, twoLow}
 use Rattle.logs.specs.declared.table.Row.{Row}
-use Rattle.logs.specs.Log10.{exponentOf, mantissaOf, restOf, highOf, lowOf, summed, logOfBits}
+use Rattle.logs.specs.Log10.{exponentOf, mantissaOf, offCentre, highOf, lowOf, summed, logOfBits}
 use Rattle.logs.proofs.log_of_bits.Statement.{statement}
 use Rattle.logs.proofs.log_of_bits.Tie as tie
 
@@ -26,7 +24,7 @@ float-from-bits-m : tie.Need-float-from-bits-m
 float-from-bits-m c = real-pattern binary64 _ (omega arith)
 
 returns : tie.Need-returns
-unfolding logOfBits restOf highOf lowOf
+unfolding logOfBits offCentre highOf lowOf
 returns c =
     let bits = c .before .before .before .before .before .before .args .bits in
     let by : Row → Float = λ w. summed (exponentOf bits *₆₄ twoHigh +₆₄ w .high) (exponentOf bits *₆₄ twoLow +₆₄ w .low) (mantissaOf bits *₆₄ w .centre -₆₄ f64 0x3FF0000000000000) in

@@ -1,12 +1,10 @@
 -- `logs::logs` meets its contract: the first i places hold the logarithms of the first i sums. Assumes nothing.
-use mathlib.Core.Path.{_≡_, refl}
-use Prim.Native.Nat.{_≤_, _-_}
+use Rattle.rules.proofs.Common.{_-_, _≤_, _≡_, refl, length}
 use native.Mathlib.Omega.{arith}
-use lib.ListN.{length}
 use Rattle.rules.specs.F32.{at}
 use Rattle.rules.specs.Leaf.{done, refused}
-use Rattle.rules.proofs.Filling.{Filling, fills, filling-ended}
-use Rattle.rules.proofs.Leaves.{leaves}
+use Rattle.rules.proofs.Lists.{Filling, fills, filling-ended}
+use Rattle.rules.proofs.Refusals.{leaves}
 use Rattle.logs.specs.Log10.{log10Of, logsOf}
 use Rattle.logs.proofs.logs.Statement.{statement}
 use Rattle.logs.proofs.logs.Tie as tie

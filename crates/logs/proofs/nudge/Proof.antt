@@ -1,9 +1,7 @@
 -- `logs::nudge` meets its contract: each way through it is a case of proofs/Nudged. Assumes nothing.
 use borrow.Author.Needs.{needs}
-use mathlib.Core.Path.{sym, subst}
-use mathlib.Core.Bool.{true, false}
-use lib.Dec.{T}
-use lib.Ieee.{Float, binary64, fits}
+use Rattle.rules.proofs.Common.{true, false, sym, subst, T, Float, binary64}
+use lib.Ieee.{fits}
 use lib.Ieee.Compare.{differs-from-itself}
 use Rattle.numbers.proofs.NoNan.{real-of}
 use Rattle.rules.specs.F64.{_-₆₄_}

@@ -1,14 +1,11 @@
 -- The loop's invariant: the numbers passed are those of their lines, and the rest is as it was. Assumes nothing.
-use mathlib.Core.Path.{_≡_, sym, _∙_}
-use mathlib.Core.List.{_++_}
-use Prim.Native.Nat.{_≤_, _-_, _/_, _%_}
+use Rattle.rules.proofs.Common.{_-_, _/_, _%_, _≤_, _++_, _≡_, sym, _∙_, length, drop, length-set}
 use native.Mathlib.Nat.{mod-lt}
 use native.Mathlib.Omega.{arith}
 use borrow.Author.Needs.{needs}
 use denote.Ref.{now}
-use lib.ListN.{length, drop, length-set}
 use Rattle.rules.specs.Tab.{tab}
-use Rattle.rules.proofs.Tabs.{tab-none, tab-more, tab-done}
+use Rattle.rules.proofs.Lists.{tab-none, tab-more, tab-done}
 use Rattle.model.specs.Model.{readOf}
 use Rattle.model.specs.Summary.{numberIn}
 use Rattle.model.proofs.Bounds.{line-small}

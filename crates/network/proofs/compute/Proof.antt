@@ -1,50 +1,69 @@
--- `network::compute` meets its contract: a refusal by the test that failed, else what the six layers leave. Assumes nothing.
-use mathlib.Core.Path.{sym, _∙_}
+-- `network::compute` meets its contract. Assumes nothing.
+use Rattle.rules.proofs.Common.{ℕ, _+_, _≤_, _≡_, refl, sym, _∙_, length}
+use native.Mathlib.Omega.{arith}
 use borrow.Author.Needs.{needs}
-use Rattle.network.proofs.Callers.{computed-wrong, computed-misread, computed-done}
+use Rattle.rules.specs.F32.{part}
+use Rattle.rules.proofs.Refusals.{left as fitted}
+use Rattle.network.proofs.Parts.{cut-length}
+use Rattle.network.proofs.Callers.{computed-wrong}
+use Rattle.network.proofs.States.{joined-in, parted}
 use Rattle.network.proofs.compute.Statement.{statement}
 use Rattle.network.proofs.compute.Tie as tie
 
--- `e` is where the lengths are known, `r` where the model was read
-frame-requires : tie.Need-frame-requires
-frame-requires c κs =
-    let r = c .before .before .before .before .before .before .before .before in
-    let e = r .before in
-    (sym (r .read .ensures) ∙ c .before .before .before .before .before .before .m .given .1, record { gained = e .before .before .before .before .before .if1 .left; voiced = e .before .before .before .before .if2 .left; first = e .before .before .before .if3 .left; second = e .before .before .if4 .left; third = e .before .if5 .left; featured = e .if6 .left })
+returns : tie.Need-returns
+returns c =
+    computed-wrong _ _ _ _ _ _ _ (λ fits. c .if1 .taken (fits .first))
 
-returns-7 : tie.Need-returns-7
-returns-7 c =
-    let f = c .before .before .before .before .before .before .before .before .before .before in
-    let r = f .before .before .before .before .before .before .before .before .before in
-    let e = r .before in
-    computed-done _ _ _ _ _ _ _ (record { gained = e .before .before .before .before .before .if1 .left; voiced = e .before .before .before .before .if2 .left; first = e .before .before .before .if3 .left; second = e .before .before .if4 .left; third = e .before .if5 .left; featured = e .if6 .left })
-    (sym (r .read .ensures) ∙ f .before .before .before .before .before .before .before .m .given .1) (f .frame .ensures)
+returns-2 : tie.Need-returns-2
+returns-2 c =
+    computed-wrong _ _ _ _ _ _ _ (λ fits. c .if2 .taken (fits .second))
 
-returns-8 : tie.Need-returns-8
-returns-8 c =
-    let r = c .before .before .before in
-    let e = r .before in
-    computed-misread _ _ _ _ _ _ _ (record { gained = e .before .before .before .before .before .if1 .left; voiced = e .before .before .before .before .if2 .left; first = e .before .before .before .if3 .left; second = e .before .before .if4 .left; third = e .before .if5 .left; featured = e .if6 .left })
-    (sym (r .read .ensures) ∙ c .before .number .given .1)
+returns-3 : tie.Need-returns-3
+returns-3 c =
+    computed-wrong _ _ _ _ _ _ _ (λ fits. c .if3 .taken (fits .third))
+
+returns-4 : tie.Need-returns-4
+returns-4 c =
+    let o = c .before .before .before .before .before .before .before .before .before .before .before .before .before .before .before .before .before .before .before .before .before .before .before in
+    let j = o .before .before .before .before .before in
+    let e = j .before .before .before .before .before in
+    let a = e .before .before .before .before .before .before .before .before .before .before .args in
+    let s = o .compute-on .last .1 .1 .0 in
+    let whole : length s ≡ 384 = o .compute-on .kept .1 .1 .0 ∙ j .join .kept .0 in
+    let part-of : (k : ℕ) → k + 128 ≤ 384 → 128 ≡ length (part k (k + 128) s) = λ k h. sym (cut-length s k (k + 128) 128 refl (omega (arith, whole))) in
+    let lv = e .before .before .if1 .left in
+    let ln = e .before .if2 .left in
+    let ld = e .if3 .left in
+    let was = joined-in (a .vad .now) (a .noise .now) (a .denoise .now) (j .join .last .0) lv ln ld (j .join .kept .0) (j .join .ensures) in
+    parted s whole (fitted (c .before .before .before .before .before .before .before .before .before .before .before .before .before .before .copy .ensures) (lv ∙ part-of 0 (omega arith))) (fitted (c .before .before .before .before .before .before .before .before .copy2 .ensures) (ln ∙ part-of 128 (omega arith)))
+    (fitted (c .before .before .copy3 .ensures) (ld ∙ part-of 256 (omega arith))) (rw (was .0, was .1, was .2) at (o .compute-on .ensures))
 
 pub compute-spec : {M : Type 1} → statement M
 compute-spec =
     tie.close
     (tie.spec
-    (λ c. computed-wrong _ _ _ _ _ _ _ (λ fits. c .if1 .taken (fits .gained)))  -- returns
-    (λ c. computed-wrong _ _ _ _ _ _ _ (λ fits. c .if2 .taken (fits .voiced)))  -- returns-2
-    (λ c. computed-wrong _ _ _ _ _ _ _ (λ fits. c .if3 .taken (fits .first)))  -- returns-3
-    (λ c. computed-wrong _ _ _ _ _ _ _ (λ fits. c .if4 .taken (fits .second)))  -- returns-4
-    (λ c. computed-wrong _ _ _ _ _ _ _ (λ fits. c .if5 .taken (fits .third)))  -- returns-5
-    (λ c. computed-wrong _ _ _ _ _ _ _ (λ fits. c .if6 .taken (fits .featured)))  -- returns-6
-    (λ c κs. search needs)  -- read-requires
-    (λ c. search needs)  -- enum-known-m
-    frame-requires
-    (λ c. search needs)  -- enum-known-number
+    returns
+    returns-2
+    returns-3
+    (λ c. search needs)  -- slice-aggregate-join
+    (λ c κs. search needs)  -- join-requires
+    (λ c. search needs)  -- slice-aggregate-compute-on
+    (λ c κs. search needs)  -- compute-on-requires
+    (λ c. search needs)  -- sub-copy
+    (λ c. search needs)  -- part-copy-start
+    (λ c. search needs)  -- part-copy-end
+    (λ c κs. search needs)  -- copy-requires
+    (λ c. search needs)  -- sub-copy-2
+    (λ c. search needs)  -- part-copy-start-2
+    (λ c. search needs)  -- part-copy-end-2
+    (λ c κs. search needs)  -- copy-requires-2
+    (λ c. search needs)  -- sub-copy-3
+    (λ c. search needs)  -- part-copy-start-3
+    (λ c. search needs)  -- part-copy-end-3
+    (λ c κs. search needs)  -- copy-requires-3
     (λ c. search needs)  -- same-length
     (λ c. search needs)  -- same-length-2
     (λ c. search needs)  -- same-length-3
     (λ c. search needs)  -- same-length-4
     (λ c. search needs)  -- same-length-5
-    returns-7
-    returns-8)
+    returns-4)

@@ -1,7 +1,5 @@
 -- `numbers::ended` meets its contract. Assumes nothing.
-use mathlib.Core.Path.{_≡_}
-use mathlib.Core.Bool.{true, false, not}
-use lib.Ieee.{Float, lt, neg}
+use Rattle.rules.proofs.Common.{true, false, not, _≡_, Float, lt, neg}
 use borrow.Author.Tests.{not-true, not-false}
 use Rattle.rules.specs.F32.{f32}
 use Rattle.numbers.proofs.NoNan.{nan-test}

@@ -1,6 +1,5 @@
 -- `numbers::root_digits` meets its contract: what passes the tests is nearest to the root, and there is only one such number. Assumes nothing.
-use mathlib.Core.Path.{_≡_, ap, _∙_}
-use Prim.Native.Nat.{ℕ, _+_, _*_, _-_, _^_, _<_}
+use Rattle.rules.proofs.Common.{ℕ, _+_, _-_, _*_, _^_, _<_, _≡_, ap, _∙_}
 use native.Mathlib.Nat.{le-of-lt}
 use native.Mathlib.Omega.{arith}
 use borrow.Author.Needs.{needs}

@@ -1,14 +1,11 @@
 -- `numbers::shortened` meets its contract. Assumes nothing.
-use mathlib.Core.Path.{_≡_, sym, ap, _∙_, subst}
-use mathlib.Core.Bool.{not}
-use Prim.Native.Nat.{ℕ, _*_, _^_, _≤_}
+use Rattle.rules.proofs.Common.{ℕ, _*_, _^_, _≤_, not, _≡_, sym, ap, subst, _∙_, T, binary64}
 use native.Mathlib.Omega.{arith}
 use borrow.Author.Needs.{needs}
 use mir.Syntax.{w64}
 use mir.Val.{Fits}
-use lib.Dec.{T}
 use lib.Pow.{pow-pos}
-use lib.Ieee.{binary64, fits, div, nanBits, ofBits, toBits}
+use lib.Ieee.{fits, div, nanBits, ofBits, toBits}
 use lib.Ieee.Compare.{differs-from-itself}
 use lib.Ieee.Nearest.{closest, closest-mono}
 use Rattle.numbers.specs.Narrowed.{narrowed}

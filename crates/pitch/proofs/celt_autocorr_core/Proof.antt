@@ -1,8 +1,6 @@
 -- `pitch::celt_autocorr_core` meets its contract. Assumes nothing.
-use mathlib.Core.Path.{_≡_, sym, ap, _∙_}
-use Prim.Native.Nat.{_-_}
+use Rattle.rules.proofs.Common.{_-_, _≡_, sym, ap, _∙_, length, take}
 use native.Mathlib.Omega.{arith}
-use lib.ListN.{length, take}
 use lib.Seq.{length-take-le}
 use borrow.Author.Needs.{needs}
 use Rattle.pitch.specs.Autocorr.{addTails, celtAutocorr}

@@ -1,15 +1,11 @@
 -- `pitch::fade_coefficients` meets its contract. Assumes nothing.
-use mathlib.Core.Path.{_≡_, refl, _∙_}
-use mathlib.Core.List.{_++_}
-use Prim.Native.Nat.{_≤_, _+_, _-_}
+use Rattle.rules.proofs.Common.{_+_, _-_, _≤_, _++_, _≡_, refl, _∙_, length, drop, length-set, nan}
 use native.Mathlib.Omega.{arith}
 use denote.Ref.{now}
-use lib.Ieee.{nan}
-use lib.ListN.{length, length-set, drop}
 use Rattle.rules.specs.F32.{at, _⊗_}
 use Rattle.rules.specs.Tab.{tab}
 use Rattle.rules.proofs.Loops.{turns, begin, more}
-use Rattle.rules.proofs.Tabs.{tab-none, tab-more, tab-still, tab-done}
+use Rattle.rules.proofs.Lists.{tab-none, tab-more, tab-still, tab-done}
 use Rattle.pitch.specs.Downsample.{fade, fadeStep, fadedLpc}
 use Rattle.pitch.proofs.fade_coefficients.Statement.{statement}
 use Rattle.pitch.proofs.fade_coefficients.Tie as tie

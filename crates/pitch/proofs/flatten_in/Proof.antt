@@ -1,9 +1,6 @@
 -- `pitch::flatten_in` meets its contract: each call's result is the next one's argument. Assumes nothing.
-use mathlib.Core.Path.{_≡_}
-use mathlib.Core.List.{List}
-use Prim.Native.Nat.{ℕ}
+use Rattle.rules.proofs.Common.{ℕ, List, _≡_, Float}
 use borrow.Author.Needs.{needs}
-use lib.Ieee.{Float}
 use Rattle.pitch.specs.Autocorr.{celtAutocorr}
 use Rattle.pitch.specs.Lpc.{lpcOf}
 use Rattle.pitch.specs.Downsample.{floored, fadedLpc, withZero, coefficients}

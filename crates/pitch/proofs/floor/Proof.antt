@@ -1,15 +1,11 @@
 -- `pitch::floor` meets its contract. Assumes nothing.
-use mathlib.Core.Path.{_≡_, _∙_}
-use mathlib.Core.List.{_++_}
-use Prim.Native.Nat.{_≤_, _-_}
+use Rattle.rules.proofs.Common.{_-_, _≤_, _++_, _≡_, _∙_, length, drop, length-set, nan}
 use native.Mathlib.Omega.{arith}
 use denote.Ref.{now}
-use lib.Ieee.{nan}
-use lib.ListN.{length, length-set, drop}
 use Rattle.rules.specs.F32.{at}
 use Rattle.rules.specs.Tab.{tab}
 use Rattle.rules.proofs.Loops.{turns}
-use Rattle.rules.proofs.Tabs.{tab-none, tab-more, tab-still, tab-done}
+use Rattle.rules.proofs.Lists.{tab-none, tab-more, tab-still, tab-done}
 use Rattle.pitch.specs.Downsample.{flooredAt, floored}
 use Rattle.pitch.proofs.floor.Statement.{statement}
 use Rattle.pitch.proofs.floor.Tie as tie

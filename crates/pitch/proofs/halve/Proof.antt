@@ -1,12 +1,9 @@
 -- `pitch::halve` meets its contract. Assumes nothing.
-use mathlib.Core.Path.{_≡_, refl, _∙_}
-use mathlib.Core.List.{_++_}
-use Prim.Native.Nat.{_≤_, _-_}
+use Rattle.rules.proofs.Common.{_-_, _≤_, _++_, _≡_, refl, _∙_, length, drop, length-set}
 use native.Mathlib.Omega.{arith}
-use lib.ListN.{length, length-set, drop}
 use Rattle.rules.specs.Tab.{tab}
 use Rattle.rules.proofs.Loops.{turns}
-use Rattle.rules.proofs.Tabs.{tab-none, tab-more, tab-done}
+use Rattle.rules.proofs.Lists.{tab-none, tab-more, tab-done}
 use Rattle.pitch.specs.Downsample.{halvedAt, halved}
 use Rattle.pitch.proofs.halve.Statement.{statement}
 use Rattle.pitch.proofs.halve.Tie as tie

@@ -2,7 +2,7 @@
 use mathlib.Core.Path.{refl}
 use borrow.Author.Needs.{needs}
 use Rattle.rules.specs.Leaf.{done, refused}
-use Rattle.rules.proofs.Leaves.{leaves}
+use Rattle.rules.proofs.Refusals.{leaves}
 use Rattle.pitch.proofs.pitch_downsample.Statement.{statement}
 use Rattle.pitch.proofs.pitch_downsample.Tie as tie
 

@@ -1,8 +1,6 @@
 -- `pitch::pitch_downsample_core` meets its contract. Assumes nothing.
-use mathlib.Core.Path.{_≡_}
-use mathlib.Core.List.{List}
+use Rattle.rules.proofs.Common.{List, _≡_, Float}
 use borrow.Author.Needs.{needs}
-use lib.Ieee.{Float}
 use Rattle.pitch.specs.Fir.{fir5}
 use Rattle.pitch.specs.Downsample.{halved, coefficients, downsampled}
 use Rattle.pitch.proofs.pitch_downsample_core.Statement.{statement}

@@ -1,13 +1,10 @@
 -- `pitch::pitch_xcorr` meets its contract. Assumes nothing.
-use mathlib.Core.Path.{_≡_, refl}
-use mathlib.Core.List.{List, [], _∷_}
+use Rattle.rules.proofs.Common.{List, [], _∷_, _≡_, refl, length, Float}
 use native.Mathlib.Omega.{arith}
-use lib.Ieee.{Float}
-use lib.ListN.{length}
 use borrow.Author.Needs.{needs}
 use Rattle.rules.specs.Tab.{tab}
 use Rattle.rules.specs.Leaf.{done, refused}
-use Rattle.rules.proofs.Leaves.{leaves}
+use Rattle.rules.proofs.Refusals.{leaves}
 use Rattle.pitch.specs.Xcorr.{pitchXcorr}
 use Rattle.pitch.proofs.pitch_xcorr.Statement.{statement}
 use Rattle.pitch.proofs.pitch_xcorr.Tie as tie

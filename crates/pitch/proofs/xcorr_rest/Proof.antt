@@ -1,13 +1,10 @@
 -- `pitch::xcorr_rest` meets its contract. Assumes nothing.
-use mathlib.Core.Path.{_≡_, refl, _∙_}
-use mathlib.Core.List.{_++_}
-use Prim.Native.Nat.{_≤_, _-_}
+use Rattle.rules.proofs.Common.{_-_, _≤_, _++_, _≡_, refl, _∙_, length, drop, length-set}
 use native.Mathlib.Omega.{arith}
 use denote.Ref.{now}
-use lib.ListN.{length, length-set, drop}
 use Rattle.rules.specs.Tab.{tab}
 use Rattle.rules.proofs.Loops.{turns}
-use Rattle.rules.proofs.Tabs.{tab-front, tab-more, tab-done}
+use Rattle.rules.proofs.Lists.{tab-front, tab-more, tab-done}
 use Rattle.pitch.specs.Xcorr.{lagOf, pitchXcorr}
 use Rattle.pitch.proofs.Starts.{behind-fours}
 use Rattle.pitch.proofs.xcorr_rest.Statement.{statement}

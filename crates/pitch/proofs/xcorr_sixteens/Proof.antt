@@ -1,12 +1,9 @@
 -- `pitch::xcorr_sixteens` meets its contract. Assumes nothing.
-use mathlib.Core.Path.{_≡_, refl}
-use Prim.Native.Nat.{_≤_, _+_, _-_, _*_, _/_}
+use Rattle.rules.proofs.Common.{_+_, _-_, _*_, _/_, _≤_, _≡_, refl, length}
 use native.Mathlib.Omega.{arith}
 use denote.Ref.{now}
-use lib.ListN.{length}
 use Rattle.rules.proofs.Loops.{turns}
-use Rattle.rules.proofs.Filling.{Filling, filling-begin}
-use Rattle.rules.proofs.Tabs.{front-tab}
+use Rattle.rules.proofs.Lists.{Filling, filling-begin, front-tab}
 use Rattle.pitch.specs.Xcorr.{lagOf}
 use Rattle.pitch.specs.Parts.{wholeSixteens}
 use Rattle.pitch.proofs.Sums.{sixteen-stored}

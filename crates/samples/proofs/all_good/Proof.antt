@@ -1,9 +1,7 @@
 -- `samples::all_good` meets its contract. Assumes nothing.
-use mathlib.Core.Path.{_≡_, refl}
-use Prim.Native.Nat.{_≤_, _-_}
+use Rattle.rules.proofs.Common.{_-_, _≤_, _≡_, refl, length, drop}
 use native.Mathlib.Omega.{arith}
 use borrow.Author.Tests.{not-true, not-false}
-use lib.ListN.{length, drop}
 use Rattle.rules.proofs.Loops.{turns}
 use Rattle.samples.specs.Samples.{good}
 use Rattle.samples.proofs.Passed.{too-low, too-high, one-more, all-passed}

@@ -1,8 +1,7 @@
-use mathlib.Core.Path.{_∙_}
+use Rattle.rules.proofs.Common.{_∙_, length-take}
 use native.Mathlib.Omega.{arith}
 use borrow.Author.Needs.{needs}
 use denote.Ref.{now}
-use lib.ListN.{length-take}
 use Rattle.sheet.proofs.Laying.{closing}
 use Rattle.sheet.proofs.close.Statement.{statement}
 use Rattle.sheet.proofs.close.Tie as tie

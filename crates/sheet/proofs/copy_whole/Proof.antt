@@ -1,12 +1,10 @@
-use mathlib.Core.Path.{refl}
-use mathlib.Core.List.{[], _∷_}
+use Rattle.rules.proofs.Common.{[], _∷_, refl, length, length-take}
 use native.Mathlib.Omega.{arith}
 use borrow.Author.Needs.{needs}
 use borrow.Author.Tests.{lt-ltb, le-ltb}
 use denote.Ref.{now}
-use lib.ListN.{length, length-take}
-use Rattle.rules.proofs.Leaves.{leave-both}
-use Rattle.rules.proofs.Stores.{all-stored}
+use Rattle.rules.proofs.Refusals.{leave-both}
+use Rattle.rules.proofs.Places.{all-stored}
 use Rattle.sheet.proofs.copy_whole.Statement.{statement}
 use Rattle.sheet.proofs.copy_whole.Tie as tie
 

@@ -1,8 +1,7 @@
-use mathlib.Core.Path.{_≡_, refl, sym, ap, _∙_}
-use Prim.Native.Nat.{_≤_, _-_}
+use Rattle.rules.proofs.Common.{_-_, _≤_, _≡_, refl, sym, ap, _∙_, length, drop}
 use native.Mathlib.Omega.{arith}
 use borrow.Author.Needs.{needs}
-use lib.ListN.{length, drop, drop-of-length-le}
+use lib.ListN.{drop-of-length-le}
 use Rattle.sheet.specs.Written.{kinds}
 use Rattle.sheet.proofs.Runs.{kinds-none, kinds-more, kinds-stop}
 use Rattle.sheet.proofs.kinds_good.Statement.{statement}

@@ -1,15 +1,12 @@
-use mathlib.Core.Path.{_≡_, sym, ap, _∙_}
-use mathlib.Core.List.{[], _∷_, _++_}
-use Prim.Native.Nat.{_+_, _*_, _≤_}
+use Rattle.rules.proofs.Common.{_+_, _*_, _≤_, [], _∷_, _++_, _≡_, sym, ap, _∙_, length, take, drop, length-set, length-take}
 use native.Mathlib.Omega.{arith}
 use borrow.Author.Needs.{needs}
 use borrow.Author.Tests.{lt-ltb, le-ltb, eq-eqb, ne-eqb}
 use denote.Ref.{now}
-use lib.ListN.{length, take, drop, length-take, length-set}
 use lib.Seq.{getD-drop}
 use Rattle.rules.specs.Lists.{Bytes}
-use Rattle.rules.proofs.Leaves.{leave-both}
-use Rattle.rules.proofs.Stores.{all-stored}
+use Rattle.rules.proofs.Refusals.{leave-both}
+use Rattle.rules.proofs.Places.{all-stored}
 use Rattle.sheet.specs.Sheet.{bytesOf}
 use Rattle.sheet.specs.Mended.{kept, torn, mendOf}
 use Rattle.sheet.proofs.Kept.{kept-known}

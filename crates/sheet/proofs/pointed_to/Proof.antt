@@ -1,11 +1,9 @@
 -- `at` is where the side is asked, behind both tests of the distance. Assumes nothing.
-use mathlib.Core.Path.{sym, _∙_}
-use Prim.Native.Nat.{_+_, _-_}
+use Rattle.rules.proofs.Common.{_+_, _-_, sym, _∙_, length}
 use native.Mathlib.Omega.{arith}
 use borrow.Author.Needs.{needs}
 use borrow.Author.Tests.{not-true, not-false}
 use denote.Ref.{now}
-use lib.ListN.{length}
 use Rattle.sheet.proofs.Halves.{distance-is, number-is, side-is, padded-is, at-31, at-32, at-32′, at-33, at-33′, at-good}
 use Rattle.sheet.proofs.pointed_to.Statement.{statement}
 use Rattle.sheet.proofs.pointed_to.Tie as tie

@@ -1,5 +1,4 @@
-use mathlib.Core.Path.{_≡_}
-use Prim.Native.Nat.{_%_}
+use Rattle.rules.proofs.Common.{_%_, _≡_}
 use native.Mathlib.Omega.{arith}
 use borrow.Author.Needs.{needs}
 use Rattle.sheet.specs.Sheet.{four, kind, recordOf}

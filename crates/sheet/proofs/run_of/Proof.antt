@@ -1,6 +1,5 @@
 -- The loop's invariant: the run is the records passed and the run behind them. Assumes nothing.
-use mathlib.Core.Path.{_≡_, sym, _∙_}
-use Prim.Native.Nat.{_-_, _≤_}
+use Rattle.rules.proofs.Common.{_-_, _≤_, _≡_, sym, _∙_}
 use native.Mathlib.Omega.{arith}
 use borrow.Author.Needs.{needs}
 use borrow.Author.Tests.{not-true, not-false}

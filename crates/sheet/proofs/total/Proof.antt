@@ -1,8 +1,6 @@
-use mathlib.Core.Path.{_≡_, refl, ap, _∙_}
-use Prim.Native.Nat.{_*_, _-_, _≤_}
+use Rattle.rules.proofs.Common.{_-_, _*_, _≤_, _≡_, refl, ap, _∙_, length, take}
 use native.Mathlib.Omega.{arith}
 use borrow.Author.Needs.{needs}
-use lib.ListN.{length, take}
 use lib.Seq.{take-all}
 use Rattle.rules.specs.Lists.{sum}
 use Rattle.sheet.proofs.Runs.{sum-more}

@@ -1,10 +1,9 @@
-use mathlib.Core.Path.{sym, _∙_}
+use Rattle.rules.proofs.Common.{sym, _∙_, length-take}
 use native.Mathlib.Omega.{arith}
 use borrow.Author.Needs.{needs}
 use borrow.Author.Tests.{lt-ltb, le-ltb, not-true, not-false}
 use denote.Ref.{now}
-use lib.ListN.{length-take}
-use Rattle.rules.proofs.Leaves.{leaves}
+use Rattle.rules.proofs.Refusals.{leaves}
 use Rattle.rules.proofs.Tests.{tests}
 use Rattle.sheet.specs.Written.{writtenOf}
 use Rattle.sheet.proofs.Runs.{all-heard}

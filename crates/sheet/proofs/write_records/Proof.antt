@@ -1,9 +1,7 @@
 -- The loop's invariant: the first i records stand in front, and the rest is as it was. Assumes nothing.
-use mathlib.Core.Path.{_≡_, refl, ap, _∙_}
-use Prim.Native.Nat.{_+_, _*_, _-_, _≤_}
+use Rattle.rules.proofs.Common.{_+_, _-_, _*_, _≤_, _≡_, refl, ap, _∙_, length, length-take, length-drop}
 use native.Mathlib.Omega.{arith}
 use denote.Ref.{now}
-use lib.ListN.{length, length-take, length-drop}
 use Rattle.rules.proofs.Loops.{turns}
 use Rattle.sheet.proofs.Laying.{length-record, laid, length-laid, lay-more, lay-ended}
 use Rattle.sheet.proofs.write_records.Statement.{statement}

@@ -1,10 +1,7 @@
 -- `hearing_in` meets its contract. Assumes nothing.
 use borrow.Author.Needs.{needs}
-use Prim.Native.Nat.{ℕ}
-use mathlib.Core.List.{List}
-use mathlib.Core.Path.{_≡_}
+use Rattle.rules.proofs.Common.{ℕ, List, _≡_, getD}
 use denote.Ref.{now}
-use lib.ListN.{getD}
 use Rattle.frame.specs.declared.Way.{Way}
 use Rattle.desk.specs.Surface.{wayIn, hearingIn}
 use Rattle.export.proofs.of_desk.hearing_in.Statement.{statement}

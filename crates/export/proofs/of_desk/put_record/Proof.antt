@@ -1,18 +1,17 @@
 -- `put_record` meets its contract. Assumes nothing.
 use borrow.Author.Needs.{needs}
-use mathlib.Core.Path.{refl}
 use native.Mathlib.Omega.{arith}
 use lib.ListN.{length-set}
 use denote.Ref.{now}
-use Rattle.rules.proofs.Wholes.{sets-whole}
-use Rattle.desk.specs.Surface.{RECORD, numbersOf}
+use Rattle.rules.proofs.Places.{all-stored}
+use Rattle.desk.specs.Surface.{numbersOf}
 use Rattle.export.proofs.of_desk.put_record.Statement.{statement}
 use Rattle.export.proofs.of_desk.put_record.Tie as tie
 
 returns : tie.Need-returns
 returns c =
     let start = c .before .before .before .before .before .before .before .before .before .before .before in
-    rw (c .way-number .ensures) (sets-whole (now (start .args .«record»)) RECORD (start .pre .0) (numbersOf (start .args .rec)) refl)
+    rw (c .way-number .ensures) (all-stored (now (start .args .«record»)) (numbersOf (start .args .rec)) (start .pre .0))
 
 pub put-record-spec : {M : Type 1} → statement M
 put-record-spec =

@@ -1,10 +1,7 @@
 -- `record_in` meets its contract. Assumes nothing.
 use borrow.Author.Needs.{needs}
 use borrow.Author.Tests.{eq-eqb, le-leb}
-use Prim.Native.Nat.{ℕ, _≤_}
-use mathlib.Core.List.{List}
-use mathlib.Core.Path.{_≡_}
-use lib.ListN.{length, getD}
+use Rattle.rules.proofs.Common.{ℕ, _≤_, List, _≡_, length, getD}
 use Rattle.rules.proofs.Tests.{tests}
 use Rattle.frame.specs.declared.Hearing.{Hearing}
 use Rattle.desk.specs.declared.Record.{Record}

@@ -1,14 +1,11 @@
 -- `tell` meets its contract. Assumes nothing.
 use borrow.Author.Needs.{needs}
-use mathlib.Core.Bool.{true}
-use mathlib.Core.List.{[], _∷_}
-use mathlib.Core.Path.{_≡_, refl, _∙_}
+use Rattle.rules.proofs.Common.{true, [], _∷_, _≡_, _∙_, length, length-set}
 use native.Mathlib.Omega.{arith}
 use denote.Ref.{now}
-use lib.ListN.{length, length-set}
 use Rattle.frame.specs.Reply.{passed}
 use Rattle.rules.proofs.Tests.{answered-no, answered-yes}
-use Rattle.rules.proofs.Wholes.{sets-whole}
+use Rattle.rules.proofs.Places.{all-stored}
 use Rattle.export.proofs.of_desk.tell.Statement.{statement}
 use Rattle.export.proofs.of_desk.tell.Tie as tie
 
@@ -21,7 +18,7 @@ sized c = c .before .before .before .before .pre (done c)
 returns-2 : tie.Need-returns-2
 returns-2 c =
     let three = c .three-of .result in
-    rw (done c) (sets-whole (now (c .before .before .before .before .args .answer)) 3 (sized c) (three .heard ∷ three .voice ∷ three .energy ∷ []) refl ∙ c .three-of .ensures)
+    rw (done c) (all-stored (now (c .before .before .before .before .args .answer)) (three .heard ∷ three .voice ∷ three .energy ∷ []) (sized c) ∙ c .three-of .ensures)
 
 pub tell-spec : {M : Type 1} → statement M
 tell-spec =

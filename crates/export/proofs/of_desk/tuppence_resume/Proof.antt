@@ -1,10 +1,8 @@
 -- `tuppence_resume` meets its contract: it is the call of the desk, and its answer is handed back as numbers. Assumes nothing.
-use mathlib.Core.List.{[], _∷_}
-use mathlib.Core.Path.{refl}
+use Rattle.rules.proofs.Common.{[], _∷_, refl, length}
 use native.Mathlib.Omega.{arith}
 use borrow.Author.Needs.{needs}
 use denote.Ref.{now}
-use lib.ListN.{length}
 use Rattle.rules.specs.Place.{get, put}
 use Rattle.desk.specs.Gate.{BENCHES}
 use Rattle.desk.specs.Desk.{resume}

@@ -1,12 +1,7 @@
 -- `tuppence_feed` meets its contract: it is a feed, and its answer is handed back as numbers. Assumes nothing.
-use Prim.Native.Nat.{ℕ}
-use mathlib.Core.Bool.{cond}
-use mathlib.Core.List.{List}
-use mathlib.Core.Path.{_≡_}
+use Rattle.rules.proofs.Common.{ℕ, cond, List, _≡_, length, Float}
 use borrow.Author.Needs.{needs}
 use denote.Ref.{now}
-use lib.ListN.{length}
-use lib.Ieee.{Float}
 use Rattle.frame.specs.Reply.{passed}
 use Rattle.desk.specs.declared.Answer.{Answer}
 use Rattle.desk.specs.declared.Record.{Record}

@@ -1,15 +1,11 @@
 -- `tuppence_find` meets its contract: a period is at most 767, so that nothing is lost in 32 bits, nor in an f32. Assumes nothing.
-use mathlib.Core.Path.{_≡_, refl, sym, ap, _∙_}
-use Prim.Native.Nat.{ℕ, _≤_}
+use Rattle.rules.proofs.Common.{ℕ, _≤_, _≡_, refl, sym, ap, _∙_, length, length-set, pos, binary32, ofInt}
 use native.Mathlib.Omega.{arith}
 use borrow.Author.Needs.{needs}
 use denote.Ref.{now}
-use lib.IntN.{pos}
-use lib.Ieee.{binary32, ofInt}
-use lib.ListN.{length, length-set}
 use Rattle.rules.specs.F32.{at}
 use Rattle.rules.specs.Leaf.{done, refused}
-use Rattle.rules.proofs.Leaves.{leave-both}
+use Rattle.rules.proofs.Refusals.{leave-both}
 use Rattle.rules.proofs.Numbers.{casts}
 use Rattle.finder.specs.Finder.{foundNumber, periodIn, gainIn}
 use Rattle.finder.specs.declared.Found.{Found}

@@ -1,11 +1,10 @@
 -- `tuppence_lag` meets its contract: a lag is at most 768, so that nothing is lost in 32 bits. Assumes nothing.
-use mathlib.Core.Path.{_≡_, refl, sym, ap, _∙_}
+use Rattle.rules.proofs.Common.{_≡_, refl, sym, ap, _∙_, length}
 use native.Mathlib.Omega.{arith}
 use borrow.Author.Needs.{needs}
 use denote.Ref.{now}
-use lib.ListN.{length}
 use Rattle.rules.specs.Leaf.{done, refused}
-use Rattle.rules.proofs.Leaves.{leaves}
+use Rattle.rules.proofs.Refusals.{leaves}
 use Rattle.lag.specs.Lag.{ownNumber, lagIn, ownLag}
 use Rattle.lag.proofs.Ranges.{in-range}
 use Rattle.export.proofs.Answers.{turned-down, taken-up, stored}

@@ -1,11 +1,10 @@
 -- `tuppence_filter` meets its contract. Assumes nothing.
-use mathlib.Core.Path.{refl}
+use Rattle.rules.proofs.Common.{refl, length, length-set}
 use native.Mathlib.Omega.{arith}
 use borrow.Author.Needs.{needs}
 use denote.Ref.{now}
-use lib.ListN.{length, length-set}
 use Rattle.rules.specs.Leaf.{done, refused}
-use Rattle.rules.proofs.Stores.{all-stored}
+use Rattle.rules.proofs.Places.{all-stored}
 use Rattle.numbers.proofs.Outputs.{filters}
 use Rattle.numbers.specs.Filter.{memoryOf, memoryList}
 use Rattle.export.specs.OfNumbers.{BiquadFits, biquadOf}

@@ -1,11 +1,10 @@
 -- `tuppence_find_best_pitch` meets its contract. Assumes nothing.
-use mathlib.Core.Path.{_≡_, refl, sym, ap, _∙_}
+use Rattle.rules.proofs.Common.{_≡_, refl, sym, ap, _∙_, length, length-set}
 use native.Mathlib.Omega.{arith}
 use borrow.Author.Needs.{needs}
 use denote.Ref.{now}
-use lib.ListN.{length, length-set}
 use Rattle.rules.specs.Leaf.{done, refused}
-use Rattle.rules.proofs.Leaves.{leaves}
+use Rattle.rules.proofs.Refusals.{leaves}
 use Rattle.pitch_search.specs.Best.{pitchesNumber, firstOf, secondOf}
 use Rattle.export.proofs.Answers.{turned-down, taken-up, stored-two}
 use Rattle.export.proofs.of_pitch.tuppence_find_best_pitch.Statement.{statement}

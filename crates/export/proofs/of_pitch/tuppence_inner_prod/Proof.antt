@@ -1,11 +1,10 @@
 -- `tuppence_inner_prod` meets its contract. Assumes nothing.
-use mathlib.Core.Path.{_≡_, refl, sym, ap, _∙_}
+use Rattle.rules.proofs.Common.{_≡_, refl, sym, ap, _∙_, length}
 use native.Mathlib.Omega.{arith}
 use borrow.Author.Needs.{needs}
 use denote.Ref.{now}
-use lib.ListN.{length}
 use Rattle.rules.specs.Leaf.{done, refused}
-use Rattle.rules.proofs.Leaves.{leaves}
+use Rattle.rules.proofs.Refusals.{leaves}
 use Rattle.pitch_search.specs.Inner.{productNumber, sumOf}
 use Rattle.export.proofs.Answers.{turned-down, taken-up, stored}
 use Rattle.export.proofs.of_pitch.tuppence_inner_prod.Statement.{statement}

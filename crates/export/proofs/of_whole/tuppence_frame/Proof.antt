@@ -1,11 +1,8 @@
 -- `tuppence_frame` meets its contract: it is a frame of `whole`, and its answer is handed back as numbers. Assumes nothing.
-use Prim.Native.Nat.{ℕ}
-use mathlib.Core.List.{List, []}
+use Rattle.rules.proofs.Common.{ℕ, List, [], length, Float}
 use native.Mathlib.Omega.{arith}
 use borrow.Author.Needs.{needs}
 use denote.Ref.{now}
-use lib.ListN.{length}
-use lib.Ieee.{Float}
 use Rattle.rules.specs.Place.{get, put}
 use Rattle.desk.specs.declared.Record.{Record}
 use Rattle.desk.specs.Gate.{BENCHES}

@@ -1,18 +1,14 @@
 -- `tuppence_take` meets its contract: it is a take of `whole`, and its answer is handed back as numbers. Assumes nothing.
-use Prim.Native.Nat.{ℕ}
-use mathlib.Core.Bool.{cond}
-use mathlib.Core.List.{List, [], _∷_}
-use mathlib.Core.Path.{_≡_}
+use Rattle.rules.proofs.Common.{ℕ, cond, List, [], _∷_, _≡_, ap₂, length, Float}
 use borrow.Author.Needs.{needs}
 use denote.Ref.{now}
-use lib.ListN.{length}
-use lib.Ieee.{Float}
+use Rattle.frame.specs.Effect.{Worked}
 use Rattle.frame.specs.Reply.{passed}
 use Rattle.desk.specs.declared.Answer.{Answer}
 use Rattle.desk.specs.declared.Record.{Record}
 use Rattle.desk.specs.Gate.{BENCHES}
-use Rattle.desk.specs.Desk.{Served}
-use Rattle.desk.specs.Surface.{recordIn, numbersOf, replyNumber, Hosted}
+use Rattle.desk.specs.Surface.{recordIn, numbersOf, replyNumber}
+use Rattle.desk.specs.Surface as surface
 use Rattle.whole.specs.Whole.{take}
 use Rattle.whole.specs.Surface.{hostedTake}
 use Rattle.whole.proofs.Ranged.{take-small, take-range}
@@ -24,7 +20,7 @@ use Rattle.export.proofs.of_whole.tuppence_take.Tie as tie
 -- the record as the code has it, and what the take left
 module _ (side : ℕ) (ns : List ℕ) (b : Record) (store samples : List Float) (model : List ℕ) (out answers : List Float)
     {store′ : List Float} {left : List (List Float)} {given : Answer}
-    (read : b ≡ recordIn ns) (took : Served (take BENCHES side b store samples model (length out) (length answers)) given store′ (out ∷ answers ∷ []) left) where
+    (read : b ≡ recordIn ns) (took : Worked (take BENCHES side b store samples model (length out) (length answers)) given store′ (out ∷ answers ∷ []) left) where
   hands-back : HandsBack ns given
   hands-back =
       any.hands-back ns b read
@@ -35,14 +31,13 @@ module _ (side : ℕ) (ns : List ℕ) (b : Record) (store samples : List Float) 
       (took .answers)
 
   handed : {number : ℕ} {ns′ : List ℕ} → (number ≡ replyNumber (given .reply)) × (ns′ ≡ cond (passed (given .reply)) (numbersOf (given .rec)) ns)
-      → Hosted (hostedTake BENCHES side ns store samples model (length out) (length answers)) number ns ns′ store′ (out ∷ answers ∷ []) left
+      → Worked (surface.handed ns (hostedTake BENCHES side ns store samples model (length out) (length answers))) (number, ns′) store′ (out ∷ answers ∷ []) left
   unfolding hostedTake
   handed h =
       rw (← read)
       (record {
-        numbers = rw (← took .answers) (h .0);
-        records = rw (← took .answers) (h .1);
-        stores = took .stores;
+        answers = rw (← took .answers) (ap₂ (λ (n : ℕ) (ms : List ℕ). (n, ms)) (h .0) (h .1));
+        keeps = took .keeps;
         writes = took .writes;
       })
 

@@ -1,12 +1,8 @@
 -- `features::cepstra::add_deltas` meets its contract: what its parts ensure, put together. Assumes nothing.
-use mathlib.Core.Path.{_≡_}
-use mathlib.Core.List.{List}
-use Prim.Native.Nat.{ℕ}
+use Rattle.rules.proofs.Common.{ℕ, List, _≡_, length, set, length-set, Float}
 use native.Mathlib.Omega.{arith}
 use denote.Ref.{now}
 use borrow.Author.Needs.{needs}
-use lib.Ieee.{Float}
-use lib.ListN.{length, length-set, set}
 use Rattle.rules.specs.F32.{part}
 use Rattle.rules.specs.Place.{put}
 use Rattle.features.specs.Cepstra.{back, smoothed, slope, bend, deltas, variability}

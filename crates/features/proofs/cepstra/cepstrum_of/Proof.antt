@@ -1,12 +1,9 @@
 -- `features::cepstra::cepstrum_of` meets its contract: what its parts ensure, put together. Assumes nothing.
-use mathlib.Core.Path.{_≡_}
-use mathlib.Core.List.{List}
+use Rattle.rules.proofs.Common.{List, _≡_, length-set, Float}
 use native.Mathlib.Omega.{arith}
 use borrow.Author.Needs.{needs}
-use lib.Ieee.{Float}
-use lib.ListN.{length-set}
 use Rattle.rules.specs.F32.{f32}
-use Rattle.rules.proofs.Called.{left}
+use Rattle.rules.proofs.Refusals.{left}
 use Rattle.bands.specs.Dct.{dctOf}
 use Rattle.features.specs.Cepstra.{followLogs, lessen, cepstrum}
 use Rattle.features.proofs.cepstra.cepstrum_of.Statement.{statement}

@@ -1,6 +1,6 @@
 -- `features::cepstra::delta_rows` meets its contract. Assumes nothing.
 use Prim.Native.Nat.{_≤_, _-_}
-use Rattle.rules.proofs.Filling.{Filling, fills}
+use Rattle.rules.proofs.Lists.{Filling, fills}
 use Rattle.features.specs.Cepstra.{cell, deltas}
 use Rattle.features.specs.Parts.{deltaOf}
 use Rattle.features.proofs.cepstra.delta_rows.Statement.{statement}

@@ -1,11 +1,10 @@
 -- `features::cepstra::follow_logs` meets its contract. Assumes nothing.
-use Prim.Native.Nat.{_≤_, _-_}
-use mathlib.Core.Path.{_≡_}
+use Rattle.rules.proofs.Common.{_-_, _≤_, _≡_}
 use native.Mathlib.Omega.{arith}
 use Rattle.rules.specs.F32.{at}
 use Rattle.rules.specs.Loop.{loop}
 use Rattle.rules.proofs.Loops.{more}
-use Rattle.rules.proofs.Filling.{Filling, fills, filling-more}
+use Rattle.rules.proofs.Lists.{Filling, fills, filling-more}
 use Rattle.features.specs.Cepstra.{floorsOf, lyOf, floorStep, floors, followLogs}
 use Rattle.features.proofs.cepstra.follow_logs.Statement.{statement}
 use Rattle.features.proofs.cepstra.follow_logs.Tie as tie

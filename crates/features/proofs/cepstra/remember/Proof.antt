@@ -1,14 +1,10 @@
 -- `features::cepstra::remember` meets its contract. Assumes nothing.
-use mathlib.Core.Path.{_≡_}
-use mathlib.Core.List.{List, _++_}
-use Prim.Native.Nat.{ℕ, _+_, _-_, _*_}
+use Rattle.rules.proofs.Common.{ℕ, _+_, _-_, _*_, List, _++_, _≡_, take, drop, length-take, length-drop, Float}
 use native.Mathlib.Omega.{arith}
 use denote.Ref.{now}
-use lib.Ieee.{Float}
-use lib.ListN.{take, drop, length-take, length-drop}
 use borrow.Author.Needs.{needs}
 use Rattle.rules.specs.Place.{put}
-use Rattle.rules.proofs.Called.{left}
+use Rattle.rules.proofs.Refusals.{left}
 use Rattle.features.proofs.cepstra.remember.Statement.{statement}
 use Rattle.features.proofs.cepstra.remember.Tie as tie
 

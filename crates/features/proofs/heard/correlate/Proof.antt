@@ -1,7 +1,7 @@
 -- `features::heard::correlate` meets its contract: what its parts ensure, put together. Assumes nothing.
 use mathlib.Core.Path.{_∙_}
 use borrow.Author.Needs.{needs}
-use Rattle.rules.proofs.Called.{left}
+use Rattle.rules.proofs.Refusals.{left}
 use Rattle.features.specs.Features.{normalisedCorr}
 use Rattle.features.proofs.heard.correlate.Statement.{statement}
 use Rattle.features.proofs.heard.correlate.Tie as tie

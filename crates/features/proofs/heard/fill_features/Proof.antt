@@ -1,11 +1,7 @@
 -- `features::heard::fill_features` meets its contract: what its parts ensure, put together. Assumes nothing.
-use mathlib.Core.Path.{_≡_, _∙_}
-use mathlib.Core.List.{List}
-use Prim.Native.Nat.{ℕ}
+use Rattle.rules.proofs.Common.{ℕ, List, _≡_, _∙_, length, Float}
 use denote.Ref.{now}
 use borrow.Author.Needs.{needs}
-use lib.Ieee.{Float}
-use lib.ListN.{length}
 use Rattle.rules.specs.F32.{part}
 use Rattle.rules.specs.Place.{put}
 use Rattle.features.specs.Cepstra.{row, cepstrum}

@@ -1,9 +1,8 @@
 -- `features::heard::normalise` meets its contract. Assumes nothing.
-use Prim.Native.Nat.{_≤_, _-_}
+use Rattle.rules.proofs.Common.{_-_, _≤_, binary32, nan}
 use native.Mathlib.Omega.{arith}
-use lib.Ieee.{nan, binary32}
 use Rattle.rules.specs.F32.{_⊕_, _⊗_, _⊘_, at, f32}
-use Rattle.rules.proofs.Filling.{Filling, fills, filling-more, filling-ahead}
+use Rattle.rules.proofs.Lists.{Filling, fills, filling-more, filling-ahead}
 use Rattle.numbers.specs.Root.{root}
 use Rattle.features.specs.Features.{normalised}
 use Rattle.features.proofs.heard.normalise.Statement.{statement}

@@ -1,15 +1,13 @@
 -- `features::heard::pitch_features` meets its contract. Assumes nothing.
-use mathlib.Core.Path.{_≡_, refl, ap, _∙_}
-use mathlib.Core.List.{List, [], _∷_, _++_, append-nil}
-use Prim.Native.Nat.{_+_}
+use Rattle.rules.proofs.Common.{_+_, List, [], _∷_, _++_, _≡_, refl, ap, _∙_, length, length-set, Float}
+use mathlib.Core.List.{append-nil}
 use native.Mathlib.Omega.{arith}
 use denote.Ref.{now}
 use borrow.Author.Needs.{needs}
-use lib.Ieee.{Float}
-use lib.ListN.{length, length-set, drop-of-length-le}
+use lib.ListN.{drop-of-length-le}
 use lib.Seq.{sets, sets-eq}
 use Rattle.rules.specs.F32.{_⊖_, _⊗_, at, f32}
-use Rattle.rules.proofs.Called.{left}
+use Rattle.rules.proofs.Refusals.{left}
 use Rattle.bands.specs.Dct.{dctOf}
 use Rattle.features.specs.Features.{pitchFeatures}
 use Rattle.features.proofs.heard.pitch_features.Statement.{statement}

@@ -1,10 +1,9 @@
 -- `features::pitch::add_pitch` meets its contract. Assumes nothing.
-use Prim.Native.Nat.{_≤_, _-_}
+use Rattle.rules.proofs.Common.{_-_, _≤_, nan}
 use native.Mathlib.Omega.{arith}
-use lib.Ieee.{nan}
 use Rattle.rules.specs.F32.{_⊕_, _⊗_, at}
-use Rattle.rules.proofs.Filling.{Filling, fills, filling-more, filling-ahead}
-use Rattle.bands.specs.Spectrum.{binOf}
+use Rattle.rules.proofs.Lists.{Filling, fills, filling-more, filling-ahead}
+use Rattle.rules.specs.Spectrum.{binOf}
 use Rattle.features.specs.Pitch.{pitchAdded}
 use Rattle.features.proofs.pitch.add_pitch.Statement.{statement}
 use Rattle.features.proofs.pitch.add_pitch.Tie as tie

@@ -1,9 +1,7 @@
 -- `features::pitch::filter` meets its contract: what its parts ensure, put together. Assumes nothing.
-use mathlib.Core.Path.{_≡_, _∙_}
-use mathlib.Core.List.{List}
-use lib.Ieee.{Float}
+use Rattle.rules.proofs.Common.{List, _≡_, _∙_, Float}
 use borrow.Author.Needs.{needs}
-use Rattle.rules.proofs.Called.{left}
+use Rattle.rules.proofs.Refusals.{left}
 use Rattle.bands.specs.Bands.{bandGain}
 use Rattle.features.specs.Pitch.{pitchGains, pitchAdded, restored, pitchFiltered}
 use Rattle.features.proofs.pitch.filter.Statement.{statement}

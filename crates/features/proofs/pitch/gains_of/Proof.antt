@@ -1,7 +1,7 @@
 -- `features::pitch::gains_of` meets its contract. Assumes nothing.
 use Prim.Native.Nat.{_≤_, _-_}
 use Rattle.rules.specs.F32.{at}
-use Rattle.rules.proofs.Filling.{Filling, fills}
+use Rattle.rules.proofs.Lists.{Filling, fills}
 use Rattle.features.specs.Pitch.{pitchGain, pitchGains}
 use Rattle.features.proofs.pitch.gains_of.Statement.{statement}
 use Rattle.features.proofs.pitch.gains_of.Tie as tie

@@ -1,9 +1,8 @@
 -- `features::pitch::renormalise` meets its contract. Assumes nothing.
-use Prim.Native.Nat.{_≤_, _-_}
+use Rattle.rules.proofs.Common.{_-_, _≤_, nan}
 use native.Mathlib.Omega.{arith}
-use lib.Ieee.{nan}
 use Rattle.rules.specs.F32.{at}
-use Rattle.rules.proofs.Filling.{Filling, fills, filling-more, filling-ahead}
+use Rattle.rules.proofs.Lists.{Filling, fills, filling-more, filling-ahead}
 use Rattle.features.specs.Pitch.{ratio, renormalised}
 use Rattle.features.proofs.pitch.renormalise.Statement.{statement}
 use Rattle.features.proofs.pitch.renormalise.Tie as tie

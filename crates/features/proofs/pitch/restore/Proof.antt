@@ -1,9 +1,7 @@
 -- `features::pitch::restore` meets its contract: what its parts ensure, put together. Assumes nothing.
-use mathlib.Core.Path.{_≡_}
-use mathlib.Core.List.{List}
-use lib.Ieee.{Float}
+use Rattle.rules.proofs.Common.{List, _≡_, Float}
 use borrow.Author.Needs.{needs}
-use Rattle.rules.proofs.Called.{left}
+use Rattle.rules.proofs.Refusals.{left}
 use Rattle.bands.specs.Bands.{bandCorr, bandGain}
 use Rattle.features.specs.Pitch.{renormalised, applied, restored}
 use Rattle.features.proofs.pitch.restore.Statement.{statement}

@@ -1,18 +1,14 @@
 -- `feed::out::hand_out` meets its contract: each part that is lent comes back filled. Assumes nothing.
-use Prim.Native.Nat.{ℕ, _-_, _*_}
+use Rattle.rules.proofs.Common.{ℕ, _-_, _*_, List, _≡_, ap, _∙_, length, take, length-take, Float}
 use native.Mathlib.Nat.{sub-zero}
 use native.Mathlib.Omega.{arith}
-use mathlib.Core.List.{List}
-use mathlib.Core.Path.{_≡_, ap, _∙_}
 use borrow.Author.Needs.{needs}
 use denote.Ref.{now}
-use lib.Ieee.{Float}
-use lib.ListN.{length, take, length-take}
 use Rattle.rules.specs.F32.{at, part}
 use Rattle.rules.specs.Place.{put}
 use Rattle.rules.specs.Tab.{tab}
-use Rattle.rules.proofs.Called.{left}
-use Rattle.rules.proofs.Tabs.{length-tab}
+use Rattle.rules.proofs.Refusals.{left}
+use Rattle.rules.proofs.Lists.{length-tab}
 use Rattle.pcm.specs.Pcm.{packed}
 use Rattle.feed.specs.Feed.{entryOf, atFront}
 use Rattle.feed.proofs.out.hand_out.Statement.{statement}

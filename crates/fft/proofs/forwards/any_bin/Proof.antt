@@ -1,7 +1,6 @@
 -- `fft::forwards::any_bin` meets its contract. Assumes nothing.
 use borrow.Author.Needs.{needs}
-use mathlib.Core.Path.{refl}
-use Prim.Native.Nat.{_-_, _%_}
+use Rattle.rules.proofs.Common.{_-_, _%_, refl}
 use Rattle.fft.proofs.Ends.{bin-of}
 use Rattle.fft.proofs.forwards.any_bin.Statement.{statement}
 use Rattle.fft.proofs.forwards.any_bin.Tie as tie

@@ -1,8 +1,7 @@
 -- `fft::forwards::middle_bins` meets its contract. Assumes nothing.
 use borrow.Author.Needs.{needs}
 use native.Mathlib.Omega.{arith}
-use mathlib.Core.Path.{_≡_}
-use Prim.Native.Nat.{_+_, _*_, _-_, _≤_}
+use Rattle.rules.proofs.Common.{_+_, _-_, _*_, _≤_, _≡_}
 use Rattle.fft.specs.Single.{single, of}
 use Rattle.fft.specs.Fast.{numberOut}
 use Rattle.fft.specs.Parts.{Filled}

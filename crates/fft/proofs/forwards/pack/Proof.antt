@@ -1,8 +1,7 @@
 -- `fft::forwards::pack` meets its contract. Assumes nothing.
 use borrow.Author.Needs.{needs}
 use native.Mathlib.Omega.{arith}
-use mathlib.Core.Path.{_≡_, refl}
-use Prim.Native.Nat.{_+_, _*_, _-_, _≤_}
+use Rattle.rules.proofs.Common.{_+_, _-_, _*_, _≤_, _≡_, refl}
 use Rattle.fft.specs.Single.{single}
 use Rattle.fft.specs.Fast.{pair, packed}
 use Rattle.fft.specs.Parts.{Laid}

@@ -1,11 +1,9 @@
 -- `fft::inverses::samples` meets its contract. Assumes nothing.
 use borrow.Author.Needs.{needs}
 use native.Mathlib.Omega.{arith}
-use mathlib.Core.Path.{_≡_, refl}
-use Prim.Native.Nat.{_+_, _*_, _-_, _≤_}
+use Rattle.rules.proofs.Common.{_+_, _-_, _*_, _≤_, _≡_, refl, length, length-set}
 use Rattle.fft.specs.Single.{single}
-use lib.ListN.{length, length-set}
-use Rattle.rules.proofs.Filling.{Filling, filling-begin, filling-more, filling-ended}
+use Rattle.rules.proofs.Lists.{Filling, filling-begin, filling-more, filling-ended}
 use Rattle.fft.specs.Fast.{sampleOut}
 use Rattle.fft.proofs.Ends.{sample-even, sample-odd}
 use Rattle.fft.proofs.inverses.samples.Statement.{statement}

@@ -1,13 +1,11 @@
 -- `finder::doubling::look_up` meets its contract. Assumes nothing.
-use mathlib.Core.Path.{_≡_, refl}
-use Prim.Native.Nat.{_≤_, _-_}
+use Rattle.rules.proofs.Common.{_-_, _≤_, _≡_, refl, length, length-set}
 use native.Mathlib.Omega.{arith}
 use borrow.Author.Tests.{ne-eqb}
 use denote.Ref.{now}
-use lib.ListN.{length, length-set}
 use Rattle.rules.specs.Loop.{range}
 use Rattle.rules.proofs.Loops.{turns, range-begin, range-more}
-use Rattle.rules.proofs.Filling.{Filling, filling-more, filling-ended}
+use Rattle.rules.proofs.Lists.{Filling, filling-more, filling-ended}
 use Rattle.finder.specs.Doubling.{yyStep, lookupAt, yyLookup}
 use Rattle.finder.proofs.Joined.{filled-first}
 use Rattle.finder.proofs.doubling.look_up.Statement.{statement}

@@ -1,6 +1,5 @@
 -- `finder::doubling::try_shorter` meets its contract. Assumes nothing.
-use mathlib.Core.Path.{_≡_}
-use Prim.Native.Nat.{_≤_, _+_, _-_}
+use Rattle.rules.proofs.Common.{_+_, _-_, _≤_, _≡_}
 use native.Mathlib.Omega.{arith}
 use borrow.Author.Tests.{lt-ltb, le-ltb}
 use Rattle.rules.specs.Loop.{walk, go, stop}

@@ -1,6 +1,5 @@
 -- `finder::kept::whole_lag` meets its contract. Assumes nothing.
-use mathlib.Core.Path.{_≡_}
-use Prim.Native.Nat.{_≤_, _-_}
+use Rattle.rules.proofs.Common.{_-_, _≤_, _≡_}
 use Rattle.rules.specs.Loop.{range}
 use Rattle.rules.proofs.Loops.{turns}
 use Rattle.finder.specs.Kept.{lagStep, wholeLag}

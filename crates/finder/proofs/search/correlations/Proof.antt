@@ -1,6 +1,6 @@
 -- `finder::search::correlations` meets its contract. Assumes nothing.
 use Prim.Native.Nat.{_≤_, _-_}
-use Rattle.rules.proofs.Filling.{Filling, fills}
+use Rattle.rules.proofs.Lists.{Filling, fills}
 use Rattle.finder.specs.Search.{fineAt, fine}
 use Rattle.finder.proofs.search.correlations.Statement.{statement}
 use Rattle.finder.proofs.search.correlations.Tie as tie

@@ -1,10 +1,7 @@
 -- `finder::search::every_second` meets its contract. Assumes nothing.
-use mathlib.Core.Path.{_≡_}
-use Prim.Native.Nat.{_≤_, _-_}
-use lib.ListN.{length}
+use Rattle.rules.proofs.Common.{_-_, _*_, _≤_, _≡_, length}
 use Rattle.rules.specs.F32.{at}
-use Prim.Native.Nat.{_*_}
-use Rattle.rules.proofs.Filling.{Filling, fills}
+use Rattle.rules.proofs.Lists.{Filling, fills}
 use Rattle.finder.proofs.search.every_second.Statement.{statement}
 use Rattle.finder.proofs.search.every_second.Tie as tie
 

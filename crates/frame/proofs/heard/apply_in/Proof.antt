@@ -2,7 +2,7 @@
 use mathlib.Core.Path.{ap, _∙_}
 use native.Mathlib.Omega.{arith}
 use borrow.Author.Needs.{needs}
-use Rattle.rules.proofs.Called.{left as fitted}
+use Rattle.rules.proofs.Refusals.{left as fitted}
 use Rattle.features.specs.Pitch.{applied}
 use Rattle.frame.proofs.heard.apply_in.Statement.{statement}
 use Rattle.frame.proofs.heard.apply_in.Tie as tie

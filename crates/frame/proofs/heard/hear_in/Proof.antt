@@ -1,12 +1,10 @@
 -- `frame::heard::hear_in` meets its contract: what each call leaves, in a row. Assumes nothing.
-use mathlib.Core.Path.{sym, ap₂, _∙_}
-use mathlib.Core.List.{List}
+use Rattle.rules.proofs.Common.{List, sym, ap₂, _∙_, Float}
 use native.Mathlib.Omega.{arith}
 use borrow.Author.Needs.{needs}
 use denote.Ref.{now}
-use lib.Ieee.{Float}
 use Rattle.rules.specs.Place.{get}
-use Rattle.rules.proofs.Called.{left as fitted}
+use Rattle.rules.proofs.Refusals.{left as fitted}
 use Rattle.frame.specs.Heard.{spokenFrom}
 use Rattle.frame.proofs.Sizes.{ex-size}
 use Rattle.frame.proofs.heard.hear_in.Statement.{statement}

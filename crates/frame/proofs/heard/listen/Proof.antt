@@ -1,11 +1,9 @@
 -- `frame::heard::listen` meets its contract. Assumes nothing.
-use mathlib.Core.Path.{sym, _∙_}
-use mathlib.Core.List.{[], _∷_}
+use Rattle.rules.proofs.Common.{[], _∷_, sym, _∙_}
 use borrow.Author.Needs.{needs}
 use denote.Ref.{now}
 use Rattle.rules.specs.Place.{get}
-use Rattle.rules.proofs.Called.{left as fitted}
-use Rattle.rules.proofs.Leaves.{fitting}
+use Rattle.rules.proofs.Refusals.{left as fitted, fitting}
 use Rattle.frame.proofs.Sizes.{x-size, ex-size}
 use Rattle.frame.proofs.Sounded.{is-silent, is-heard}
 use Rattle.frame.proofs.heard.listen.Statement.{statement}
@@ -21,7 +19,7 @@ returns c m good =
     let share = now (a .share) in
     let x = fitted (k .copy .ensures) (start .pre .1 ∙ sym (x-size share (start .pre .0))) in
     let sound = fitting (l .listen .ensures) (ex-size share (start .pre .0)) in
-    is-silent share (a .index) (now (a .spectrum)) (now (a .logs)) (now (a .model)) m (now (a .out) ∷ []) sound (sym (c .before .is-quiet .ensures) ∙ c .if1 .taken) x
+    is-silent share (a .index) (now (a .spectrum)) (now (a .logs)) (now (a .model)) m (now (a .out)) sound (sym (c .before .is-quiet .ensures) ∙ c .if1 .taken) x
 
 hear-requires : tie.Need-hear-requires
 unfolding get
@@ -43,7 +41,7 @@ returns-2 c m good =
     let sound = fitting (l .listen .ensures) (ex-size share (start .pre .0)) in
     let loud = sym (i .before .is-quiet .ensures) ∙ i .if1 .left in
     rw (c .reply-of .ensures)
-    (is-heard share (a .index) (now (a .spectrum)) (now (a .logs)) (now (a .model)) m (now (a .out) ∷ []) sound loud (h .hear .ensures m good))
+    (is-heard share (a .index) (now (a .spectrum)) (now (a .logs)) (now (a .model)) m (now (a .out)) sound loud (h .hear .ensures m good))
 
 pub listen-spec : {M : Type 1} → statement M
 listen-spec =

@@ -1,13 +1,10 @@
 -- `frame::heard::raise` meets its contract: what each call leaves, in a row. Assumes nothing.
-use mathlib.Core.Path.{ap, _∙_}
-use mathlib.Core.List.{List}
+use Rattle.rules.proofs.Common.{List, ap, _∙_, length-take, length-drop, Float}
 use native.Mathlib.Omega.{arith}
 use borrow.Author.Needs.{needs}
 use denote.Ref.{now}
-use lib.ListN.{length-take, length-drop}
-use lib.Ieee.{Float}
 use Rattle.rules.specs.Place.{get, put}
-use Rattle.rules.proofs.Called.{left as fitted}
+use Rattle.rules.proofs.Refusals.{left as fitted}
 use Rattle.bands.specs.Bands.{bandGain}
 use Rattle.features.specs.Pitch.{applied}
 use Rattle.frame.specs.Share.{lastg}

@@ -1,15 +1,11 @@
 -- `frame::heard::sense` meets its contract: what each call leaves, in a row. Assumes nothing.
-use Prim.Native.Nat.{ℕ}
-use mathlib.Core.Path.{_≡_, ap, _∙_}
-use mathlib.Core.List.{List}
+use Rattle.rules.proofs.Common.{ℕ, List, _≡_, ap, _∙_, length, Float}
 use borrow.Author.Needs.{needs}
 use denote.Ref.{now}
-use lib.ListN.{length}
-use lib.Ieee.{Float}
 use Rattle.rules.specs.F32.{at}
 use Rattle.rules.specs.Leaf.{_leaving_}
 use Rattle.rules.specs.Place.{get, put}
-use Rattle.rules.proofs.Called.{left as fitted}
+use Rattle.rules.proofs.Refusals.{left as fitted}
 use Rattle.features.specs.Features.{normalisedCorr, featuresOf, withCepstrum}
 use Rattle.frame.specs.Share.{keptX, keptEx, keptLag, cepstralMem}
 use Rattle.frame.specs.Heard.{featured}

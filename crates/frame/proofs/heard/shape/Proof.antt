@@ -1,10 +1,8 @@
 -- `frame::heard::shape` meets its contract: what each call leaves, in a row. Assumes nothing.
-use mathlib.Core.Path.{ap, _∙_}
-use mathlib.Core.List.{List}
+use Rattle.rules.proofs.Common.{List, ap, _∙_, Float}
 use borrow.Author.Needs.{needs}
 use denote.Ref.{now}
-use lib.Ieee.{Float}
-use Rattle.rules.proofs.Called.{left as fitted}
+use Rattle.rules.proofs.Refusals.{left as fitted}
 use Rattle.bands.specs.Bands.{bandGain}
 use Rattle.features.specs.Pitch.{applied}
 use Rattle.frame.specs.Heard.{heldGains}

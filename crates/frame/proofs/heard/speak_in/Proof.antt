@@ -1,9 +1,8 @@
 -- `frame::heard::speak_in` meets its contract: what each stage leaves, in a row. Assumes nothing.
-use mathlib.Core.Path.{ap, _∙_}
+use Rattle.rules.proofs.Common.{ap, _∙_, length}
 use native.Mathlib.Omega.{arith}
 use borrow.Author.Needs.{needs}
 use denote.Ref.{now}
-use lib.ListN.{length}
 use Rattle.frame.proofs.Sizes.{x-size, ex-size}
 use Rattle.frame.proofs.Spoken.{spoke}
 use Rattle.frame.proofs.heard.speak_in.Statement.{statement}

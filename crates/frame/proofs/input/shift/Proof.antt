@@ -1,14 +1,11 @@
 -- `frame::input::shift` meets its contract. The loop's invariant: the first i places hold what stood a frame further on, and the others are as
 -- they were. Assumes nothing.
-use mathlib.Core.Path.{_≡_, ap, _∙_}
-use Prim.Native.Nat.{_+_, _≤_, _-_}
+use Rattle.rules.proofs.Common.{_+_, _-_, _≤_, _≡_, ap, _∙_, take}
 use native.Mathlib.Omega.{arith}
-use lib.ListN.{take}
 use lib.Seq.{take-at}
 use Rattle.rules.specs.F32.{at}
 use Rattle.rules.specs.Tab.{tab}
-use Rattle.rules.proofs.Filling.{Filling, filling-more, filling-ahead, fills}
-use Rattle.rules.proofs.Tabs.{length-tab}
+use Rattle.rules.proofs.Lists.{Filling, filling-more, filling-ahead, fills, length-tab}
 use Rattle.frame.proofs.input.shift.Statement.{statement}
 use Rattle.frame.proofs.input.shift.Tie as tie
 

@@ -1,17 +1,14 @@
 -- `frame::input::take_in` meets its contract: what each call leaves, in a row. Assumes nothing.
-use mathlib.Core.Path.{_≡_, ap, _∙_}
-use mathlib.Core.List.{List, [], _++_, append-nil}
-use Prim.Native.Nat.{_+_}
+use Rattle.rules.proofs.Common.{_+_, List, [], _++_, _≡_, ap, _∙_, length, take, drop, length-take, length-drop, length-append, Float}
+use mathlib.Core.List.{append-nil}
 use native.Mathlib.Omega.{arith}
 use borrow.Author.Needs.{needs}
 use denote.Ref.{now}
-use lib.ListN.{length, take, drop, length-append, length-take, length-drop, drop-of-length-le}
-use lib.Ieee.{Float}
+use lib.ListN.{drop-of-length-le}
 use Rattle.rules.specs.F32.{at}
 use Rattle.rules.specs.Place.{get}
 use Rattle.rules.specs.Tab.{tab}
-use Rattle.rules.proofs.Called.{left as fitted}
-use Rattle.rules.proofs.Leaves.{fitting}
+use Rattle.rules.proofs.Refusals.{left as fitted, fitting}
 use Rattle.numbers.specs.Filter.{highPass, outputs}
 use Rattle.numbers.specs.declared.filter.Filtered.{Filtered}
 use Rattle.bands.specs.Windowed.{windowed}

@@ -1,13 +1,10 @@
 -- `frame::lagged::keep` meets its contract: what each call leaves, in a row. Assumes nothing.
-use mathlib.Core.Path.{ap, _∙_}
-use mathlib.Core.List.{List, [], _∷_}
+use Rattle.rules.proofs.Common.{List, [], _∷_, ap, _∙_, pos, Float, binary32, ofInt}
 use native.Mathlib.Omega.{arith}
 use borrow.Author.Needs.{needs}
 use denote.Ref.{now}
-use lib.IntN.{pos}
-use lib.Ieee.{Float, binary32, ofInt}
 use Rattle.rules.specs.Place.{get, put}
-use Rattle.rules.proofs.Called.{left as fitted}
+use Rattle.rules.proofs.Refusals.{left as fitted}
 use Rattle.rules.proofs.Numbers.{casts}
 use Rattle.rules.proofs.Places.{length-get, length-put, put-sets}
 use Rattle.frame.specs.Share.{keptEx, keptLag}
@@ -20,7 +17,7 @@ returns c =
     let k = c .before .before .before in
     let a = k .before .before .before .before .args in
     let share = now (a .share) in
-    let lag = ofInt binary32 (pos (a .lag)) ∷ [] in
+    let lag = ofInt binary32 (pos (a .lag .0)) ∷ [] in
     let same = length-get keptEx share (omega arith) in
     let ex = fitted (k .copy .ensures) (omega arith) in
     put-sets (put keptEx share (k .copy .last .0)) lag 3191 (omega (arith, length-put keptEx share (k .copy .last .0) (omega arith) (k .copy .kept .0 ∙ same)))

@@ -1,10 +1,8 @@
 -- `frame::lagged::lift` meets its contract. The loop's invariant: the first i energies are plusHundredth, and the others are as they were. Assumes nothing.
-use mathlib.Core.Path.{ap}
-use Prim.Native.Nat.{_≤_, _-_}
+use Rattle.rules.proofs.Common.{_-_, _≤_, ap, Float}
 use native.Mathlib.Omega.{arith}
-use lib.Ieee.{Float}
 use Rattle.rules.specs.F32.{_⊕_, at, f32}
-use Rattle.rules.proofs.Filling.{Filling, filling-more, filling-ahead, fills}
+use Rattle.rules.proofs.Lists.{Filling, filling-more, filling-ahead, fills}
 use Rattle.frame.specs.Frame.{plusHundredth}
 use Rattle.frame.proofs.lagged.lift.Statement.{statement}
 use Rattle.frame.proofs.lagged.lift.Tie as tie

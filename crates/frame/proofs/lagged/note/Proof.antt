@@ -1,9 +1,6 @@
 -- `frame::lagged::note` meets its contract: what each call leaves, in a row. Assumes nothing.
-use mathlib.Core.Path.{ap, ap₂, _∙_}
-use mathlib.Core.List.{List, [], _∷_}
+use Rattle.rules.proofs.Common.{List, [], _∷_, ap, ap₂, _∙_, pos, Float, binary32, ofInt}
 use borrow.Author.Needs.{needs}
-use lib.IntN.{pos}
-use lib.Ieee.{Float, binary32, ofInt}
 use Rattle.rules.specs.Place.{put}
 use Rattle.frame.specs.Share.{keptEx, keptLag}
 use Rattle.frame.specs.Frame.{plusHundredth, putKept}
@@ -16,7 +13,7 @@ returns c =
     let l = c .before .before in
     let k = l .before .before .before .before in
     let s = k .before .before .before .before .before .before .before in
-    let lag = ofInt binary32 (pos (s .before .before .before .before .before .before .args .lag)) ∷ [] in (
+    let lag = ofInt binary32 (pos (s .before .before .before .before .before .before .args .lag .0)) ∷ [] in (
       k .keep .ensures ∙ ap₂ (λ (x ex : List Float). put keptLag (put keptEx x ex) lag) (s .analyse .ensures .0) (s .analyse .ensures .1),
       l .lift .ensures ∙ ap plusHundredth (s .analyse .ensures .1),
     )

@@ -2,7 +2,7 @@
 use Prim.Native.Nat.{_≤_, _-_}
 use native.Mathlib.Omega.{arith}
 use Rattle.rules.specs.F32.{_⊗_, at}
-use Rattle.rules.proofs.Filling.{Filling, filling-more, fills}
+use Rattle.rules.proofs.Lists.{Filling, filling-more, fills}
 use Rattle.bands.specs.Norm.{wnorm}
 use Rattle.frame.specs.Heard.{scaled}
 use Rattle.frame.proofs.lagged.scale.Statement.{statement}

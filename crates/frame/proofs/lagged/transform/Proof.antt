@@ -1,10 +1,8 @@
 -- `frame::lagged::transform` meets its contract: what each call leaves, in a row. Assumes nothing.
-use mathlib.Core.Path.{ap, _∙_}
-use mathlib.Core.List.{List}
+use Rattle.rules.proofs.Common.{List, ap, _∙_, Float}
 use native.Mathlib.Omega.{arith}
 use borrow.Author.Needs.{needs}
-use lib.Ieee.{Float}
-use Rattle.rules.proofs.Called.{left as fitted}
+use Rattle.rules.proofs.Refusals.{left as fitted}
 use Rattle.bands.specs.Bands.{bandCorr}
 use Rattle.frame.specs.Heard.{energies}
 use Rattle.frame.proofs.lagged.transform.Statement.{statement}

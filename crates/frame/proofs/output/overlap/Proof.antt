@@ -1,14 +1,10 @@
 -- `frame::output::overlap` meets its contract. The loop's invariant: of both slices the first i places are written, and the others are as they were.
 -- Assumes nothing.
-use mathlib.Core.List.{List}
-use mathlib.Core.Path.{_≡_, ap, sym, _∙_}
-use Prim.Native.Nat.{ℕ, _+_, _≤_, _<_, _-_}
+use Rattle.rules.proofs.Common.{ℕ, _+_, _-_, _≤_, _<_, List, _≡_, sym, ap, _∙_, Float, nan}
 use native.Mathlib.Omega.{arith}
-use lib.Ieee.{Float, nan}
 use denote.Ref.{now}
 use Rattle.rules.specs.F32.{_⊕_, _⊗_, _⊘_, at, f32}
-use Rattle.rules.proofs.Filling.{Filling, filling-more, filling-ahead, fills}
-use Rattle.rules.proofs.Tabs.{getD-tab}
+use Rattle.rules.proofs.Lists.{Filling, filling-more, filling-ahead, fills, getD-tab}
 use Rattle.bands.specs.Window.{window}
 use Rattle.bands.specs.Windowed.{windowedBy}
 use Rattle.frame.specs.Frame.{windowBuf, overlapped, laterHalf}

@@ -1,13 +1,12 @@
 -- `halves::first::first_half` meets its contract. Assumes nothing.
-use mathlib.Core.List.{[], _∷_}
-use mathlib.Core.Path.{_∙_}
+use Rattle.rules.proofs.Common.{[], _∷_, _∙_, length}
 use native.Mathlib.Omega.{arith}
 use borrow.Author.Needs.{needs}
 use denote.Ref.{now}
-use lib.ListN.{length}
+use Rattle.rules.specs.Written.{firstIn}
 use Rattle.rules.proofs.Tests.{tests, answered-no, answered-yes}
-use Rattle.halves.specs.Halves.{buffer, analysed, firstHalf}
-use Rattle.halves.proofs.Onward.{first-half-done, as-is, refused-first, handed-on}
+use Rattle.halves.specs.Halves.{analysed, firstHalf}
+use Rattle.halves.proofs.Onward.{first-half-done, as-is, call1-writes, refused-first, handed-on}
 use Rattle.halves.proofs.first.first_half.Statement.{statement}
 use Rattle.halves.proofs.first.first_half.Tie as tie
 
@@ -29,7 +28,7 @@ returns-4 c =
     let a = w .before .before .before .before .before .before .before .before .before .args in
     as-is
     (first-half-done (now (a .share)) (omega arith) (a .way) (now (a .samples)) (length (now (a .sums))) (omega arith) (omega arith))
-    (refused-first (w .call1 .ensures) (λ f. analysed (f .share) (a .way) (buffer f) (length (now (a .sums)))) (now (a .sums) ∷ []) (answered-no (c .before .passed .ensures) (c .if4 .taken)))
+    (refused-first (w .call1 .ensures) (call1-writes _ _ _) (λ f. analysed (f .kept) (a .way) (firstIn (f .written)) (length (now (a .sums)))) (now (a .sums) ∷ []) (answered-no (c .before .passed .ensures) (c .if4 .taken)))
 
 returns-5 : tie.Need-returns-5
 returns-5 c =
@@ -39,7 +38,7 @@ returns-5 c =
     let a = w .before .before .before .before .before .before .before .before .before .args in
     as-is
     (first-half-done (now (a .share)) (omega arith) (a .way) (now (a .samples)) (length (now (a .sums))) (omega arith) (omega arith)
-    ∙ handed-on (w .call1 .ensures) (answered-yes (e .before .passed .ensures) (e .if4 .left)) (λ _ share window. analysed share (a .way) window (length (now (a .sums)))))
+    ∙ handed-on (w .call1 .ensures) (call1-writes _ _ _) (answered-yes (e .before .passed .ensures) (e .if4 .left)) (λ _ share window. analysed share (a .way) window (length (now (a .sums)))))
     (n .analyse .ensures)
 
 pub first-half-spec : {M : Type 1} → statement M

@@ -1,11 +1,9 @@
 -- `halves::second::look_back` meets its contract. Assumes nothing.
-use Prim.Native.Nat.{_≤_}
-use mathlib.Core.Path.{refl, ap, _∙_}
+use Rattle.rules.proofs.Common.{_≤_, refl, ap, _∙_, length-take, length-drop}
 use native.Mathlib.Omega.{arith}
 use borrow.Author.Needs.{needs}
 use denote.Ref.{now}
-use lib.ListN.{length-take, length-drop}
-use Rattle.rules.proofs.Called.{left as fitted}
+use Rattle.rules.proofs.Refusals.{left as fitted}
 use Rattle.finder.proofs.Lags.{lag-small}
 use Rattle.halves.specs.Ways.{forwardBy}
 use Rattle.halves.proofs.Lagged.{looked-back}

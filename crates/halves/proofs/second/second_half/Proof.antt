@@ -1,13 +1,12 @@
 -- `halves::second::second_half` meets its contract. Assumes nothing.
-use mathlib.Core.List.{[], _∷_}
-use mathlib.Core.Path.{_∙_}
+use Rattle.rules.proofs.Common.{[], _∷_, _∙_, length}
 use native.Mathlib.Omega.{arith}
 use borrow.Author.Needs.{needs}
 use denote.Ref.{now}
-use lib.ListN.{length}
+use Rattle.rules.specs.Written.{firstIn}
 use Rattle.rules.proofs.Tests.{tests, answered-no, answered-yes}
-use Rattle.halves.specs.Halves.{buffer, synthesised, secondHalf}
-use Rattle.halves.proofs.Onward.{second-half-done, as-is, refused-first, handed-on, synthesised-by}
+use Rattle.halves.specs.Halves.{synthesised, secondHalf}
+use Rattle.halves.proofs.Onward.{second-half-done, as-is, call3-writes, refused-first, handed-on, synthesised-by}
 use Rattle.halves.proofs.second.second_half.Statement.{statement}
 use Rattle.halves.proofs.second.second_half.Tie as tie
 
@@ -35,7 +34,7 @@ returns-5 c =
     as-is
     (second-half-done (now (a .share)) (omega arith) (a .hearing) (now (a .logs)) (now (a .model)) (length (now (a .out)))
     (omega arith) (omega arith) (omega arith) (l .look-back .ensures))
-    (refused-first (w .call3 .ensures) (λ f. synthesised (f .reply) (f .share) (a .hearing .way) (buffer f) (length (now (a .out)))) (now (a .out) ∷ [])
+    (refused-first (w .call3 .ensures) (call3-writes _ _ _ _ _ _) (λ f. synthesised (f .answer) (f .kept) (a .hearing .way) (firstIn (f .written)) (length (now (a .out)))) (now (a .out) ∷ [])
     (answered-no (c .before .passed .ensures) (c .if5 .taken)))
 
 returns-6 : tie.Need-returns-6
@@ -53,8 +52,8 @@ returns-6 c =
     as-is
     (second-half-done (now (a .share)) (omega (arith, whole)) (a .hearing) (now (a .logs)) (now (a .model)) (length (now (a .out)))
     (omega (arith, few)) (omega (arith, room)) (omega (arith, inside)) (l .look-back .ensures)
-    ∙ handed-on (w .call3 .ensures) yes (λ reply share spectrum. synthesised reply share (a .hearing .way) spectrum (length (now (a .out)))))
-    (synthesised-by _ _ _ _ yes (omega (arith, w .call3 .kept .0, whole)) (omega (arith, room)) (n .synthesise .ensures))
+    ∙ handed-on (w .call3 .ensures) (call3-writes _ _ _ _ _ _) yes (λ reply share spectrum. synthesised reply share (a .hearing .way) spectrum (length (now (a .out)))))
+    (synthesised-by _ _ _ _ (n .synthesise .ensures))
 
 pub second-half-spec : {M : Type 1} → statement M
 second-half-spec =

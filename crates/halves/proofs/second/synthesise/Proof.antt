@@ -1,10 +1,7 @@
 -- `halves::second::synthesise` meets its contract. Assumes nothing.
-use mathlib.Core.List.{List}
-use mathlib.Core.Path.{sym, ap}
+use Rattle.rules.proofs.Common.{List, sym, ap, length, Float}
 use borrow.Author.Needs.{needs}
 use denote.Ref.{now}
-use lib.ListN.{length}
-use lib.Ieee.{Float}
 use Rattle.frame.specs.Frame.{call4}
 use Rattle.halves.proofs.Onward.{as-is}
 use Rattle.halves.proofs.second.synthesise.Statement.{statement}
@@ -15,7 +12,7 @@ returns c =
     let o = c .before .before .before .before in
     let f = o .before .before .before .before .before in
     let a = f .before .before .before .before .before .args in
-    as-is (ap (λ (x : List Float). call4 (now (a .share)) 0 0 x (length (now (a .out)))) (sym (f .inverse .ensures))) (o .call4 .ensures)
+    as-is (ap (λ (x : List Float). call4 (now (a .share)) x (length (now (a .out)))) (sym (f .inverse .ensures))) (o .call4 .ensures)
 
 pub synthesise-spec : {M : Type 1} → statement M
 synthesise-spec =

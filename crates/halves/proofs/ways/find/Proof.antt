@@ -1,17 +1,12 @@
 -- `halves::ways::find` meets its contract: what the finder says is what the share's part says, and an f32 holds its period. Assumes nothing.
-use Prim.Native.Nat.{ℕ, _≤_}
-use mathlib.Core.List.{List, [], _∷_}
-use mathlib.Core.Path.{_≡_, ap, _∙_}
+use Rattle.rules.proofs.Common.{ℕ, _≤_, List, [], _∷_, _≡_, ap, _∙_, length, set, length-set, pos, Float, binary32, ofInt}
 use native.Mathlib.Omega.{arith}
 use borrow.Author.Needs.{needs}
 use denote.Ref.{now}
-use lib.IntN.{pos}
-use lib.ListN.{length, set, length-set}
-use lib.Ieee.{Float, binary32, ofInt}
 use Rattle.rules.specs.F32.{at}
 use Rattle.rules.specs.Leaf.{Leaf}
 use Rattle.rules.specs.Place.{get}
-use Rattle.rules.proofs.Leaves.{fitting}
+use Rattle.rules.proofs.Refusals.{fitting}
 use Rattle.rules.proofs.Numbers.{casts}
 use Rattle.rules.proofs.Places.{length-get, put-sets}
 use Rattle.finder.specs.Finder.{find, periodIn, gainIn}

@@ -1,6 +1,6 @@
 -- `halves::ways::forward` meets its contract: each way's transform by its case. Assumes nothing.
 use borrow.Author.Needs.{needs}
-use Rattle.rules.proofs.Called.{left as fitted}
+use Rattle.rules.proofs.Refusals.{left as fitted}
 use Rattle.halves.specs.Ways.{forwardBy}
 use Rattle.halves.proofs.ways.forward.Statement.{statement}
 use Rattle.halves.proofs.ways.forward.Tie as tie

@@ -1,6 +1,6 @@
 -- `halves::ways::inverse` meets its contract: each way's transform by its case. Assumes nothing.
 use borrow.Author.Needs.{needs}
-use Rattle.rules.proofs.Called.{left as fitted}
+use Rattle.rules.proofs.Refusals.{left as fitted}
 use Rattle.halves.specs.Ways.{inverseBy}
 use Rattle.halves.proofs.ways.inverse.Statement.{statement}
 use Rattle.halves.proofs.ways.inverse.Tie as tie

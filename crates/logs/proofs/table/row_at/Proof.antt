@@ -2,7 +2,7 @@
 use native.Mathlib.Nat.{le-antisymm}
 use lib.Ieee.{neg}
 use Rattle.logs.specs.Tables.{rowBits, rows, rowAt}
-use Rattle.rules.proofs.Keys.{keyed, past}
+use Rattle.rules.proofs.Tests.{keyed, past}
 use Rattle.logs.proofs.table.row_at.Statement.{statement}
 use Rattle.logs.proofs.table.row_at.Tie as tie
 

@@ -1,11 +1,8 @@
 -- `matrix::lanes::blocks` meets its contract. Assumes nothing.
-use mathlib.Core.Path.{_≡_, refl, ap, _∙_}
-use mathlib.Core.List.{_++_}
-use Prim.Native.Nat.{ℕ, _≤_, _<_, _+_, _-_, _%_}
+use Rattle.rules.proofs.Common.{ℕ, _+_, _-_, _%_, _≤_, _<_, _++_, _≡_, refl, ap, _∙_, length, drop}
 use native.Mathlib.Omega.{arith}
-use lib.ListN.{length, drop}
 use Rattle.rules.specs.Tab.{tab}
-use Rattle.rules.proofs.Tabs.{tab-none, tab-done}
+use Rattle.rules.proofs.Lists.{tab-none, tab-done}
 use Rattle.matrix.specs.Parts.{neuron, spot, sixteenSums}
 use Rattle.matrix.proofs.Neurons.{block-kept}
 use Rattle.matrix.proofs.lanes.blocks.Statement.{statement}

@@ -1,12 +1,9 @@
 -- `matrix::lanes::ordered` meets its contract. Assumes nothing.
-use mathlib.Core.Path.{_≡_, refl, _∙_}
-use mathlib.Core.List.{_++_}
-use Prim.Native.Nat.{ℕ, _≤_, _<_, _+_, _-_, _%_}
+use Rattle.rules.proofs.Common.{ℕ, _+_, _-_, _%_, _≤_, _<_, _++_, _≡_, refl, _∙_, length, drop}
 use native.Mathlib.Omega.{arith}
-use lib.ListN.{length, drop}
 use Rattle.rules.specs.F32.{at}
 use Rattle.rules.specs.Tab.{tab}
-use Rattle.rules.proofs.Tabs.{tab-none, tab-done}
+use Rattle.rules.proofs.Lists.{tab-none, tab-done}
 use Rattle.matrix.specs.Parts.{spot}
 use Rattle.matrix.proofs.Neurons.{block-ordered}
 use Rattle.matrix.proofs.lanes.ordered.Statement.{statement}

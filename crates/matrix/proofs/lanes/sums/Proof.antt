@@ -1,8 +1,6 @@
 -- `matrix::lanes::sums` meets its contract. Assumes nothing.
-use mathlib.Core.Path.{_≡_, refl}
-use Prim.Native.Nat.{_≤_, _+_, _*_, _-_}
+use Rattle.rules.proofs.Common.{_+_, _-_, _*_, _≤_, _≡_, refl, length}
 use native.Mathlib.Omega.{arith}
-use lib.ListN.{length}
 use Rattle.rules.proofs.Loops.{turns}
 use Rattle.rules.proofs.Numbers.{row-fits}
 use Rattle.matrix.specs.Parts.{sixteenSums}

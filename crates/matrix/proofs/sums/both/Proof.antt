@@ -1,7 +1,6 @@
 -- `matrix::sums::both` meets its contract. Assumes nothing.
-use Prim.Native.Nat.{_-_}
+use Rattle.rules.proofs.Common.{_-_, length}
 use native.Mathlib.Omega.{arith}
-use lib.ListN.{length}
 use borrow.Author.Needs.{needs}
 use Rattle.matrix.proofs.Neurons.{rest-fits, both-parts, front-alone}
 use Rattle.matrix.proofs.sums.both.Statement.{statement}

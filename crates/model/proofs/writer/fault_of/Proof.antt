@@ -1,6 +1,5 @@
 -- Each table in turn. Assumes nothing.
-use mathlib.Core.Path.{sym, _∙_}
-use Prim.Native.Nat.{_+_}
+use Rattle.rules.proofs.Common.{_+_, sym, _∙_}
 use borrow.Author.Needs.{needs}
 use denote.Ref.{now}
 use Rattle.rules.specs.Lists.{sum}

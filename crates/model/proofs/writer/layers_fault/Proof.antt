@@ -1,7 +1,6 @@
 -- The loop's invariant: the layers still to come decide. Assumes nothing.
-use mathlib.Core.Path.{_≡_, sym, _∙_}
+use Rattle.rules.proofs.Common.{_-_, _≤_, _≡_, sym, _∙_}
 use denote.Ref.{now}
-use Prim.Native.Nat.{_≤_, _-_}
 use native.Mathlib.Omega.{arith}
 use borrow.Author.Needs.{needs}
 use Rattle.model.specs.Parts.{faultIn}

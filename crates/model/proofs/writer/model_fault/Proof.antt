@@ -2,7 +2,7 @@
 use mathlib.Core.Path.{sym}
 use native.Mathlib.Omega.{arith}
 use borrow.Author.Needs.{needs}
-use Rattle.rules.proofs.Refused.{clear}
+use Rattle.rules.proofs.Refusals.{clear}
 use Rattle.model.specs.Model.{matchFaults}
 use Rattle.model.specs.Writer.{inLayer}
 use Rattle.model.proofs.Rows.{shifted, clear-shifted}

@@ -1,10 +1,8 @@
 -- The loop's invariant: so many bytes are in the buffer. Assumes nothing.
-use mathlib.Core.Path.{_≡_, refl, _∙_}
+use Rattle.rules.proofs.Common.{_-_, _≤_, _≡_, refl, _∙_, length, length-set}
 use denote.Ref.{now}
-use Prim.Native.Nat.{_≤_, _-_}
 use native.Mathlib.Numerals.{add-one}
 use native.Mathlib.Omega.{arith}
-use lib.ListN.{length, length-set}
 use lib.Seq.{paste, paste-zero, paste-suc}
 use borrow.Author.Needs.{needs}
 use Rattle.model.proofs.Over.{pasted}

@@ -1,6 +1,5 @@
 -- Three layers, one behind the other. Assumes nothing.
-use mathlib.Core.List.{_++_}
-use Prim.Native.Nat.{_+_}
+use Rattle.rules.proofs.Common.{_+_, _++_}
 use native.Mathlib.Omega.{arith}
 use borrow.Author.Needs.{needs}
 use denote.Ref.{now}

@@ -1,8 +1,6 @@
 -- The loop's invariant: what is left, with the lengths passed, is the buffer. Assumes nothing.
-use mathlib.Core.Path.{_≡_, sym}
-use Prim.Native.Nat.{_+_, _≤_, _-_}
+use Rattle.rules.proofs.Common.{_+_, _-_, _≤_, _≡_, sym, take}
 use native.Mathlib.Omega.{arith}
-use lib.ListN.{take}
 use borrow.Author.Needs.{needs}
 use borrow.Author.Tests.{lt-ltb, le-ltb}
 use Rattle.rules.specs.Lists.{sum}

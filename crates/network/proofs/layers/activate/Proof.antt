@@ -1,8 +1,6 @@
 -- `network::layers::activate` meets its contract. Assumes nothing.
-use mathlib.Core.Path.{refl, ap}
-use mathlib.Core.List.{List}
+use Rattle.rules.proofs.Common.{List, refl, ap, Float}
 use borrow.Author.Needs.{needs}
-use lib.Ieee.{Float}
 use Rattle.numbers.specs.Larger.{rectified}
 use Rattle.numbers.specs.Activations.{tansigIn, sigmoidIn}
 use Rattle.model.specs.declared.Activation.the-variants.{Tanh, Sigmoid, Relu}

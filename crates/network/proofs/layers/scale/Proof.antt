@@ -1,10 +1,7 @@
 -- `network::layers::scale` meets its contract. Assumes nothing.
-use mathlib.Core.Path.{_≡_}
-use Prim.Native.Nat.{_≤_, _-_}
-use lib.ListN.{length}
-use lib.Ieee.{nan}
+use Rattle.rules.proofs.Common.{_-_, _≤_, _≡_, length, nan}
 use Rattle.rules.specs.F32.{_⊗_}
-use Rattle.rules.proofs.Mapped.{Mapping, maps}
+use Rattle.rules.proofs.Lists.{Mapping, maps}
 use Rattle.network.specs.Layers.{weightsScale}
 use Rattle.network.proofs.layers.scale.Statement.{statement}
 use Rattle.network.proofs.layers.scale.Tie as tie

@@ -1,5 +1,4 @@
 -- `network::six::join` meets its contract. Assumes nothing.
-use mathlib.Core.Path.{_∙_}
 use borrow.Author.Needs.{needs}
 use Rattle.network.proofs.Pieces.{joined}
 use Rattle.network.proofs.six.join.Statement.{statement}
@@ -10,11 +9,9 @@ returns c =
     let last = c .before .before in
     let middle = last .before .before .before .before in
     let front = middle .before .before .before .before in
-    let start = front .before .before .before .before .before .before in
-    let args = start .args in
+    let args = front .before .before .before .before .before .before .args in
     joined (args .first .now) (args .second .now) (args .third .now) (args .buf .now) (front .put .last .0) (middle .put2 .last .0) (last .put3 .last .0)
     (front .put .ensures) (middle .put2 .ensures) (last .put3 .ensures)
-    (last .put3 .kept .0 ∙ middle .put2 .kept .0 ∙ front .put .kept .0 ∙ start .pre)
 
 pub join-spec : {M : Type 1} → statement M
 join-spec =

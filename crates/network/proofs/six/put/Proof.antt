@@ -1,10 +1,7 @@
 -- `network::six::put` meets its contract. Assumes nothing.
-use mathlib.Core.Path.{_≡_, refl}
-use Prim.Native.Nat.{_≤_, _-_}
+use Rattle.rules.proofs.Common.{_-_, _≤_, _≡_, refl, length, length-set, nan}
 use native.Mathlib.Omega.{arith}
-use lib.ListN.{length, length-set}
 use lib.Seq.{paste, paste-zero}
-use lib.Ieee.{nan}
 use Rattle.rules.proofs.Loops.{turns}
 use Rattle.network.proofs.Pieces.{put-more, put-ended}
 use Rattle.network.proofs.six.put.Statement.{statement}

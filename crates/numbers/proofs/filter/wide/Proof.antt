@@ -1,7 +1,6 @@
 -- `filter::wide` meets its contract: owning an `f32` tells that the format holds it. Assumes nothing.
-use mathlib.Core.Path.{sym, subst}
+use Rattle.rules.proofs.Common.{sym, subst, T}
 use borrow.Author.Needs.{needs}
-use lib.Dec.{T}
 use Rattle.numbers.proofs.filter.wide.Statement.{statement}
 use Rattle.numbers.proofs.filter.wide.Tie as tie
 

@@ -1,14 +1,9 @@
 -- `numbers::lists::at_once` meets its contract: what is followed from the entry at a number's place is its `tansigIn`. Assumes nothing.
-use mathlib.Core.Path.{_≡_, ap, _∙_}
-use mathlib.Core.List.{List, map}
-use Prim.Native.Nat.{ℕ}
+use Rattle.rules.proofs.Common.{ℕ, List, map, _≡_, ap, _∙_, length, Float, nan}
 use borrow.Author.Needs.{needs}
-use lib.ListN.{length}
-use lib.Ieee.{Float, nan}
 use Rattle.rules.specs.F32.{at}
 use Rattle.rules.specs.Tab.{tab}
-use Rattle.rules.proofs.Mapped.{tab-map}
-use Rattle.rules.proofs.Tabs.{getD-tab, tab-same}
+use Rattle.rules.proofs.Lists.{tab-map, getD-tab, tab-same}
 use Rattle.numbers.specs.Activations.{tansigIn}
 use Rattle.numbers.specs.Parts.{entryIn, followed}
 use Rattle.numbers.proofs.Floors.{ends}

@@ -1,11 +1,8 @@
 -- `numbers::lists::curves` meets its contract. Assumes nothing.
-use mathlib.Core.Path.{_≡_, refl, ap, _∙_}
-use Prim.Native.Nat.{_≤_, _-_}
+use Rattle.rules.proofs.Common.{_-_, _≤_, _≡_, refl, ap, _∙_, length, Float, nan}
 use native.Mathlib.Omega.{arith}
-use lib.ListN.{length}
-use lib.Ieee.{Float, nan}
 use Rattle.rules.specs.F32.{at}
-use Rattle.rules.proofs.Filling.{Filling, filling-more, filling-ahead, fills}
+use Rattle.rules.proofs.Lists.{Filling, filling-more, filling-ahead, fills}
 use Rattle.numbers.specs.Parts.{followed}
 use Rattle.numbers.proofs.lists.curves.Statement.{statement}
 use Rattle.numbers.proofs.lists.curves.Tie as tie

@@ -1,13 +1,8 @@
 -- `numbers::lists::entries` meets its contract. Assumes nothing.
-use mathlib.Core.Path.{_≡_, refl, ap, _∙_}
-use Prim.Native.Nat.{_≤_, _-_}
-use mathlib.Core.List.{List}
+use Rattle.rules.proofs.Common.{_-_, _≤_, List, _≡_, refl, ap, _∙_, length, Float, nan}
 use native.Mathlib.Omega.{arith}
-use lib.ListN.{length}
-use lib.Ieee.{Float, nan}
 use Rattle.rules.specs.F32.{at}
-use Rattle.rules.proofs.Filling.{Filling, filling-begin, filling-ahead, fills}
-use Rattle.rules.proofs.Tabs.{length-tab, getD-tab}
+use Rattle.rules.proofs.Lists.{Filling, filling-begin, filling-ahead, fills, length-tab, getD-tab}
 use Rattle.numbers.specs.Parts.{entryIn}
 use Rattle.numbers.proofs.lists.entries.Statement.{statement}
 use Rattle.numbers.proofs.lists.entries.Tie as tie

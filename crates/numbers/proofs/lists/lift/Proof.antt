@@ -1,10 +1,7 @@
 -- `numbers::lists::lift` meets its contract. Assumes nothing.
-use mathlib.Core.Path.{_≡_}
-use Prim.Native.Nat.{_≤_, _-_}
-use lib.ListN.{length}
-use lib.Ieee.{nan}
+use Rattle.rules.proofs.Common.{_-_, _≤_, _≡_, length, nan}
 use Rattle.rules.specs.F32.{f32, _⊕_, _⊗_}
-use Rattle.rules.proofs.Mapped.{Mapping, maps}
+use Rattle.rules.proofs.Lists.{Mapping, maps}
 use Rattle.numbers.proofs.lists.lift.Statement.{statement}
 use Rattle.numbers.proofs.lists.lift.Tie as tie
 

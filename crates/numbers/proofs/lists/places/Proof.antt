@@ -1,9 +1,7 @@
 -- `numbers::lists::places` meets its contract. Assumes nothing.
-use mathlib.Core.Path.{_≡_}
-use Prim.Native.Nat.{_≤_, _-_}
-use lib.ListN.{length}
+use Rattle.rules.proofs.Common.{_-_, _≤_, _≡_, length}
 use Rattle.rules.specs.F32.{at}
-use Rattle.rules.proofs.Filling.{Filling, fills}
+use Rattle.rules.proofs.Lists.{Filling, fills}
 use Rattle.numbers.specs.Parts.{placeIn}
 use Rattle.numbers.proofs.Floors.{inside-within}
 use Rattle.numbers.proofs.lists.places.Statement.{statement}

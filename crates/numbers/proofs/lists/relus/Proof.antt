@@ -1,9 +1,6 @@
 -- `numbers::lists::relus` meets its contract. Assumes nothing.
-use mathlib.Core.Path.{_≡_}
-use Prim.Native.Nat.{_≤_, _-_}
-use lib.ListN.{length}
-use lib.Ieee.{nan}
-use Rattle.rules.proofs.Mapped.{Mapping, maps}
+use Rattle.rules.proofs.Common.{_-_, _≤_, _≡_, length, nan}
+use Rattle.rules.proofs.Lists.{Mapping, maps}
 use Rattle.numbers.specs.Larger.{rectified}
 use Rattle.numbers.proofs.lists.relus.Statement.{statement}
 use Rattle.numbers.proofs.lists.relus.Tie as tie

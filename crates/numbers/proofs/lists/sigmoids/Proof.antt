@@ -1,8 +1,7 @@
 -- `numbers::lists::sigmoids` meets its contract. Assumes nothing.
-use mathlib.Core.Path.{_≡_, ap, _∙_}
-use mathlib.Core.List.{List, map, map-map}
+use Rattle.rules.proofs.Common.{List, map, _≡_, ap, _∙_, Float}
+use mathlib.Core.List.{map-map}
 use borrow.Author.Needs.{needs}
-use lib.Ieee.{Float}
 use Rattle.rules.specs.F32.{f32, _⊕_, _⊗_}
 use Rattle.numbers.specs.Activations.{tansigIn, sigmoidIn}
 use Rattle.numbers.proofs.lists.sigmoids.Statement.{statement}

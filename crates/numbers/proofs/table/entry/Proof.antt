@@ -1,7 +1,7 @@
 -- `numbers::table::entry` meets its contract: each arm by its key. Assumes nothing.
 use native.Mathlib.Nat.{le-antisymm}
 use Rattle.rules.specs.F32.{at}
-use Rattle.rules.proofs.Keys.{keyed, past}
+use Rattle.rules.proofs.Tests.{keyed, past}
 use Rattle.numbers.specs.Tansig.{tansig, tansigBits}
 use Rattle.numbers.proofs.table.entry.Statement.{statement}
 use Rattle.numbers.proofs.table.entry.Tie as tie

@@ -1,13 +1,9 @@
 -- `pcm::bytes::pack_core` meets its contract: the first two places of each sample so far hold its bytes. Assumes nothing.
-use Prim.Native.Nat.{ℕ, _+_, _≤_, _<_, _-_, _*_, _/_, _%_}
+use Rattle.rules.proofs.Common.{ℕ, _+_, _-_, _*_, _/_, _%_, _≤_, _<_, List, _≡_, subst, _∙_, length, set, length-set, Float}
 use native.Mathlib.Omega.{arith}
-use mathlib.Core.List.{List}
-use mathlib.Core.Path.{_≡_, subst, _∙_}
 use denote.Ref.{now}
-use lib.Ieee.{Float}
-use lib.ListN.{length, set, length-set}
 use Rattle.rules.specs.F32.{at}
-use Rattle.rules.proofs.Filling.{Filling, fills, filling-more, filling-ended}
+use Rattle.rules.proofs.Lists.{Filling, fills, filling-more, filling-ended}
 use Rattle.pcm.specs.Pcm.{nearest16, byteOf, packed}
 use Rattle.pcm.proofs.bytes.pack_core.Statement.{statement}
 use Rattle.pcm.proofs.bytes.pack_core.Tie as tie

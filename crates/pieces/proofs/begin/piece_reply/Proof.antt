@@ -1,9 +1,7 @@
 -- `pieces::begin::piece_reply` meets its contract: each answer by the tests that lead to it. Assumes nothing.
-use mathlib.Core.Bool.{true}
-use mathlib.Core.Path.{_≡_}
+use Rattle.rules.proofs.Common.{true, _≡_, length}
 use borrow.Author.Needs.{needs}
 use denote.Ref.{now}
-use lib.ListN.{length}
 use Rattle.rules.proofs.Tests.{tests, answered-no, answered-yes}
 use Rattle.samples.specs.Samples.{good}
 use Rattle.pieces.specs.Pieces.{waitingIn, pieceFits}

@@ -1,9 +1,8 @@
 -- `pieces::finish::go_on` meets its contract. Assumes nothing.
-use Prim.Native.Nat.{_+_, _-_}
+use Rattle.rules.proofs.Common.{_+_, _-_, length-take, length-drop}
 use native.Mathlib.Omega.{arith}
 use borrow.Author.Needs.{needs}
 use denote.Ref.{now}
-use lib.ListN.{length-take, length-drop}
 use Rattle.pieces.proofs.Goods.{good-take, good-drop}
 use Rattle.pieces.proofs.Serve.{rest-waits, rest-begins}
 use Rattle.pieces.proofs.finish.go_on.Statement.{statement}

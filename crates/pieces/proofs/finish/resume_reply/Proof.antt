@@ -1,11 +1,10 @@
 -- `pieces::finish::resume_reply` meets its contract: each answer by the tests that lead to it. Assumes nothing.
-use mathlib.Core.Bool.{true}
-use mathlib.Core.Path.{_≡_, _∙_}
+use Rattle.rules.proofs.Common.{true, _≡_, _∙_, length}
 use borrow.Author.Needs.{needs}
 use denote.Ref.{now}
-use lib.ListN.{length}
 use Rattle.rules.proofs.Tests.{tests, answered-no, answered-yes}
-use Rattle.pieces.specs.Pieces.{resumeFits, resumeReply}
+use Rattle.pieces.specs.Pieces.{resumeFits}
+use Rattle.pieces.specs.Parts.{resumeReply}
 use Rattle.pieces.proofs.finish.resume_reply.Statement.{statement}
 use Rattle.pieces.proofs.finish.resume_reply.Tie as tie
 

@@ -1,9 +1,8 @@
 -- `pieces::waiting::empty` meets its contract. Assumes nothing.
 use borrow.Author.Needs.{needs}
-use mathlib.Core.Path.{_≡_, ap, _∙_}
+use Rattle.rules.proofs.Common.{_≡_, ap, _∙_, length, take, drop, length-take, length-drop}
 use native.Mathlib.Omega.{arith}
 use denote.Ref.{now}
-use lib.ListN.{length, take, drop, length-take, length-drop}
 use Rattle.frame.specs.Share.{PART}
 use Rattle.pieces.specs.Pieces.{waitingPlace}
 use Rattle.pieces.proofs.Padding.{padded-none}

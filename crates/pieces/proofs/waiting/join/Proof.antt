@@ -1,10 +1,7 @@
 -- `pieces::waiting::join` meets its contract. Assumes nothing.
-use mathlib.Core.List.{_++_}
-use mathlib.Core.Path.{_≡_}
-use Prim.Native.Nat.{_≤_, _-_}
-use lib.ListN.{length, getD}
+use Rattle.rules.proofs.Common.{_-_, _≤_, _++_, _≡_, length, getD}
 use Rattle.rules.specs.F32.{f32}
-use Rattle.rules.proofs.Filling.{Filling, fills}
+use Rattle.rules.proofs.Lists.{Filling, fills}
 use Rattle.pieces.specs.Pieces.{paddedTo}
 use Rattle.pieces.proofs.waiting.join.Statement.{statement}
 use Rattle.pieces.proofs.waiting.join.Tie as tie

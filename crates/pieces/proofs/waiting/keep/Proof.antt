@@ -1,10 +1,8 @@
 -- `pieces::waiting::keep` meets its contract. Assumes nothing.
 use borrow.Author.Needs.{needs}
-use Prim.Native.Nat.{_-_}
-use mathlib.Core.Path.{_≡_, ap, _∙_}
+use Rattle.rules.proofs.Common.{_-_, _≡_, ap, _∙_, length, take, drop, length-take, length-drop}
 use native.Mathlib.Omega.{arith}
 use denote.Ref.{now}
-use lib.ListN.{length, take, drop, length-take, length-drop}
 use lib.Seq.{take-all}
 use Rattle.frame.specs.Share.{PART}
 use Rattle.pieces.specs.Pieces.{waitingPlace, paddedTo}

@@ -1,10 +1,9 @@
 -- `pieces::waiting::settle` meets its contract. Assumes nothing.
 use borrow.Author.Needs.{needs}
-use mathlib.Core.Path.{ap}
+use Rattle.rules.proofs.Common.{ap, length-take, length-drop}
 use native.Mathlib.Omega.{arith}
 use denote.Ref.{now}
-use lib.ListN.{length-take, length-drop}
-use Rattle.rules.proofs.Called.{left as fitted}
+use Rattle.rules.proofs.Refusals.{left as fitted}
 use Rattle.pieces.specs.Pieces.{waitingPlace}
 use Rattle.rules.specs.Place.{get, put}
 use Rattle.pieces.proofs.waiting.settle.Statement.{statement}

@@ -1,8 +1,7 @@
 -- `pitch::lanes::put_four` meets its contract, by computing. Assumes nothing.
-use mathlib.Core.Path.{refl}
+use Rattle.rules.proofs.Common.{refl, length-set}
 use native.Mathlib.Omega.{arith}
 use borrow.Author.Needs.{needs}
-use lib.ListN.{length-set}
 use Rattle.pitch.specs.Parts.{storeFour}
 use Rattle.pitch.proofs.lanes.put_four.Statement.{statement}
 use Rattle.pitch.proofs.lanes.put_four.Tie as tie

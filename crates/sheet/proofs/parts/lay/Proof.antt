@@ -1,7 +1,6 @@
-use mathlib.Core.Path.{ap, _∙_}
+use Rattle.rules.proofs.Common.{ap, _∙_, length, length-take}
 use native.Mathlib.Omega.{arith}
 use denote.Ref.{now}
-use lib.ListN.{length, length-take}
 use lib.Seq.{take-all}
 use Rattle.rules.specs.Lists.{sum}
 use Rattle.sheet.proofs.Laying.{length-records}

@@ -1,7 +1,6 @@
-use mathlib.Core.Path.{sym, _∙_}
+use Rattle.rules.proofs.Common.{sym, _∙_, length-set, length-take}
 use native.Mathlib.Omega.{arith}
 use borrow.Author.Tests.{not-true, not-false}
-use lib.ListN.{length-take, length-set}
 use Rattle.rules.proofs.Tests.{answered-no, answered-yes}
 use Rattle.sheet.proofs.Runs.{all-heard}
 use Rattle.sheet.proofs.InRow.{rows-5, rows-32, rows-33, rows-34, rows-36, rows-laid}

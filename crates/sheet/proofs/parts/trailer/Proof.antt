@@ -1,8 +1,7 @@
-use mathlib.Core.Path.{ap, _∙_}
+use Rattle.rules.proofs.Common.{ap, _∙_, length, length-take}
 use native.Mathlib.Omega.{arith}
 use borrow.Author.Tests.{lt-ltb, le-ltb}
-use lib.ListN.{length, length-take}
-use Rattle.rules.proofs.Leaves.{leaves}
+use Rattle.rules.proofs.Refusals.{leaves}
 use Rattle.rules.proofs.Tests.{tests}
 use Rattle.sheet.specs.Rows.{trailerLaid}
 use Rattle.sheet.proofs.Laying.{length-trailer}

@@ -1,15 +1,16 @@
 -- `transforms::bins::step` meets its contract. Assumes nothing.
 use native.Mathlib.Omega.{arith}
 use borrow.Author.Needs.{needs}
-use Rattle.transforms.proofs.Turns.{bin-stepped}
+use Rattle.transforms.proofs.Terms.{bin-stepped}
 use Rattle.transforms.proofs.bins.step.Statement.{statement}
 use Rattle.transforms.proofs.bins.step.Tie as tie
 
 returns : tie.Need-returns
 returns c =
-    let pre = c .before .before .before .before .before .before .before .pre in
-    bin-stepped _ _ _ _ (omega (arith, pre .1 .0 .small)) (pre .1 .1 .0) (pre .1 .1 .1) (c .before .before .before .before .read .ensures) (c .before .before .read2 .ensures)
-    (c .before .before .before .times .ensures) (c .before .times2 .ensures) (c .turn .ensures)
+    let first = c .before .before .before .before .before .before .before in
+    let pre = first .pre in
+    bin-stepped (first .args .x .now) _ _ _ (pre .1 .small) (pre .0 .2) (pre .1 .sums) (c .before .before .before .before .read .ensures) (c .before .before .read2 .ensures)
+    (c .before .before .before .times .ensures) (c .before .times2 .ensures) (c .add-terms .ensures)
 
 pub step-spec : {M : Type 1} → statement M
 step-spec =
@@ -21,5 +22,5 @@ step-spec =
     (λ c κs. search needs)  -- times-requires
     (λ c κs. search needs)  -- read-requires-2
     (λ c κs. search needs)  -- times-requires-2
-    (λ c κs. omega (arith, c .before .before .before .before .before .before .pre .1 .1 .0))  -- turn-requires
+    (λ c κs. omega (arith, c .before .before .before .before .before .before .pre .0 .2))  -- add-terms-requires
     returns)

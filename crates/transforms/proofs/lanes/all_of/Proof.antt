@@ -1,11 +1,11 @@
 -- `transforms::lanes::all_of` meets its contract, by computing. Assumes nothing.
 use mathlib.Core.Path.{refl}
-use Rattle.transforms.specs.Parts.{allOf}
+use Rattle.transforms.specs.Parts.{sumsOf}
 use Rattle.transforms.proofs.lanes.all_of.Statement.{statement}
 use Rattle.transforms.proofs.lanes.all_of.Tie as tie
 
 returns : tie.Need-returns
-unfolding allOf
+unfolding sumsOf
 returns c = refl
 
 pub all-of-spec : {M : Type 1} → statement M

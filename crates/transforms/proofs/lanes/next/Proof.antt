@@ -1,6 +1,6 @@
 -- `transforms::lanes::next` meets its contract. Assumes nothing.
 use native.Mathlib.Omega.{arith}
-use Rattle.transforms.proofs.Spots.{small, next-places}
+use Rattle.transforms.proofs.Placed.{small, next-places}
 use Rattle.transforms.proofs.lanes.next.Statement.{statement}
 use Rattle.transforms.proofs.lanes.next.Tie as tie
 

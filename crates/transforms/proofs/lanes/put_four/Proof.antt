@@ -1,15 +1,10 @@
--- `transforms::lanes::put_four` meets its contract, by computing. Assumes nothing.
-use mathlib.Core.Path.{refl}
+-- `transforms::lanes::put_four` meets its contract. Assumes nothing.
 use native.Mathlib.Omega.{arith}
 use borrow.Author.Needs.{needs}
 use lib.ListN.{length-set}
-use Rattle.transforms.specs.Parts.{storeFour}
+use Rattle.transforms.proofs.Stored.{four-stored}
 use Rattle.transforms.proofs.lanes.put_four.Statement.{statement}
 use Rattle.transforms.proofs.lanes.put_four.Tie as tie
-
-returns : tie.Need-returns
-unfolding storeFour
-returns c = refl
 
 pub put-four-spec : {M : Type 1} → statement M
 put-four-spec =
@@ -27,4 +22,4 @@ put-four-spec =
     (λ c. search needs)  -- mul-parts-4
     (λ c. simp length-set (omega arith))  -- slice-write-parts-4
     (λ c. search needs)  -- same-length
-    returns)
+    (λ c f. four-stored f _ _ _ (omega arith)))  -- returns

@@ -1,7 +1,9 @@
 -- `transforms::samples::sample_spot` meets its contract. Assumes nothing.
 use mathlib.Core.Path.{_∙_}
+use native.Mathlib.Omega.{arith}
 use borrow.Author.Needs.{needs}
-use borrow.Author.Tests.{lt-ltb, le-ltb}
+use Rattle.transforms.specs.Parts.{wholePart}
+use Rattle.transforms.proofs.Stored.{sample-right}
 use Rattle.transforms.proofs.samples.sample_spot.Statement.{statement}
 use Rattle.transforms.proofs.samples.sample_spot.Tie as tie
 
@@ -10,25 +12,25 @@ sample-spot-spec =
     tie.close
     (tie.spec
     (λ c κs. search needs)  -- spot-requires
-    (λ c. c .spot .ensures ∙ simp (lt-ltb _ _ (c .before .if1 .taken)))  -- returns
+    (λ c. (c .spot .ensures .0, λ x. c .spot .ensures .1 (wholePart x) ∙ sample-right x _ 0 _ (omega arith)))  -- returns
     (λ c. search needs)  -- sub-spot
     (λ c κs. search needs)  -- spot-requires-2
-    (λ c. c .spot2 .ensures ∙ simp (le-ltb _ _ (c .before .before .if1 .left), lt-ltb _ _ (c .before .if2 .taken)))  -- returns-2
+    (λ c. (c .spot2 .ensures .0, λ x. c .spot2 .ensures .1 (wholePart x) ∙ sample-right x _ 5 _ (omega arith)))  -- returns-2
     (λ c. search needs)  -- sub-spot-2
     (λ c κs. search needs)  -- spot-requires-3
-    (λ c. c .spot3 .ensures ∙ simp (le-ltb _ _ (c .before .before .before .if1 .left), le-ltb _ _ (c .before .before .if2 .left), lt-ltb _ _ (c .before .if3 .taken)))  -- returns-3
+    (λ c. (c .spot3 .ensures .0, λ x. c .spot3 .ensures .1 (wholePart x) ∙ sample-right x _ 4 _ (omega arith)))  -- returns-3
     (λ c. search needs)  -- sub-spot-3
     (λ c κs. search needs)  -- spot-requires-4
-    (λ c. c .spot4 .ensures ∙ simp (le-ltb _ _ (c .before .before .before .before .if1 .left), le-ltb _ _ (c .before .before .before .if2 .left), le-ltb _ _ (c .before .before .if3 .left), lt-ltb _ _ (c .before .if4 .taken)))  -- returns-4
+    (λ c. (c .spot4 .ensures .0, λ x. c .spot4 .ensures .1 (wholePart x) ∙ sample-right x _ 3 _ (omega arith)))  -- returns-4
     (λ c. search needs)  -- sub-spot-4
     (λ c κs. search needs)  -- spot-requires-5
-    (λ c. c .spot5 .ensures ∙ simp (le-ltb _ _ (c .before .before .before .before .before .if1 .left), le-ltb _ _ (c .before .before .before .before .if2 .left), le-ltb _ _ (c .before .before .before .if3 .left), le-ltb _ _ (c .before .before .if4 .left), lt-ltb _ _ (c .before .if5 .taken)))  -- returns-5
+    (λ c. (c .spot5 .ensures .0, λ x. c .spot5 .ensures .1 (wholePart x) ∙ sample-right x _ 2 _ (omega arith)))  -- returns-5
     (λ c. search needs)  -- sub-spot-5
     (λ c κs. search needs)  -- spot-requires-6
-    (λ c. c .spot6 .ensures ∙ simp (le-ltb _ _ (c .before .before .before .before .before .before .if1 .left), le-ltb _ _ (c .before .before .before .before .before .if2 .left), le-ltb _ _ (c .before .before .before .before .if3 .left), le-ltb _ _ (c .before .before .before .if4 .left), le-ltb _ _ (c .before .before .if5 .left), lt-ltb _ _ (c .before .if6 .taken)))  -- returns-6
+    (λ c. (c .spot6 .ensures .0, λ x. c .spot6 .ensures .1 (wholePart x) ∙ sample-right x _ 7 _ (omega arith)))  -- returns-6
     (λ c. search needs)  -- sub-spot-6
     (λ c κs. search needs)  -- spot-requires-7
-    (λ c. c .spot7 .ensures ∙ simp (le-ltb _ _ (c .before .before .before .before .before .before .before .if1 .left), le-ltb _ _ (c .before .before .before .before .before .before .if2 .left), le-ltb _ _ (c .before .before .before .before .before .if3 .left), le-ltb _ _ (c .before .before .before .before .if4 .left), le-ltb _ _ (c .before .before .before .if5 .left), le-ltb _ _ (c .before .before .if6 .left), lt-ltb _ _ (c .before .if7 .taken)))  -- returns-7
+    (λ c. (c .spot7 .ensures .0, λ x. c .spot7 .ensures .1 (wholePart x) ∙ sample-right x _ 6 _ (omega arith)))  -- returns-7
     (λ c. search needs)  -- sub-spot-7
     (λ c κs. search needs)  -- spot-requires-8
-    (λ c. c .spot8 .ensures ∙ simp (le-ltb _ _ (c .before .before .before .before .before .before .before .if1 .left), le-ltb _ _ (c .before .before .before .before .before .before .if2 .left), le-ltb _ _ (c .before .before .before .before .before .if3 .left), le-ltb _ _ (c .before .before .before .before .if4 .left), le-ltb _ _ (c .before .before .before .if5 .left), le-ltb _ _ (c .before .before .if6 .left), le-ltb _ _ (c .before .if7 .left))))  -- returns-8
+    (λ c. (c .spot8 .ensures .0, λ x. c .spot8 .ensures .1 (wholePart x) ∙ sample-right x _ 1 _ (omega arith))))  -- returns-8

@@ -1,17 +1,19 @@
 -- `transforms::samples::step` meets its contract. Assumes nothing.
 use native.Mathlib.Omega.{arith}
 use borrow.Author.Needs.{needs}
-use Rattle.transforms.proofs.Turns.{sample-stepped}
+use Rattle.transforms.proofs.Terms.{sample-stepped}
 use Rattle.transforms.proofs.samples.step.Statement.{statement}
 use Rattle.transforms.proofs.samples.step.Tie as tie
 
 returns : tie.Need-returns
 returns c =
-    let pre = c .before .before .before .before .before .before .before .before .before .before .before .pre in
-    sample-stepped _ (c .before .before .before .before .before .before .before .before .before .before .shared-slice-known .given 0) _ _ _ (omega (arith, pre .1 .0 .small)) (pre .1 .1 .0) (pre .1 .1 .1)
+    let first = c .before .before .before .before .before .before .before .before .before .before .before in
+    let pre = first .pre in
+    let known = c .before .before .before .before .before .before .before .before .before .before .shared-slice-known in
+    sample-stepped (first .args .x .now) (known .given 0) _ (pre .1 .small) _ _ (pre .0 .3) (pre .1 .sums)
     (c .before .before .before .before .before .before .before .read .ensures) (c .before .before .before .before .before .before .read2 .ensures) (pre .0 .1)
-    (c .before .before .before .before .before .times .ensures) (c .before .before .before .before .times2 .ensures) (c .before .before .times3 .ensures) (c .before .times4 .ensures)
-    (c .before .before .before .turn .ensures) (c .turn2 .ensures)
+    (c .before .before .before .before .before .times .ensures) (c .before .before .before .before .times2 .ensures) (c .before .before .before .add-terms .ensures)
+    (c .before .before .times3 .ensures) (c .before .times4 .ensures) (c .add-terms2 .ensures)
 
 pub step-spec : {M : Type 1} → statement M
 step-spec =
@@ -27,8 +29,8 @@ step-spec =
     (λ c κs. search needs)  -- read-requires-2
     (λ c κs. search needs)  -- times-requires
     (λ c κs. search needs)  -- times-requires-2
-    (λ c κs. (omega (arith, c .before .before .before .before .before .before .before .pre .1 .1 .0), omega arith))  -- turn-requires
+    (λ c κs. (omega (arith, c .before .before .before .before .before .before .before .pre .0 .3), omega arith))  -- add-terms-requires
     (λ c κs. search needs)  -- times-requires-3
     (λ c κs. search needs)  -- times-requires-4
-    (λ c κs. (omega (arith, c .before .before .before .before .before .before .before .before .before .before .pre .1 .1 .0), omega arith))  -- turn-requires-2
+    (λ c κs. (omega (arith, c .before .before .before .before .before .before .before .before .before .before .pre .0 .3), omega arith))  -- add-terms-requires-2
     returns)

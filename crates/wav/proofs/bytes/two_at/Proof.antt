@@ -1,5 +1,4 @@
-use mathlib.Core.Path.{sym}
-use Prim.Native.Nat.{_+_}
+use Rattle.rules.proofs.Common.{_+_, sym}
 use native.Mathlib.Omega.{arith}
 use denote.Ref.{now}
 use Rattle.wav.proofs.Fields.{two-at}

@@ -2,7 +2,7 @@ use mathlib.Core.Path.{sym, ap, _∙_}
 use borrow.Author.Tests.{eq-eqb}
 use denote.Ref.{now}
 use Rattle.rules.proofs.Tests.{tests}
-use Rattle.rules.proofs.Leaves.{leaves}
+use Rattle.rules.proofs.Refusals.{leaves}
 use Rattle.wav.specs.Chunks.{stepTold}
 use borrow.Author.Needs.{needs}
 use Rattle.wav.proofs.chunks.read.Statement.{statement}

@@ -1,8 +1,7 @@
 use native.Mathlib.Omega.{arith}
-use mathlib.Core.List.{[], _∷_}
+use Rattle.rules.proofs.Common.{[], _∷_, length-set}
 use denote.Ref.{now}
-use lib.ListN.{length-set}
-use Rattle.rules.proofs.Stores.{all-stored}
+use Rattle.rules.proofs.Places.{all-stored}
 use borrow.Author.Needs.{needs}
 use Rattle.wav.proofs.chunks.tell.Statement.{statement}
 use Rattle.wav.proofs.chunks.tell.Tie as tie

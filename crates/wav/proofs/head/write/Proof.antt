@@ -1,7 +1,7 @@
 use mathlib.Core.Path.{_∙_}
 use borrow.Author.Tests.{eq-eqb}
 use Rattle.rules.proofs.Tests.{tests}
-use Rattle.rules.proofs.Leaves.{leaves}
+use Rattle.rules.proofs.Refusals.{leaves}
 use Rattle.wav.specs.Head.{headWritten}
 use borrow.Author.Needs.{needs}
 use Rattle.wav.proofs.head.write.Statement.{statement}

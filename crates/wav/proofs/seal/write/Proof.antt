@@ -1,11 +1,10 @@
-use mathlib.Core.Path.{_≡_, ap, _∙_}
+use Rattle.rules.proofs.Common.{_≡_, ap, _∙_, length, length-take}
 use native.Mathlib.Omega.{arith}
 use borrow.Author.Tests.{le-ltb, lt-ltb, eq-eqb}
 use denote.Ref.{now}
-use lib.ListN.{length, length-take}
 use Rattle.checksum.specs.Checksum.{crc32}
 use Rattle.rules.proofs.Tests.{tests}
-use Rattle.rules.proofs.Leaves.{leaves}
+use Rattle.rules.proofs.Refusals.{leaves}
 use Rattle.wav.specs.Seal.{sealWritten}
 use Rattle.wav.proofs.Seals.{length-said, laid}
 use borrow.Author.Needs.{needs}

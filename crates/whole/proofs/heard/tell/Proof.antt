@@ -1,12 +1,8 @@
 -- `whole::heard::tell` meets its contract: three stores are a `put`. Assumes nothing.
 use borrow.Author.Needs.{needs}
-use Prim.Native.Nat.{ℕ, suc, _+_, _*_, _≤_}
-use mathlib.Core.List.{List, [], _∷_}
-use mathlib.Core.Path.{_≡_, ap, _∙_}
+use Rattle.rules.proofs.Common.{ℕ, suc, _+_, _*_, _≤_, List, [], _∷_, _≡_, ap, _∙_, length, set, length-set, Float}
 use native.Mathlib.Omega.{arith}
 use denote.Ref.{now}
-use lib.ListN.{length, set, length-set}
-use lib.Ieee.{Float}
 use Rattle.rules.specs.Place.{put}
 use Rattle.rules.proofs.Places.{put-sets}
 use Rattle.whole.specs.Parts.{three}

@@ -3,7 +3,7 @@ use borrow.Author.Needs.{needs}
 use native.Mathlib.Omega.{arith}
 use mathlib.Core.Path.{refl}
 use denote.Ref.{now}
-use Rattle.rules.proofs.Called.{left}
+use Rattle.rules.proofs.Refusals.{left}
 use Rattle.rules.proofs.Tests.{answered-no, answered-yes}
 use Rattle.desk.specs.Gate.{BENCHES}
 use Rattle.whole.proofs.Framed.{refused, halved}

@@ -1,8 +1,6 @@
 -- `whole::one_piece::finish` meets its contract: after j turns j steps are done. Assumes nothing.
-use mathlib.Core.Path.{_≡_}
-use Prim.Native.Nat.{_≤_, _*_, _-_}
+use Rattle.rules.proofs.Common.{_-_, _*_, _≤_, _≡_, length}
 use native.Mathlib.Omega.{arith}
-use lib.ListN.{length}
 use Rattle.rules.specs.Loop.{loop}
 use Rattle.rules.proofs.Loops.{turns, more, ended}
 use Rattle.desk.specs.Gate.{BENCHES}

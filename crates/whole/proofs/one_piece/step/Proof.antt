@@ -2,7 +2,7 @@
 use borrow.Author.Needs.{needs}
 use mathlib.Core.Path.{refl}
 use denote.Ref.{now}
-use Rattle.rules.proofs.Called.{left}
+use Rattle.rules.proofs.Refusals.{left}
 use Rattle.desk.specs.Gate.{BENCHES}
 use Rattle.whole.proofs.Taken.{stepped}
 use Rattle.whole.proofs.one_piece.step.Statement.{statement}

@@ -1,13 +1,9 @@
 -- `whole::tests::both_good` meets its contract. Assumes nothing.
 use borrow.Author.Needs.{needs}
-use mathlib.Core.Path.{_≡_, sym, _∙_}
+use Rattle.rules.proofs.Common.{ℕ, _+_, _-_, _*_, _≤_, _<_, List, _≡_, sym, _∙_, length, Float}
 use native.Mathlib.Nat.{add-sub-cancel-left}
 use native.Mathlib.Omega.{arith}
-use Prim.Native.Nat.{ℕ, _+_, _-_, _*_, _≤_, _<_}
-use mathlib.Core.List.{List}
 use denote.Ref.{now}
-use lib.ListN.{length}
-use lib.Ieee.{Float}
 use Rattle.rules.specs.Place.{get}
 use Rattle.rules.proofs.Places.{get-get}
 use Rattle.rules.proofs.Tests.{answered-no, answered-yes}

@@ -1,11 +1,9 @@
 -- `whole::tests::take_reply` meets its contract: each answer by the tests that lead to it. Assumes nothing.
 use borrow.Author.Needs.{needs}
 use native.Mathlib.Omega.{arith}
-use Prim.Native.Nat.{_≤_}
-use mathlib.Core.Path.{sym, _∙_}
+use Rattle.rules.proofs.Common.{_≤_, sym, _∙_, length}
 use borrow.Author.Tests.{ne-eqb, le-leb, lt-leb}
 use denote.Ref.{now}
-use lib.ListN.{length}
 use Rattle.rules.proofs.Tests.{answered-no, answered-yes}
 use Rattle.desk.specs.Gate.{BENCHES}
 use Rattle.desk.proofs.Turned.{through}

@@ -1,9 +1,7 @@
 -- `Biquad::filter` meets its contract. Assumes nothing.
-use mathlib.Core.Path.{_≡_, refl, ap, _∙_}
-use Prim.Native.Nat.{_≤_, _-_}
+use Rattle.rules.proofs.Common.{_-_, _≤_, _≡_, refl, ap, _∙_, length, length-set}
 use native.Mathlib.Omega.{arith}
 use borrow.Author.Needs.{needs}
-use lib.ListN.{length, length-set}
 use Rattle.rules.specs.Leaf.{_leaving_, done, refused}
 use Rattle.rules.proofs.Loops.{turns}
 use Rattle.numbers.specs.declared.filter.Memory.{Memory}

@@ -1,0 +1,1 @@
+// Laws of floats, whatever the crate: proofs/. No code.

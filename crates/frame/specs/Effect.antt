@@ -1,0 +1,32 @@
+-- What a call gives, and what a contract says of it.
+use Rattle.rules.specs.Common.{cond, List, [], _≡_, Float}
+use Rattle.rules.specs.Written.{Written, onto}
+use Rattle.frame.specs.Reply.{passed, firstRefusal}
+use Rattle.frame.specs.declared.Reply.{Reply}
+
+-- what is answered, what is kept, a share or a store, and what is written to each answer buffer, in order
+pub record Effect (A : Type 0) : Type 0 where
+  pub answer : A
+  pub kept : List Float
+  pub written : List Written
+
+-- a refusal keeps everything as it was, and writes nothing
+abbrev pub refusal : {A : Type 0} → A → List Float → Effect A
+refusal answer kept = record { answer = answer; kept = kept; written = [] }
+
+-- the first refusal of a table, or f
+abbrev pub unless : List Reply → List Float → Effect Reply → Effect Reply
+unless rows share f = let reply = firstRefusal rows in cond (passed reply) f (refusal reply share)
+
+-- what a contract says of a call: its answer, what it kept, and the answer buffers, by what they held
+pub record Worked {A : Type 0} (f : Effect A) (answer : A) (kept : List Float) (held out : List (List Float)) : Type 0 where
+  pub answers : answer ≡ f .answer
+  pub keeps : kept ≡ f .kept
+  pub writes : out ≡ onto (f .written) held
+
+-- no second outcome meets a contract
+abbrev pub Settled : Type 0 → Type 0
+Settled A =
+    (f : Effect A) (answer answer′ : A) (kept kept′ : List Float) (held out out′ : List (List Float))
+    → Worked f answer kept held out → Worked f answer′ kept′ held out′
+    → (answer ≡ answer′) × (kept ≡ kept′) × (out ≡ out′)

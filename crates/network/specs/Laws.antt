@@ -1,0 +1,7 @@
+-- What is claimed of the three states. The proof is in proofs/States.
+use Rattle.rules.specs.Common.{List, _++_, _≡_, Float}
+use Rattle.network.specs.Compute.{vadIn, noiseIn, denoiseIn}
+
+-- a slice is its three states, side by side, whatever its length
+abbrev pub SideBySide : Type 0
+SideBySide = (states : List Float) → vadIn states ++ noiseIn states ++ denoiseIn states ≡ states
