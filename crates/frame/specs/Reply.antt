@@ -25,7 +25,7 @@ isHeard (Misread n l) = false
 abbrev pub oneMore : ℕ → ℕ
 oneMore number = cond (ltb number 4294967295) (number + 1) 0
 
--- a table of refusals, tried in order: each row is a reply, and refuses or not. A row of a number and the test at which it is given
+-- a table of refusals is a list of replies, tried in order: a row refuses, or it is Done. Here a row is a number, and the test at which it is given
 infix 70 _when_
 abbrev pub _when_ : ℕ → Bool → Reply
 n when t = cond t (Refused n) Done
