@@ -23,27 +23,27 @@ use Rattle.frame.proofs.Tables.{Clear, Each, not-when, by-number, by-ro
 
 module _ (share : List Float) (P : Effect Reply → Type 0) (bad : (n : ℕ) → P (refusal (Refused n) share)) where
   -- a row of a number and a test
-  pub numbered : (n : ℕ) (t : Bool) → passed (n when t) ≡ false → P (refusal (n when t) share)
-  numbered = by-number (λ reply. P (refusal reply share)) bad
+  pub by-its-number : (n : ℕ) (t : Bool) → passed (n when t) ≡ false → P (refusal (n when t) share)
+  by-its-number = by-number (λ reply. P (refusal reply share)) bad
 
   pub by-table : (ps : List (ℕ × ℕ)) (rows : List Reply) (f : Effect Reply) → Each (λ reply. P (refusal reply share)) rows
       → (Right ps → Clear rows → P f) → P (unless (5 when wrong ps ∷ rows) share f)
   by-table ps rows f each h =
-      by-rows share f P (5 when wrong ps ∷ rows) (numbered 5 (wrong ps), each) (λ c. h (right ps (not-when 5 (wrong ps) (c .0))) (c .1))
+      by-rows share f P (5 when wrong ps ∷ rows) (by-its-number 5 (wrong ps), each) (λ c. h (right ps (not-when 5 (wrong ps) (c .0))) (c .1))
 
   pub call1-by : (samples : List Float) (window : ℕ) → (length share ≡ PART → length samples ≡ 480 → P (done1 share samples))
       → P (call1 share samples window)
   unfolding call1
   call1-by samples window h =
       by-table ((length share, PART) ∷ (length samples, 480) ∷ (window, 960) ∷ []) (9 when not (good samples) ∷ []) (done1 share samples)
-      (numbered 9 (not (good samples)), tt) (λ r _. h (r .0) (r .1 .0))
+      (by-its-number 9 (not (good samples)), tt) (λ r _. h (r .0) (r .1 .0))
 
   pub call2-by : (spectrum : List Float) (lag window sums : ℕ) → (length share ≡ PART → P (done2 share spectrum lag))
       → P (call2 share spectrum lag window sums)
   unfolding call2
   call2-by spectrum lag window sums h =
       by-table ((length share, PART) ∷ (length spectrum, 961) ∷ (window, 960) ∷ (sums, 22) ∷ []) (6 when ltb 768 lag ∷ []) (done2 share spectrum lag)
-      (numbered 6 (ltb 768 lag), tt) (λ r _. h (r .0))
+      (by-its-number 6 (ltb 768 lag), tt) (λ r _. h (r .0))
 
   -- a model that is refused comes with what the reader says of it
   pub call3-by : (hearing : Hearing) (spectrum logs : List Float) (model : List ℕ) (out : ℕ)
@@ -55,7 +55,7 @@ module _ (share : List Float) (P : Effect Reply → Type 0) (bad : (n : ℕ) →
   call3-by hearing spectrum logs model out misread still h =
       by-table ((length share, PART) ∷ (length spectrum, 961) ∷ (length logs, 22) ∷ (out, 961) ∷ []) (5 when ltb 7 (hearing .index) ∷ [])
       (modelled (counted hearing) (readOf model) share (done3 share (hearing .index) spectrum logs model))
-      (numbered 5 (ltb 7 (hearing .index)), tt)
+      (by-its-number 5 (ltb 7 (hearing .index)), tt)
       (λ r c. by-model (r .0) (ltb-false 7 (hearing .index) (not-when 5 (ltb 7 (hearing .index)) (c .0))) (readOf model) refl)
     where
       by-sound : (m : Model) → readOf model ≡ Good m → length share ≡ PART → hearing .index ≤ 7

@@ -28,10 +28,6 @@ pub not-when : (n : ℕ) (t : Bool) → passed (n when t) ≡ true → t ≡ fal
 not-when n true h = absurd (false≢true h)
 not-when n false h = refl
 
-pub when-not : (n : ℕ) (t : Bool) → t ≡ false → passed (n when t) ≡ true
-when-not n true h = absurd (true≢false h)
-when-not n false h = refl
-
 module _ (P : Reply → Type 0) where
   -- of each row that refuses
   abbrev pub Each : List Reply → Type 0
@@ -61,9 +57,6 @@ module _ (P : Reply → Type 0) where
 
 -- the same of a call
 module _ (share : List Float) (f : Effect Reply) where
-  pub unless-clear : (rows : List Reply) → Clear rows → unless rows share f ≡ f
-  unless-clear rows h = rw (clear rows h) refl
-
   pub by-rows : (P : Effect Reply → Type 0) (rows : List Reply) → Each (λ reply. P (refusal reply share)) rows → (Clear rows → P f)
       → P (unless rows share f)
   by-rows P rows bad good = go (passed (firstRefusal rows)) refl

@@ -17,7 +17,7 @@ use Rattle.frame.specs.Effect.{Effect, refusal}
 use Rattle.frame.specs.Reply.{_when_}
 use Rattle.frame.specs.Frame.{done1, call1, done2, call3, done4}
 use Rattle.frame.proofs.Beside.{done1-beside, done3-beside}
-use Rattle.frame.proofs.Cases.{numbered, by-table, call1-by, call3-by}
+use Rattle.frame.proofs.Cases.{by-its-number, by-table, call1-by, call3-by}
 use Rattle.frame.proofs.Done.{call2-done, call4-done}
 use Rattle.frame.proofs.Keeps.{end}
 use Rattle.halves.specs.Ways.{lagBy, remembered, forwardBy, inverseBy}
@@ -74,7 +74,7 @@ module _ (share : List Float) (P : Effect Reply → Type 0) (bad : (n : ℕ) →
   unfolding secondHalf
   second-half-by hearing logs model out misread still h =
       by-table share P bad ((length share, PART) ∷ (length logs, 22) ∷ (out, 480) ∷ []) (5 when ltb 7 (hearing .index) ∷ []) (onward (call3 share hearing spectrum logs model 961) second)
-      (numbered share P bad 5 (ltb 7 (hearing .index)), tt)
+      (by-its-number share P bad 5 (ltb 7 (hearing .index)), tt)
       (λ r c.
       call3-by share (λ f. P (onward f second)) bad hearing spectrum logs model 961 misread
       (subst P (sym (synthesised-done Silent share (hearing .way) (get keptX share) out (r .0) (r .1 .1 .0))) (still (r .0)))

@@ -1,10 +1,8 @@
--- The rows of a table of refusals, and the tests behind the lengths.
+-- The rows of a table of refusals.
 --     not-not          a row that refuses where a test does not hold
 --     by-model         the row of a model
---     last-tests-by    what holds of every refusal of theirs, and of Done where the model is right and the samples are fine, holds of them
---     last-passed      they passed
 -- Assumes nothing.
-use Rattle.rules.proofs.Common.{ℕ, Bool, true, false, cond, not, true≢false, List, [], _∷_, _≡_, refl}
+use Rattle.rules.proofs.Common.{ℕ, Bool, true, false, cond, not, true≢false, List, _≡_, refl}
 use borrow.Author.Tests.{not-false}
 use Rattle.model.specs.Model.{readOf}
 use Rattle.model.specs.declared.Reading.{Reading}
@@ -12,9 +10,9 @@ use Rattle.model.specs.declared.Reading.the-variants.{Good, Refused as Unread}
 use Rattle.frame.specs.declared.Hearing.{Hearing}
 use Rattle.frame.specs.declared.Reply.{Reply}
 use Rattle.frame.specs.declared.Reply.the-variants.{Done, Refused, Misread}
-use Rattle.frame.specs.Reply.{passed, _when_, firstRefusal}
+use Rattle.frame.specs.Reply.{passed, _when_}
 use Rattle.frame.specs.Frame.{counted, checked}
-use Rattle.frame.proofs.Tables.{cleared, not-when, by-number, by-each}
+use Rattle.frame.proofs.Tables.{not-when}
 
 pub not-not : (n : ℕ) (t : Bool) → passed (n when not t) ≡ true → t ≡ true
 not-not n t h = not-false t (not-when n (not t) h)
@@ -36,14 +34,3 @@ module _ (hearing : Hearing) (model : List ℕ) where
       by-reading : (r : Reading) → r ≡ readOf model → passed (checked (counted hearing) r) ≡ false → P (checked (counted hearing) r)
       by-reading (Unread n l) e h = misread n l e
       by-reading (Good m) e h = by-count (counted hearing m) h
-
-  module _ (fine : Bool) where
-    pub last-tests-by : (P : Reply → Type 0) → ((n : ℕ) → P (Refused n)) → ((n l : ℕ) → Unread n l ≡ readOf model → P (Misread n l))
-        → (passed (checked (counted hearing) (readOf model)) ≡ true → fine ≡ true → P Done)
-        → P (firstRefusal (checked (counted hearing) (readOf model) ∷ 9 when not fine ∷ []))
-    last-tests-by P bad misread k =
-        by-each P (row ∷ 9 when not fine ∷ []) (by-model P bad misread, (by-number P bad 9 (not fine), tt)) (λ c. k (c .0) (not-not 9 fine (c .1 .0)))
-
-    pub last-passed : passed (firstRefusal (checked (counted hearing) (readOf model) ∷ 9 when not fine ∷ [])) ≡ true
-        → (passed (checked (counted hearing) (readOf model)) ≡ true) × (fine ≡ true)
-    last-passed e = let c = cleared (row ∷ 9 when not fine ∷ []) e in (c .0, not-not 9 fine (c .1 .0))
