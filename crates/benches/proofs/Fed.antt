@@ -2,7 +2,7 @@
 use Rattle.rules.proofs.Common.{ℕ, suc, Bool, true, false, cond, not, List, [], _∷_, _≡_, refl, sym, ap, _∙_, eqb, length, getD, Float}
 use Rattle.rules.specs.Place.{get}
 use Rattle.rules.specs.Refusals.{Row, refusing}
-use Rattle.rules.specs.Written.{Written, from, nothing, numbersIn, firstIn}
+use Rattle.frame.specs.Written.{Written, from, nothing, numbersIn, firstIn}
 use Rattle.rules.proofs.Refusals.{along}
 use Rattle.frame.specs.declared.Reply.the-variants.{Refused}
 use Rattle.desk.specs.declared.Record.{Record}

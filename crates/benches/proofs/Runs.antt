@@ -8,7 +8,7 @@ use native.Mathlib.Omega.{arith}
 use borrow.Author.Tests.{eqb-true, eqb-false, eq-eqb}
 use Rattle.rules.specs.Place.{get, put}
 use Rattle.rules.specs.Refusals.{_when_, refusing}
-use Rattle.rules.specs.Written.{firstIn}
+use Rattle.frame.specs.Written.{firstIn}
 use Rattle.rules.proofs.Places.{length-get, get-put}
 use Rattle.rules.proofs.Refusals.{by-rows, by-each}
 use Rattle.desk.specs.declared.Answer.{Answer}

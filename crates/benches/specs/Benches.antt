@@ -4,7 +4,7 @@
 -- receives, its cleaned bytes, entries and answers among it, is what its own calls alone would give it; and of a block it is made of the bench's own
 -- channel. So no byte of another channel, and nothing that another bench does, is ever heard in it.
 use Rattle.rules.specs.Common.{ℕ, _*_, _<_, List, [], _∷_, _≡_, length, Float}
-use Rattle.rules.specs.Written.{Written, from}
+use Rattle.frame.specs.Written.{Written, from}
 use Rattle.frame.specs.Share.{SHARE}
 use Rattle.desk.specs.Gate.{BENCHES}
 use Rattle.desk.specs.Surface.{recordIn}

@@ -6,7 +6,7 @@
 use Rattle.rules.specs.Common.{ℕ, _*_, _<_, List, [], _∷_, _++_, _≡_, length, getD, Float}
 use Rattle.rules.specs.Place.{get}
 use Rattle.rules.specs.Refusals.{refusing}
-use Rattle.rules.specs.Written.{firstIn}
+use Rattle.frame.specs.Written.{firstIn}
 use Rattle.frame.specs.Share.{SHARE}
 use Rattle.desk.specs.declared.Record.{Record}
 use Rattle.desk.specs.Gate.{BENCHES, PIECE, gate, shareOf}

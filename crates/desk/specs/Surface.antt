@@ -1,7 +1,7 @@
 -- The desk for a host that has numbers alone: what the functions of the C surface return and leave.
 use Rattle.rules.specs.Common.{ℕ, _+_, _*_, cond, _&&_, List, [], _∷_, _++_, eqb, leb, length, getD, replicate, Float}
 use Rattle.rules.specs.F32.{f32}
-use Rattle.rules.specs.Written.{Written, all}
+use Rattle.frame.specs.Written.{Written, all}
 use Rattle.frame.specs.Effect.{Effect}
 use Rattle.frame.specs.Reply.{passed}
 use Rattle.frame.specs.declared.Hearing.{Hearing}

@@ -7,8 +7,8 @@ use mathlib.Core.List.{append-assoc}
 use borrow.Author.Tests.{ltb-true, ltb-false}
 use lib.Seq.{take-at, drop-drop, drop-append-add}
 use Rattle.rules.specs.Place.{get, put}
-use Rattle.rules.specs.Written.{Written, from, nothing, over, firstIn}
-use Rattle.rules.proofs.Places.{over-none, over-next}
+use Rattle.frame.specs.Written.{Written, from, nothing, over, firstIn}
+use Rattle.frame.proofs.Buffers.{over-none, over-next}
 use Rattle.desk.specs.declared.Answer.{Answer}
 use Rattle.frame.specs.Effect.{Effect}
 use Rattle.frame.specs.declared.Reply.{Reply}

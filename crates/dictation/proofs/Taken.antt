@@ -8,7 +8,7 @@ use Rattle.rules.proofs.Common.{ℕ, _+_, _-_, _*_, _≤_, _<_, true, false≢t
 use Rattle.rules.proofs.Common.{length-append, Float}
 use borrow.Author.Tests.{lt-ltb, le-ltb}
 use Rattle.rules.specs.Place.{get, put}
-use Rattle.rules.specs.Written.{Written, all, from, nothing, firstIn}
+use Rattle.frame.specs.Written.{Written, all, from, nothing, firstIn}
 use Rattle.desk.specs.declared.Answer.{Answer}
 use Rattle.frame.specs.Effect.{Effect}
 use Rattle.frame.specs.declared.Reply.{Reply}

@@ -1,7 +1,7 @@
 -- Dictation by frames, request 12: 480 samples at a time, each with what is lent to a frame, and the rest waits. It knows of no piece.
 use Rattle.rules.specs.Common.{ℕ, List, [], _∷_, _++_, length, take, drop, Float}
 use Rattle.rules.specs.Place.{get, put}
-use Rattle.rules.specs.Written.{firstIn}
+use Rattle.frame.specs.Written.{firstIn}
 use Rattle.frame.specs.declared.Reply.{Reply}
 use Rattle.halves.specs.Halves.{firstHalf, secondHalf}
 use Rattle.pieces.specs.Pieces.{framePart, waitingIn, waits}

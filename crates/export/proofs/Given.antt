@@ -11,8 +11,8 @@ use borrow.Author.Tests.{eqb-true}
 use lib.ListN.{drop-of-length-le}
 use lib.Seq.{take-all}
 use Rattle.rules.specs.Place.{Place, get, put}
-use Rattle.rules.specs.Written.{Written, all, onto}
-use Rattle.rules.proofs.Places.{onto-more, to-none}
+use Rattle.frame.specs.Written.{Written, all, onto}
+use Rattle.frame.proofs.Buffers.{onto-more, to-none}
 use Rattle.frame.specs.Effect.{Effect, Worked}
 use Rattle.frame.specs.Reply.{passed}
 use Rattle.desk.specs.declared.Record.{Record}

@@ -14,7 +14,7 @@ use Rattle.rules.specs.F32.{at, part}
 use Rattle.rules.specs.Place.{put}
 use Rattle.rules.specs.Refusals.{_when_, refusing}
 use Rattle.rules.specs.Tab.{tab}
-use Rattle.rules.specs.Written.{from, over}
+use Rattle.frame.specs.Written.{from, over}
 use Rattle.rules.proofs.Lists.{tab-same}
 use Rattle.rules.proofs.Tests.{answered-no, answered-yes, both}
 use Rattle.frame.specs.Effect.{Worked}

@@ -5,7 +5,7 @@ use lib.Ieee.{eq}
 use Rattle.rules.specs.F32.{f32, at}
 use Rattle.rules.specs.Refusals.{Row, _when_, refusing}
 use Rattle.rules.specs.Tab.{tab}
-use Rattle.rules.specs.Written.{nothing, numbersIn, firstIn}
+use Rattle.frame.specs.Written.{nothing, numbersIn, firstIn}
 use Rattle.frame.specs.declared.Reply.{Reply}
 use Rattle.frame.specs.declared.Reply.the-variants.{Refused}
 use Rattle.pieces.specs.Pieces.{completes, pieceFits}

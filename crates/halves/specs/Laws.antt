@@ -2,7 +2,7 @@
 use Rattle.rules.specs.Common.{ℕ, true, List, [], _∷_, _≡_, length, drop, Float}
 use Rattle.rules.specs.Place.{get}
 use Rattle.rules.specs.Refusals.{wrong}
-use Rattle.rules.specs.Written.{Written, firstIn}
+use Rattle.frame.specs.Written.{Written, firstIn}
 use Rattle.lag.specs.Lag.{ownLag}
 use Rattle.transforms.specs.Transform.{forwardOf, inverseOf}
 use Rattle.frame.specs.declared.Hearing.{Hearing}

@@ -1,7 +1,7 @@
 -- A plan: calls of the desk on one side, one after another, where each is chosen by what the side received so far.
 use Rattle.rules.specs.Common.{ℕ, suc, cond, List, eqb, length, Float}
 use Rattle.rules.specs.Place.{get}
-use Rattle.rules.specs.Written.{Written}
+use Rattle.frame.specs.Written.{Written}
 use Rattle.frame.specs.declared.Reply.{Reply}
 use Rattle.frame.specs.declared.Reply.the-variants.{Refused}
 use Rattle.desk.specs.declared.Answer.{Answer}

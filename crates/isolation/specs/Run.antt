@@ -1,6 +1,6 @@
 -- Runs of calls of any kind on n sides of one store, and what one side receives in a run. The desk's own calls are a kind, and others are made of them.
 use Rattle.rules.specs.Common.{ℕ, cond, _&&_, List, [], _∷_, _++_, map, _≡_, eqb, Float}
-use Rattle.rules.specs.Written.{Written}
+use Rattle.frame.specs.Written.{Written}
 use Rattle.desk.specs.declared.Answer.{Answer}
 use Rattle.desk.specs.declared.Record.{Record}
 use Rattle.desk.specs.Desk.{Ask}

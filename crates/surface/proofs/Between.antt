@@ -12,7 +12,7 @@ use borrow.Author.Tests.{eqb-true, eqb-false, not-false}
 use lib.ListN.{length-map}
 use lib.Seq.{drop-drop, drop-append-add}
 use Rattle.rules.specs.Place.{get, put}
-use Rattle.rules.specs.Written.{Written, from, nothing, numbersIn, firstIn}
+use Rattle.frame.specs.Written.{Written, from, nothing, numbersIn, firstIn}
 use Rattle.rules.proofs.Places.{length-get, get-whole, put-whole}
 use Rattle.rules.proofs.Tests.{both}
 use Rattle.desk.specs.declared.Answer.{Answer}

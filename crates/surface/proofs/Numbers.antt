@@ -5,7 +5,7 @@ use native.Mathlib.Omega.{arith}
 use borrow.Author.Tests.{ne-eqb}
 use Rattle.rules.specs.Place.{get, put}
 use Rattle.rules.specs.Refusals.{wrong}
-use Rattle.rules.specs.Written.{from, nothing, firstIn}
+use Rattle.frame.specs.Written.{from, nothing, firstIn}
 use Rattle.rules.proofs.Refusals as gates
 use Rattle.samples.specs.Samples.{good}
 use Rattle.logs.specs.Log10.{logsOf}

@@ -1,7 +1,7 @@
 -- A refusal changes nothing, whichever call it is. Assumes nothing.
 use Rattle.rules.proofs.Common.{ℕ, Bool, false, cond, List, [], _++_, _≡_, refl, ap, _∙_}
-use Rattle.rules.specs.Written.{Written}
-use Rattle.rules.proofs.Places.{to-none}
+use Rattle.frame.specs.Written.{Written}
+use Rattle.frame.proofs.Buffers.{to-none}
 use Rattle.frame.specs.Effect.{Effect}
 use Rattle.frame.specs.declared.Reply.{Reply}
 use Rattle.frame.specs.Reply.{passed}

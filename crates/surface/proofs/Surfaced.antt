@@ -9,7 +9,7 @@ use borrow.Author.Tests.{eq-eqb}
 use Rattle.rules.specs.F32.{zeros}
 use Rattle.rules.specs.Loop.{loop}
 use Rattle.rules.specs.Place.{get}
-use Rattle.rules.specs.Written.{Written, from, nothing, numbersIn, firstIn}
+use Rattle.frame.specs.Written.{Written, from, nothing, numbersIn, firstIn}
 use Rattle.rules.proofs.Places.{length-get}
 use Rattle.samples.specs.Samples.{good}
 use Rattle.logs.specs.Log10.{logsOf}

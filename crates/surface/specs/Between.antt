@@ -2,7 +2,7 @@
 -- of its own is refused, it is one dictation of its samples. What is claimed; the proof is in proofs/Between.antt.
 use Rattle.rules.specs.Common.{ℕ, _*_, _<_, cond, List, [], _∷_, _++_, map, _≡_, eqb, length, getD, Float}
 use Rattle.rules.specs.Place.{get}
-use Rattle.rules.specs.Written.{Written, nothing, numbersIn}
+use Rattle.frame.specs.Written.{Written, nothing, numbersIn}
 use Rattle.frame.specs.Share.{SHARE}
 use Rattle.desk.specs.Gate.{shareOf}
 use Rattle.desk.specs.Desk.{Ask, piece, resume}

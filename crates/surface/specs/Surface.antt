@@ -1,7 +1,7 @@
 -- Every call of the C surface that touches the store, by what its contract cites, and what is claimed of all of them. The proofs are in proofs/.
 use Rattle.rules.specs.Common.{ℕ, _*_, _≤_, _<_, true, false, cond, List, [], _∷_, _≡_, eqb, length, Float}
 use Rattle.rules.specs.Tab.{tab}
-use Rattle.rules.specs.Written.{Written, firstIn}
+use Rattle.frame.specs.Written.{Written, firstIn}
 use Rattle.logs.specs.Log10.{logsOf}
 use Rattle.frame.specs.declared.Reply.the-variants.{Refused, Misread}
 use Rattle.frame.specs.declared.Way.{Way}

@@ -5,7 +5,7 @@ use native.Mathlib.Omega.{arith}
 use mathlib.Core.List.{append-assoc}
 use lib.ListN.{length-replicate}
 use Rattle.rules.specs.F32.{zeros}
-use Rattle.rules.specs.Written.{from}
+use Rattle.frame.specs.Written.{from}
 use Rattle.logs.specs.Log10.{logsOf}
 use Rattle.frame.specs.Reply.{passed}
 use Rattle.pieces.specs.Pieces.{completes}

@@ -13,8 +13,9 @@ use lib.ListN.{length-replicate}
 use Rattle.rules.specs.F32.{zeros}
 use Rattle.rules.specs.Loop.{loop}
 use Rattle.rules.specs.Place.{get, put}
-use Rattle.rules.specs.Written.{Written, all, from, nothing, numbersIn, firstIn, over, onto}
-use Rattle.rules.proofs.Places.{length-get, length-put, over-none, over-next}
+use Rattle.frame.specs.Written.{Written, all, from, nothing, numbersIn, firstIn, over, onto}
+use Rattle.rules.proofs.Places.{length-get, length-put}
+use Rattle.frame.proofs.Buffers.{over-none, over-next}
 use Rattle.logs.specs.Log10.{logsOf}
 use Rattle.model.specs.Model.{readOf}
 use Rattle.model.specs.declared.Model.{Model}

@@ -6,7 +6,7 @@
 use Rattle.rules.proofs.Common.{ℕ, _*_, _<_, true, false, List, [], _∷_, _≡_, refl, sym, ap, _∙_, length, Float}
 use native.Mathlib.Omega.{arith}
 use Rattle.rules.specs.Place.{get}
-use Rattle.rules.specs.Written.{all, firstIn}
+use Rattle.frame.specs.Written.{all, firstIn}
 use Rattle.rules.proofs.Places.{length-get}
 use Rattle.logs.specs.Log10.{logsOf}
 use Rattle.frame.specs.Effect.{Effect, Worked}

@@ -3,7 +3,7 @@ use Rattle.rules.proofs.Common.{ℕ, _*_, _<_, Bool, true, false, cond, true≢
 use native.Mathlib.Omega.{arith}
 use borrow.Author.Tests.{eqb-true, lt-ltb, eq-eqb, not-false}
 use Rattle.rules.specs.Place.{get, put}
-use Rattle.rules.specs.Written.{firstIn}
+use Rattle.frame.specs.Written.{firstIn}
 use Rattle.rules.proofs.Places.{length-get, length-put}
 use Rattle.rules.proofs.Tests.{both}
 use Rattle.logs.specs.Log10.{logsOf}

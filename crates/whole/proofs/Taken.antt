@@ -6,7 +6,7 @@
 use Rattle.rules.proofs.Common.{ℕ, true, false, List, [], _∷_, _≡_, refl, ap, ap₂, _∙_, length, getD, Float}
 use Rattle.rules.specs.F32.{zeros}
 use Rattle.rules.specs.Place.{put}
-use Rattle.rules.specs.Written.{onto}
+use Rattle.frame.specs.Written.{onto}
 use Rattle.logs.specs.Log10.{logsOf}
 use Rattle.frame.specs.Effect.{Effect, Worked}
 use Rattle.frame.specs.declared.Reply.{Reply}

@@ -2,7 +2,7 @@
 use Rattle.rules.specs.Common.{ℕ, _*_, List, [], _∷_, length, getD, Float}
 use Rattle.rules.specs.Loop.{loop}
 use Rattle.rules.specs.Place.{Place, put}
-use Rattle.rules.specs.Written.{onto}
+use Rattle.frame.specs.Written.{onto}
 use Rattle.logs.specs.Log10.{logsOf}
 use Rattle.frame.specs.Effect.{Effect}
 use Rattle.desk.specs.declared.Answer.{Answer}

@@ -1,7 +1,7 @@
 -- A take that is accepted is a piece, resumed to its end with our logarithms: by the law of cutting it is the dictation of its samples. What is claimed;
 -- the proofs are in proofs/Dictations.antt.
 use Rattle.rules.specs.Common.{ℕ, _*_, true, List, [], _∷_, _++_, _≡_, length, replicate, Float}
-use Rattle.rules.specs.Written.{from}
+use Rattle.frame.specs.Written.{from}
 use Rattle.logs.specs.Log10.{logsOf}
 use Rattle.frame.specs.Reply.{passed}
 use Rattle.pieces.specs.Pieces.{completes}

@@ -4,7 +4,7 @@ use Rattle.rules.specs.Common.{ℕ, _*_, cond, not, List, [], _∷_, _++_, eqb,
 use Rattle.rules.specs.Loop.{loop}
 use Rattle.rules.specs.Place.{get}
 use Rattle.rules.specs.Refusals.{wrong}
-use Rattle.rules.specs.Written.{from, firstIn}
+use Rattle.frame.specs.Written.{from, firstIn}
 use Rattle.samples.specs.Samples.{good}
 use Rattle.logs.specs.Log10.{logsOf}
 use Rattle.model.specs.Model.{readOf}
