@@ -9,92 +9,89 @@ use native.Mathlib.Omega.{arith}
 use mathlib.Core.Logic.{_⊎_, inl, inr, ⊎-elim}
 use borrow.Author.Tests.{eqb-true, eqb-false, ltb-true, ltb-false}
 use Rattle.rules.specs.F32.{zeros}
-use Rattle.rules.specs.Place.{get, put}
+use Rattle.rules.specs.Place.{get}
 use Rattle.rules.proofs.Places.{length-get, length-put, get-put, get-put-apart, get-whole}
+use Rattle.frame.specs.Effect.{Effect}
 use Rattle.frame.specs.Reply.{passed}
 use Rattle.frame.specs.Share.{SHARE}
-use Rattle.desk.specs.declared.Record.{Record}
+use Rattle.desk.specs.declared.Answer.{Answer}
 use Rattle.desk.specs.Gate.{shareOf}
 use Rattle.desk.specs.Desk.{closed}
 use Rattle.desk.specs.Surface.{numbersOf, recordIn}
+use Rattle.desk.specs.Laws.{placed}
 use Rattle.desk.proofs.Apart.{apart}
-use Rattle.isolation.specs.Plan.{Came, perform}
-use Rattle.isolation.specs.Run.{Returned, Gives, Kind, On, on, State, given, after, received}
-use Rattle.isolation.specs.Isolation.{givenBy, allZeros, own, alone, Isolated, Undisturbed, Planned}
+use Rattle.isolation.specs.Local.{performed}
+use Rattle.isolation.specs.Run.{Returned, returned, Kind, On, on, State, given, gets, after, received}
+use Rattle.isolation.specs.Isolation.{allZeros, own, alone, Isolated, Undisturbed, Owned}
 use Rattle.isolation.proofs.Performed.{sized, its-own, no-side, unseen}
 use Rattle.isolation.proofs.Runs.{reads}
 
--- in the store that a share is a part of
-abbrev inStore : {O : Type 0} → ℕ → List Float → Gives O → Gives O
-inStore side store o = record { returned = o .returned; store = put (shareOf side) store (o .store) }
-
-module _ {C O : Type 0} (serve : Kind C O) (planned : Planned serve) where
+module _ {C : Type 0} (serve : Kind C) (owned : Owned serve) where
   -- ---- one call
 
-  abbrev came : List ℕ → List Float → C → Came O
-  came ns xs c = perform 1 0 (recordIn ns) xs (planned .plan c)
-
   mine : (n s : ℕ) (ns : List ℕ) (store : List Float) (c : C) → s < n → length store ≡ n * SHARE
-      → serve n s ns store c ≡ inStore s store (serve 1 0 ns (get (shareOf s) store) c)
+      → serve n s ns store c ≡ placed s store (serve 1 0 ns (get (shareOf s) store) c)
   mine n s ns store c h l =
-      planned .does n s ns store c
-      ∙ ap (givenBy ns) (its-own n s store h l (planned .plan c) (recordIn ns))
-      ∙ ap (inStore s store) (sym (planned .does 1 0 ns (get (shareOf s) store) c))
+      owned .does n s ns store c
+      ∙ its-own (owned .local c) n s store h l (recordIn ns)
+      ∙ ap (placed s store) (sym (owned .does 1 0 ns (get (shareOf s) store) c))
 
-  kept : (ns : List ℕ) (xs : List Float) (c : C) → length xs ≡ SHARE → length (serve 1 0 ns xs c .store) ≡ SHARE
-  kept ns xs c l = rw (planned .does 1 0 ns xs c) (sized (planned .plan c) (recordIn ns) xs l)
+  kept : (ns : List ℕ) (xs : List Float) (c : C) → length xs ≡ SHARE → length (serve 1 0 ns xs c .kept) ≡ SHARE
+  kept ns xs c l = rw (owned .does 1 0 ns xs c) (sized (owned .local c) (recordIn ns) xs l)
 
   -- every other share stays, and the length of the store
   pub beside : (n side : ℕ) (ns : List ℕ) (store : List Float) (c : C) → length store ≡ n * SHARE
-      → (length (serve n side ns store c .store) ≡ n * SHARE)
-      × ((s : ℕ) → (side ≡ s → ⊥) → get (shareOf s) (serve n side ns store c .store) ≡ get (shareOf s) store)
+      → (length (serve n side ns store c .kept) ≡ n * SHARE)
+      × ((s : ℕ) → (side ≡ s → ⊥) → get (shareOf s) (serve n side ns store c .kept) ≡ get (shareOf s) store)
   beside n side ns store c l = go (ltb side n) refl
     where
       go : (t : Bool) → ltb side n ≡ t
-          → (length (serve n side ns store c .store) ≡ n * SHARE)
-          × ((s : ℕ) → (side ≡ s → ⊥) → get (shareOf s) (serve n side ns store c .store) ≡ get (shareOf s) store)
+          → (length (serve n side ns store c .kept) ≡ n * SHARE)
+          × ((s : ℕ) → (side ≡ s → ⊥) → get (shareOf s) (serve n side ns store c .kept) ≡ get (shareOf s) store)
       go true e =
           let h = ltb-true side n e in
           let k = kept ns (get (shareOf side) store) c (length-get (shareOf side) store (omega arith)) in
           rw (mine n side ns store c h l) (
-            length-put (shareOf side) store (serve 1 0 ns (get (shareOf side) store) c .store) (omega arith) k ∙ l,
-            λ s ne. get-put-apart (shareOf side) (shareOf s) store (serve 1 0 ns (get (shareOf side) store) c .store) (omega arith) k (apart side s ne),
+            length-put (shareOf side) store (serve 1 0 ns (get (shareOf side) store) c .kept) (omega arith) k ∙ l,
+            λ s ne. get-put-apart (shareOf side) (shareOf s) store (serve 1 0 ns (get (shareOf side) store) c .kept) (omega arith) k (apart side s ne),
           )
       go false e =
-          let h = ltb-false side n e in
-          let o : serve n side ns store c .store ≡ store =
-          ap (λ (g : Gives O). g .store) (planned .does n side ns store c) ∙ no-side n side h (planned .plan c) (recordIn ns) store l in
+          let o : serve n side ns store c .kept ≡ store =
+          ap (λ (g : Effect Answer). g .kept) (owned .does n side ns store c) ∙ no-side (owned .local c) n side (ltb-false side n e) (recordIn ns) store in
           rw o (l, λ s ne. refl)
 
   -- what the share of a closed side held is not told
-  record Alike (o u : Gives O) : Type 0 where
-    returned : o .returned ≡ u .returned
-    store : (o .store ≡ u .store) ⊎ (recordIn (o .returned .numbers) .due ≡ 0)
+  record Alike (ns : List ℕ) (o u : Effect Answer) : Type 0 where
+    back : returned ns o ≡ returned ns u
+    store : (o .kept ≡ u .kept) ⊎ (recordIn (returned ns o .numbers) .due ≡ 0)
 
   untold : (ns : List ℕ) (xs ys : List Float) (c : C) → length xs ≡ SHARE → length ys ≡ SHARE → recordIn ns .due ≡ 0
-      → Alike (serve 1 0 ns xs c) (serve 1 0 ns ys c)
+      → Alike ns (serve 1 0 ns xs c) (serve 1 0 ns ys c)
   untold ns xs ys c l k z =
-      let a = unseen (planned .plan c) (recordIn ns) xs ys l k z in
-      rw (planned .does 1 0 ns xs c, planned .does 1 0 ns ys c)
+      let a = unseen (owned .local c) (recordIn ns) xs ys l k z in
+      rw (owned .does 1 0 ns xs c, owned .does 1 0 ns ys c)
       (record {
-        returned = cc;
-        store = ⊎-elim (λ e. inl e) (λ d. inr (shut (passed (came ns xs c .reply)) d)) (a .store);
+        back = rw (a .answer, a .written);
+        store = ⊎-elim (λ e. inl e) (λ d. inr (shut (passed (o .answer .reply)) d)) (a .store);
       })
     where
-      shut : (t : Bool) → came ns xs c .rec .due ≡ 0 → recordIn (cond t (numbersOf (came ns xs c .rec)) ns) .due ≡ 0
-      shut true d = rw (reads (came ns xs c .rec)) d
+      o : Effect Answer
+      o = performed 1 0 (recordIn ns) xs (owned .local c)
+
+      shut : (t : Bool) → o .answer .rec .due ≡ 0 → recordIn (cond t (numbersOf (o .answer .rec)) ns) .due ≡ 0
+      shut true d = rw (reads (o .answer .rec)) d
       shut false d = z
 
   -- ---- any run
 
   -- what one bench receives, from its record and share
-  unfoldable pub lone : List ℕ → List Float → List C → List (Returned O)
+  unfoldable pub lone : List ℕ → List Float → List C → List Returned
   lone ns xs [] = []
-  lone ns xs (c ∷ more) = let o = serve 1 0 ns xs c in o .returned ∷ lone (o .returned .numbers) (o .store) more
+  lone ns xs (c ∷ more) = let o = serve 1 0 ns xs c in let r = returned ns o in r ∷ lone (r .numbers) (o .kept) more
 
   -- and what comes after a call
-  abbrev pub next : List C → Gives O → List (Returned O)
-  next more o = o .returned ∷ lone (o .returned .numbers) (o .store) more
+  abbrev pub next : List C → List ℕ → Effect Answer → List Returned
+  next more ns o = let r = returned ns o in r ∷ lone (r .numbers) (o .kept) more
 
   module _ (n s : ℕ) (h : s < n) where
     pub in-any-run : (cs : List (On C)) (st : State) → length (st .store) ≡ n * SHARE
@@ -113,13 +110,15 @@ module _ {C O : Type 0} (serve : Kind C O) (planned : Planned serve) where
             let same = eqb-true (c .side) s e in
             let xs = get (shareOf s) (st .store) in
             let k = kept (st .numbers s) xs (c .call) (length-get (shareOf s) (st .store) (omega arith)) in
-            let here : given serve n st c ≡ inStore s (st .store) (serve 1 0 (st .numbers s) xs (c .call)) = rw same (mine n s (st .numbers s) (st .store) (c .call) h l) in
-            let share : get (shareOf s) (given serve n st c .store) ≡ serve 1 0 (st .numbers s) xs (c .call) .store =
-            ap (λ (g : Gives O). get (shareOf s) (g .store)) here ∙ get-put (shareOf s) (st .store) (serve 1 0 (st .numbers s) xs (c .call) .store) (omega arith) k in
-            let told : given serve n st c .returned ≡ serve 1 0 (st .numbers s) xs (c .call) .returned = ap (λ (g : Gives O). g .returned) here in
+            let one = serve 1 0 (st .numbers s) xs (c .call) in
+            let here : given serve n st c ≡ placed s (st .store) one = rw same (mine n s (st .numbers s) (st .store) (c .call) h l) in
+            let share : get (shareOf s) (given serve n st c .kept) ≡ one .kept =
+            ap (λ (g : Effect Answer). get (shareOf s) (g .kept)) here ∙ get-put (shareOf s) (st .store) (one .kept) (omega arith) k in
+            let told : gets serve n st c ≡ returned (st .numbers s) one =
+            ap (λ (k : ℕ). returned (st .numbers k) (given serve n st c)) same ∙ ap (returned (st .numbers s)) here in
             rw e
-            (ap₂ {C = List (Returned O)} (λ (x : Returned O) (more : List (Returned O)). x ∷ more) told
-            ((rw e at rest) ∙ ap₂ (λ (r : Returned O) (x : List Float). lone (r .numbers) x (own s cs)) told share))
+            (ap₂ {C = List Returned} (λ (x : Returned) (more : List Returned). x ∷ more) told
+            ((rw e at rest) ∙ ap₂ (λ (r : Returned) (x : List Float). lone (r .numbers) x (own s cs)) told share))
         go false e others rest =
             rw e ((rw e at rest) ∙ ap (λ (x : List Float). lone (st .numbers s) x (own s cs)) (others (eqb-false (c .side) s e)))
 
@@ -132,12 +131,12 @@ module _ {C O : Type 0} (serve : Kind C O) (planned : Planned serve) where
       let o = serve 1 0 ns xs c in
       let u = serve 1 0 ns ys c in
       let like = untold ns xs ys c l k z in
-      ap₂ {C = List (Returned O)} (λ (x : Returned O) (rest : List (Returned O)). x ∷ rest) (like .returned)
+      ap₂ {C = List Returned} (λ (x : Returned) (rest : List Returned). x ∷ rest) (like .back)
       (⊎-elim
-      (λ e. ap₂ (λ (r : Returned O) (x : List Float). lone (r .numbers) x more) (like .returned) e)
+      (λ e. ap₂ (λ (r : Returned) (x : List Float). lone (r .numbers) x more) (like .back) e)
       (λ d.
-      closed-same more (o .returned .numbers) (o .store) (u .store) (kept ns xs c l) (kept ns ys c k) d
-      ∙ ap (λ (r : Returned O). lone (r .numbers) (u .store) more) (like .returned))
+      closed-same more (returned ns o .numbers) (o .kept) (u .kept) (kept ns xs c l) (kept ns ys c k) d
+      ∙ ap (λ (r : Returned). lone (r .numbers) (u .kept) more) (like .back))
       (like .store))
 
   own-lonely : (cs : List C) → own 0 (map (on 0) cs) ≡ cs

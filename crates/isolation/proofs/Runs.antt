@@ -16,7 +16,7 @@ use Rattle.desk.specs.Surface.{numbersOf, wayIn, recordIn, handedBack, hosted}
 use Rattle.desk.proofs.Kept.{refused-keeps}
 use Rattle.isolation.specs.Run.{Kind, On, on, State, recordAt, after, ended, desks, Made, expand, Expands}
 
-pub joined : {C O : Type 0} (serve : Kind C O) (n : ℕ) (first rest : List (On C)) (st : State)
+pub joined : {C : Type 0} (serve : Kind C) (n : ℕ) (first rest : List (On C)) (st : State)
     → ended serve n st (first ++ rest) ≡ ended serve n (ended serve n st first) rest
 unfolding ended
 joined serve n [] rest st = refl
@@ -62,7 +62,7 @@ store-after n st c = refl
 
 -- ---- calls that are made of them
 
-module _ {C O : Type 0} (serve : Kind C O) (asksOf : Made C) (n : ℕ) where
+module _ {C : Type 0} (serve : Kind C) (asksOf : Made C) (n : ℕ) where
   pub expanding : ((st : State) (side : ℕ) (c : C)
       → after serve n st (on side c) ≡ ended desks n st (map (on side) (asksOf n side (recordAt side st) (st .store) c)))
       → Expands serve asksOf n

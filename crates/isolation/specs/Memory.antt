@@ -30,7 +30,7 @@ SilentLeaves n =
     → recalled s (after desks n st c) ≡ recalled s st
 
 -- over calls of any kind that is made of the desk's, with n benches
-module _ {C O : Type 0} (serve : Kind C O) (asksOf : Made C) (n : ℕ) where
+module _ {C : Type 0} (serve : Kind C) (asksOf : Made C) (n : ℕ) where
   -- since an opening, until the next
   abbrev pub MadeOfHeard : Type 0
   MadeOfHeard =

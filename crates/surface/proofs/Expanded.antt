@@ -8,15 +8,17 @@ use mathlib.Core.Path.{fun-ext}
 use borrow.Author.Tests.{eqb-true, eq-eqb}
 use Rattle.rules.specs.Loop.{loop}
 use Rattle.rules.specs.Tab.{tab}
+use Rattle.rules.proofs.Refusals.{along}
 use Rattle.frame.specs.Written.{firstIn}
 use Rattle.logs.specs.Log10.{logsOf}
 use Rattle.frame.specs.Effect.{Effect, refusal}
 use Rattle.frame.specs.declared.Reply.{Reply}
+use Rattle.frame.specs.declared.Reply.the-variants.{Refused}
 use Rattle.frame.specs.Reply.{passed}
 use Rattle.pieces.specs.Pieces.{completes}
 use Rattle.desk.specs.declared.Answer.{Answer}
 use Rattle.desk.specs.declared.Record.{Record}
-use Rattle.desk.specs.Gate.{BENCHES}
+use Rattle.desk.specs.Gate.{BENCHES, PIECE, gate}
 use Rattle.desk.specs.Desk.{Ask, firstHalf, secondHalf, piece, resume, desk}
 use Rattle.desk.specs.Surface.{numbersOf, recordIn, handedBack, hosted}
 use Rattle.desk.proofs.Kept.{refused-keeps}
@@ -25,10 +27,13 @@ use Rattle.whole.specs.Whole as whole
 use Rattle.whole.specs.Surface.{hostedFrame, hostedTake}
 use Rattle.whole.proofs.Dictations.{take-done}
 use Rattle.whole.proofs.Halves.{two-halves, refused-is}
+use Rattle.feed.specs.Feed.{Block, ROOM, sizeOf, samplesOf, feedRows, fedBy}
+use Rattle.feed.specs.Feed as feeding
+use Rattle.feed.specs.Surface.{hostedFeed}
 use Rattle.isolation.specs.Run.{On, on, State, recordAt, after, ended, desks, Expands}
 use Rattle.isolation.proofs.Memories.{counts}
 use Rattle.isolation.proofs.Runs.{reads, joined, expanding}
-use Rattle.surface.specs.Surface.{Request, ask, frame, take, surface, madeOf, OurCalls}
+use Rattle.surface.specs.Surface.{Call, ask, frame, take, feed, surface, madeOf, OurCalls}
 
 -- ---- the records and the store
 
@@ -178,12 +183,26 @@ module _ (n side : ℕ) (st : State) where
             ∙ steps (take-done n side rec (st .store) x m o a p .0) k
         go false p = none-runs reply p
 
-pub one-call : (n : ℕ) (st : State) (side : ℕ) (c : Request)
+  feed-runs : (b : Block) (m : List ℕ) (cleaned entries answers : ℕ)
+      → Leads n side st (madeOf n side (recordAt side st) (st .store) (feed b m cleaned entries answers))
+      (feeding.feed n side (recordAt side st) (st .store) b m cleaned entries answers)
+  unfolding feeding.feed ended
+  feed-runs b m cleaned entries answers =
+      let rows = feedRows (gate n side rec (length (st .store)) PIECE) (rec .waiting) (sizeOf b) cleaned entries answers in
+      let asks = madeOf n side rec (st .store) (take (samplesOf b) m ROOM answers) in
+      let run : List Ask → State = λ xs. ended desks n st (map (on side) xs) in
+      along (λ (o : Effect Answer). leaving st side (handedBack (o .answer) ns) (o .kept)) (λ r. refusal (record { reply = Refused r; rec = rec }) (st .store))
+      (fedBy (rec .frame) (whole.take n side rec (st .store) (samplesOf b) m ROOM answers)) (λ _. st) (run asks) rows
+      (λ _. unmoved n side st) (λ _. take-runs (samplesOf b) m ROOM answers)
+      ∙ sym (along run (λ _. []) asks (λ _. st) (run asks) rows (λ _. refl) (λ _. refl))
+
+pub one-call : (n : ℕ) (st : State) (side : ℕ) (c : Call)
     → after surface n st (on side c) ≡ ended desks n st (map (on side) (madeOf n side (recordAt side st) (st .store) c))
-unfolding hosted hostedFrame hostedTake ended
+unfolding hosted hostedFrame hostedTake hostedFeed ended
 one-call n st side (ask a) = refl
 one-call n st side (frame x m o) = frame-runs n side st x m o
 one-call n st side (take x m o a) = take-runs n side st x m o a
+one-call n st side (feed b m c e a) = feed-runs n side st b m c e a
 
 pub expands : (n : ℕ) → Expands surface madeOf n
 expands n = expanding surface madeOf n (one-call n)

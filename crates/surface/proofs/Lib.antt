@@ -1,6 +1,10 @@
+pub mod Refusing
 pub mod Surfaced
 pub mod Expanded
-pub mod Refusing
 pub mod Numbers
 pub mod Outputs
 pub mod Between
+pub mod Rows
+pub mod Bytes
+pub mod Fed
+pub mod Cuts

@@ -4,7 +4,7 @@ use Rattle.rules.proofs.Common.{length, drop, Float}
 use native.Mathlib.Omega.{arith}
 use borrow.Author.Tests.{ne-eqb}
 use Rattle.rules.specs.Place.{get, put}
-use Rattle.rules.specs.Refusals.{wrong}
+use Rattle.rules.specs.Refusals.{wrong, refusing}
 use Rattle.frame.specs.Written.{from, nothing, firstIn}
 use Rattle.rules.proofs.Refusals as gates
 use Rattle.samples.specs.Samples.{good}
@@ -33,6 +33,7 @@ use Rattle.halves.specs.Halves as halves
 use Rattle.pieces.specs.Pieces.{framePart, waitingIn, waits, frameAt}
 use Rattle.pieces.specs.Pieces as pieces
 use Rattle.pieces.proofs.Kept.{further-reply}
+use Rattle.desk.specs.declared.Answer.{Answer}
 use Rattle.desk.specs.declared.Record.{Record}
 use Rattle.desk.specs.Gate.{PIECE, refusals, gate, shareOf}
 use Rattle.desk.specs.Desk.{Ask, opening, call1, call2, call2Own, call3, call4, firstHalf, secondHalf, piece, resume, callOf, opened, onShare, admitted, desk}
@@ -41,7 +42,10 @@ use Rattle.desk.proofs.Answered.{replied-by}
 use Rattle.whole.specs.Whole.{frameRows, frameReply, frameBegins, frameEnds, takeRows, takeReply, takeEnds, takenAs}
 use Rattle.whole.specs.Whole as whole
 use Rattle.whole.specs.Surface.{hostedFrame, hostedTake}
-use Rattle.surface.specs.Surface.{Request, ask, frame, take, called, ZeroIsDone}
+use Rattle.feed.specs.Feed.{Block, ROOM, sizeOf, samplesOf, feedRows, fedBy}
+use Rattle.feed.specs.Feed as feeding
+use Rattle.feed.specs.Surface.{hostedFeed}
+use Rattle.surface.specs.Surface.{Call, ask, frame, take, feed, surface, ZeroIsDone}
 
 -- ---- the table's numbers
 
@@ -294,6 +298,27 @@ of-take n side b store x model out answers = go (passed reply)
     go true = known
     go false = known
 
+of-feed : (n side : ℕ) (b : Record) (store : List Float) (block : Block) (model : List ℕ) (cleaned entries answers : ℕ)
+    → Known (feeding.feed n side b store block model cleaned entries answers .answer .reply)
+unfolding feeding.feed
+of-feed n side b store block model cleaned entries answers = go (eqb number 0) refl
+  where
+    number : ℕ
+    number = gate n side b (length store) PIECE
+
+    unfed : ℕ → Effect Answer
+    unfed r = refusal (record { reply = Refused r; rec = b }) store
+
+    right : Effect Answer
+    right = fedBy (b .frame) (whole.take n side b store (samplesOf block) model ROOM answers)
+
+    go : (t : Bool) → eqb number 0 ≡ t
+        → Known (cond (not t) (unfed number) (refusing (drop 1 (feedRows number (b .waiting) (sizeOf block) cleaned entries answers)) unfed right) .answer .reply)
+    go true e =
+        gates.by-each unfed right (λ (o : Effect Answer). Known (o .answer .reply)) (drop 1 (feedRows number (b .waiting) (sizeOf block) cleaned entries answers))
+        (five, (five, (five, (five, tt)))) (of-take n side b store (samplesOf block) model ROOM answers)
+    go false e = of-gate n side b (length store) PIECE e
+
 -- ---- 0 is done
 
 zero-is-passed : (r : Reply) → Known r → passed r ≡ eqb (replyNumber r) 0
@@ -304,13 +329,14 @@ zero-is-passed (Numbered f h) k = refl
 zero-is-passed (Refused n) k = sym (ne-eqb n 0 (λ e. omega (arith, k .0)))
 zero-is-passed (Misread n l) k = sym (ne-eqb (replyNumber (Misread n l)) 0 (λ e. omega arith))
 
-known : (n side : ℕ) (ns : List ℕ) (store : List Float) (c : Request) → Known (called n side ns store c .answer .reply)
-unfolding hosted hostedFrame hostedTake
+known : (n side : ℕ) (ns : List ℕ) (store : List Float) (c : Call) → Known (surface n side ns store c .answer .reply)
+unfolding hosted hostedFrame hostedTake hostedFeed
 known n side ns store (ask a) = of-desk n side (recordIn ns) store a
 known n side ns store (frame x m out) = of-frame n side (recordIn ns) store x m out
 known n side ns store (take x m out answers) = of-take n side (recordIn ns) store x m out answers
+known n side ns store (feed b m c e a) = of-feed n side (recordIn ns) store b m c e a
 
 pub zero-is-done : ZeroIsDone
 zero-is-done n side ns store c =
     let k = known n side ns store c in
-    (zero-is-passed (called n side ns store c .answer .reply) k, λ m e. subst Known e k, λ m l e. subst Known e k)
+    (zero-is-passed (surface n side ns store c .answer .reply) k, λ m e. subst Known e k, λ m l e. subst Known e k)

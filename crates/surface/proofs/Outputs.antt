@@ -12,6 +12,7 @@ use borrow.Author.Tests.{eq-eqb}
 use Rattle.rules.specs.Loop.{loop}
 use Rattle.rules.specs.Place.{get}
 use Rattle.rules.specs.Tab.{tab}
+use Rattle.rules.proofs.Refusals as by-gates
 use Rattle.frame.specs.Written.{Written, all, from, nothing, numbersIn, firstIn}
 use Rattle.logs.specs.Log10.{logsOf}
 use Rattle.desk.specs.declared.Answer.{Answer}
@@ -22,7 +23,7 @@ use Rattle.frame.specs.Reply.{passed}
 use Rattle.pieces.specs.Pieces.{waitingIn, waits, completes, further}
 use Rattle.pieces.specs.Pieces as pieces
 use Rattle.desk.specs.declared.Record.{Record}
-use Rattle.desk.specs.Gate.{shareOf}
+use Rattle.desk.specs.Gate.{PIECE, gate, shareOf}
 use Rattle.desk.specs.Desk.{Ask, opening, call1, call2, call2Own, call3, call4, firstHalf, secondHalf, piece, resume, desk}
 use Rattle.desk.specs.Surface.{numbersOf, recordIn, replyNumber, heardOf, besides, telling, hosted}
 use Rattle.desk.proofs.Buffers.{buffers}
@@ -33,11 +34,14 @@ use Rattle.whole.specs.Whole as whole
 use Rattle.whole.specs.Surface.{hostedFrame, hostedTake}
 use Rattle.whole.proofs.Dictations.{take-done}
 use Rattle.whole.proofs.Halves.{two-halves, refused-is}
+use Rattle.feed.specs.Feed.{Block, ROOM, sizeOf, samplesOf, feedRows, fedOf, fedBy}
+use Rattle.feed.specs.Feed as feeding
+use Rattle.feed.specs.Surface.{hostedFeed}
 use Rattle.isolation.specs.Isolation.{own}
-use Rattle.isolation.specs.Run.{On, on, State, recordAt, given, after, ended, done, desks, expand}
+use Rattle.isolation.specs.Run.{On, on, State, recordAt, given, gets, after, ended, done, desks, expand}
 use Rattle.isolation.proofs.Runs.{reads}
-use Rattle.surface.specs.Surface.{Request, ask, frame, take, called, surface, madeOf}
-use Rattle.surface.specs.Between.{resumes, InARow, lastPiece, morePieces, inBuffer, answersAt}
+use Rattle.surface.specs.Surface.{Call, ask, frame, take, feed, surface, madeOf}
+use Rattle.surface.specs.Between.{resumes, InARow, lastPiece, morePieces, inBuffer, answersAt, NoFeed, All}
 use Rattle.surface.proofs.Expanded.{leaving, map-more, stands, resumed, steps, one-call}
 
 abbrev pub column : ℕ → ℕ → ℕ → State → List (On Ask) → List Float
@@ -88,7 +92,7 @@ done-more : (n s : ℕ) (first rest : List (On Ask)) (st : State)
 unfolding done ended
 done-more n s [] rest st = refl
 done-more n s (c ∷ first) rest st =
-    go (eqb (c .side) s && eqb (given desks n st c .returned .number) 0) (done-more n s first rest (after desks n st c))
+    go (eqb (c .side) s && eqb (gets desks n st c .number) 0) (done-more n s first rest (after desks n st c))
   where
     next : State
     next = after desks n st c
@@ -105,7 +109,7 @@ unfolding inBuffer ended
 column-more k n s [] rest st = refl
 column-more k n s (c ∷ first) rest st =
     let next = after desks n st c in
-    let here = cond (eqb (c .side) s) (numbersIn (getD (given desks n st c .returned .told) k nothing)) [] in
+    let here = cond (eqb (c .side) s) (numbersIn (getD (given desks n st c .written) k nothing)) [] in
     ap (λ (x : List Float). here ++ x) (column-more k n s first rest next)
     ∙ sym (append-assoc here (column k n s next first) (column k n s (ended desks n next first) rest))
 
@@ -240,13 +244,24 @@ zero-back (Numbered f h) p = refl
 zero-back (Refused k) p = absurd (false≢true p)
 zero-back (Misread k l) p = absurd (false≢true p)
 
--- where this buffer of a take is column k of the desk's calls
-module _ (which : Request → ℕ) (k : ℕ) (asked : (a : Ask) → which (ask a) ≡ k) (n s : ℕ)
+-- a feed's answers are its take's
+fed-answers : (number : ℕ) (ws : List Written) → numbersIn (getD (fedOf number ws) 0 nothing) ≡ numbersIn (getD ws 1 nothing)
+fed-answers number [] = refl
+fed-answers number (w ∷ ws) = refl
+
+split-own : (P : Call → Type 0) (t : Bool) (c : Call) (cs : List Call) → All P (cond t (c ∷ cs) cs) → All P cs × (t ≡ true → P c)
+split-own P true c cs k = (k .1, λ _. k .0)
+split-own P false c cs k = (k, λ e. absurd (false≢true e))
+
+-- where this buffer of a take is column k of the desk's calls, and of a feed of which P holds it is its take's
+module _ (P : Call → Type 0) (which : Call → ℕ) (k : ℕ) (asked : (a : Ask) → which (ask a) ≡ k) (n s : ℕ)
     (takes : (side : ℕ) → eqb side s ≡ true → (st : State) (x : List Float) (m : List ℕ) (o a : ℕ)
     → passed (takeReply n side (recordAt side st) (st .store) x m o a) ≡ true
     → let t = takeEnds n side (recordAt side st) (st .store) x m o in
     numbersIn (getD (from 0 (t .out) ∷ from 0 (t .answers) ∷ []) (which (take x m o a)) nothing)
-    ≡ column k n s st (map (on side) (piece x o 22 ∷ tab (completes (recordAt side st .waiting) (length x)) (resumed n side st x m o)))) where
+    ≡ column k n s st (map (on side) (piece x o 22 ∷ tab (completes (recordAt side st .waiting) (length x)) (resumed n side st x m o))))
+    (feeds : (b : Block) (m : List ℕ) (c e a : ℕ) → P (feed b m c e a) → (number : ℕ) (ws : List Written)
+    → numbersIn (getD (fedOf number ws) (which (feed b m c e a)) nothing) ≡ numbersIn (getD ws (which (take (samplesOf b) m ROOM a)) nothing)) where
   module _ (side : ℕ) (mine : eqb side s ≡ true) (st : State) where
     abbrev ns : List ℕ
     ns = st .numbers side
@@ -254,12 +269,27 @@ module _ (which : Request → ℕ) (k : ℕ) (asked : (a : Ask) → which (ask a
     abbrev rec : Record
     rec = recordAt side st
 
-    told-is : (c : Request) → AllHands (done desks n s st (map (on side) (madeOf n side (recordAt side st) (st .store) c)))
-        → numbersIn (getD (called n side (st .numbers side) (st .store) c .written) (which c) nothing)
+    taken : (x : List Float) (m : List ℕ) (o a : ℕ)
+        → numbersIn (getD (whole.take n side (recordAt side st) (st .store) x m o a .written) (which (take x m o a)) nothing)
+        ≡ column k n s st (map (on side) (madeOf n side (recordAt side st) (st .store) (take x m o a)))
+    unfolding inBuffer whole.take
+    taken x m o a = go (passed reply) refl
+      where
+        reply : Reply
+        reply = takeReply n side rec (st .store) x m o a
+
+        go : (t : Bool) → passed reply ≡ t
+            → numbersIn (getD (cond t (takenAs reply (takeEnds n side rec (st .store) x m o)) (refusal (record { reply = reply; rec = rec }) (st .store)) .written) (which (take x m o a)) nothing)
+            ≡ column k n s st (map (on side) (cond t (piece x o 22 ∷ tab (completes (rec .waiting) (length x)) (resumed n side st x m o)) []))
+        go true p = takes side mine st x m o a p
+        go false p = refl
+
+    told-is : (c : Call) → P c → AllHands (done desks n s st (map (on side) (madeOf n side (recordAt side st) (st .store) c)))
+        → numbersIn (getD (surface n side (st .numbers side) (st .store) c .written) (which c) nothing)
         ≡ column k n s st (map (on side) (madeOf n side (recordAt side st) (st .store) c))
-    unfolding done inBuffer hosted hostedFrame hostedTake whole.take
-    told-is (ask a) h = rw (asked a) (sym (one-out n s side k mine a st))
-    told-is (frame x m o) h = go (passed reply) refl h
+    unfolding done inBuffer hosted hostedFrame hostedTake hostedFeed feeding.feed
+    told-is (ask a) q h = rw (asked a) (sym (one-out n s side k mine a st))
+    told-is (frame x m o) q h = go (passed reply) refl h
       where
         reply : Reply
         reply = frameReply n side rec (length (st .store)) x m o
@@ -274,26 +304,27 @@ module _ (which : Request → ℕ) (k : ℕ) (asked : (a : Ask) → which (ask a
         go false p h =
             ap (λ (g : Effect Answer). numbersIn (getD (telling g .written) (which (frame x m o)) nothing)) (refused-is n side rec (st .store) x m o p)
             ∙ rw p
-    told-is (take x m o a) h = go (passed reply) refl
-      where
-        reply : Reply
-        reply = takeReply n side rec (st .store) x m o a
+    told-is (take x m o a) q h = taken x m o a
+    told-is (feed b m c e a) q h =
+        let rows = feedRows (gate n side rec (length (st .store)) PIECE) (rec .waiting) (sizeOf b) c e a in
+        let asks = madeOf n side rec (st .store) (take (samplesOf b) m ROOM a) in
+        let t = whole.take n side rec (st .store) (samplesOf b) m ROOM a in
+        let col : List Ask → List Float = λ xs. column k n s st (map (on side) xs) in
+        by-gates.along (λ (o : Effect Answer). numbersIn (getD (o .written) (which (feed b m c e a)) nothing))
+        (λ r. refusal (record { reply = Refused r; rec = rec }) (st .store)) (fedBy (rec .frame) t) (λ _. []) (col asks) rows (λ _. refl)
+        (λ _. feeds b m c e a q (rec .frame) (t .written) ∙ taken (samplesOf b) m ROOM a)
+        ∙ sym (by-gates.along col (λ _. []) asks (λ _. []) (col asks) rows (λ _. refl) (λ _. refl))
 
-        go : (t : Bool) → passed reply ≡ t
-            → numbersIn (getD (cond t (takenAs reply (takeEnds n side rec (st .store) x m o)) (refusal (record { reply = reply; rec = rec }) (st .store)) .written) (which (take x m o a)) nothing)
-            ≡ column k n s st (map (on side) (cond t (piece x o 22 ∷ tab (completes (rec .waiting) (length x)) (resumed n side st x m o)) []))
-        go true p = takes side mine st x m o a p
-        go false p = refl
-
-  received-is : (calls : List (On Request)) (st : State) → AllHands (done desks n s st (expand surface madeOf n st calls))
+  received-is : (calls : List (On Call)) (st : State) → All P (own s calls) → AllHands (done desks n s st (expand surface madeOf n st calls))
       → inBuffer surface which n s st calls ≡ column k n s st (expand surface madeOf n st calls)
-  unfolding inBuffer expand
-  received-is [] st h = refl
-  received-is (c ∷ calls) st h =
+  unfolding inBuffer expand own
+  received-is [] st q h = refl
+  received-is (c ∷ calls) st q h =
       let split = hands-split (done desks n s st made) (done desks n s (ended desks n st made) rest) (rw (done-more n s made rest st) at h) in
       let to = one-call n st (c .side) (c .call) in
-      let ih = received-is calls (after surface n st c) (subst (λ (t : State). AllHands (done desks n s t rest)) (sym to) (split .1)) in
-      ap₂ (λ (u v : List Float). u ++ v) (go (eqb (c .side) s) refl (split .0)) (ih ∙ ap (λ (t : State). column k n s t rest) to)
+      let holds = split-own P (eqb (c .side) s) (c .call) (own s calls) q in
+      let ih = received-is calls (after surface n st c) (holds .0) (subst (λ (t : State). AllHands (done desks n s t rest)) (sym to) (split .1)) in
+      ap₂ (λ (u v : List Float). u ++ v) (go (eqb (c .side) s) refl (holds .1) (split .0)) (ih ∙ ap (λ (t : State). column k n s t rest) to)
       ∙ sym (column-more k n s made rest st)
     where
       made : List (On Ask)
@@ -302,14 +333,14 @@ module _ (which : Request → ℕ) (k : ℕ) (asked : (a : Ask) → which (ask a
       rest : List (On Ask)
       rest = expand surface madeOf n (after surface n st c) calls
 
-      go : (t : Bool) → eqb (c .side) s ≡ t → AllHands (done desks n s st made)
-          → cond t (numbersIn (getD (called n (c .side) (st .numbers (c .side)) (st .store) (c .call) .written) (which (c .call)) nothing)) [] ≡ column k n s st made
-      go true t h = told-is (c .side) t st (c .call) h
-      go false t h = sym (none-out n s (c .side) k t (madeOf n (c .side) (recordAt (c .side) st) (st .store) (c .call)) st)
+      go : (t : Bool) → eqb (c .side) s ≡ t → (t ≡ true → P (c .call)) → AllHands (done desks n s st made)
+          → cond t (numbersIn (getD (surface n (c .side) (st .numbers (c .side)) (st .store) (c .call) .written) (which (c .call)) nothing)) [] ≡ column k n s st made
+      go true t q h = told-is (c .side) t st (c .call) (q refl) h
+      go false t q h = sym (none-out n s (c .side) k t (madeOf n (c .side) (recordAt (c .side) st) (st .store) (c .call)) st)
 
 -- a side that makes no whole calls receives what its calls of the desk write
 module _ (k n s : ℕ) where
-  own-asks : (calls : List (On Request)) (st : State) (mine : List Ask) → own s calls ≡ map ask mine
+  own-asks : (calls : List (On Call)) (st : State) (mine : List Ask) → own s calls ≡ map ask mine
       → inBuffer surface (λ _. k) n s st calls ≡ column k n s st (expand surface madeOf n st calls)
   unfolding inBuffer expand own hosted
   own-asks [] st mine e = refl
@@ -327,27 +358,34 @@ module _ (k n s : ℕ) where
 
       go : (t : Bool) → eqb (c .side) s ≡ t → (mine : List Ask) → cond t (c .call ∷ own s calls) (own s calls) ≡ map ask mine
           → ((more : List Ask) × (own s calls ≡ map ask more))
-          × (cond t (numbersIn (getD (called n (c .side) (st .numbers (c .side)) (st .store) (c .call) .written) k nothing)) [] ≡ column k n s st made)
+          × (cond t (numbersIn (getD (surface n (c .side) (st .numbers (c .side)) (st .store) (c .call) .written) k nothing)) [] ≡ column k n s st made)
       go true t [] e = let none : suc (length (own s calls)) ≡ 0 = ap length e in absurd (omega arith)
       go true t (a ∷ more) e =
-          let same : c .call ≡ ask a = ap (λ (xs : List Request). getD xs 0 (c .call)) e in (
+          let same : c .call ≡ ask a = ap (λ (xs : List Call). getD xs 0 (c .call)) e in (
             (more, ap (drop 1) e),
             subst
-                (λ (r : Request).
-                numbersIn (getD (called n (c .side) (st .numbers (c .side)) (st .store) r .written) k nothing)
+                (λ (r : Call).
+                numbersIn (getD (surface n (c .side) (st .numbers (c .side)) (st .store) r .written) k nothing)
                 ≡ column k n s st (map (on (c .side)) (madeOf n (c .side) (recordAt (c .side) st) (st .store) r)))
                 (sym same) (sym (one-out n s (c .side) k t a st)),
           )
       go false t mine e = ((mine, e), sym (none-out n s (c .side) k t (madeOf n (c .side) (recordAt (c .side) st) (st .store) (c .call)) st))
 
-pub sums-are : (n s : ℕ) (calls : List (On Request)) (st : State) (mine : List Ask) → own s calls ≡ map ask mine
+pub sums-are : (n s : ℕ) (calls : List (On Call)) (st : State) (mine : List Ask) → own s calls ≡ map ask mine
     → inBuffer surface (λ _. 1) n s st calls ≡ column 1 n s st (expand surface madeOf n st calls)
 sums-are n s = own-asks 1 n s
 
-pub outputs-are : (n s : ℕ) (calls : List (On Request)) (st : State) → AllHands (done desks n s st (expand surface madeOf n st calls))
+pub outputs-are : (n s : ℕ) (calls : List (On Call)) (st : State) → All NoFeed (own s calls) → AllHands (done desks n s st (expand surface madeOf n st calls))
     → inBuffer surface (λ _. 0) n s st calls ≡ column 0 n s st (expand surface madeOf n st calls)
-outputs-are n s = received-is (λ _. 0) 0 (λ a. refl) n s (λ side mine st x m o a p. take-outputs n s side mine st x m o a p)
+outputs-are n s =
+    received-is NoFeed (λ _. 0) 0 (λ a. refl) n s (λ side mine st x m o a p. take-outputs n s side mine st x m o a p) (λ b m c e a no number ws. absurd no)
 
-pub answers-are : (n s : ℕ) (calls : List (On Request)) (st : State) → AllHands (done desks n s st (expand surface madeOf n st calls))
+any-call : (cs : List Call) → All (λ _. Unit) cs
+any-call [] = tt
+any-call (c ∷ cs) = (tt, any-call cs)
+
+pub answers-are : (n s : ℕ) (calls : List (On Call)) (st : State) → AllHands (done desks n s st (expand surface madeOf n st calls))
     → inBuffer surface answersAt n s st calls ≡ column 2 n s st (expand surface madeOf n st calls)
-answers-are n s = received-is answersAt 2 (λ a. refl) n s (λ side mine st x m o a p. take-answers n s side mine st x m o a p)
+answers-are n s calls st =
+    received-is (λ _. Unit) answersAt 2 (λ a. refl) n s (λ side mine st x m o a p. take-answers n s side mine st x m o a p)
+    (λ b m c e a _ number ws. fed-answers number ws) calls st (any-call (own s calls))

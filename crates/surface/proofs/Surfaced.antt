@@ -1,188 +1,335 @@
--- The calls of the C surface do what plans do.
---     plans, does                  the plan of each, and that it is
---     our-surface, starts-anew     what specs/Surface.antt claims
+-- Every call of the C surface is the gate and a function of the bench's own record and share.
+--     asking, framing, taking, feeding     each of them as such, and that it is (ask-does, frame-does, take-does, feed-does)
+--     owned                                any of them
+--     our-surface, starts-anew             what specs/Surface.antt claims
 -- Assumes nothing.
-use Rattle.rules.proofs.Common.{ℕ, zero, suc, _*_, Bool, true, false, cond, not, List, [], _∷_, _++_, _≡_, refl, sym, ap, _∙_, eqb, leb, length, getD}
-use Rattle.rules.proofs.Common.{drop, Float}
+use Rattle.rules.proofs.Common.{ℕ, _*_, _<_, Bool, true, false, cond, not, List, [], _∷_, _++_, _≡_, refl, sym, ap, _∙_, eqb, leb, length, drop, Float}
 use native.Mathlib.Omega.{arith}
-use borrow.Author.Tests.{eq-eqb}
+use mathlib.Core.Logic.{inl, inr}
+use borrow.Author.Tests.{eq-eqb, eqb-true}
 use Rattle.rules.specs.F32.{zeros}
-use Rattle.rules.specs.Loop.{loop}
-use Rattle.rules.specs.Place.{get}
-use Rattle.frame.specs.Written.{Written, from, nothing, numbersIn, firstIn}
-use Rattle.rules.proofs.Places.{length-get}
+use Rattle.rules.specs.Place.{get, put}
+use Rattle.rules.specs.Refusals.{Row, refusing}
+use Rattle.rules.proofs.Places.{length-get, length-put, get-put, put-get, put-put}
+use Rattle.rules.proofs.Refusals.{along, by-rows}
 use Rattle.samples.specs.Samples.{good}
 use Rattle.logs.specs.Log10.{logsOf}
 use Rattle.model.specs.Model.{readOf}
+use Rattle.model.specs.declared.Reading.{Reading}
+use Rattle.model.specs.declared.Reading.the-variants.{Good, Refused as Unread}
 use Rattle.frame.specs.Effect.{Effect, refusal}
+use Rattle.frame.specs.Written.{from, firstIn}
 use Rattle.frame.specs.declared.Reply.{Reply}
 use Rattle.frame.specs.declared.Reply.the-variants.{Refused}
+use Rattle.frame.specs.declared.Way.{Way}
 use Rattle.frame.specs.Frame.{counted, checked}
 use Rattle.frame.specs.Reply.{passed, _when_, firstRefusal}
-use Rattle.frame.specs.declared.Way.{Way}
 use Rattle.frame.specs.Share.{SHARE}
 use Rattle.pieces.specs.Pieces.{waitingIn, completes, pieceFits}
 use Rattle.desk.specs.declared.Answer.{Answer}
 use Rattle.desk.specs.declared.Record.{Record}
 use Rattle.desk.specs.Gate.{BENCHES, PIECE, gate, shareOf}
-use Rattle.desk.specs.Desk.{opening, firstHalf, secondHalf, piece, resume, closed, desk}
-use Rattle.desk.specs.Surface.{numbersOf, recordIn, besides, toldBesides, heardOf, telling, hosted}
-use Rattle.desk.proofs.Apart.{its-own, anew}
-use Rattle.whole.specs.Whole.{frameRows, frameReply, frameEnds, takeReply, Taking, takeFrames, takeBegins, takeEnds, takenAs}
+use Rattle.desk.specs.Desk.{Ask, opening, call1, call2, call2Own, call3, call4, firstHalf, secondHalf, piece, resume, callOf, closed, answered, opened, onShare, desk}
+use Rattle.desk.specs.Surface.{numbersOf, recordIn, besides, telling, hosted}
+use Rattle.desk.specs.Laws.{placed, AnsweredAlike}
+use Rattle.desk.proofs.Answered.{refused, givenOf}
+use Rattle.desk.proofs.Apart.{its-own, one-length, anew}
+use Rattle.desk.proofs.Kept.{admitted-kept}
+use Rattle.desk.proofs.Turned.{through}
+use Rattle.dictation.specs.Dictation.{Dictated, dictatedOn}
+use Rattle.dictation.proofs.Joins.{share-size}
+use Rattle.whole.specs.Whole.{frameRows, frameReply, frameEnds, takeReply}
 use Rattle.whole.specs.Whole as whole
 use Rattle.whole.specs.Surface.{hostedFrame, hostedTake}
-use Rattle.isolation.specs.Plan.{Plan, answers, asks, enters, Came, came, perform}
-use Rattle.isolation.specs.Isolation.{givenBy, own, Planned}
+use Rattle.whole.specs.Taking.{lentToEach, answersOf}
+use Rattle.whole.proofs.Dictations.{as-dictated}
+use Rattle.feed.specs.Feed.{Block, ROOM, sizeOf, samplesOf, feedRows, fedBy}
+use Rattle.feed.specs.Feed as feeds
+use Rattle.feed.specs.Surface.{hostedFeed}
+use Rattle.isolation.specs.Local.{Local, performed}
+use Rattle.isolation.specs.Isolation.{own, Owned}
 use Rattle.isolation.specs.Run.{on}
-use Rattle.surface.specs.Surface.{Request, ask, frame, take, called, surface, OurSurface, Anew}
 use Rattle.isolation.proofs.Isolated.{lone, next, in-any-run, alone-lone, isolated, undisturbed}
+use Rattle.surface.specs.Surface.{Call, ask, frame, take, feed, surface, OurSurface, Anew}
+use Rattle.surface.proofs.Refusing.{nor-besides}
 
-abbrev pub cameOf : Effect Answer → Came (List Written)
-cameOf o = came (o .answer .reply) (o .written) (o .answer .rec) (o .kept)
+-- refused, with this reply
+abbrev unchanged : Reply → Record → List Float → Effect Answer
+unchanged reply b store = refusal (record { reply = reply; rec = b }) store
+
+-- ---- a call of the desk
+
+module _ (a : Ask) where
+  abbrev askWork : Record → List Float → Effect Answer
+  askWork b share =
+      let o = givenOf b a (onShare b share a) in
+      record { answer = o .answer; kept = o .kept; written = o .written ++ besides a (o .answer .reply) }
+
+opening-blind : (w : Way) (m : List ℕ) (b : Record) (xs ys : List Float) → b .due ≡ 0 → AnsweredAlike (askWork (opening w m) b xs) (askWork (opening w m) b ys)
+opening-blind w m b xs ys d = go (readOf m)
+  where
+    given : List Float → Reading → Effect Answer
+    given share read =
+        let f = opened share read in
+        record { answer = answered b (opening w m) (f .answer); kept = f .kept; written = f .written ++ [] }
+
+    go : (read : Reading) → AnsweredAlike (given xs read) (given ys read)
+    go (Good m) = record { answer = refl; written = refl; store = inl refl }
+    go (Unread n l) = record { answer = refl; written = refl; store = inr d }
+
+ask-blind : (a : Ask) → callOf a ≡ 0 → (b : Record) (xs ys : List Float) → b .due ≡ 0 → AnsweredAlike (askWork a b xs) (askWork a b ys)
+ask-blind (opening w m) e b xs ys d = opening-blind w m b xs ys d
+ask-blind (call1 x w) e b xs ys d = absurd (omega arith)
+ask-blind (call2 x g w s) e b xs ys d = absurd (omega arith)
+ask-blind (call2Own x w s) e b xs ys d = absurd (omega arith)
+ask-blind (call3 x g m o) e b xs ys d = absurd (omega arith)
+ask-blind (call4 x o) e b xs ys d = absurd (omega arith)
+ask-blind (firstHalf x s) e b xs ys d = absurd (omega arith)
+ask-blind (secondHalf g m o) e b xs ys d = absurd (omega arith)
+ask-blind (piece x o s) e b xs ys d = absurd (omega arith)
+ask-blind (resume x g m o s) e b xs ys d = absurd (omega arith)
+
+unfoldable asking : Ask → Local
+asking a = record { call = callOf a; work = askWork a; sized = λ b share k. admitted-kept b share a 0 .size k; blind = ask-blind a }
+
+ask-does : (a : Ask) (n side : ℕ) (ns : List ℕ) (store : List Float) → hosted n side ns store a ≡ performed n side (recordIn ns) store (asking a)
+unfolding hosted performed asking desk
+ask-does a n side ns store = go (eqb number 0)
+  where
+    b : Record
+    b = recordIn ns
+
+    share : List Float
+    share = get (shareOf side) store
+
+    number : ℕ
+    number = gate n side b (length store) (callOf a)
+
+    told : Effect Reply → Effect Answer
+    told f =
+        record {
+          answer = answered b a (f .answer);
+          kept = put (shareOf side) store (f .kept);
+          written = f .written ++ besides a (answered b a (f .answer) .reply);
+        }
+
+    go : (t : Bool) → told (cond t (onShare b share a) (refusal (Refused number) share)) ≡ cond t (placed side store (askWork a b share)) (unchanged (Refused number) b store)
+    go true = refl
+    go false = rw (refused b a number, put-get (shareOf side) store, nor-besides a (Refused number) refl)
 
 -- ---- a frame
+
+-- a call of the desk on a store into which a share was put
+again : (n side : ℕ) (store : List Float) → side < n → length store ≡ n * SHARE → (xs : List Float) → length xs ≡ SHARE → (a : Ask) (b : Record)
+    → desk n side b (put (shareOf side) store xs) a ≡ placed side store (desk 1 0 b xs a)
+again n side store h l xs k a b =
+    let o = desk 1 0 b xs a in
+    its-own n side b (put (shareOf side) store xs) a (length-put (shareOf side) store xs (omega arith) k ∙ l) h
+    ∙ ap (λ (ys : List Float). placed side (put (shareOf side) store xs) (desk 1 0 b ys a)) (get-put (shareOf side) store xs (omega arith) k)
+    ∙ ap (λ (ys : List Float). record { answer = o .answer; kept = ys; written = o .written }) (put-put (shareOf side) store xs (o .kept) (omega arith) k)
 
 module _ (samples : List Float) (model : List ℕ) (out : ℕ) where
   -- the rows behind the gate's
   abbrev frameRight : Record → Reply
   frameRight b = firstRefusal (drop 1 (frameRows 0 0 b 0 samples model out))
 
-  abbrev halves : Plan (List Written)
-  halves = asks (firstHalf samples 22) (λ _ w. asks (secondHalf (logsOf (firstIn w)) model out) (λ a v. answers (a .reply) (v ++ toldBesides (a .reply))))
+  abbrev frameWork : Record → List Float → Effect Answer
+  frameWork b share =
+      telling (cond (passed (frameRight b)) (frameEnds 1 0 b share samples model out) (unchanged (frameRight b) b share))
 
-  abbrev framePlan : Plan (List Written)
-  framePlan = enters 0 (λ _. []) (λ b _. cond (passed (frameRight b)) halves (answers (frameRight b) []))
+  frame-sized : (b : Record) (share : List Float) → length share ≡ SHARE → length (frameWork b share .kept) ≡ SHARE
+  frame-sized b share k = go (passed (frameRight b))
+    where
+      one : Effect Answer
+      one = desk 1 0 b share (firstHalf samples 22)
 
-  frame-does : (n side : ℕ) (b : Record) (store : List Float)
-      → cameOf (telling (whole.frame n side b store samples model out)) ≡ perform n side b store framePlan
-  unfolding whole.frame frameReply perform
-  frame-does n side b store = go (eqb number 0)
+      go : (t : Bool) → length (cond t (frameEnds 1 0 b share samples model out) (unchanged (frameRight b) b share) .kept) ≡ SHARE
+      go true = one-length (one .answer .rec) (one .kept) (secondHalf (logsOf (firstIn (one .written))) model out) (one-length b share (firstHalf samples 22) k)
+      go false = k
+
+  unfoldable framing : Local
+  framing = record { call = 1; work = frameWork; sized = frame-sized; blind = λ z. absurd (omega arith) }
+
+  module _ (n side : ℕ) (b : Record) (store : List Float) where
+    abbrev frameNumber : ℕ
+    frameNumber = gate n side b (length store) 1
+
+    ends-own : side < n → length store ≡ n * SHARE
+        → frameEnds n side b store samples model out ≡ placed side store (frameEnds 1 0 b (get (shareOf side) store) samples model out)
+    ends-own h l =
+        let share = get (shareOf side) store in
+        let one = desk 1 0 b share (firstHalf samples 22) in
+        let full = length-get (shareOf side) store (omega arith) in
+        ap (λ (o : Effect Answer). desk n side (o .answer .rec) (o .kept) (secondHalf (logsOf (firstIn (o .written))) model out)) (its-own n side b store (firstHalf samples 22) l h)
+        ∙ again n side store h l (one .kept) (one-length b share (firstHalf samples 22) full) (secondHalf (logsOf (firstIn (one .written))) model out) (one .answer .rec)
+
+    frame-does : telling (whole.frame n side b store samples model out) ≡ performed n side b store framing
+    unfolding whole.frame frameReply performed framing
+    frame-does = go (eqb frameNumber 0) refl
+      where
+        r : Reply
+        r = frameRight b
+
+        share : List Float
+        share = get (shareOf side) store
+
+        inner : (u : Bool) → gate n side b (length store) 1 ≡ 0
+            → telling (cond u (frameEnds n side b store samples model out) (unchanged r b store))
+            ≡ placed side store (telling (cond u (frameEnds 1 0 b share samples model out) (unchanged r b share)))
+        inner true z = let t = through n side b (length store) 1 z in ap telling (ends-own (t .0) (t .1))
+        inner false z = rw (put-get (shareOf side) store)
+
+        go : (t : Bool) → eqb frameNumber 0 ≡ t
+            → let row = frameNumber when not t in
+            let reply = cond (passed row) r row in
+            telling (cond (passed reply) (frameEnds n side b store samples model out) (unchanged reply b store))
+            ≡ cond t (placed side store (frameWork b share)) (unchanged (Refused frameNumber) b store)
+        go true e = inner (passed r) (eqb-true frameNumber 0 e)
+        go false e = refl
+
+-- ---- a take: the dictation of its samples
+
+module _ (samples : List Float) (model : List ℕ) (out answers : ℕ) where
+  -- the rows behind the gate's
+  abbrev takeRight : Record → List Float → Reply
+  takeRight b share =
+      firstRefusal
+      (5 when not (pieceFits (b .waiting) (length samples) out 22)
+      ∷ 5 when not (leb (3 * completes (b .waiting) (length samples)) answers)
+      ∷ checked (counted (b .hearing)) (readOf model)
+      ∷ 9 when not (good (waitingIn (b .waiting) share ++ samples))
+      ∷ [])
+
+  abbrev saidOn : Record → List Float → Dictated
+  saidOn b share = dictatedOn b share samples (lentToEach b samples model)
+
+  abbrev takenOn : Reply → Record → List Float → Effect Answer
+  takenOn r b share =
+      let d = saidOn b share in
+      record { answer = record { reply = r; rec = d .rec }; kept = d .kept; written = from 0 (d .out) ∷ from 0 (answersOf (d .told)) ∷ [] }
+
+  abbrev takeWork : Record → List Float → Effect Answer
+  takeWork b share = let r = takeRight b share in cond (passed r) (takenOn r b share) (unchanged r b share)
+
+  take-sized : (b : Record) (share : List Float) → length share ≡ SHARE → length (takeWork b share .kept) ≡ SHARE
+  take-sized b share k = go (passed (takeRight b share))
+    where
+      go : (t : Bool) → length (cond t (takenOn (takeRight b share) b share) (unchanged (takeRight b share) b share) .kept) ≡ SHARE
+      go true = share-size b share (waitingIn (b .waiting) share ++ samples) (lentToEach b samples model) k
+      go false = k
+
+  unfoldable taking : Local
+  taking = record { call = PIECE; work = takeWork; sized = take-sized; blind = λ z. absurd (omega arith) }
+
+  module _ (n side : ℕ) (b : Record) (store : List Float) where
+    abbrev takeNumber : ℕ
+    takeNumber = gate n side b (length store) PIECE
+
+    abbrev replies : Reply
+    replies = takeRight b (get (shareOf side) store)
+
+    reply-is : (t : Bool) → eqb takeNumber 0 ≡ t → takeReply n side b store samples model out answers ≡ cond t replies (Refused takeNumber)
+    unfolding takeReply
+    reply-is true e = rw e
+    reply-is false e = rw e
+
+    take-refused : passed (takeReply n side b store samples model out answers) ≡ false
+        → whole.take n side b store samples model out answers ≡ unchanged (takeReply n side b store samples model out answers) b store
+    unfolding whole.take
+    take-refused p = rw p
+
+    by-cases : (t u : Bool) → eqb takeNumber 0 ≡ t → passed replies ≡ u
+        → whole.take n side b store samples model out answers ≡ performed n side b store taking
+    unfolding performed taking
+    by-cases true true e p =
+        let q : passed (takeReply n side b store samples model out answers) ≡ true = rw (reply-is true e) p in
+        as-dictated n side b store samples model out answers q .1 ∙ rw (reply-is true e, e, p)
+    by-cases true false e p = take-refused (rw (reply-is true e) p) ∙ rw (reply-is true e, e, p, put-get (shareOf side) store)
+    by-cases false u e p = take-refused (rw (reply-is false e)) ∙ rw (reply-is false e, e)
+
+    take-does : whole.take n side b store samples model out answers ≡ performed n side b store taking
+    take-does = by-cases (eqb takeNumber 0) (passed replies) refl refl
+
+    -- let through
+    take-inside : takeNumber ≡ 0 → whole.take n side b store samples model out answers ≡ placed side store (takeWork b (get (shareOf side) store))
+    unfolding performed taking
+    take-inside z = take-does ∙ rw (eq-eqb takeNumber 0 z)
+
+-- ---- a feed: its take, told otherwise
+
+module _ (block : Block) (model : List ℕ) (cleaned entries answers : ℕ) where
+  -- the rows behind the gate's
+  abbrev feedBehind : Record → List Row
+  feedBehind b = feedRows 0 (b .waiting) (sizeOf block) cleaned entries answers
+
+  abbrev feedTaken : Record → List Float → Effect Answer
+  feedTaken b share = fedBy (b .frame) (takeWork (samplesOf block) model ROOM answers b share)
+
+  abbrev feedWork : Record → List Float → Effect Answer
+  feedWork b share = refusing (feedBehind b) (λ r. unchanged (Refused r) b share) (feedTaken b share)
+
+  feed-sized : (b : Record) (share : List Float) → length share ≡ SHARE → length (feedWork b share .kept) ≡ SHARE
+  feed-sized b share k =
+      by-rows (λ r. unchanged (Refused r) b share) (feedTaken b share) (λ (o : Effect Answer). length (o .kept) ≡ SHARE) (feedBehind b)
+      (λ _. k) (λ _. take-sized (samplesOf block) model ROOM answers b share k)
+
+  unfoldable feeding : Local
+  feeding = record { call = PIECE; work = feedWork; sized = feed-sized; blind = λ z. absurd (omega arith) }
+
+  feed-does : (n side : ℕ) (b : Record) (store : List Float)
+      → feeds.feed n side b store block model cleaned entries answers ≡ performed n side b store feeding
+  unfolding feeds.feed performed feeding
+  feed-does n side b store = go (eqb number 0) refl
     where
       number : ℕ
-      number = gate n side b (length store) 1
+      number = gate n side b (length store) PIECE
 
-      r : Reply
-      r = frameRight b
+      share : List Float
+      share = get (shareOf side) store
 
-      inner : (u : Bool) → passed r ≡ u
-          → cameOf (telling (cond u (frameEnds n side b store samples model out) (refusal (record { reply = r; rec = b }) store)))
-          ≡ perform n side b store (cond u halves (answers r []))
-      inner true e = refl
-      inner false e = rw e
+      right : Effect Answer
+      right = fedBy (b .frame) (whole.take n side b store (samplesOf block) model ROOM answers)
 
-      go : (t : Bool)
-          → let row = number when not t in
-          let reply = cond (passed row) r row in
-          cameOf (telling (cond (passed reply) (frameEnds n side b store samples model out) (refusal (record { reply = reply; rec = b }) store)))
-          ≡ cond t (perform n side b store (cond (passed r) halves (answers r []))) (came (Refused number) [] b store)
-      go true = inner (passed r) refl
-      go false = refl
+      inside : number ≡ 0 → refusing (feedBehind b) (λ r. unchanged (Refused r) b store) right ≡ placed side store (feedWork b share)
+      inside z =
+          sym (along (placed side store) (λ r. unchanged (Refused r) b share) (feedTaken b share) (λ r. unchanged (Refused r) b store) right (feedBehind b)
+          (λ r. rw (put-get (shareOf side) store))
+          (λ _. ap (fedBy (b .frame)) (sym (take-inside (samplesOf block) model ROOM answers n side b store z))))
 
--- ---- a take
-
--- what it has so far: the sums of the frame under way, and what is handed out
-pub record Handed : Type 0 where
-  pub sums : List Float
-  pub out : List Float
-  pub answers : List Float
-
-abbrev soFar : Taking → Handed
-soFar t = record { sums = t .sums; out = t .out; answers = t .answers }
-
-module _ (samples : List Float) (model : List ℕ) (out : ℕ) where
-  -- a frame more
-  abbrev handedOn : Handed → Answer → List Written → Handed
-  handedOn h a w =
-      record { sums = numbersIn (getD w 1 nothing); out = h .out ++ firstIn w; answers = h .answers ++ heardOf (a .reply) }
-
-  -- so many frames, and then
-  pub framesThen : {O : Type 0} → ℕ → (Handed → Plan O) → Handed → Plan O
-  framesThen zero next h = next h
-  framesThen (suc j) next h =
-      framesThen j (λ g. asks (resume samples (logsOf (g .sums)) model out 22) (λ a w. next (handedOn g a w))) h
-
-  frames-do : {O : Type 0} (n side k : ℕ) (next : Handed → Plan O) (t : Taking)
-      → let e = takeFrames k n side samples model out t in
-      perform n side (t .rec) (t .store) (framesThen k next (soFar t)) ≡ perform n side (e .rec) (e .store) (next (soFar e))
-  unfolding takeFrames loop framesThen perform
-  frames-do n side zero next t = refl
-  frames-do n side (suc j) next t =
-      frames-do n side j (λ g. asks (resume samples (logsOf (g .sums)) model out 22) (λ a w. next (handedOn g a w))) t
-
-  module _ (answered : ℕ) where
-    -- the rows behind the gate's, by the share
-    abbrev rowsBehind : Record → List Float → List Reply
-    rowsBehind b share =
-        5 when not (pieceFits (b .waiting) (length samples) out 22)
-        ∷ 5 when not (leb (3 * completes (b .waiting) (length samples)) answered)
-        ∷ checked (counted (b .hearing)) (readOf model)
-        ∷ 9 when not (good (waitingIn (b .waiting) share ++ samples))
-        ∷ []
-
-    abbrev takeRight : Record → List Float → Reply
-    takeRight b share = firstRefusal (rowsBehind b share)
-
-    abbrev steps : Record → Reply → Plan (List Written)
-    steps b r =
-        asks (piece samples out 22) (λ _ w.
-        framesThen (completes (b .waiting) (length samples)) (λ h. answers r (from 0 (h .out) ∷ from 0 (h .answers) ∷ []))
-        (record { sums = numbersIn (getD w 1 nothing); out = []; answers = [] }))
-
-    abbrev pub takePlan : Plan (List Written)
-    takePlan = enters 4 (λ _. []) (λ b share. let r = takeRight b share in cond (passed r) (steps b r) (answers r []))
-
-    pub take-does : (n side : ℕ) (b : Record) (store : List Float)
-        → cameOf (whole.take n side b store samples model out answered) ≡ perform n side b store takePlan
-    unfolding whole.take takeReply perform
-    take-does n side b store = go (eqb number 0)
-      where
-        number : ℕ
-        number = gate n side b (length store) PIECE
-
-        r : Reply
-        r = takeRight b (get (shareOf side) store)
-
-        inner : (u : Bool)
-            → cameOf (cond u (takenAs r (takeEnds n side b store samples model out)) (refusal (record { reply = r; rec = b }) store))
-            ≡ perform n side b store (cond u (steps b r) (answers r []))
-        inner true =
-            sym (frames-do n side (completes (b .waiting) (length samples)) (λ h. answers r (from 0 (h .out) ∷ from 0 (h .answers) ∷ []))
-            (takeBegins n side b store samples out))
-        inner false = refl
-
-        go : (t : Bool)
-            → let row = number when not t in
-            let reply = cond (passed row) r row in
-            cameOf (cond (passed reply) (takenAs reply (takeEnds n side b store samples model out)) (refusal (record { reply = reply; rec = b }) store))
-            ≡ cond t (perform n side b store (cond (passed r) (steps b r) (answers r []))) (came (Refused number) [] b store)
-        go true = inner (passed r)
-        go false = refl
+      go : (t : Bool) → eqb number 0 ≡ t
+          → cond (not t) (unchanged (Refused number) b store) (refusing (feedBehind b) (λ r. unchanged (Refused r) b store) right)
+          ≡ cond t (placed side store (feedWork b share)) (unchanged (Refused number) b store)
+      go true e = inside (eqb-true number 0 e)
+      go false e = refl
 
 -- ---- any of them
 
-pub plans : Request → Plan (List Written)
-plans (ask a) = asks a (λ r w. answers (r .reply) (w ++ besides a (r .reply)))
-plans (frame x m o) = framePlan x m o
-plans (take x m o a) = takePlan x m o a
+locals : Call → Local
+locals (ask a) = asking a
+locals (frame x m o) = framing x m o
+locals (take x m o a) = taking x m o a
+locals (feed b m c e a) = feeding b m c e a
 
-pub does : (n side : ℕ) (ns : List ℕ) (store : List Float) (c : Request) → cameOf (called n side ns store c) ≡ perform n side (recordIn ns) store (plans c)
-unfolding hosted hostedFrame hostedTake plans perform
-does n side ns store (ask a) = refl
+does : (n side : ℕ) (ns : List ℕ) (store : List Float) (c : Call) → surface n side ns store c ≡ performed n side (recordIn ns) store (locals c)
+unfolding hostedFrame hostedTake hostedFeed locals
+does n side ns store (ask a) = ask-does a n side ns store
 does n side ns store (frame x m o) = frame-does x m o n side (recordIn ns) store
 does n side ns store (take x m o a) = take-does x m o a n side (recordIn ns) store
+does n side ns store (feed b m c e a) = feed-does b m c e a n side (recordIn ns) store
 
-pub planned : Planned surface
-planned = record { plan = plans; does = λ n side ns store c. ap (givenBy ns) (does n side ns store c) }
+pub owned : Owned surface
+owned = record { local = locals; does = does }
 
 pub our-surface : OurSurface
-our-surface = (isolated surface planned BENCHES, undisturbed surface planned BENCHES)
+our-surface = (isolated surface owned BENCHES, undisturbed surface owned BENCHES)
 
 -- what an opening gives that is done hangs neither on the record nor on the store
-opens-alike : (ns : List ℕ) (xs : List Float) (way : Way) (model : List ℕ) → length xs ≡ SHARE
+opens-alike : (more : List Call) (ns : List ℕ) (xs : List Float) (way : Way) (model : List ℕ) → length xs ≡ SHARE
     → passed (desk 1 0 (recordIn ns) xs (opening way model) .answer .reply) ≡ true
-    → surface 1 0 ns xs (ask (opening way model)) ≡ surface 1 0 (numbersOf closed) (zeros SHARE) (ask (opening way model))
+    → next surface owned more ns (hosted 1 0 ns xs (opening way model))
+    ≡ next surface owned more (numbersOf closed) (hosted 1 0 (numbersOf closed) (zeros SHARE) (opening way model))
 unfolding hosted recordIn
-opens-alike ns xs way model l p =
+opens-alike more ns xs way model l p =
     let same = anew (recordIn ns) xs (zeros SHARE) l refl way model p in
     rw (same, ← same, p)
 
@@ -193,6 +340,6 @@ starts-anew n s h st l way model p calls =
     let all = length-get (shareOf s) (st .store) (omega arith) in
     let done : passed (desk 1 0 (recordIn (st .numbers s)) xs (opening way model) .answer .reply) ≡ true =
     rw (its-own n s (recordIn (st .numbers s)) (st .store) (opening way model) l h) at p in
-    in-any-run surface planned n s h (on s (ask (opening way model)) ∷ calls) st l
-    ∙ rw (eq-eqb s s refl) (ap (next surface planned (own s calls)) (opens-alike (st .numbers s) xs way model all done))
-    ∙ sym (alone-lone surface planned (ask (opening way model) ∷ own s calls))
+    in-any-run surface owned n s h (on s (ask (opening way model)) ∷ calls) st l
+    ∙ rw (eq-eqb s s refl) (opens-alike (own s calls) (st .numbers s) xs way model all done)
+    ∙ sym (alone-lone surface owned (ask (opening way model) ∷ own s calls))

@@ -1,2 +1,4 @@
 pub mod Surface
 pub mod Between
+pub mod Bytes
+pub mod Cutting

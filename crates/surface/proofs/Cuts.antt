@@ -16,11 +16,11 @@ use Rattle.whole.specs.Taking.{ourLent, lentToEach, answersOf}
 use Rattle.whole.proofs.Dictations.{answers-length, answers-both}
 use Rattle.isolation.specs.Run.{recordAt}
 use Rattle.feed.specs.Feed.{blockOf, samplesOf, entriesOf}
-use Rattle.benches.specs.Benches.{Call}
-use Rattle.benches.specs.Cutting.{Has, hasOf, said, hasSaid, Feeds, lastBlock, moreBlocks, BytesInARow, HoweverCut}
-use Rattle.benches.proofs.Bytes.{samples-alike}
-use Rattle.benches.proofs.Rows.{packed-both, entries-both, size-is, samples-both, frame-after, waiting-after, told-each}
-use Rattle.benches.proofs.Runs.{Says, ahead, Comes, lone-run}
+use Rattle.surface.specs.Surface.{Call}
+use Rattle.surface.specs.Cutting.{Has, hasOf, said, hasSaid, Feeds, lastBlock, moreBlocks, BytesInARow, HoweverCut}
+use Rattle.surface.proofs.Bytes.{samples-alike}
+use Rattle.surface.proofs.Rows.{packed-both, entries-both, size-is, samples-both, frame-after, waiting-after, told-each}
+use Rattle.surface.proofs.Fed.{Says, ahead, Comes, lone-run}
 
 -- ---- samples that are said, and then others
 

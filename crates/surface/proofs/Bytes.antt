@@ -1,35 +1,40 @@
--- What a bench receives is made of its own channel's bytes (`bytes-to-bytes`, `our-benches`). Assumes nothing.
+-- What a bench receives is made of its own channel's bytes (`bytes-to-bytes`). Assumes nothing.
 use Rattle.rules.proofs.Common.{ℕ, zero, suc, cond, List, [], _∷_, map, _≡_, refl, sym, ap, ap₂, _∙_, eqb, length, Float}
 use native.Mathlib.Nat.{zero-lt-suc}
 use Rattle.rules.specs.F32.{zeros}
 use Rattle.rules.specs.Refusals.{refusing}
 use Rattle.rules.specs.Tab.{tab}
+use Rattle.frame.specs.Effect.{Effect, refusal}
 use Rattle.frame.specs.Share.{SHARE}
 use Rattle.frame.specs.declared.Reply.the-variants.{Refused}
+use Rattle.desk.specs.declared.Answer.{Answer}
 use Rattle.desk.specs.declared.Record.{Record}
 use Rattle.desk.specs.Gate.{BENCHES, PIECE, gate}
 use Rattle.desk.specs.Surface.{recordIn}
 use Rattle.whole.specs.Whole.{take}
-use Rattle.isolation.specs.Run.{Returned, Gives, on, State, after, received}
+use Rattle.isolation.specs.Run.{Returned, returned, on, State, after, received}
 use Rattle.isolation.specs.Isolation.{allZeros, own, alone}
-use Rattle.surface.specs.Surface.{Request}
+use Rattle.isolation.proofs.Isolated.{isolated}
 use Rattle.pcm.specs.Pcm.{unpacked}
 use Rattle.pcm.specs.Laws.{AgreeIn}
 use Rattle.pcm.proofs.Channels.{own-channel}
-use Rattle.feed.specs.Feed.{Block, blockOf, ROOM, samplesIn, sizeOf, samplesOf, feedRows, Fed, unfed, fedBy}
+use Rattle.feed.specs.Feed.{Block, blockOf, ROOM, samplesIn, sizeOf, samplesOf, feedRows, fedBy}
 use Rattle.feed.specs.Feed as feeding
 use Rattle.feed.proofs.Blocks.{block-fits}
-use Rattle.benches.specs.Benches.{Call, one, feed, Told, ofBytes, every, SameChannel, Alike, AllAlike, BytesToBytes, OurBenches}
-use Rattle.benches.proofs.Fed.{benches-apart}
+use Rattle.feed.specs.Surface.{hostedFeed}
+use Rattle.surface.specs.Surface.{Call, surface}
+use Rattle.surface.specs.Bytes.{SameChannel, Alike, same, fed, AllAlike, BytesToBytes, OurBytes}
+use Rattle.surface.proofs.Surfaced.{owned}
 
 none : (bytes : List ℕ) (format channels channel : ℕ) → unpacked 0 bytes format channels channel ≡ []
 unfolding unpacked tab
 none bytes format channels channel = refl
 
 -- a feed by the samples that it sees
-abbrev seen : ℕ → ℕ → Record → List Float → ℕ → List Float → List ℕ → ℕ → ℕ → ℕ → Fed
+abbrev seen : ℕ → ℕ → Record → List Float → ℕ → List Float → List ℕ → ℕ → ℕ → ℕ → Effect Answer
 seen n side rec store size samples model cleaned entries answers =
-    refusing (feedRows (gate n side rec (length store) PIECE) (rec .waiting) size cleaned entries answers) (λ r. unfed rec store (Refused r))
+    refusing (feedRows (gate n side rec (length store) PIECE) (rec .waiting) size cleaned entries answers)
+    (λ r. refusal (record { reply = Refused r; rec = rec }) store)
     (fedBy (rec .frame) (take n side rec store samples model ROOM answers))
 
 seen-is : (n side : ℕ) (rec : Record) (store : List Float) (b : Block) (model : List ℕ) (cleaned entries answers : ℕ)
@@ -70,33 +75,31 @@ feed-alike n side rec store b b′ model cleaned entries answers h =
 -- ---- one call, and any run
 
 -- the state behind a call of side 0
-abbrev next : State → Gives Told → State
-next st g = record { numbers = λ s. cond (eqb 0 s) (g .returned .numbers) (st .numbers s); store = g .store }
+abbrev next : State → Effect Answer → State
+next st g = record { numbers = λ s. cond (eqb 0 s) (returned (st .numbers 0) g .numbers) (st .numbers s); store = g .kept }
 
-call-alike : (n side : ℕ) (ns : List ℕ) (store : List Float) (c c′ : Call) → Alike c c′ → every n side ns store c ≡ every n side ns store c′
-call-alike n side ns store (one r) (one r′) e = ap (λ (x : Request). every n side ns store (one x)) e
-call-alike n side ns store (feed b m c e a) (feed b′ m′ c′ e′ a′) h =
-    rw (← h .1, ← h .2, ← h .3, ← h .4) (ap (ofBytes ns) (feed-alike n side (recordIn ns) store b b′ m c e a (h .0)))
-call-alike n side ns store (one r) (feed b m c e a) h = absurd h
-call-alike n side ns store (feed b m c e a) (one r) h = absurd h
+call-alike : (n side : ℕ) (ns : List ℕ) (store : List Float) {c c′ : Call} → Alike c c′ → surface n side ns store c ≡ surface n side ns store c′
+unfolding hostedFeed
+call-alike n side ns store (same c) = refl
+call-alike n side ns store (fed {b} {b′} h m k e a) = feed-alike n side (recordIn ns) store b b′ m k e a h
 
-runs-alike : (cs cs′ : List Call) → AllAlike cs cs′ → (st : State) → received every 1 0 st (map (on 0) cs) ≡ received every 1 0 st (map (on 0) cs′)
+runs-alike : (cs cs′ : List Call) → AllAlike cs cs′ → (st : State) → received surface 1 0 st (map (on 0) cs) ≡ received surface 1 0 st (map (on 0) cs′)
 unfolding received
 runs-alike [] [] h st = refl
 runs-alike (c ∷ cs) (c′ ∷ cs′) h st =
-    let here = call-alike 1 0 (st .numbers 0) (st .store) c c′ (h .0) in
-    ap₂ {C = List (Returned Told)} (λ (x : Returned Told) (xs : List (Returned Told)). x ∷ xs) (ap (λ (g : Gives Told). g .returned) here)
-    (runs-alike cs cs′ (h .1) (after every 1 st (on 0 c))
-    ∙ ap (λ (g : Gives Told). received every 1 0 (next st g) (map (on 0) cs′)) here)
+    let here = call-alike 1 0 (st .numbers 0) (st .store) (h .0) in
+    ap₂ {C = List Returned} (λ (x : Returned) (xs : List Returned). x ∷ xs) (ap (returned (st .numbers 0)) here)
+    (runs-alike cs cs′ (h .1) (after surface 1 st (on 0 c))
+    ∙ ap (λ (g : Effect Answer). received surface 1 0 (next st g) (map (on 0) cs′)) here)
 runs-alike [] (c′ ∷ cs′) h st = absurd h
 runs-alike (c ∷ cs) [] h st = absurd h
 
 pub bytes-to-bytes : (n : ℕ) → BytesToBytes n
 unfolding alone
 bytes-to-bytes n s inside store store′ l l′ calls calls′ alike =
-    benches-apart n s inside store l calls
+    isolated surface owned n s inside store l calls
     ∙ runs-alike (own s calls) (own s calls′) alike (allZeros (zeros SHARE))
-    ∙ sym (benches-apart n s inside store′ l′ calls′)
+    ∙ sym (isolated surface owned n s inside store′ l′ calls′)
 
-pub our-benches : OurBenches
-our-benches = (benches-apart BENCHES, bytes-to-bytes BENCHES)
+pub our-bytes : OurBytes
+our-bytes = bytes-to-bytes BENCHES

@@ -1,36 +1,20 @@
--- A stream of recorded bytes, cut into blocks: what is claimed. The proofs are in proofs/Made.antt and proofs/Cuts.antt.
+-- A stream of recorded bytes, cut into blocks: what is claimed. The proofs are in proofs/Fed.antt and proofs/Cuts.antt.
 --
--- A feed is a take of its channel's samples. So it is made of calls of the desk, as every other call is, and what holds over any run of these holds with feeds
--- among them. And where a bench's stream is cut makes no difference: its cleaned bytes, entries and answers in a row, and its record and share at the end, are
+-- A feed is a take of its channel's samples. Where a bench's stream is cut makes no difference: its cleaned bytes, entries and answers in a row, and its record and share at the end, are
 -- those of one dictation of its channel, whatever other benches do in between, and however often a call of its own is refused.
 use Rattle.rules.specs.Common.{ℕ, _*_, _<_, List, [], _∷_, _++_, _≡_, length, getD, Float}
 use Rattle.rules.specs.Place.{get}
-use Rattle.rules.specs.Refusals.{refusing}
-use Rattle.frame.specs.Written.{firstIn}
+use Rattle.frame.specs.Written.{nothing, firstIn, wholesIn}
 use Rattle.frame.specs.Share.{SHARE}
 use Rattle.desk.specs.declared.Record.{Record}
-use Rattle.desk.specs.Gate.{BENCHES, PIECE, gate, shareOf}
+use Rattle.desk.specs.Gate.{shareOf}
 use Rattle.whole.specs.Taking.{lentToEach, answersOf}
 use Rattle.dictation.specs.Dictation.{Dictated, dictatedOn}
-use Rattle.isolation.specs.Run.{Returned, On, State, recordAt, ended, received, done, Made, Expands}
-use Rattle.isolation.specs.Memory.{Counts}
-use Rattle.surface.specs.Surface.{take, madeOf}
+use Rattle.isolation.specs.Run.{Returned, On, State, recordAt, ended, received, done}
 use Rattle.pcm.specs.Pcm.{packed}
-use Rattle.feed.specs.Feed.{blockOf, ROOM, sizeOf, samplesOf, feedRows, entriesOf}
-use Rattle.benches.specs.Benches.{Call, one, feed, Told, every, SameChannel}
-
--- ---- a feed is made of the desk's calls
-
--- those of its take; where a row refuses it, none
-abbrev pub asksIn : Made Call
-asksIn n side rec store (one r) = madeOf n side rec store r
-asksIn n side rec store (feed b model cleaned entries answers) =
-    refusing (feedRows (gate n side rec (length store) PIECE) (rec .waiting) (sizeOf b) cleaned entries answers) (λ _. [])
-    (madeOf n side rec store (take (samplesOf b) model ROOM answers))
-
--- so numbering, memory and fading are over runs with feeds among them, as the box has it
-abbrev pub OurFeeds : Type 0
-OurFeeds = Expands every asksIn BENCHES × Counts every asksIn BENCHES
+use Rattle.feed.specs.Feed.{blockOf, samplesOf, entriesOf}
+use Rattle.surface.specs.Surface.{Call, feed, surface}
+use Rattle.surface.specs.Bytes.{SameChannel}
 
 -- ---- what a bench has of a run
 
@@ -43,22 +27,22 @@ pub record Has : Type 0 where
   pub answers : List Float
 
 -- what was written to each of a feed's three buffers, call after call
-abbrev pub cleanedIn : List (Returned Told) → List ℕ
+abbrev pub cleanedIn : List Returned → List ℕ
 cleanedIn [] = []
-cleanedIn (r ∷ rs) = getD (r .told .1) 0 [] ++ cleanedIn rs
+cleanedIn (r ∷ rs) = wholesIn (getD (r .written) 1 nothing) ++ cleanedIn rs
 
-abbrev pub entriesIn : List (Returned Told) → List ℕ
+abbrev pub entriesIn : List Returned → List ℕ
 entriesIn [] = []
-entriesIn (r ∷ rs) = getD (r .told .1) 1 [] ++ entriesIn rs
+entriesIn (r ∷ rs) = wholesIn (getD (r .written) 2 nothing) ++ entriesIn rs
 
-abbrev pub answersIn : List (Returned Told) → List Float
+abbrev pub answersIn : List Returned → List Float
 answersIn [] = []
-answersIn (r ∷ rs) = firstIn (r .told .0) ++ answersIn rs
+answersIn (r ∷ rs) = firstIn (r .written) ++ answersIn rs
 
 abbrev pub hasOf : ℕ → ℕ → State → List (On Call) → Has
 hasOf n s st calls =
-    let end = ended every n st calls in
-    let got = received every n s st calls in
+    let end = ended surface n st calls in
+    let got = received surface n s st calls in
     record {
       rec = recordAt s end;
       share = get (shareOf s) (end .store);
@@ -97,7 +81,7 @@ pub record Streams (n s : ℕ) (st : State) (calls : List (On Call)) (format cha
   pub inside : s < n
   pub sized : length (st .store) ≡ n * SHARE
   pub numbered : recordAt s st .frame < 4294967296
-  pub fed : Feeds format channels channel model (done every n s st calls) bytes
+  pub fed : Feeds format channels channel model (done surface n s st calls) bytes
 
 -- then it has what one dictation of all its samples gives, in as many frames as they complete; the entries count on from its frame number
 abbrev pub BytesInARow : Type 0
