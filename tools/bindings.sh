@@ -29,3 +29,18 @@ example=(cc -std=c11 -Wall -Wextra -Werror -O2 -Ibindings/c bindings/c/clean_a_s
 # The plugin.
 (cd bindings/ladspa && cargo test --release --offline --locked --target-dir ../../target/ladspa)
 (cd bindings/ladspa && cargo build --release --offline --locked --target-dir ../../target/ladspa)
+
+# The examples of docs/EMBEDDING.md, as they are printed there.
+example_in() {
+    awk -v fence="\`\`\`$1" '$0 == fence { inside = 1; next } /^```/ { inside = 0 } inside' docs/EMBEDDING.md
+}
+example_in c >"$made/example.c"
+cc -std=c11 -Wall -Wextra -Werror -Ibindings/c -o "$made/example" "$made/example.c" -L"$shared" -ltuppence -Wl,-rpath,"$PWD/$shared"
+"$made/example"
+mkdir -p "$made/example_rust/src"
+printf '[workspace]\n[package]\nname = "example"\nversion = "0.1.0"\nedition = "2021"\n[dependencies]\ntuppence = { path = "%s" }\n' \
+    "$PWD/bindings/rust" >"$made/example_rust/Cargo.toml"
+example_in rust >"$made/example_rust/src/main.rs"
+cargo run --quiet --release --offline --manifest-path "$made/example_rust/Cargo.toml" --target-dir target/rust
+example_in python >"$made/example.py"
+PYTHONPATH=bindings/python python3 "$made/example.py"
