@@ -6,8 +6,9 @@ mod common;
 use common::*;
 use std::fs;
 use std::path::Path;
-use tuppencehop::demo::{Rng, HOUSE};
-use tuppencehop::{wav, FRAME};
+use tuppencehop::cleaning::demo::{Rng, HOUSE};
+use tuppencehop::reading::wav;
+use tuppencehop::FRAME;
 
 const ENDS: [f32; 2] = [-32_768.0, 32_767.0];
 

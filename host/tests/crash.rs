@@ -11,8 +11,9 @@ use std::sync::atomic::{AtomicU64, Ordering};
 use std::sync::OnceLock;
 use std::thread::{scope, sleep, spawn};
 use std::time::{Duration, Instant};
-use tuppencehop::demo::Rng;
-use tuppencehop::{seal, wav};
+use tuppencehop::cleaning::demo::Rng;
+use tuppencehop::reading::wav;
+use tuppencehop::recording::seal;
 
 const SIDES: [&str; 2] = ["left", "right"];
 /// What a power cut may cost.
@@ -234,7 +235,7 @@ fn a_side_that_can_not_be_told() {
     bad(&[&good[..4], b"RGHT", &good[8..]].concat(), "it does not begin with a seal");
     // right in the seal, left in the records
     bad(
-        &[&seal::under_way(tuppencehop::recorder::Side::Right), &good[24..]].concat(),
+        &[&seal::under_way(tuppencehop::cleaning::recorder::Side::Right), &good[24..]].concat(),
         "no record in it is of the sound",
     );
     bad(&good[..seal::LENGTH], "no record in it is of the sound");
@@ -329,7 +330,7 @@ fn ten_hours_in_64_mb() {
     fs::write(part(&path, "right", ".part"), head).unwrap();
     let audio = File::options().write(true).open(part(&path, "right", ".part")).unwrap();
     audio.set_len(HEADER as u64 + 2 * samples).unwrap();
-    let sheet = [&seal::under_way(tuppencehop::recorder::Side::Right)[..], &records(1, count)].concat();
+    let sheet = [&seal::under_way(tuppencehop::cleaning::recorder::Side::Right)[..], &records(1, count)].concat();
     fs::write(part(&path, "right", ".sheet"), sheet).unwrap();
     let ended = in_memory(&path, 64, &["mend", "out"]);
     assert_eq!(ended.status, Some(0), "{}", ended.why);
@@ -347,7 +348,7 @@ fn a_long_torn_sheet_in_64_mb() {
     let samples = 480 * 100_000u32;
     let (zeros, torn) = (File::open("/dev/zero").unwrap(), path.join("torn.wav"));
     let (bytes, checksum) = wav::checksum(&mut &zeros, 2 * u64::from(samples)).unwrap();
-    let seal = seal::Seal { side: tuppencehop::recorder::Side::Left, bytes, checksum };
+    let seal = seal::Seal { side: tuppencehop::cleaning::recorder::Side::Left, bytes, checksum };
     fs::write(&torn, wav::header(48_000, 2 * samples, 0)).unwrap();
     let mut file = File::options().append(true).open(&torn).unwrap();
     file.set_len(HEADER as u64 + bytes).unwrap();

@@ -1,11 +1,12 @@
 //! Randomly damaged recordings, sheets and models through the readers: each is read or refused, and none ends in a panic.
 
 use std::io::Cursor;
-use tuppencehop::demo::{Rng, HOUSE};
-use tuppencehop::found::sealed;
-use tuppencehop::recorder::{Recorder, Side};
-use tuppencehop::side::Sheet;
-use tuppencehop::{mend, wav};
+use tuppencehop::cleaning::demo::{Rng, HOUSE};
+use tuppencehop::cleaning::recorder::{Recorder, Side};
+use tuppencehop::reading::wav;
+use tuppencehop::recording::mend;
+use tuppencehop::telling::found::sealed;
+use tuppencehop::telling::side::Sheet;
 
 /// The same in an EXTENSIBLE header, where the samples' form stands in front of fourteen fixed bytes.
 fn extended(file: &[u8]) -> Vec<u8> {

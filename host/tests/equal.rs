@@ -4,13 +4,13 @@
 
 mod models;
 
-use tuppencehop::block::Block;
-use tuppencehop::demo::{dictation, minutes, HOUSE};
+use tuppencehop::cleaning::demo::{dictation, minutes, HOUSE};
+use tuppencehop::cleaning::recorder::{Frame, Recorder, Side, Way, PIECE};
+use tuppencehop::cleaning::run::{frames_of, in_memory};
 use tuppencehop::dev::calls::Calls;
 use tuppencehop::dev::reference::Reference;
 use tuppencehop::dev::text::{beside, Distance};
-use tuppencehop::recorder::{Frame, Recorder, Side, Way, PIECE};
-use tuppencehop::run::{frames_of, in_memory};
+use tuppencehop::reading::block::Block;
 use tuppencehop::FRAME;
 
 /// One bench by the text: its output, and the voice of each frame.

@@ -7,7 +7,7 @@ mod common;
 use common::*;
 use std::fs;
 use std::path::Path;
-use tuppencehop::demo::Rng;
+use tuppencehop::cleaning::demo::Rng;
 
 /// Seeded noise, a buzz over it and silence in turn, in 24 bits. (Of whole numbers alone every machine makes the same.)
 fn sound(seed: u64, length: usize) -> Vec<i32> {

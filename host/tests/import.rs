@@ -7,11 +7,11 @@ use models::{any, as_c, c_name, declarations, layers, pick, plain, up_to, HEAD};
 use std::fs;
 use std::path::{Path, PathBuf};
 use std::process::{Command, Output};
-use tuppencehop::demo::{dictation, Rng, HOUSE};
-use tuppencehop::export::rnnn;
-use tuppencehop::import::model;
-use tuppencehop::layers::{first_array, Layers, LAYERS};
-use tuppencehop::wav;
+use tuppencehop::cleaning::demo::{dictation, Rng, HOUSE};
+use tuppencehop::models::export::rnnn;
+use tuppencehop::models::import::model;
+use tuppencehop::models::layers::{first_array, Layers, LAYERS};
+use tuppencehop::reading::wav;
 
 /// The text form, with any white space between its numbers.
 fn as_rnnn(layers: &Layers, rng: &mut Rng) -> String {
@@ -228,7 +228,7 @@ fn each_refusal_of_a_text_of_rnnoise_nu() {
 fn apart(layer: usize, part: usize, count: u32) -> Layers {
     let mut layers = smallest();
     layers.shapes[3 * layer + part] = count;
-    let lengths = tuppencehop::layers::lengths(layer, layers.shapes[3 * layer], layers.shapes[3 * layer + 1]);
+    let lengths = tuppencehop::models::layers::lengths(layer, layers.shapes[3 * layer], layers.shapes[3 * layer + 1]);
     for (array, length) in layers.arrays[first_array(layer)..].iter_mut().zip(lengths) {
         array.resize(length, 0);
     }

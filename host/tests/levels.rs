@@ -3,11 +3,11 @@
 
 mod models;
 
-use tuppencehop::block::Block;
-use tuppencehop::demo::filtered;
+use tuppencehop::cleaning::demo::filtered;
+use tuppencehop::cleaning::recorder::{Heard, Recorder, Side, Way};
 use tuppencehop::dev::reference::Reference;
 use tuppencehop::dev::transform::{Transform, SPECTRUM, WINDOW};
-use tuppencehop::recorder::{Heard, Recorder, Side, Way};
+use tuppencehop::reading::block::Block;
 use tuppencehop::FRAME;
 
 /// A frame that begins with this sample and has no other.
@@ -21,7 +21,7 @@ fn frame(sample: f32) -> [f32; FRAME] {
 fn energy(way: Way, sample: f32) -> Option<f32> {
     let (mut recorder, model, mut found) = (Recorder::new(way), models::model(), None);
     recorder.open(Side::Left, &model).unwrap();
-    let each = |frame: tuppencehop::recorder::Frame, _: &[u8]| {
+    let each = |frame: tuppencehop::cleaning::recorder::Frame, _: &[u8]| {
         if let Heard::Voice { energy, .. } = frame.heard {
             found = Some(energy);
         }

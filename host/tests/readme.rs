@@ -8,9 +8,9 @@ use std::path::{Path, PathBuf};
 use std::process::{Command, Stdio};
 use std::thread::sleep;
 use std::time::Duration;
-use tuppencehop::demo::{dictation, Rng, HOUSE};
-use tuppencehop::layers::Layers;
-use tuppencehop::wav;
+use tuppencehop::cleaning::demo::{dictation, Rng, HOUSE};
+use tuppencehop::models::layers::Layers;
+use tuppencehop::reading::wav;
 
 /// The commands of a page: what follows `./box` in a line of code, or between backticks, up to two spaces. What stands
 /// behind them is a comment, so that the line can be pasted as it is.

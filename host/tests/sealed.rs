@@ -9,9 +9,10 @@ use made::*;
 use std::fs;
 use std::io::{Cursor, Write};
 use std::path::{Path, PathBuf};
-use tuppencehop::demo::{Rng, HOUSE};
-use tuppencehop::found::sealed as told;
-use tuppencehop::{mend, wav};
+use tuppencehop::cleaning::demo::{Rng, HOUSE};
+use tuppencehop::reading::wav;
+use tuppencehop::recording::mend;
+use tuppencehop::telling::found::sealed as told;
 
 /// What the box writes, made by hand of its audio and its table.
 #[test]

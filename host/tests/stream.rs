@@ -4,8 +4,8 @@ use std::fs;
 use std::io::Write;
 use std::path::{Path, PathBuf};
 use std::process::{Child, Command, Output, Stdio};
-use tuppencehop::demo::{dictation, Rng, HOUSE};
-use tuppencehop::wav;
+use tuppencehop::cleaning::demo::{dictation, Rng, HOUSE};
+use tuppencehop::reading::wav;
 
 /// A folder of its own for each test, with the house model in it.
 fn folder(name: &str) -> PathBuf {

@@ -8,7 +8,7 @@ use std::fs;
 use std::os::unix::fs::symlink;
 use std::path::{Path, PathBuf};
 use std::process::{Command, Stdio};
-use tuppencehop::wav;
+use tuppencehop::reading::wav;
 
 const COMMANDS: [&str; 8] = ["clean", "side", "mend", "demo", "import", "export", "pack", "unpack"];
 const DEV: [&str; 6] = ["bench", "lags", "logs", "text", "man", "completion"];

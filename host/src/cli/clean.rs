@@ -1,15 +1,15 @@
 //! `box clean` and `box demo`, from the words, told in words or as JSON.
 
-use crate::clean::{self, Inputs, Job, Report};
-use crate::cleaned::Summary;
+use crate::cleaning::clean::{self, Inputs, Job, Report};
+use crate::cleaning::cleaned::Summary;
+use crate::cleaning::demo::HOUSE_NAME;
+use crate::cleaning::recorder::{Side, Way};
 use crate::cli::words::Given;
-use crate::demo::HOUSE_NAME;
-use crate::folder::told;
-use crate::json::{rounded, Json};
-use crate::recorder::{Side, Way};
-use crate::shown::{shown, steers};
-use crate::status::{Failure, WRONG};
-use crate::stop;
+use crate::recording::folder::told;
+use crate::sys::stop;
+use crate::telling::json::{rounded, Json};
+use crate::telling::shown::{shown, steers};
+use crate::telling::status::{Failure, WRONG};
 use std::cell::Cell;
 use std::path::{Path, PathBuf};
 
@@ -211,7 +211,7 @@ pub fn clean(given: &Given) -> Result<(), Failure> {
 
 pub fn demo(given: &Given) -> Result<(), Failure> {
     let dir = &given.files[0];
-    crate::demo::demo(dir, way(given), given.has("--force"))?;
+    crate::cleaning::demo::demo(dir, way(given), given.has("--force"))?;
     let dir = shown(dir);
     crate::say!("Look at {dir}/index.html, and listen to {dir}/left-before.wav and {dir}/left.wav.");
     Ok(())

@@ -1,7 +1,7 @@
 //! What a command is: its words, what each is for, and what runs it.
 
 use crate::cli::words::Given;
-use crate::status::Failure;
+use crate::telling::status::Failure;
 
 /// What stands behind an option.
 pub enum Takes {

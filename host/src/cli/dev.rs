@@ -4,8 +4,8 @@ use crate::cli::words::Given;
 use crate::cli::{completion, man};
 use crate::dev;
 use crate::dev::bench::Speed;
-use crate::json::{rounded, Json};
-use crate::status::Failure;
+use crate::telling::json::{rounded, Json};
+use crate::telling::status::Failure;
 
 fn json(speed: &Speed) -> Json {
     let numbers = [

@@ -14,7 +14,7 @@ mod sheets;
 mod version;
 mod words;
 
-use crate::status::{Failure, UNDONE};
+use crate::telling::status::{Failure, UNDONE};
 use command::{is_help, Command};
 use commands::{COMMANDS, DEV};
 use std::ffi::OsString;
@@ -107,13 +107,13 @@ pub fn run(words: &[OsString]) -> u8 {
     let mut status = match run_words(words) {
         Ok(()) => 0,
         Err(Failure { status, why }) => {
-            crate::answer::complain(&why);
+            crate::telling::answer::complain(&why);
             status
         }
     };
     // what was told, but could not be written, is lost too
-    if let Some(why) = crate::answer::untold() {
-        crate::answer::complain(&why);
+    if let Some(why) = crate::telling::answer::untold() {
+        crate::telling::answer::complain(&why);
         status = status.max(UNDONE);
     }
     status

@@ -1,11 +1,11 @@
 //! `box side` and `box mend`, from the words, told in words or as JSON.
 
+use crate::cleaning::recorder::Side;
 use crate::cli::words::Given;
-use crate::json::{rounded, Json};
-use crate::recorder::Side;
-use crate::rescue;
-use crate::side::{self, Sheet};
-use crate::status::{Failure, UNDONE};
+use crate::recording::rescue;
+use crate::telling::json::{rounded, Json};
+use crate::telling::side::{self, Sheet};
+use crate::telling::status::{Failure, UNDONE};
 use std::path::Path;
 
 type Fields = Vec<(&'static str, Json)>;
@@ -88,7 +88,7 @@ pub fn mend(given: &Given) -> Result<(), Failure> {
     }
     let out = given.wanted("--out")?;
     let said = given.word("--as").map(|side| if side == "left" { Side::Left } else { Side::Right });
-    let mended = crate::mend::mend(file, &out, said);
+    let mended = crate::recording::mend::mend(file, &out, said);
     if !given.has("--json") {
         mended?.tell(&out);
         return Ok(());

@@ -3,8 +3,8 @@
 
 use crate::cli::command::{is_help, Command, Opt, Takes};
 use crate::cli::near;
-use crate::shown::shown;
-use crate::status::Failure;
+use crate::telling::shown::shown;
+use crate::telling::status::Failure;
 use std::ffi::{OsStr, OsString};
 use std::io::ErrorKind;
 use std::os::unix::ffi::OsStrExt;

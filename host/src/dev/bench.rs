@@ -1,10 +1,10 @@
 //! `box dev bench`: how fast the box is, beside the Rust text's `process_frame`.
 
-use crate::block::{packed, Block, Layout};
-use crate::demo::{grinder, HOUSE};
+use crate::cleaning::demo::{grinder, HOUSE};
+use crate::cleaning::recorder::{Recorder, Side, Way, RECORD, STORE};
 use crate::dev::calls::{Calls, Spent};
 use crate::dev::reference::Reference;
-use crate::recorder::{Recorder, Side, Way, RECORD, STORE};
+use crate::reading::block::{packed, Block, Layout};
 use crate::FRAME;
 use std::thread::sleep;
 use std::time::{Duration, Instant};

@@ -1,9 +1,9 @@
 //! Frames in four calls each, with this program's transforms and logarithms and the text's own finder: what is held
 //! against the text's `process_frame` bit for bit.
 
+use crate::cleaning::recorder::{Frame, Heard, Side, Way, FRAMES, HEARD, RECORD, STORE};
 use crate::dev::transform::{Transform, SPECTRUM, WINDOW};
-use crate::recorder::{Frame, Heard, Side, Way, FRAMES, HEARD, RECORD, STORE};
-use crate::refusal::{done, Refusal};
+use crate::telling::refusal::{done, Refusal};
 use nnnoiseless_text::probe::pitch::PitchFinder;
 use std::hint::black_box;
 use std::time::{Duration, Instant};

@@ -1,7 +1,7 @@
 //! `box dev lags`: how often our own lag (request 04) and the text's `PitchFinder` agree, and how often each is right.
 
-use crate::demo::{cleaned, dictation, effect, filtered, power, Rng};
-use crate::recorder::Way;
+use crate::cleaning::demo::{cleaned, dictation, effect, filtered, power, Rng};
+use crate::cleaning::recorder::Way;
 use crate::{FRAME, RATE};
 use nnnoiseless_text::probe::pitch::PitchFinder;
 use std::f64::consts::TAU;

@@ -1,7 +1,7 @@
 //! `box dev logs`: how far the sound moves where the library's own logarithms are lent, and not those of `f32::log10`.
 
-use crate::demo::{dictation, minutes, HOUSE};
-use crate::recorder::{Side, Way, RECORD, STORE};
+use crate::cleaning::demo::{dictation, minutes, HOUSE};
+use crate::cleaning::recorder::{Side, Way, RECORD, STORE};
 use crate::FRAME;
 
 /// The 22 logarithms of a frame.

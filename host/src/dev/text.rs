@@ -1,9 +1,9 @@
 //! `box dev text`: how far a recording, as the box cleans it, is from what the Rust text's `process_frame` gives. The
 //! finder is the same; transforms and logarithms differ in their last bits.
 
-use crate::demo::{dictation, minutes, HOUSE};
+use crate::cleaning::demo::{dictation, minutes, HOUSE};
+use crate::cleaning::recorder::{Heard, Side, Way, RECORD, STORE};
 use crate::dev::reference::Reference;
-use crate::recorder::{Heard, Side, Way, RECORD, STORE};
 use crate::FRAME;
 
 /// How far one cleaning of a recording is from the text's.

@@ -1,8 +1,8 @@
 //! Sealed recordings made by hand, byte by byte and by a checksum of their own: what the box is to write and to read.
 #![allow(dead_code)]
 
-use tuppencehop::demo::Rng;
-use tuppencehop::run::frames_of;
+use tuppencehop::cleaning::demo::Rng;
+use tuppencehop::cleaning::run::frames_of;
 
 pub const HEARD: u64 = 1 << 32;
 pub const HEADER: usize = 44;

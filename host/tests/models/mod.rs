@@ -1,8 +1,8 @@
 //! Models for tests: of any shape, with seeded weights; as a file, and as RNNoise's `rnn_data.c`.
 #![allow(dead_code)]
 
-use tuppencehop::demo::Rng;
-use tuppencehop::layers::{first_array, lengths, Layers, LAYERS};
+use tuppencehop::cleaning::demo::Rng;
+use tuppencehop::models::layers::{first_array, lengths, Layers, LAYERS};
 
 /// A number from 0 to `most`.
 pub fn up_to(rng: &mut Rng, most: u32) -> u32 {

@@ -1,0 +1,83 @@
+//! The text form of rnnoise-nu (`.rnnn`), which ffmpeg's arnndn and the published collections of models use: its name
+//! and version, and then a `.rnn`'s numbers in decimal, one behind the other, with any white space between them.
+
+use super::header_fault;
+use super::number::{count, is_space, shown, weight, whole};
+use crate::models::layers::{first_array, lengths, Layers, Unwritten, LAYERS};
+
+/// The words of a text, each with its line.
+struct Words<'a> {
+    rest: &'a [u8],
+    line: usize,
+}
+
+impl<'a> Iterator for Words<'a> {
+    type Item = (usize, &'a [u8]);
+
+    fn next(&mut self) -> Option<(usize, &'a [u8])> {
+        let from = self.rest.iter().position(|byte| !is_space(*byte))?;
+        self.line += self.rest[..from].iter().filter(|byte| **byte == b'\n').count();
+        let rest = &self.rest[from..];
+        let to = rest.iter().position(|byte| is_space(*byte)).unwrap_or(rest.len());
+        self.rest = &rest[to..];
+        Some((self.line, &rest[..to]))
+    }
+}
+
+/// What stands in front of the numbers.
+fn version(words: &mut Words) -> Result<(), String> {
+    const FIRST: [&str; 4] = ["rnnoise-nu", "model", "file", "version"];
+    if FIRST.iter().any(|word| words.next().map(|(_, text)| text) != Some(word.as_bytes())) {
+        return Err("it does not begin with `rnnoise-nu model file version 1`".into());
+    }
+    match words.next() {
+        Some((_, number)) if whole(number) == Ok(1) => Ok(()),
+        Some((_, number)) => Err(format!("version {} of rnnoise-nu's form; version 1 is read", shown(number))),
+        None => Err("it ends before its version".into()),
+    }
+}
+
+/// A layer's inputs, neurons and activation.
+fn header(words: &mut Words, layer: usize, layers: &mut Layers) -> Result<(), String> {
+    let (name, mut told, mut at) = (LAYERS[layer].0, Vec::new(), 0);
+    for (k, what) in ["inputs", "neurons", "activation"].into_iter().enumerate() {
+        let (line, word) = words.next().ok_or_else(|| format!("it ends before the {what} of {name}"))?;
+        layers.shapes[3 * layer + k] = count(word).map_err(|why| format!("line {line}: {name}, {what}: {why}"))?;
+        told.push(word);
+        at = line;
+    }
+    header_fault(layers, [told[0], told[1], told[2]]).map_err(|why| format!("line {at}: {why}"))
+}
+
+/// The numbers of one array, fewer where the text ends before.
+fn array(words: &mut Words, name: &str, length: usize) -> Result<Vec<u8>, String> {
+    let number = |(k, (line, word)): (usize, (usize, &[u8]))| {
+        weight(word).map_err(|why| format!("line {line}: {name}, number {} of {length}: {why}", k + 1))
+    };
+    words.take(length).enumerate().map(number).collect()
+}
+
+pub fn layers(text: &[u8]) -> Result<Layers, String> {
+    let (mut words, mut layers) = (Words { rest: text, line: 1 }, Layers::default());
+    version(&mut words)?;
+    for (layer, (name, arrays)) in LAYERS.iter().enumerate() {
+        header(&mut words, layer, &mut layers)?;
+        let lengths = lengths(layer, layers.shapes[3 * layer], layers.shapes[3 * layer + 1]);
+        for ((array_name, length), place) in arrays.iter().zip(lengths).zip(first_array(layer)..) {
+            let name = format!("{name}.{array_name}");
+            layers.arrays[place] = array(&mut words, &name, length)?;
+            let there = layers.arrays[place].len();
+            if there < length {
+                let Unwritten { number, layer } = layers.fault();
+                let what = format!("{there} of {length} numbers are there");
+                return Err(format!("it ends within {name}: {what} (refusal {number}, layer {layer})"));
+            }
+        }
+    }
+    match words.next() {
+        None => Ok(layers),
+        Some((line, word)) => {
+            Err(format!("line {line}: {} stands behind the last number of vad_output.bias", shown(word)))
+        }
+    }
+}
