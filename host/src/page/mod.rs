@@ -10,7 +10,7 @@ pub mod table;
 use crate::cleaning::cleaned::Summary;
 use crate::page::about::minute;
 use crate::page::colours::{variables, DARK, LIGHT};
-use crate::page::picture::{self, clock, labelled, Strip};
+use crate::page::picture::{clock, labelled, Strip};
 use crate::{FRAME, RATE};
 use std::fmt::Write;
 
