@@ -15,7 +15,6 @@ macro_rules! warn {
 
 pub mod cleaning;
 pub mod cli;
-pub mod dev;
 pub mod error;
 pub mod models;
 pub mod page;

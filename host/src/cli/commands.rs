@@ -1,16 +1,19 @@
 //! The commands. An option is a line of its command's table.
 
 use crate::cli::command::{Command, Files, Opt, Takes};
-use crate::cli::{clean, dev, models, sheets};
+use crate::cli::{clean, help, models, sheets, texts, Program};
 
 const FORCE: Opt = Opt::flag("--force", "Write over what stands there.");
-const JSON: Opt = Opt::flag("--json", "The answer as JSON: an object on a line for each file.");
+pub const JSON: Opt = Opt::flag("--json", "The answer as JSON: an object on a line for each file.");
 const LAG: Opt = Opt::of(
     "--lag",
     Takes::OneOf(&["crate", "own"]),
     "Whose pitch finder: the Rust crate's, as where none is named, which gives what nnnoiseless gives but for the last \
      bits; or our own, with transforms as plain sums, which takes several times as long.",
 );
+
+/// The box.
+pub const BOX: Program = Program { name: "", commands: COMMANDS, help: help::whole, asks: "what shall be done?" };
 
 pub const COMMANDS: &[Command] = &[
     Command {
@@ -157,70 +160,24 @@ for each array (input_dense.weights, input_dense.bias, vad_gru.recurrent ...).",
         examples: &["box unpack house.rnn --out layers"],
         run: models::unpack,
     },
-];
-
-/// What serves developers.
-pub const DEV: &[Command] = &[
     Command {
-        name: "dev bench",
-        what: "How fast the box is.",
-        usage: &[""],
-        files: Files::NONE,
-        options: &[JSON],
-        about: "\
-Frames a second in pieces, as clean runs them, with either --lag; how much of a core sixteen benches leave idle; frames
-in four calls each, with this program's transforms, beside the Rust text; and where a frame's time goes.",
-        examples: &[],
-        run: dev::bench,
-    },
-    Command {
-        name: "dev lags",
-        what: "How often our own lag and that of the Rust text agree.",
-        usage: &[""],
-        files: Files::NONE,
-        options: &[],
-        about: "On the demo's voices and on seeded ones of known pitch.",
-        examples: &[],
-        run: dev::lags,
-    },
-    Command {
-        name: "dev logs",
-        what: "How far the sound moves with the library's own logarithms.",
-        usage: &[""],
-        files: Files::NONE,
-        options: &[],
-        about: "Against those of this machine: on the demo and on ten minutes of noise and speech.",
-        examples: &[],
-        run: dev::logs,
-    },
-    Command {
-        name: "dev text",
-        what: "How far a recording is from what the Rust text gives.",
-        usage: &[""],
-        files: Files::NONE,
-        options: &[],
-        about: "Sample by sample beside its process_frame: on the demo and on ten minutes of noise and speech.",
-        examples: &[],
-        run: dev::text,
-    },
-    Command {
-        name: "dev man",
+        name: "man",
         what: "The man page, as `box install` puts it in its place.",
         usage: &[""],
         files: Files::NONE,
         options: &[],
         about: "",
         examples: &[],
-        run: dev::man,
+        run: texts::man,
     },
     Command {
-        name: "dev completion",
+        name: "completion",
         what: "The completion for bash.",
         usage: &[""],
         files: Files::NONE,
         options: &[],
         about: "",
         examples: &[],
-        run: dev::completion,
+        run: texts::completion,
     },
 ];

@@ -1,7 +1,7 @@
 //! The man page, written from the table.
 
 use crate::cli::command::Command;
-use crate::cli::commands::{COMMANDS, DEV};
+use crate::cli::commands::COMMANDS;
 use std::fmt::Write;
 
 /// A text as roff takes it: its own signs are escaped, and no line begins with a dot or an apostrophe.
@@ -40,8 +40,6 @@ pub fn page() -> String {
         env!("CARGO_PKG_VERSION")
     );
     COMMANDS.iter().for_each(|one| command(&mut text, one));
-    text += ".SH FOR DEVELOPERS\n";
-    DEV.iter().for_each(|one| command(&mut text, one));
     text += ".SH EXIT STATUS\n\
              0 done as asked; 1 it could not be done; 2 what was given is not right: the command line, or a recording\n\
              that is not all there, of which the rest is cleaned. Of several the highest.\n\

@@ -2,16 +2,17 @@
 //! In four calls a frame, with the text's own, it is the same bit for bit but for the signs of zeros. And however a
 //! recording is cut, it is the same.
 
+#[path = "../../tests/models/mod.rs"]
 mod models;
 
 use tuppencehop::cleaning::demo::{dictation, minutes, HOUSE};
 use tuppencehop::cleaning::recorder::{Frame, Recorder, Side, Way, PIECE};
 use tuppencehop::cleaning::run::{frames_of, in_memory};
-use tuppencehop::dev::calls::Calls;
-use tuppencehop::dev::reference::Reference;
-use tuppencehop::dev::text::{beside, Distance};
 use tuppencehop::reading::block::Block;
 use tuppencehop::FRAME;
+use tuppencehop_dev::calls::Calls;
+use tuppencehop_dev::reference::Reference;
+use tuppencehop_dev::text::{beside, Distance};
 
 /// One bench by the text: its output, and the voice of each frame.
 fn by_the_text(recording: &[f32], model: &[u8]) -> (Vec<f32>, Vec<f32>) {
