@@ -1,6 +1,8 @@
 //! The recorder box: it runs both benches over one lent store through the proved library, and does itself what the library
 //! leaves to its host: files.
 
+#![deny(unsafe_code)]
+
 /// A line to standard output.
 #[macro_export]
 macro_rules! say {
@@ -20,6 +22,7 @@ pub mod models;
 pub mod page;
 pub mod reading;
 pub mod recording;
+#[allow(unsafe_code)]
 pub mod sys;
 pub mod telling;
 

@@ -173,7 +173,7 @@ fn what_is_told() {
     for side in SIDES {
         let mut sheet = fs::read(part(&path, side, ".sheet")).unwrap();
         sheet.truncate(seal::LENGTH);
-        assert_eq!(seal::side(&sheet).unwrap().name(), side);
+        assert_eq!(seal::side_under_way(&sheet).unwrap().name(), side);
     }
     // the same folder is refused, whatever it is asked, and all stays as it was
     for words in [&["-", "--raw", "--out", "out"][..], &["-", "--raw", "--out", "out", "--force"]] {

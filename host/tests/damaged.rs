@@ -76,7 +76,7 @@ fn read_in_parts(file: &[u8]) -> Result<[u64; 3], u32> {
 
 /// Mends a file. What it becomes is sealed.
 fn is_mended(file: &[u8]) -> bool {
-    let Ok(mended) = mend::of(&mut Cursor::new(file), Some(Side::Right)) else { return false };
+    let Ok(mended) = mend::mended_of(&mut Cursor::new(file), Some(Side::Right)) else { return false };
     let mut out = vec![];
     mended.write(&mut Cursor::new(file), &mut out).unwrap();
     assert_eq!(sealed(&mut Cursor::new(&out), false).ok(), Some(mended.sheet));

@@ -126,7 +126,7 @@ fn mutants() {
             assert!(known.begins(sheet.side as usize, audio(&file)), "mutant {i}: {sheet}");
             counts[0] += 1;
         }
-        if let Ok(mended) = mend::of(&mut Cursor::new(&file), None) {
+        if let Ok(mended) = mend::mended_of(&mut Cursor::new(&file), None) {
             let mut new = vec![];
             mended.write(&mut Cursor::new(&file), &mut new).unwrap();
             let sheet = told(&mut Cursor::new(&new), false).expect("what is mended is sealed");
@@ -149,7 +149,7 @@ fn two_thousand_power_cuts() {
         let mut file = whole.clone();
         file[cut..].fill(0);
         assert!(told(&mut Cursor::new(&file), false).is_err() || file == whole, "{cut}");
-        match mend::of(&mut Cursor::new(&file), None) {
+        match mend::mended_of(&mut Cursor::new(&file), None) {
             Ok(mended) => {
                 assert_eq!(mended.sheet.side.name(), "right");
                 closed += 1;

@@ -10,7 +10,7 @@ use tuppencehop::cli::{help, Program};
 use tuppencehop::error::Result;
 use tuppencehop::telling::json::{rounded, Json};
 
-pub const DEV: Program = Program { name: "dev", commands: COMMANDS, help: whole, asks: "which of them?" };
+pub const DEV: Program = Program { name: "dev", commands: COMMANDS, help: help_of_dev, asks: "which of them?" };
 
 pub const COMMANDS: &[Command] = &[
     Command {
@@ -23,7 +23,7 @@ pub const COMMANDS: &[Command] = &[
 Frames a second in pieces, as clean runs them, with either --lag; how much of a core sixteen benches leave idle; frames
 in four calls each, with this program's transforms, beside the Rust text; and where a frame's time goes.",
         examples: &[],
-        run: measure_speed,
+        run: run_bench,
     },
     Command {
         name: "dev lags",
@@ -33,7 +33,7 @@ in four calls each, with this program's transforms, beside the Rust text; and wh
         options: &[],
         about: "On the demo's voices and on seeded ones of known pitch.",
         examples: &[],
-        run: compare_lags,
+        run: run_lags,
     },
     Command {
         name: "dev logs",
@@ -43,7 +43,7 @@ in four calls each, with this program's transforms, beside the Rust text; and wh
         options: &[],
         about: "Against those of this machine: on the demo and on ten minutes of noise and speech.",
         examples: &[],
-        run: compare_logs,
+        run: run_logs,
     },
     Command {
         name: "dev text",
@@ -53,18 +53,18 @@ in four calls each, with this program's transforms, beside the Rust text; and wh
         options: &[],
         about: "Sample by sample beside its process_frame: on the demo and on ten minutes of noise and speech.",
         examples: &[],
-        run: compare_text,
+        run: run_text,
     },
 ];
 
-fn whole() -> String {
+fn help_of_dev() -> String {
     let mut text = String::from("box dev: what serves developers\n\n");
     help::list(&mut text, COMMANDS);
     write!(text, "\n  box dev COMMAND --help: all about one\n").unwrap();
     text
 }
 
-fn json(speed: &Speed) -> Json {
+fn speed_json(speed: &Speed) -> Json {
     let numbers = [
         ("pieces", speed.pieces),
         ("own", speed.own),
@@ -76,25 +76,25 @@ fn json(speed: &Speed) -> Json {
     Json::Object(numbers.map(|(name, number)| (name, rounded(number, 3).into())).into())
 }
 
-fn measure_speed(given: &Given) -> Result<()> {
+fn run_bench(given: &Given) -> Result<()> {
     let speed = bench::measure();
     match given.has("--json") {
-        true => tuppencehop::say!("{}", json(&speed)),
+        true => tuppencehop::say!("{}", speed_json(&speed)),
         false => speed.tell(),
     }
     Ok(())
 }
 
-fn compare_lags(_: &Given) -> Result<()> {
+fn run_lags(_: &Given) -> Result<()> {
     lags::lags()
 }
 
-fn compare_logs(_: &Given) -> Result<()> {
+fn run_logs(_: &Given) -> Result<()> {
     logs::logs();
     Ok(())
 }
 
-fn compare_text(_: &Given) -> Result<()> {
-    text::text();
+fn run_text(_: &Given) -> Result<()> {
+    text::tell_distances();
     Ok(())
 }

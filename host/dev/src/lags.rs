@@ -45,7 +45,7 @@ fn multiple(a: f64, b: f64) -> bool {
 }
 
 /// How many percent of the pairs are near; or an octave apart besides; or a multiple besides.
-fn share(pairs: &[[f64; 2]]) -> String {
+fn agreement(pairs: &[[f64; 2]]) -> String {
     let percent = |test: fn(f64, f64) -> bool| {
         100.0 * pairs.iter().filter(|[a, b]| test(*a, *b)).count() as f64 / pairs.len().max(1) as f64
     };
@@ -114,7 +114,7 @@ pub fn lags() -> Result<()> {
         for (how, samples) in [("alone", &alone), ("over its grinder", &demo.noisy)] {
             let pairs: Vec<_> =
                 both(samples).into_iter().zip(&speaking).filter(|(_, on)| **on).map(|(p, _)| p).collect();
-            tuppencehop::say!("| demo, {name}, {how} | {} | {} | – | – |", pairs.len(), share(&pairs));
+            tuppencehop::say!("| demo, {name}, {how} | {} | {} | – | – |", pairs.len(), agreement(&pairs));
         }
     }
     for (what, pitch) in
@@ -123,11 +123,12 @@ pub fn lags() -> Result<()> {
         for below in [60.0, 10.0, 0.0] {
             let all = seeded(pitch, below);
             let pairs: Vec<_> = all.iter().map(|(pair, _)| *pair).collect();
-            let [ours, texts] = [0, 1].map(|i| share(&all.iter().map(|(pair, t)| [pair[i], *t]).collect::<Vec<_>>()));
+            let [ours, texts] =
+                [0, 1].map(|i| agreement(&all.iter().map(|(pair, t)| [pair[i], *t]).collect::<Vec<_>>()));
             tuppencehop::say!(
                 "| seeded, {what}, noise {below} dB below | {} | {} | {ours} | {texts} |",
                 all.len(),
-                share(&pairs)
+                agreement(&pairs)
             );
         }
     }

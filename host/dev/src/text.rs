@@ -41,7 +41,7 @@ impl Distance {
 }
 
 /// A bench of this way, a frame in each call, beside the text.
-pub fn beside(recording: &[f32], model: &[u8], way: Way) -> Distance {
+pub fn beside_text(recording: &[f32], model: &[u8], way: Way) -> Distance {
     let (mut record, mut store, mut distance) = ([0; RECORD], vec![0.0; STORE], Distance::default());
     way.open(&mut record, &mut store, 0, model).expect("a model that the library reads");
     let mut reference = Reference::new(model).expect("a model that the text reads");
@@ -55,7 +55,7 @@ pub fn beside(recording: &[f32], model: &[u8], way: Way) -> Distance {
     distance
 }
 
-pub fn text() {
+pub fn tell_distances() {
     tuppencehop::say!(
         "| recording | `--lag` | frames | largest difference of a sample | all differences, below the sound | \
          largest difference of a voice's probability | samples that differ in 16 bits |"
@@ -68,7 +68,7 @@ pub fn text() {
             ("the demo", "own", Way::Asked, dictation(bench).noisy),
         ];
         for (what, lag, way, recording) in rows {
-            let distance = beside(&recording, HOUSE, way);
+            let distance = beside_text(&recording, HOUSE, way);
             let Distance { frames, most, rounded, voice, .. } = distance;
             let (side, below, samples) = (side.name(), distance.below(), FRAME * frames);
             tuppencehop::say!(

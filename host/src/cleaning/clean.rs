@@ -10,7 +10,7 @@ use crate::page::about::About;
 use crate::reading::source::{Limited, Lost, Recordings};
 use crate::reading::wav;
 use crate::recording::files::{recording, Files};
-use crate::sys::stop;
+use crate::sys::signals;
 use crate::telling::found::Found;
 use crate::telling::progress::Watched;
 use crate::RATE;
@@ -117,7 +117,7 @@ fn is_in_the_way(file: &Path, job: &Job) -> bool {
 }
 
 /// What in a recording says that it is the other bench's. (A pipe is not looked at: what is read of it is gone.)
-fn says_another(path: &Path, side: Side) -> Option<(&'static str, Side)> {
+fn marked_for_other(path: &Path, side: Side) -> Option<(&'static str, Side)> {
     let mut file = File::open(path).ok().filter(|file| file.metadata().is_ok_and(|about| about.is_file()))?;
     Found::of(&mut file).ok()?.sides().find(|(_, other)| *other != side)
 }
@@ -140,7 +140,7 @@ fn refuse_mix(inputs: &Inputs) -> Result<()> {
         _ => vec![],
     };
     for (path, side) in given {
-        if let Some((what, other)) = says_another(path, side) {
+        if let Some((what, other)) = marked_for_other(path, side) {
             let why = format!("{what} says {}, and it is given for the {} bench", other.name(), side.name());
             return Err(refused(path, why));
         }
@@ -149,9 +149,9 @@ fn refuse_mix(inputs: &Inputs) -> Result<()> {
 }
 
 /// The model, which the library must take.
-fn model(job: &Job) -> Result<Vec<u8>> {
+fn model_of_job(job: &Job) -> Result<Vec<u8>> {
     let Some(path) = &job.model else { return Ok(HOUSE.into()) };
-    let model = import::read(path)?;
+    let model = import::read_model(path)?;
     Recorder::new(job.way).open(Side::Left, &model).at(path)?;
     Ok(model)
 }
@@ -176,8 +176,8 @@ fn too_long(cut: [bool; 2]) -> impl Iterator<Item = Lost> {
 /// Runs a job. What ends one bench leaves the other as it is; what was cleaned till then is kept, and told. Where
 /// nothing was cleaned, nothing is written.
 pub fn clean(job: &Job) -> Result<Report> {
-    stop::listen();
-    let model = model(job)?;
+    signals::listen();
+    let model = model_of_job(job)?;
     if let Some(file) = job.inputs.files().into_iter().find(|file| is_in_the_way(file, job)) {
         return Err(Error::undone("this would be written over; name another folder with --out").at(file));
     }

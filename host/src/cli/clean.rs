@@ -6,7 +6,7 @@ use crate::cleaning::demo::HOUSE_NAME;
 use crate::cleaning::recorder::{Side, Way};
 use crate::cli::words::Given;
 use crate::error::{Error, Result};
-use crate::sys::stop;
+use crate::sys::signals;
 use crate::telling::json::{rounded, Json};
 use crate::telling::shown::{line_of, shown, steers};
 use std::cell::Cell;
@@ -87,7 +87,7 @@ fn inputs(given: &Given) -> Result<Option<Inputs>> {
     }
 }
 
-fn json(file: &Path, recording: &Path, bench: Option<&Summary>, model: &str, error: Option<&str>) -> Json {
+fn recording_json(file: &Path, recording: &Path, bench: Option<&Summary>, model: &str, error: Option<&str>) -> Json {
     let number = |of: fn(&Summary) -> u64| Json::from(bench.map(of));
     let decibels = |of: fn(&Summary) -> Option<f64>| Json::from(bench.and_then(of).map(|db| rounded(db, 1)));
     let seconds = |of: fn(&Summary) -> Option<f64>| Json::from(bench.and_then(of).map(|s| rounded(s, 5)));
@@ -122,8 +122,8 @@ fn tell_as_json(job: &Job, outcome: &Result<Report>) {
             for bench in report.benches.iter().filter(|bench| !bench.about.absent) {
                 let (recording, fault) = (job.inputs.named(bench.side), bench.about.fault.as_deref());
                 let object = match bench.samples {
-                    0 => json(&job.out, recording, None, &model, fault.or(Some("no sound came"))),
-                    _ => json(&job.place(bench.side), recording, Some(bench), &model, fault),
+                    0 => recording_json(&job.out, recording, None, &model, fault.or(Some("no sound came"))),
+                    _ => recording_json(&job.place(bench.side), recording, Some(bench), &model, fault),
                 };
                 crate::say!("{object}");
             }
@@ -133,14 +133,14 @@ fn tell_as_json(job: &Job, outcome: &Result<Report>) {
             let files = job.inputs.files();
             let stream = [Path::new("standard input")];
             for file in if files.is_empty() { &stream[..] } else { &files } {
-                crate::say!("{}", json(&job.out, file, None, &model, Some(&error)));
+                crate::say!("{}", recording_json(&job.out, file, None, &model, Some(&error)));
             }
         }
     }
 }
 
 /// Runs a job, tells it by `tell`, and gives what of it is missing.
-fn run(given: &Given, job: &Job, tell: impl Fn(&Report)) -> Result<()> {
+fn run_job(given: &Given, job: &Job, tell: impl Fn(&Report)) -> Result<()> {
     let outcome = clean::clean(job);
     let is_json = given.has("--json");
     if is_json {
@@ -167,7 +167,7 @@ fn many(given: &Given, out: &Path) -> Result<()> {
     let sides: Result<Vec<Side>> = given.files.iter().map(|file| side_of(given, file, asked)).collect();
     let (mut bad, cleaned) = (vec![], Cell::new(false));
     for (file, side) in given.files.iter().zip(sides?) {
-        if stop::asked() {
+        if signals::asked() {
             bad.push(Error::wrong("stopped before it").at(file));
             continue;
         }
@@ -180,7 +180,7 @@ fn many(given: &Given, out: &Path) -> Result<()> {
                 crate::say!("{}", line_of(file, format!("{} side, {} frames, in {place}", side.name(), bench.frames)));
             }
         };
-        bad.extend(run(given, &job, tell).err());
+        bad.extend(run_job(given, &job, tell).err());
     }
     if cleaned.get() {
         tell_house(given);
@@ -188,11 +188,11 @@ fn many(given: &Given, out: &Path) -> Result<()> {
     Error::several(bad)
 }
 
-pub fn clean(given: &Given) -> Result<()> {
+pub fn run_clean(given: &Given) -> Result<()> {
     let (inputs, out) = (inputs(given)?, given.wanted("--out")?);
     let Some(inputs) = inputs else { return many(given, &out) };
     let job = job(given, inputs, out)?;
-    run(given, &job, |report| {
+    run_job(given, &job, |report| {
         for bench in written(report) {
             crate::say!("{}: {} frames", bench.side.name(), bench.frames);
         }
@@ -200,7 +200,7 @@ pub fn clean(given: &Given) -> Result<()> {
     })
 }
 
-pub fn demo(given: &Given) -> Result<()> {
+pub fn run_demo(given: &Given) -> Result<()> {
     let dir = &given.files[0];
     crate::cleaning::demo::demo(dir, way(given), given.has("--force"))?;
     let dir = shown(dir);

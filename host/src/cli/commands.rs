@@ -13,7 +13,7 @@ const LAG: Opt = Opt::of(
 );
 
 /// The box.
-pub const BOX: Program = Program { name: "", commands: COMMANDS, help: help::whole, asks: "what shall be done?" };
+pub const BOX: Program = Program { name: "", commands: COMMANDS, help: help::help_of_box, asks: "what shall be done?" };
 
 pub const COMMANDS: &[Command] = &[
     Command {
@@ -63,7 +63,7 @@ they stay as they are, and box mend DIR closes them.",
             "box clean *.wav --out monday",
             "arecord -f S16_LE -c 2 -r 48000 -t raw | box clean - --raw --out monday",
         ],
-        run: clean::clean,
+        run: clean::run_clean,
     },
     Command {
         name: "side",
@@ -77,7 +77,7 @@ them were heard. Of any other no side is told, but the reason, with an exit stat
 with frames; 4 a sheet without a seal; 5 a seal that is not of this audio, or damage; 6 a name or a folder that says
 another side. Of several files the highest. - is a recording on standard input.",
         examples: &["box side monday/left.wav monday/right.wav", "box side --json *.wav"],
-        run: sheets::side,
+        run: sheets::run_side,
     },
     Command {
         name: "mend",
@@ -96,7 +96,7 @@ its audio and its records both go, and put in its place, or where that is taken 
 Of a file: a recording whose side sheet was torn. The side must stand in its seal; of a recording without one --as says
 it, and the answer says that you did. As much of the audio is kept as there are records of, and it is sealed again.",
         examples: &["box mend monday", "box mend torn.wav --out left.wav"],
-        run: sheets::mend,
+        run: sheets::run_mend,
     },
     Command {
         name: "demo",
@@ -106,7 +106,7 @@ it, and the answer says that you did. As much of the audio is kept as there are 
         options: &[LAG, FORCE],
         about: "They come with the program. Writes what clean writes, and the recordings before cleaning too.",
         examples: &["box demo out"],
-        run: clean::demo,
+        run: clean::run_demo,
     },
     Command {
         name: "import",
@@ -118,7 +118,7 @@ it, and the answer says that you did. As much of the audio is kept as there are 
 From RNNoise's rnn_data.c or from rnnoise-nu's text form (.rnnn), which are told apart by their first words. --model and
 unpack take both as they are, too. What is wrong is said by layer, array and line, and then nothing is written.",
         examples: &["box import rnn_data.c --out rnnoise.rnn"],
-        run: models::import,
+        run: models::run_import,
     },
     Command {
         name: "export",
@@ -132,7 +132,7 @@ unpack take both as they are, too. What is wrong is said by layer, array and lin
         ],
         about: "",
         examples: &["box export house.rnn --as rnnn --out house.rnnn"],
-        run: models::export,
+        run: models::run_export,
     },
     Command {
         name: "pack",
@@ -148,7 +148,7 @@ unpack take both as they are, too. What is wrong is said by layer, array and lin
 FOLDER has layers.txt, a line for each layer with its name, inputs, neurons and activation, and a file of signed bytes
 for each array (input_dense.weights, input_dense.bias, vad_gru.recurrent ...).",
         examples: &["box pack --layers layers --out mine.rnn"],
-        run: models::pack,
+        run: models::run_pack,
     },
     Command {
         name: "unpack",
@@ -158,7 +158,7 @@ for each array (input_dense.weights, input_dense.bias, vad_gru.recurrent ...).",
         options: &[Opt::of("--out", Takes::Place("FOLDER"), "Where the arrays are written."), FORCE],
         about: "The other way round than pack.",
         examples: &["box unpack house.rnn --out layers"],
-        run: models::unpack,
+        run: models::run_unpack,
     },
     Command {
         name: "man",
@@ -168,7 +168,7 @@ for each array (input_dense.weights, input_dense.bias, vad_gru.recurrent ...).",
         options: &[],
         about: "",
         examples: &[],
-        run: texts::man,
+        run: texts::run_man,
     },
     Command {
         name: "completion",
@@ -178,6 +178,6 @@ for each array (input_dense.weights, input_dense.bias, vad_gru.recurrent ...).",
         options: &[],
         about: "",
         examples: &[],
-        run: texts::completion,
+        run: texts::run_completion,
     },
 ];

@@ -35,7 +35,7 @@ pub fn list(text: &mut String, commands: &[Command]) {
     }
 }
 
-pub fn whole() -> String {
+pub fn help_of_box() -> String {
     let mut text =
         String::from("box: cleans dictations over a grinder, and tells whose each is\n\n  box COMMAND ..\n\n");
     list(&mut text, COMMANDS);
@@ -54,7 +54,7 @@ fn option(text: &mut String, option: &Opt) {
     writeln!(text, "  {:20}  {}", option.shown(), wrapped(option.what, 24)).unwrap();
 }
 
-pub fn of(command: &Command) -> String {
+pub fn help_of(command: &Command) -> String {
     let mut text = format!("box {}: {}\n\n", command.name, command.what);
     for usage in command.usage {
         writeln!(text, "  {}", format!("box {} {usage}", command.name).trim_end()).unwrap();

@@ -52,7 +52,7 @@ impl Program {
         let words: Vec<_> = words.iter().map(|word| word.to_string_lossy()).collect();
         let text = match words.iter().find(|word| !is_help(word)) {
             None => (self.help)(),
-            Some(name) => help::of(self.find(name)?),
+            Some(name) => help::help_of(self.find(name)?),
         };
         crate::say!("{}", text.trim_end());
         Ok(())
@@ -79,10 +79,10 @@ impl Program {
 
 /// Reads a command's words, and runs it; or tells its help.
 fn run_command(command: &'static Command, words: &[OsString]) -> Result<()> {
-    match words::read(command, words)? {
+    match words::read_words(command, words)? {
         Some(given) => (command.run)(&given),
         None => {
-            crate::say!("{}", help::of(command).trim_end());
+            crate::say!("{}", help::help_of(command).trim_end());
             Ok(())
         }
     }
@@ -95,7 +95,7 @@ fn complained(error: Error) -> u8 {
 }
 
 /// Runs a command line, and gives its exit status.
-pub fn run(program: &Program, words: &[OsString]) -> u8 {
+pub fn run_program(program: &Program, words: &[OsString]) -> u8 {
     let status = program.run(words).err().map_or(0, complained);
     // what was told, but could not be written, is lost too
     status.max(answer::untold().err().map_or(0, complained))

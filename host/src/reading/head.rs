@@ -49,7 +49,7 @@ fn pass(from: &mut impl Read, bytes: &mut Vec<u8>, count: u64) -> io::Result<boo
 }
 
 /// Reads on to the audio. The first bytes of it may have been read with the head: they come back.
-pub fn read(from: &mut impl Read) -> Result<(Head, Vec<u8>), Fault> {
+pub fn read_head(from: &mut impl Read) -> Result<(Head, Vec<u8>), Fault> {
     let (mut numbers, mut at, mut bytes) = ([0; 5], 0, Vec::with_capacity(STEP));
     loop {
         from.by_ref().take((STEP - bytes.len()) as u64).read_to_end(&mut bytes)?;

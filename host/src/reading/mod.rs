@@ -4,4 +4,5 @@ pub mod block;
 pub mod form;
 pub mod head;
 pub mod source;
+pub mod until;
 pub mod wav;

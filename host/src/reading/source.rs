@@ -4,8 +4,9 @@ use crate::cleaning::recorder::{Side, PIECE};
 use crate::error::{At, Error, Result};
 use crate::reading::block::Block;
 use crate::reading::form;
+use crate::reading::until::Until;
 use crate::reading::wav::{self, Fault, Reader};
-use crate::sys::stop::{self, Until};
+use crate::sys::signals;
 use crate::telling::shown::line_of;
 use crate::RATE;
 use std::fs::File;
@@ -176,11 +177,11 @@ impl Recording {
         let after = |of: u64| seconds(read, of);
         let why = match (&self.fault, self.length) {
             (Some(why), _) => format!("at {} s: it can't be read on: {why}", after(0)[0]),
-            (None, Some(length)) if stop::asked() && read < length => {
+            (None, Some(length)) if signals::asked() && read < length => {
                 let [read, length] = after(length);
                 format!("stopped after {read} of {length} s")
             }
-            _ if !self.reader.ended || stop::asked() => return None,
+            _ if !self.reader.ended || signals::asked() => return None,
             _ if read == 0 => self.reader.has_head().then(|| "no audio follows its header".into())?,
             _ if self.unsaid => {
                 format!("its header says that there is no audio; the {} s behind it are cleaned", after(0)[0])
