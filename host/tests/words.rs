@@ -383,8 +383,8 @@ fn names_that_steer_a_terminal() {
     fs::write(path.join(name), b"none").unwrap();
     let ended = said(&path, &["side", name]);
     assert!(ended.why.starts_with(&format!("box: {shown}: no side sheet")), "{}", ended.why);
-    assert!(said(&path, &["clean", &format!("--\u{1b}[2J")]).why.contains("unknown option --\\u{1b}[2J"));
-    let ended = said(&path, &["clean", "--left", &format!("none\u{7}"), "--out", "new"]);
+    assert!(said(&path, &["clean", "--\u{1b}[2J"]).why.contains("unknown option --\\u{1b}[2J"));
+    let ended = said(&path, &["clean", "--left", "none\u{7}", "--out", "new"]);
     assert_eq!(ended.why, "box: clean: --left none\\u{7}: no such file\n");
     let json = said(&path, &["side", "--json", name]).said;
     assert!(json.starts_with("{\"file\": \"a\\u001b[31m\\n\\u202eleft.wav\", "), "{json}");

@@ -72,7 +72,7 @@ fn seeded(pitch: [f64; 2], below: f64) -> Vec<([f64; 2], f64)> {
     (1..=VOICES)
         .flat_map(|seed| {
             let mut rng = Rng(0x9e37_79b9_7f4a_7c15_u64.wrapping_mul(seed));
-            (0..8).for_each(|_| _ = rng.next());
+            (0..8).for_each(|_| _ = rng.draw());
             let hertz = pitch[0] + (pitch[1] - pitch[0]) * (rng.number() + 1.0) / 2.0;
             let period = f64::from(RATE) / hertz;
             both(&voice(&mut rng, period, below)).into_iter().skip(4).map(move |pair| (pair, period))

@@ -211,7 +211,7 @@ impl Lost {
 /// A file for one bench or for each, or both benches as the channels of one recording.
 pub enum Recordings {
     One(Side, Recording),
-    Two([Recording; 2]),
+    Two(Box<[Recording; 2]>),
     Stereo(Recording),
 }
 
@@ -236,7 +236,7 @@ impl Recordings {
     }
 
     pub fn two(left: &Path, right: &Path) -> Result<Recordings> {
-        Ok(Recordings::Two([Recording::file(left, 1)?, Recording::file(right, 1)?]))
+        Ok(Recordings::Two([Recording::file(left, 1)?, Recording::file(right, 1)?].into()))
     }
 
     pub fn stereo(path: &Path) -> Result<Recordings> {
@@ -254,7 +254,7 @@ impl Recordings {
 
     fn all(&self) -> &[Recording] {
         match self {
-            Recordings::Two(both) => both,
+            Recordings::Two(both) => &both[..],
             Recordings::One(_, one) | Recordings::Stereo(one) => std::slice::from_ref(one),
         }
     }
