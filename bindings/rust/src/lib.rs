@@ -37,7 +37,6 @@ pub use sizes::*;
 macro_rules! surface {
     (@ $symbol:ident, $name:ident, $result:ty, [$($c:ty,)*] [$($a:ident: $r:ty,)*] [$($v:expr,)*]) => {
         #[doc = concat!("`", stringify!($symbol), "` of the C surface; bindings/c/tuppence.h says what it does.")]
-        #[allow(clippy::too_many_arguments)]
         pub fn $name($($a: $r),*) -> $result {
             extern "C" {
                 fn $symbol($(_: $c),*) -> $result;
