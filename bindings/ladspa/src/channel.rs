@@ -97,7 +97,7 @@ mod tests {
             x ^= x << 13;
             x ^= x >> 7;
             x ^= x << 17;
-            (x >> 53) as i16 - 1_024 + if i / 120 % 2 == 0 { 3_000 } else { -3_000 }
+            (x >> 53) as i16 - 1_024 + if (i / 120).is_multiple_of(2) { 3_000 } else { -3_000 }
         };
         (0..48_000).map(&mut sample).collect()
     }

@@ -238,8 +238,8 @@ mod tests {
         let random: Vec<usize> = (0..50).map(|_| 1 + rng.next() as usize % 4_096).collect();
         let wanted = [fed(&sound)];
         for sizes in [&[1][..], &[7], &[479], &[480], &[481], &[1_024], &[4_096], &[20_000], &random] {
-            assert!(through(0, &[sound.clone()], sizes, false) == wanted, "blocks of {sizes:?}");
-            assert!(through(0, &[sound.clone()], sizes, true) == wanted, "blocks of {sizes:?}, in place");
+            assert!(through(0, std::slice::from_ref(&sound), sizes, false) == wanted, "blocks of {sizes:?}");
+            assert!(through(0, std::slice::from_ref(&sound), sizes, true) == wanted, "blocks of {sizes:?}, in place");
         }
     }
 
@@ -251,7 +251,7 @@ mod tests {
         for _ in 0..1_000 {
             let right = rng.sound(3_000);
             let sizes = [1 + rng.next() as usize % 4_096, 1 + rng.next() as usize % 500];
-            let out = through(1, &[left.clone(), right.clone()], &sizes, rng.next() % 2 == 0);
+            let out = through(1, &[left.clone(), right.clone()], &sizes, rng.next().is_multiple_of(2));
             assert!(out[0] == wanted && out[1] == fed(&right), "blocks of {sizes:?}");
         }
     }

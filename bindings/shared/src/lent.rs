@@ -42,7 +42,7 @@ impl Lent {
         match self.bytes {
             Some(0) if self.start == 0 => Ok(0),
             _ if self.start == 0 => Err(NULL),
-            _ if self.start % self.align != 0 => Err(MISALIGNED),
+            _ if !self.start.is_multiple_of(self.align) => Err(MISALIGNED),
             Some(bytes) if bytes <= isize::MAX as usize => self.start.checked_add(bytes).ok_or(TOO_LONG),
             _ => Err(TOO_LONG),
         }
