@@ -10,7 +10,6 @@
 
 import array
 import ctypes
-import ctypes.util
 import os
 import pathlib
 from collections import namedtuple
@@ -49,11 +48,11 @@ class Refused(Exception):
 
 
 def _library():
-    """The shared library: the one that TUPPENCE_LIBRARY names, the one built here, or the installed one."""
+    """The shared library: the one that TUPPENCE_LIBRARY names, the package's, the one built here, or the system's."""
     named = os.environ.get("TUPPENCE_LIBRARY")
     built = _HERE.parent.parent / "target" / "shared" / "release" / "libtuppence.so"
-    beside = _HERE / "libtuppence.so"
-    for path in [named, beside, built, "libtuppence.so.1", ctypes.util.find_library("tuppence")]:
+    packaged = _HERE.parent.parent / "lib" / "libtuppence.so.1"
+    for path in [named, packaged, built, "libtuppence.so.1"]:
         try:
             if path:
                 return ctypes.CDLL(str(path))
@@ -69,7 +68,6 @@ def house_model():
         os.environ.get("TUPPENCE_MODEL"),
         _HERE / "house.rnn",
         _HERE.parent.parent / "host" / "model" / "house.rnn",
-        "/usr/share/tuppencehop/house.rnn",
     ]
     for place in places:
         if place and os.path.exists(place):

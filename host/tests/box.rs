@@ -205,7 +205,40 @@ fn a_package_has_all_that_goes_with_it() {
     let same = |one: &str, other: &str| fs::read(within.join(one)).unwrap() == fs::read(root().join(other)).unwrap();
     assert!(same("lib/libtuppence.a", "target/staticlib/libexport.a"));
     assert!(same("include/tuppence.h", "bindings/c/tuppence.h") && same("NOTICE", "NOTICE"));
+    assert!(same("share/tuppencehop/house.rnn", "host/model/house.rnn"));
+    assert!(within.join("lib/ladspa/tuppence_ladspa.so").is_file());
     assert!(installed(&within, &["--version"]).said.starts_with("box "));
+    example_of(&within);
+}
+
+/// A C user builds the example from the package alone, and runs it with the shared library.
+fn example_of(package: &Path) {
+    let example = package.join("example");
+    let built = Command::new("cc")
+        .current_dir(package)
+        .args(["share/doc/tuppencehop/examples/clean_a_second.c", "-Iinclude", "-Llib", "-ltuppence", "-o", "example"])
+        .status();
+    assert!(built.is_ok_and(|status| status.success()));
+    let run = Command::new(example)
+        .env_clear()
+        .env("LD_LIBRARY_PATH", package.join("lib"))
+        .arg(package.join("share/tuppencehop/house.rnn"))
+        .output()
+        .unwrap();
+    assert!(run.status.success(), "{}", String::from_utf8_lossy(&run.stderr));
+    // 100 frames of 480 floats
+    assert_eq!(run.stdout.len(), 100 * 480 * 4);
+}
+
+#[test]
+fn a_debian_package_has_the_same() {
+    let output = ended(Command::new(root().join("box")).args(["package", "--deb"]).output().unwrap());
+    assert_eq!(output.status, Some(0), "{}", output.why);
+    let path = folder("box-deb");
+    let unpacked = Command::new("dpkg-deb").arg("-x").arg(output.said.trim()).arg(&path).status();
+    assert!(unpacked.is_ok_and(|status| status.success()));
+    assert!(installed(&path.join("usr"), &["--version"]).said.starts_with("box "));
+    example_of(&path.join("usr"));
 }
 
 /// The clerk's program has nothing of the Rust text in it. (host/dev/tests/words.rs sees that its names would be found.)
