@@ -3,8 +3,8 @@
 use std::fs;
 use std::path::{Path, PathBuf};
 use std::process::{Command, Output, Stdio};
-use tuppencehop::demo::{dictation, HOUSE};
-use tuppencehop::wav;
+use tuppencehop::cleaning::demo::{dictation, HOUSE};
+use tuppencehop::reading::wav;
 
 /// A folder of its own for each test.
 fn folder(name: &str) -> PathBuf {
@@ -99,7 +99,7 @@ fn each_recording_carries_its_sheet() {
         let file = fs::read(given.path.join(format!("out/{side}.wav"))).unwrap();
         let rows: Vec<&str> = table.lines().filter(|line| line.starts_with(side)).collect();
         let heard = rows.iter().filter(|row| row.contains(",heard,")).count();
-        let sheet = tuppencehop::side::Sheet::of(&file).unwrap();
+        let sheet = tuppencehop::telling::side::Sheet::of(&file).unwrap();
         assert_eq!((sheet.side.name(), sheet.frames, sheet.heard, sheet.gaps.count), (side, rows.len(), heard, 0));
         assert!(heard > 0);
         // behind the audio and its seal

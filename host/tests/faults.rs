@@ -6,13 +6,13 @@ mod common;
 use common::*;
 use std::fs;
 use std::path::{Path, PathBuf};
-use tuppencehop::cleaned::Cleaned;
-use tuppencehop::demo::HOUSE;
-use tuppencehop::recorder::{Side, Way};
-use tuppencehop::refusal::Refusal;
-use tuppencehop::run::{run as run_benches, Refused};
-use tuppencehop::source::{Limited, Memory};
-use tuppencehop::wav;
+use tuppencehop::cleaning::cleaned::Cleaned;
+use tuppencehop::cleaning::demo::HOUSE;
+use tuppencehop::cleaning::recorder::{Side, Way};
+use tuppencehop::cleaning::run::{run as run_benches, Refused};
+use tuppencehop::reading::source::{Limited, Memory};
+use tuppencehop::reading::wav;
+use tuppencehop::telling::refusal::Refusal;
 
 /// A recording of so many channels, as 32-bit floats.
 fn floats(channels: u8, samples: &[f32]) -> Vec<u8> {

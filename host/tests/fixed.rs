@@ -1,9 +1,9 @@
 //! Fixed cases, through the static library and the box.
 
-use tuppencehop::block::Block;
-use tuppencehop::demo::HOUSE;
-use tuppencehop::recorder::{Recorder, Side, Way, RECORD};
-use tuppencehop::refusal::Refusal;
+use tuppencehop::cleaning::demo::HOUSE;
+use tuppencehop::cleaning::recorder::{Recorder, Side, Way, RECORD};
+use tuppencehop::reading::block::Block;
+use tuppencehop::telling::refusal::Refusal;
 use tuppencehop::FRAME;
 
 /// Hidden counts of 1, all weights and biases 0: 392 bytes.

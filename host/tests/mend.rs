@@ -9,9 +9,9 @@ use std::fs;
 use std::io::Cursor;
 use std::path::Path;
 use std::process::Command;
-use tuppencehop::found::sealed as told;
-use tuppencehop::kept::Row;
-use tuppencehop::recorder::Side;
+use tuppencehop::cleaning::recorder::Side;
+use tuppencehop::telling::found::sealed as told;
+use tuppencehop::telling::kept::Row;
 
 fn mend(path: &Path, words: &[&str]) -> Ended {
     run(host(path, &[&["mend"], words].concat()))
@@ -127,7 +127,7 @@ fn what_a_person_says() {
 #[test]
 fn a_long_row_in_parts() {
     const PART: usize = 8_192;
-    let entries: Vec<u64> = (0..2 * PART as u64 + 100).map(|n| n | (n % 3) % 2 << 32).collect();
+    let entries: Vec<u64> = (0..2 * PART as u64 + 100).map(|n| n | (((n % 3) % 2) << 32)).collect();
     let whole = sheet(1, &entries);
     let agree = |file: &[u8]| {
         // one byte more, so that it is no sheet of its own
@@ -138,7 +138,9 @@ fn a_long_row_in_parts() {
         assert_eq!(row.side.is_some(), refused == 0);
         assert_eq!(row.frames(), numbers[1]);
         let trailer = &out[8 * numbers[1] as usize..][..16];
-        assert!(row.side.is_none_or(|side| tuppencehop::records::trailer(side, row.tally).unwrap() == trailer));
+        assert!(row
+            .side
+            .is_none_or(|side| tuppencehop::recording::records::trailer(side, row.tally).unwrap() == trailer));
     };
     agree(&whole);
     for record in

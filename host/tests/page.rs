@@ -6,12 +6,13 @@ use std::fs;
 use std::io::Write;
 use std::path::{Path, PathBuf};
 use std::process::{Command, Stdio};
-use tuppencehop::about::About;
-use tuppencehop::cleaned::Summary;
-use tuppencehop::colours::{DARK, LIGHT};
-use tuppencehop::demo::{dictation, HOUSE};
-use tuppencehop::recorder::{Frame, Heard, Side};
-use tuppencehop::{page, wav};
+use tuppencehop::cleaning::cleaned::Summary;
+use tuppencehop::cleaning::demo::{dictation, HOUSE};
+use tuppencehop::cleaning::recorder::{Frame, Heard, Side};
+use tuppencehop::page;
+use tuppencehop::page::about::About;
+use tuppencehop::page::colours::{DARK, LIGHT};
+use tuppencehop::reading::wav;
 
 /// A tag, and what stands between it and the next one.
 #[derive(Debug)]

@@ -8,7 +8,7 @@ use std::fs;
 use std::os::unix::fs::symlink;
 use std::path::{Path, PathBuf};
 use std::process::Stdio;
-use tuppencehop::wav;
+use tuppencehop::reading::wav;
 
 /// A folder with two recordings in it.
 fn given(name: &str) -> PathBuf {

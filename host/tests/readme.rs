@@ -8,9 +8,9 @@ use std::path::{Path, PathBuf};
 use std::process::{Command, Stdio};
 use std::thread::sleep;
 use std::time::Duration;
-use tuppencehop::demo::{dictation, Rng, HOUSE};
-use tuppencehop::layers::Layers;
-use tuppencehop::wav;
+use tuppencehop::cleaning::demo::{dictation, Rng, HOUSE};
+use tuppencehop::models::layers::Layers;
+use tuppencehop::reading::wav;
 
 /// The commands of a page: what follows `./box` in a line of code, or between backticks, up to two spaces. What stands
 /// behind them is a comment, so that the line can be pasted as it is.
@@ -118,9 +118,8 @@ fn every_command_of_the_pages() {
     let (folder, shown) = (bench(), commands(&(page("README.md") + &page("docs/BOX.md"))));
     assert!(shown.len() > 10, "{shown:?}");
     for command in &shown {
-        // these take their time and change nothing; and tests/box.rs installs
-        let measures = ["dev bench", "dev lags", "dev logs", "dev text"].contains(&&**command);
-        if !measures && !["install", "package"].iter().any(|word| command.starts_with(word)) {
+        // the developers' program has tests of its own, and tests/box.rs installs
+        if !["dev ", "install", "package"].iter().any(|word| command.starts_with(word)) {
             run(&folder, command);
         }
     }

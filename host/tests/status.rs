@@ -10,7 +10,7 @@ use std::fs::{self, File};
 use std::io::Write;
 use std::path::{Path, PathBuf};
 use std::process::{Command, Stdio};
-use tuppencehop::wav;
+use tuppencehop::reading::wav;
 
 const TWO: [&str; 6] = ["clean", "--model", "house.rnn", "--left", "l.wav", "--right"];
 

@@ -15,7 +15,7 @@ use std::sync::atomic::{AtomicUsize, Ordering};
 use std::sync::Arc;
 use std::thread::{sleep, spawn};
 use std::time::Duration;
-use tuppencehop::wav;
+use tuppencehop::reading::wav;
 
 /// What these samples give, cleaned to their end, in a folder `whole`.
 fn whole(path: &Path, samples: &[u8]) {

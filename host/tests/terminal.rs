@@ -8,7 +8,7 @@ use std::io::{Read, Write};
 use std::os::fd::{AsRawFd, FromRawFd, OwnedFd};
 use std::process::Stdio;
 use std::sync::{Arc, Mutex};
-use tuppencehop::wav;
+use tuppencehop::reading::wav;
 
 extern "C" {
     fn posix_openpt(flags: i32) -> i32;

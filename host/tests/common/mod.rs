@@ -9,10 +9,10 @@ use std::process::{Child, Command, Output, Stdio};
 use std::sync::OnceLock;
 use std::thread::sleep;
 use std::time::{Duration, Instant};
-use tuppencehop::demo::{dictation, HOUSE};
-use tuppencehop::found::sealed;
-use tuppencehop::side::Sheet;
-use tuppencehop::wav;
+use tuppencehop::cleaning::demo::{dictation, HOUSE};
+use tuppencehop::reading::wav;
+use tuppencehop::telling::found::sealed;
+use tuppencehop::telling::side::Sheet;
 
 pub const HEADER: usize = 44;
 pub const WRITTEN: [&str; 5] = ["benches.svg", "frames.csv", "index.html", "left.wav", "right.wav"];
@@ -124,7 +124,7 @@ pub fn recording(path: &Path) -> (Vec<f32>, Sheet) {
 /// A recording, its sheet that of its side and of its length, and no gap in it.
 pub fn sound(path: &Path, side: &str) -> Vec<f32> {
     let (audio, sheet) = recording(path);
-    let frames = tuppencehop::run::frames_of(audio.len() as u64) as usize;
+    let frames = tuppencehop::cleaning::run::frames_of(audio.len() as u64) as usize;
     assert_eq!((sheet.side.name(), sheet.frames, sheet.gaps.count), (side, frames, 0), "{}", path.display());
     audio
 }

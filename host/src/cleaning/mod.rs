@@ -1,0 +1,8 @@
+//! From recorded bytes to cleaned bytes: both benches over one store, through the proved library.
+
+pub mod clean;
+pub mod cleaned;
+pub mod demo;
+pub mod pauses;
+pub mod recorder;
+pub mod run;
