@@ -2,13 +2,14 @@
 # Says why each must-fail edit was refused: the first error of its check. Run it after `rt ci` or `rt must-fail`, whose
 # logs it reads. Exit status 1 if an edit shows nothing, or has no log. An edit shows nothing if
 #   PROOF   it changes a proof: any change of a proof is refused, whatever it means;
-#   ITSELF  the first error is in a file that it changes, or in specs/, as a syntax error or a wrong type is: it is wrong by
-#           itself, and no fact was asked;
+#   ITSELF  the first error is in a file that it changes, or in specs/, as a syntax error or a wrong type is: it is
+#           wrong by itself, and no fact was asked;
 #   SHAPE   a name that the proofs cite is gone, or the parts of the code moved: the proof no longer fits the text.
 # `fact` is no verdict: read the line. With names of crates (tools/must_fail_reasons.sh model desk) only their edits.
 set -euo pipefail
 cd "$(dirname "$0")/.."
-shape='can be named from here|has no field|has no such|no such (file|module)|not in scope|not found|unbound name|not a constructor|too (few|many) arguments'
+shape='can be named from here|has no field|has no such|no such (file|module)|not in scope|not found|unbound name'
+shape+='|not a constructor|too (few|many) arguments'
 edits=0 bad=0
 shopt -s nullglob
 for edit in crates/*/must-fail/*.edit; do

@@ -136,9 +136,10 @@ fn faults(function: &Function, excepted: &BTreeSet<String>) -> Vec<String> {
         found.push("it has no `ensures`; state what it returns and leaves, by a definition of specs/".into());
         return found;
     };
-    let says_what_is_returned = promise.split_once("λ ").and_then(|(_, said)| said.split_once(". ")).is_some_and(|(it, said)| {
-        it != "_" && said.split(|c: char| c.is_whitespace() || "(),".contains(c)).any(|word| word == it)
-    });
+    let says_what_is_returned =
+        promise.split_once("λ ").and_then(|(_, said)| said.split_once(". ")).is_some_and(|(it, said)| {
+            it != "_" && said.split(|c: char| c.is_whitespace() || "(),".contains(c)).any(|word| word == it)
+        });
     if function.returns && !says_what_is_returned {
         found.push("its `ensures` does not speak of what it returns".into());
     }
@@ -153,7 +154,10 @@ fn faults(function: &Function, excepted: &BTreeSet<String>) -> Vec<String> {
 /// The functions that docs/PROMISES.md excepts.
 fn excepted(promises: &str) -> BTreeSet<String> {
     let paragraph = promises.split_once("**Exceptions.**").and_then(|(_, after)| after.split("\n\n").next());
-    in_backticks(paragraph.expect("docs/PROMISES.md: the paragraph **Exceptions.**")).into_iter().map(String::from).collect()
+    in_backticks(paragraph.expect("docs/PROMISES.md: the paragraph **Exceptions.**"))
+        .into_iter()
+        .map(String::from)
+        .collect()
 }
 
 fn contracts(functions: &[Function]) -> Vec<String> {
@@ -171,22 +175,31 @@ fn served() -> BTreeSet<String> {
     const FILE: &str = "crates/surface/specs/Surface.antt";
     let text = read(FILE);
     let (_, cases) = text.split_once("pub data Call : Type 0 where\n").expect("the data type Call of surface");
-    let cases: Vec<&str> = cases.lines().take_while(|line| line.starts_with("  ")).filter_map(|line| line.trim().split(' ').next()).collect();
+    let cases: Vec<&str> = cases
+        .lines()
+        .take_while(|line| line.starts_with("  "))
+        .filter_map(|line| line.trim().split(' ').next())
+        .collect();
     let equations = text.lines().filter_map(|line| line.strip_prefix("surface n side ns store (")?.split_once(" = "));
     let equations: Vec<(&str, &str)> = equations.collect();
     for case in &cases {
-        assert!(equations.iter().any(|(left, _)| left.split(' ').next() == Some(case)), "{FILE}: no equation of surface for {case}");
+        assert!(
+            equations.iter().any(|(left, _)| left.split(' ').next() == Some(case)),
+            "{FILE}: no equation of surface for {case}"
+        );
     }
     let of_benches = equations.iter().filter_map(|(_, right)| right.split_once(" n side ns store "));
     of_benches.map(|(name, _)| name.to_string()).collect()
 }
 
-/// A C function that takes a store or a record must promise, of its whole record and store, what `surface` makes of a case.
+/// A C function that takes a store or a record must promise, of its whole record and store, what `surface` makes of a
+/// case.
 fn calls(functions: &[Function]) -> Vec<String> {
     let served = served();
     let touches = |function: &&Function| {
         let named = function.parameters.iter().any(|(name, _)| name == "store" || name == "record");
-        function.is_for_c() && (named || function.head.split(|c: char| !c.is_alphanumeric()).any(|word| word == "BENCHES"))
+        function.is_for_c()
+            && (named || function.head.split(|c: char| !c.is_alphanumeric()).any(|word| word == "BENCHES"))
     };
     let promised = |function: &Function| {
         let (_, promise) = function.head.split_once("ensures { λ r. ⌜ Worked")?;
@@ -212,8 +225,8 @@ fn calls(functions: &[Function]) -> Vec<String> {
 
 // ---- docs/PROMISES.md
 
-/// Whether an entry of the page, as `piece::name(a, b)`, is this function's. If the crate has two of the same name, the entry
-/// names the module or the type.
+/// Whether an entry of the page, as `piece::name(a, b)`, is this function's. If the crate has two of the same name, the
+/// entry names the module or the type.
 fn is_of(entry: &str, function: &Function, alone: bool) -> bool {
     let (path, parameters) = entry.split_once('(').map_or((entry, None), |(path, _)| (path, Some(entry)));
     let (within, name) = path.rsplit_once("::").map_or((None, path), |(within, name)| (Some(within), name));
@@ -254,7 +267,9 @@ fn listed(functions: &[Function]) -> Vec<String> {
         for entry in heads.flat_map(|head| in_backticks(head).into_iter().map(String::from).collect::<Vec<_>>()) {
             let for_c = entry.starts_with("tuppence_") || entry.starts_with('_');
             let function = for_c || (entry.contains('(') && !entry.contains(") ")) || entry.contains("::");
-            let known = functions.iter().any(|f| (f.krate == *title || f.is_for_c() || entry.contains("::")) && is_of(&entry, f, alone(f)));
+            let known = functions
+                .iter()
+                .any(|f| (f.krate == *title || f.is_for_c() || entry.contains("::")) && is_of(&entry, f, alone(f)));
             if function && !known {
                 found.push(format!("docs/PROMISES.md, {title}: no public function is `{entry}`"));
             }

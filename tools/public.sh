@@ -4,8 +4,8 @@
 #     of every buffer that is lent to be written. docs/PROMISES.md lists the exceptions, in its paragraph "Exceptions".
 # tools/public.sh calls: the C functions that take a store or a record, and whose contract is not a case of `Call`
 #     (surface/specs/Surface.antt). The claims that benches are apart are about the cases of `Call` and no other call.
-# tools/public.sh listed: those that docs/PROMISES.md does not list with their parameters, and what it lists and the code
-#     does not have.
+# tools/public.sh listed: those that docs/PROMISES.md does not list with their parameters, and what it lists and the
+#     code does not have.
 set -eu
 cd "$(dirname "$0")/.."
 mkdir -p target/tools
