@@ -284,6 +284,22 @@ const FOOT: &str = "
 #endif
 ";
 
+/// The constants of docs/REFUSALS.md: the rows of its table that begin with a number, and in the third cell when it is
+/// due.
+fn refusals(wrong: &mut Wrong) -> String {
+    const PAGE: &str = "docs/REFUSALS.md";
+    let page = read(PAGE);
+    let lines = page.lines().filter(|line| line.starts_with("| "));
+    let rows = lines.map(|line| line.split('|').map(str::trim).collect::<Vec<_>>());
+    let rows: Vec<_> = rows.filter(|cells| cells.len() == 6 && cells[1].parse::<u32>().is_ok()).collect();
+    if rows.is_empty() {
+        wrong.note(PAGE, "no row of its table can be read".into());
+    }
+    let lines = rows.iter().map(|cells| format!("#define {} {}\n", cells[2].trim_matches('`'), cells[1]));
+    let what = "What a call returns if it refuses, and 40, which is no refusal; docs/REFUSALS.md says of each exactly when.";
+    format!("\n/* {what} */\n{}", lines.collect::<String>())
+}
+
 fn header(modules: &[Module], store: usize, record: usize, wrong: &mut Wrong) -> String {
     let mut text = String::from(HEAD);
     write!(
@@ -292,6 +308,7 @@ fn header(modules: &[Module], store: usize, record: usize, wrong: &mut Wrong) ->
          #define TUPPENCE_STORE {store}\n#define TUPPENCE_RECORD {record}\n"
     )
     .unwrap();
+    text += &refusals(wrong);
     for module in modules.iter().filter(|module| !module.functions.is_empty()) {
         write!(text, "\n\n/* ---- {} */\n", filled(&module.comment, "   ")).unwrap();
         for function in &module.functions {

@@ -58,7 +58,7 @@ mod tests {
     /// The desk by the text against itself: what remains is the comparison of its frames with `process_frame`.
     #[test]
     fn four_calls_are_a_frame() {
-        let options = Options { calls: Some(8_000), seed: 5, all: false };
+        let options = Options { calls: Some(8_000), seed: 5, ..Options::default() };
         let tally = compare_with(&options, &TEXT);
         assert_eq!(tally.differences, 0, "{}", tally.report());
     }
@@ -111,7 +111,7 @@ mod tests {
     #[test]
     fn wrong_ways_are_noticed() {
         for (what, wrong) in WRONG {
-            let options = Options { calls: Some(4_000), seed: 6, all: false };
+            let options = Options { calls: Some(4_000), seed: 6, ..Options::default() };
             assert!(compare_with(&options, &wrong).differences > 0, "{what} is not noticed");
         }
     }

@@ -2,7 +2,8 @@
 --     beside         a call leaves every other share
 --     in-any-run     in any run, what a side receives is what its own record, share and calls alone give
 --     closed-same    from closed, what the share held is never received
---     isolated, undisturbed     what specs/Isolation.antt claims
+--     isolated, undisturbed     the two laws, of a kind of calls that is owned
+--     owned-is-apart            what specs/Isolation.antt claims
 -- Assumes nothing.
 use Rattle.rules.proofs.Common.{ℕ, _*_, _<_, Bool, true, false, cond, List, [], _∷_, map, _≡_, refl, sym, ap, ap₂, _∙_, eqb, ltb, length, Float}
 use native.Mathlib.Omega.{arith}
@@ -22,7 +23,7 @@ use Rattle.desk.specs.Laws.{placed}
 use Rattle.desk.proofs.Apart.{apart}
 use Rattle.isolation.specs.Local.{performed}
 use Rattle.isolation.specs.Run.{Returned, returned, Kind, On, on, State, given, gets, after, received}
-use Rattle.isolation.specs.Isolation.{allZeros, own, alone, Isolated, Undisturbed, Owned}
+use Rattle.isolation.specs.Isolation.{allZeros, own, alone, Isolated, Undisturbed, Owned, OwnedIsApart}
 use Rattle.isolation.proofs.Performed.{sized, its-own, no-side, unseen}
 use Rattle.isolation.proofs.Runs.{reads}
 
@@ -162,3 +163,6 @@ module _ {C : Type 0} (serve : Kind C) (owned : Owned serve) where
   pub undisturbed : (n : ℕ) → Undisturbed serve n
   undisturbed n s h store store′ l l′ calls calls′ e =
       isolated n s h store l calls ∙ ap (alone serve) e ∙ sym (isolated n s h store′ l′ calls′)
+
+pub owned-is-apart : OwnedIsApart
+owned-is-apart C serve owned n = (isolated serve owned n, undisturbed serve owned n)

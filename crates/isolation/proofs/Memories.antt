@@ -18,7 +18,7 @@ use Rattle.memory.proofs.Calls.{Remembers, remembers, either}
 use Rattle.memory.proofs.Gains.{held-gains}
 use Rattle.isolation.specs.Run.{Kind, On, State, recordAt, after, ended, desks, Made, expand, Expands}
 use Rattle.isolation.specs.Numbering.{replied, callsIn}
-use Rattle.isolation.specs.Memory.{recalled, SilentLeaves, MadeOfHeard, Since, Faded, NeverNan, HeardHolds, Counts, itself, DeskCounts}
+use Rattle.isolation.specs.Memory.{recalled, SilentLeaves, MadeOfHeard, Since, Faded, NeverNan, HeardHolds, Counts, itself, DeskCounts, ExpandedCounts}
 use Rattle.isolation.proofs.Runs.{expanding}
 use Rattle.isolation.proofs.Moved.{share, Whole, fits, kept-whole, lone, replies, kept-then, keptAt, calls, own-calls, own-moves, other-moves, run, fresh}
 use Rattle.isolation.proofs.Numberings.{numbering}
@@ -141,3 +141,6 @@ module _ {C : Type 0} (serve : Kind C) (asksOf : Made C) (n : ℕ) (expanded : E
 pub desk-counts : (n : ℕ) → DeskCounts n
 unfolding ended
 desk-counts n = counts desks itself n (expanding desks itself n (λ st side a. refl))
+
+pub expanded-counts : ExpandedCounts
+expanded-counts C serve asksOf n expanded = counts serve asksOf n expanded

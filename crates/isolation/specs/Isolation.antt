@@ -39,3 +39,7 @@ module _ {C : Type 0} (serve : Kind C) where
   pub record Owned : Type 0 where
     pub local : C → Local
     pub does : (n side : ℕ) (ns : List ℕ) (store : List Float) (c : C) → serve n side ns store c ≡ performed n side (recordIn ns) store (local c)
+
+-- isolation holds of every kind of calls that is owned, for any number of benches
+abbrev pub OwnedIsApart : Type 1
+OwnedIsApart = (C : Type 0) (serve : Kind C) → Owned serve → (n : ℕ) → Isolated serve n × Undisturbed serve n
