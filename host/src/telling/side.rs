@@ -6,7 +6,7 @@ use crate::recording::place::without_name;
 use crate::recording::records::{trailer, RECORD, TRAILER};
 use crate::telling::found::sealed;
 use crate::telling::kept::{Gaps, Row};
-use crate::telling::names::says_another;
+use crate::telling::names::means_another;
 use crate::telling::refusal::Refusal;
 use crate::telling::status::{Failure, MISNAMED};
 use std::fmt;
@@ -97,7 +97,7 @@ fn open(path: &Path) -> io::Result<File> {
 pub fn of(path: &Path, quick: bool) -> Result<Sheet, Failure> {
     let mut file = open(path).map_err(|why| Failure::from(why.to_string()))?;
     let sheet = sealed(&mut file, quick)?;
-    match says_another(path, sheet.side) {
+    match means_another(path, sheet.side) {
         Some(what) => Err(Failure { status: MISNAMED, why: format!("{what} says another side: {sheet}") }),
         None => Ok(sheet),
     }
