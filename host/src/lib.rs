@@ -16,6 +16,7 @@ macro_rules! warn {
 pub mod cleaning;
 pub mod cli;
 pub mod dev;
+pub mod error;
 pub mod models;
 pub mod page;
 pub mod reading;

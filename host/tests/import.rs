@@ -181,7 +181,11 @@ fn with_line(text: &str, line: usize, from: &str, to: &str) -> String {
 }
 
 fn refused(text: &str, why: &str) {
-    assert_eq!(model(text.as_bytes().to_vec()), Err(why.to_string()));
+    let error = model(text.as_bytes().to_vec()).unwrap_err();
+    assert_eq!((error.to_string().as_str(), error.status()), (why, 1));
+    // a refusal's number is kept, and not in the words alone
+    let number = error.refusal().map(|refusal| format!("(refusal {}", refusal.0 / 256 % 256));
+    assert_eq!(number.is_some_and(|number| why.contains(&number)), why.contains("(refusal "), "{why}");
 }
 
 #[test]

@@ -154,7 +154,7 @@ fn two_thousand_power_cuts() {
                 assert_eq!(mended.sheet.side.name(), "right");
                 closed += 1;
             }
-            Err(why) => assert!(!why.contains("left"), "{why}"),
+            Err(why) => assert!(!why.to_string().contains("left"), "{why}"),
         }
     }
     assert!(closed > 10, "{closed}");

@@ -4,16 +4,15 @@ use crate::cleaning::cleaned::Summary;
 use crate::cleaning::demo::{HOUSE, HOUSE_NAME};
 use crate::cleaning::recorder::{Recorder, Side, Way};
 use crate::cleaning::run::{run, Refused};
+use crate::error::{At, Error, Reason, Result};
 use crate::models::import;
 use crate::page::about::About;
 use crate::reading::source::{Limited, Lost, Recordings};
 use crate::reading::wav;
 use crate::recording::files::{recording, Files};
-use crate::recording::folder::told;
 use crate::sys::stop;
 use crate::telling::found::Found;
 use crate::telling::progress::Watched;
-use crate::telling::status::Failure;
 use crate::RATE;
 use std::fs::{self, File};
 use std::os::unix::fs::MetadataExt;
@@ -59,11 +58,11 @@ pub enum Inputs {
 }
 
 impl Inputs {
-    fn recordings(&self) -> Result<Recordings, Failure> {
+    fn recordings(&self) -> Result<Recordings> {
         match self {
-            Inputs::One { side, file } => Ok(Recordings::one(*side, file)?),
-            Inputs::Two { left, right } => Ok(Recordings::two(left, right)?),
-            Inputs::Stereo(both) => Ok(Recordings::stereo(both)?),
+            Inputs::One { side, file } => Recordings::one(*side, file),
+            Inputs::Two { left, right } => Recordings::two(left, right),
+            Inputs::Stereo(both) => Recordings::stereo(both),
             Inputs::Stream { raw } => Recordings::stream(*raw),
         }
     }
@@ -107,7 +106,7 @@ impl Inputs {
 /// What was cleaned, and what of it is missing: a line for each bench or recording that ended before its time.
 pub struct Report {
     pub benches: [Summary; 2],
-    pub lost: Vec<String>,
+    pub lost: Vec<Error>,
 }
 
 /// Whether a file stands where a recording is written.
@@ -130,9 +129,8 @@ fn is_one(left: &Path, right: &Path) -> bool {
 }
 
 /// Refuses one file for both benches, and a recording whose seal or side sheet says the other bench.
-fn refuse_mix(inputs: &Inputs) -> Result<(), Failure> {
-    let refused =
-        |path: &Path, why: String| Failure::wrong(told(path, why + "; with --anyway it is taken all the same"));
+fn refuse_mix(inputs: &Inputs) -> Result<()> {
+    let refused = |path: &Path, why: String| Error::wrong(why + "; with --anyway it is taken all the same").at(path);
     let given: Vec<(&Path, Side)> = match inputs {
         Inputs::One { side, file } => vec![(file, *side)],
         Inputs::Two { left, right } if is_one(left, right) => {
@@ -151,16 +149,17 @@ fn refuse_mix(inputs: &Inputs) -> Result<(), Failure> {
 }
 
 /// The model, which the library must take.
-fn model(job: &Job) -> Result<Vec<u8>, String> {
+fn model(job: &Job) -> Result<Vec<u8>> {
     let Some(path) = &job.model else { return Ok(HOUSE.into()) };
     let model = import::read(path)?;
-    Recorder::new(job.way).open(Side::Left, &model).map_err(|refusal| told(path, refusal))?;
+    Recorder::new(job.way).open(Side::Left, &model).at(path)?;
     Ok(model)
 }
 
 /// A bench that had to end, and when.
-fn ended(side: Side, sample: u64, why: impl std::fmt::Display) -> Lost {
-    Lost::of(side, format!("{}, at {:.2} s: {why}", side.name(), sample as f64 / f64::from(RATE)))
+fn ended(side: Side, sample: u64, why: impl Into<Reason>) -> Lost {
+    let at = format!("{}, at {:.2} s", side.name(), sample as f64 / f64::from(RATE));
+    Lost::of(side, Error::Wrong(why.into()).within(at))
 }
 
 /// The benches that the library refused.
@@ -176,11 +175,11 @@ fn too_long(cut: [bool; 2]) -> impl Iterator<Item = Lost> {
 
 /// Runs a job. What ends one bench leaves the other as it is; what was cleaned till then is kept, and told. Where
 /// nothing was cleaned, nothing is written.
-pub fn clean(job: &Job) -> Result<Report, Failure> {
+pub fn clean(job: &Job) -> Result<Report> {
     stop::listen();
     let model = model(job)?;
     if let Some(file) = job.inputs.files().into_iter().find(|file| is_in_the_way(file, job)) {
-        return Err(told(file, "this would be written over; name another folder with --out").into());
+        return Err(Error::undone("this would be written over; name another folder with --out").at(file));
     }
     if !job.anyway {
         refuse_mix(&job.inputs)?;
@@ -197,10 +196,10 @@ pub fn clean(job: &Job) -> Result<Report, Failure> {
     recordings.tell();
     let benches = match outcome {
         Ok(benches) => benches,
-        Err(why) => return Err(files.give_up(why).into()),
+        Err(why) => return Err(files.give_up(why)),
     };
     let lost: Vec<Lost> = recordings.lost().into_iter().chain(refused(benches)).chain(too_long(cut)).collect();
-    lost.iter().for_each(|lost| lost.sides.iter().for_each(|side| files.fault(*side, &lost.why)));
+    lost.iter().for_each(|lost| lost.sides.iter().for_each(|side| files.fault(*side, &lost.why.to_string())));
     let lost = lost.into_iter().map(|lost| lost.why).collect();
     if files.is_empty() {
         return Err(nothing(lost));
@@ -209,9 +208,8 @@ pub fn clean(job: &Job) -> Result<Report, Failure> {
 }
 
 /// Why nothing is written.
-fn nothing(lost: Vec<String>) -> Failure {
-    if lost.is_empty() {
-        return Failure::from(String::from("no samples came: nothing is written"));
-    }
-    Failure::wrong(lost.join("\n") + "; nothing is written")
+fn nothing(mut lost: Vec<Error>) -> Error {
+    let Some(last) = lost.pop() else { return Error::undone("no samples came: nothing is written") };
+    lost.push(last.reworded(|why| format!("{why}; nothing is written")));
+    Error::Several(lost)
 }

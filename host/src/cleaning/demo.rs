@@ -4,6 +4,7 @@ use crate::cleaning::cleaned::Cleaned;
 use crate::cleaning::pauses::HIGH_PASS;
 use crate::cleaning::recorder::Way;
 use crate::cleaning::run::{in_memory, Sink};
+use crate::error::Result;
 use crate::page::about::About;
 use crate::reading::block::packed;
 use crate::reading::wav;
@@ -168,13 +169,13 @@ pub fn effect(dictation: &Dictation, after: &[f32]) -> Effect {
 }
 
 /// Both dictations, cleaned with the house model.
-pub fn cleaned(dictations: &[Dictation; 2], way: Way) -> Result<[Cleaned; 2], String> {
+pub fn cleaned(dictations: &[Dictation; 2], way: Way) -> Result<[Cleaned; 2]> {
     let [left, right] = dictations;
     in_memory([&left.noisy, &right.noisy], HOUSE, way)
 }
 
 /// Writes both recordings, before and after, and all that `box clean` writes.
-fn store([left, right]: &[Cleaned; 2], out: &Path, force: bool) -> Result<(), String> {
+fn store([left, right]: &[Cleaned; 2], out: &Path, force: bool) -> Result<()> {
     let names = [left, right].map(|bench| before(bench.side));
     let mut files = Files::new(out, "", &names, force, false)?;
     for (bench, name) in [left, right].into_iter().zip(&names) {
@@ -188,7 +189,7 @@ fn store([left, right]: &[Cleaned; 2], out: &Path, force: bool) -> Result<(), St
 }
 
 /// Makes the dictations, cleans them, and writes both into the folder.
-pub fn demo(out: &Path, way: Way, force: bool) -> Result<(), String> {
+pub fn demo(out: &Path, way: Way, force: bool) -> Result<()> {
     let dictations = [dictation(0), dictation(1)];
     let benches = cleaned(&dictations, way)?;
     store(&benches, out, force)?;

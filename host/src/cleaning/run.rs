@@ -3,6 +3,7 @@
 
 use crate::cleaning::cleaned::Cleaned;
 use crate::cleaning::recorder::{Frame, Recorder, Side, Way};
+use crate::error::Result;
 use crate::reading::block::{Block, Layout};
 use crate::reading::source::{Memory, Source};
 use crate::telling::refusal::Refusal;
@@ -11,25 +12,25 @@ use crate::FRAME;
 /// What becomes of both recordings, as they are cleaned.
 pub trait Sink {
     /// What was recorded, to be drawn and measured.
-    fn before(&mut self, side: Side, samples: &[f32]) -> Result<(), String>;
+    fn before(&mut self, side: Side, samples: &[f32]) -> Result<()>;
     /// The frames of each bench that came of one block each.
-    fn frames(&mut self, frames: &[Vec<Frame>; 2]) -> Result<(), String>;
+    fn frames(&mut self, frames: &[Vec<Frame>; 2]) -> Result<()>;
     /// The bytes of these frames as the library packs them, of each bench in turn.
-    fn after(&mut self, side: Side, bytes: &[u8]) -> Result<(), String>;
+    fn after(&mut self, side: Side, bytes: &[u8]) -> Result<()>;
 }
 
 impl Sink for [Cleaned; 2] {
-    fn before(&mut self, side: Side, samples: &[f32]) -> Result<(), String> {
+    fn before(&mut self, side: Side, samples: &[f32]) -> Result<()> {
         self[side as usize].before.extend(samples);
         Ok(())
     }
 
-    fn after(&mut self, side: Side, bytes: &[u8]) -> Result<(), String> {
+    fn after(&mut self, side: Side, bytes: &[u8]) -> Result<()> {
         self[side as usize].after.extend(Layout::CLEANED.samples(bytes, 0));
         Ok(())
     }
 
-    fn frames(&mut self, frames: &[Vec<Frame>; 2]) -> Result<(), String> {
+    fn frames(&mut self, frames: &[Vec<Frame>; 2]) -> Result<()> {
         for (bench, frames) in self.iter_mut().zip(frames) {
             bench.frames.extend(frames);
         }
@@ -98,7 +99,7 @@ pub fn run(
     way: Way,
     to: &mut impl Sink,
     mut progress: impl FnMut(u64),
-) -> Result<[Option<Refused>; 2], String> {
+) -> Result<[Option<Refused>; 2]> {
     let mut recorder = Recorder::new(way);
     let mut benches = [Bench::default(), Bench::default()];
     for ((side, bench), model) in Side::BOTH.into_iter().zip(&mut benches).zip(models) {
@@ -127,11 +128,11 @@ pub fn run(
 }
 
 /// Both recordings in memory.
-pub fn in_memory(before: [&[f32]; 2], model: &[u8], way: Way) -> Result<[Cleaned; 2], String> {
+pub fn in_memory(before: [&[f32]; 2], model: &[u8], way: Way) -> Result<[Cleaned; 2]> {
     let mut benches = Side::BOTH.map(Cleaned::of);
     let refused = run(&mut Memory(before), [model; 2], way, &mut benches, |_| ())?;
     match refused.into_iter().flatten().next() {
-        Some(Refused { refusal, .. }) => Err(refusal.to_string()),
+        Some(Refused { refusal, .. }) => Err(refusal.into()),
         None => Ok(benches),
     }
 }

@@ -5,11 +5,10 @@ use crate::cleaning::cleaned::Summary;
 use crate::cleaning::demo::HOUSE_NAME;
 use crate::cleaning::recorder::{Side, Way};
 use crate::cli::words::Given;
-use crate::recording::folder::told;
+use crate::error::{Error, Result};
 use crate::sys::stop;
 use crate::telling::json::{rounded, Json};
-use crate::telling::shown::{shown, steers};
-use crate::telling::status::{Failure, WRONG};
+use crate::telling::shown::{line_of, shown, steers};
 use std::cell::Cell;
 use std::path::{Path, PathBuf};
 
@@ -28,23 +27,24 @@ fn said(name: &str) -> Vec<Side> {
 }
 
 /// The side of a file by its name, and of one whose name says none by `--side`.
-fn side_of(file: &Path, asked: Option<Side>) -> Result<Side, String> {
+fn side_of(given: &Given, file: &Path, asked: Option<Side>) -> Result<Side> {
     let name = file.file_stem().unwrap_or_default().to_string_lossy();
-    match (&said(&name)[..], asked) {
-        ([side], None) => Ok(*side),
-        ([], Some(side)) => Ok(side),
-        ([side], Some(asked)) if *side == asked => Ok(*side),
+    let why = match (&said(&name)[..], asked) {
+        ([side], None) => return Ok(*side),
+        ([], Some(side)) => return Ok(side),
+        ([side], Some(asked)) if *side == asked => return Ok(*side),
         ([side], Some(asked)) => {
             let (side, asked) = (side.name(), asked.name());
-            Err(told(file, format!("its name says {side}, and --side {asked}; --{asked} FILE says it outright")))
+            format!("its name says {side}, and --side {asked}; --{asked} FILE says it outright")
         }
-        ([], None) => Err(told(file, "its name says neither left nor right; --side left or --side right tells it")),
-        _ => Err(told(file, "its name says both sides; --left FILE or --right FILE says which it is")),
-    }
+        ([], None) => "its name says neither left nor right; --side left or --side right tells it".into(),
+        _ => "its name says both sides; --left FILE or --right FILE says which it is".into(),
+    };
+    Err(given.wrong(line_of(file, why)))
 }
 
 /// What stands in front of the names of what is written.
-fn prefix(given: &Given) -> Result<String, Failure> {
+fn prefix(given: &Given) -> Result<String> {
     let Some(name) = given.word("--name") else { return Ok(String::new()) };
     // of unicode, and so short that what is put behind it fits too
     let is_plain = !name.chars().any(|c| c == '/' || c == char::REPLACEMENT_CHARACTER || steers(c));
@@ -55,14 +55,14 @@ fn prefix(given: &Given) -> Result<String, Failure> {
     Ok(name + "-")
 }
 
-fn job(given: &Given, inputs: Inputs, out: PathBuf) -> Result<Job, Failure> {
+fn job(given: &Given, inputs: Inputs, out: PathBuf) -> Result<Job> {
     let (model, quiet) = (given.path("--model"), given.has("-q"));
     let (force, anyway) = (given.has("--force"), given.has("--anyway"));
     Ok(Job { inputs, model, way: way(given), quiet, force, anyway, out, prefix: prefix(given)? })
 }
 
 /// What is named by options, or comes on standard input; `None` where it is named by files alone.
-fn inputs(given: &Given) -> Result<Option<Inputs>, Failure> {
+fn inputs(given: &Given) -> Result<Option<Inputs>> {
     let named = |name: &str| given.path(name);
     let stream = given.files.iter().any(|file| file.as_os_str() == "-");
     let raw = given.has("--raw");
@@ -115,7 +115,7 @@ fn written(report: &Report) -> impl Iterator<Item = &Summary> {
 }
 
 /// An object for each recording that was written, and for each that was read where nothing came of it.
-fn tell_as_json(job: &Job, outcome: &Result<Report, Failure>) {
+fn tell_as_json(job: &Job, outcome: &Result<Report>) {
     let model = job.model.as_deref().map_or(HOUSE_NAME.into(), shown);
     match outcome {
         Ok(report) => {
@@ -128,32 +128,30 @@ fn tell_as_json(job: &Job, outcome: &Result<Report, Failure>) {
                 crate::say!("{object}");
             }
         }
-        Err(failure) => {
+        Err(error) => {
+            let error = error.to_string();
             let files = job.inputs.files();
             let stream = [Path::new("standard input")];
             for file in if files.is_empty() { &stream[..] } else { &files } {
-                crate::say!("{}", json(&job.out, file, None, &model, Some(&failure.why)));
+                crate::say!("{}", json(&job.out, file, None, &model, Some(&error)));
             }
         }
     }
 }
 
 /// Runs a job, tells it by `tell`, and gives what of it is missing.
-fn run(given: &Given, job: &Job, tell: impl Fn(&Report)) -> Result<(), Failure> {
+fn run(given: &Given, job: &Job, tell: impl Fn(&Report)) -> Result<()> {
     let outcome = clean::clean(job);
     let is_json = given.has("--json");
     if is_json {
         tell_as_json(job, &outcome);
     }
-    let silent = |failure: Failure| Failure { why: if is_json { String::new() } else { failure.why }, ..failure };
+    let silent = |error: Error| if is_json { Error::Reported(error.status()) } else { error };
     let report = outcome.map_err(silent)?;
     if !is_json {
         tell(&report);
     }
-    match &report.lost[..] {
-        [] => Ok(()),
-        lost => Err(silent(Failure::wrong(lost.join("\n")))),
-    }
+    Error::several(report.lost).map_err(silent)
 }
 
 /// Tells that no model was named.
@@ -164,14 +162,13 @@ fn tell_house(given: &Given) {
 }
 
 /// Files of one bench each, every one into a folder of its own.
-fn many(given: &Given, out: &Path) -> Result<(), Failure> {
+fn many(given: &Given, out: &Path) -> Result<()> {
     let asked = given.word("--side").map(|side| if side == "left" { Side::Left } else { Side::Right });
-    let sides: Result<Vec<Side>, String> = given.files.iter().map(|file| side_of(file, asked)).collect();
-    let (mut worst, mut bad, cleaned) = (0, vec![], Cell::new(false));
-    for (file, side) in given.files.iter().zip(sides.map_err(|why| given.wrong(why))?) {
+    let sides: Result<Vec<Side>> = given.files.iter().map(|file| side_of(given, file, asked)).collect();
+    let (mut bad, cleaned) = (vec![], Cell::new(false));
+    for (file, side) in given.files.iter().zip(sides?) {
         if stop::asked() {
-            bad.push(told(file, "stopped before it"));
-            worst = worst.max(WRONG);
+            bad.push(Error::wrong("stopped before it").at(file));
             continue;
         }
         let folder = out.join(file.file_stem().unwrap_or(file.as_os_str()));
@@ -180,24 +177,18 @@ fn many(given: &Given, out: &Path) -> Result<(), Failure> {
             cleaned.set(true);
             for bench in written(report) {
                 let place = shown(&job.place(side));
-                crate::say!("{}", told(file, format!("{} side, {} frames, in {place}", side.name(), bench.frames)));
+                crate::say!("{}", line_of(file, format!("{} side, {} frames, in {place}", side.name(), bench.frames)));
             }
         };
-        if let Err(failure) = run(given, &job, tell) {
-            worst = worst.max(failure.status);
-            bad.extend(Some(failure.why).filter(|why| !why.is_empty()));
-        }
+        bad.extend(run(given, &job, tell).err());
     }
     if cleaned.get() {
         tell_house(given);
     }
-    match worst {
-        0 => Ok(()),
-        status => Err(Failure { status, why: bad.join("\n") }),
-    }
+    Error::several(bad)
 }
 
-pub fn clean(given: &Given) -> Result<(), Failure> {
+pub fn clean(given: &Given) -> Result<()> {
     let (inputs, out) = (inputs(given)?, given.wanted("--out")?);
     let Some(inputs) = inputs else { return many(given, &out) };
     let job = job(given, inputs, out)?;
@@ -209,7 +200,7 @@ pub fn clean(given: &Given) -> Result<(), Failure> {
     })
 }
 
-pub fn demo(given: &Given) -> Result<(), Failure> {
+pub fn demo(given: &Given) -> Result<()> {
     let dir = &given.files[0];
     crate::cleaning::demo::demo(dir, way(given), given.has("--force"))?;
     let dir = shown(dir);

@@ -4,8 +4,8 @@ use crate::cli::words::Given;
 use crate::cli::{completion, man};
 use crate::dev;
 use crate::dev::bench::Speed;
+use crate::error::Result;
 use crate::telling::json::{rounded, Json};
-use crate::telling::status::Failure;
 
 fn json(speed: &Speed) -> Json {
     let numbers = [
@@ -19,7 +19,7 @@ fn json(speed: &Speed) -> Json {
     Json::Object(numbers.map(|(name, number)| (name, rounded(number, 3).into())).into())
 }
 
-pub fn bench(given: &Given) -> Result<(), Failure> {
+pub fn bench(given: &Given) -> Result<()> {
     let speed = dev::bench::measure();
     match given.has("--json") {
         true => crate::say!("{}", json(&speed)),
@@ -28,26 +28,26 @@ pub fn bench(given: &Given) -> Result<(), Failure> {
     Ok(())
 }
 
-pub fn lags(_: &Given) -> Result<(), Failure> {
-    Ok(dev::lags::lags()?)
+pub fn lags(_: &Given) -> Result<()> {
+    dev::lags::lags()
 }
 
-pub fn logs(_: &Given) -> Result<(), Failure> {
+pub fn logs(_: &Given) -> Result<()> {
     dev::logs::logs();
     Ok(())
 }
 
-pub fn text(_: &Given) -> Result<(), Failure> {
+pub fn text(_: &Given) -> Result<()> {
     dev::text::text();
     Ok(())
 }
 
-pub fn man(_: &Given) -> Result<(), Failure> {
+pub fn man(_: &Given) -> Result<()> {
     crate::say!("{}", man::page().trim_end());
     Ok(())
 }
 
-pub fn completion(_: &Given) -> Result<(), Failure> {
+pub fn completion(_: &Given) -> Result<()> {
     crate::say!("{}", completion::script().trim_end());
     Ok(())
 }

@@ -14,7 +14,8 @@ mod sheets;
 mod version;
 mod words;
 
-use crate::telling::status::{Failure, UNDONE};
+use crate::error::{Error, Result};
+use crate::telling::answer;
 use command::{is_help, Command};
 use commands::{COMMANDS, DEV};
 use std::ffi::OsString;
@@ -30,23 +31,23 @@ fn find_dev(name: &str) -> Option<&'static Command> {
 }
 
 /// Why a word is no command.
-fn unknown(word: &str) -> Failure {
+fn unknown(word: &str) -> Error {
     let names = COMMANDS.iter().map(|command| command.name).chain(["help"]);
     let meant = match find_dev(word) {
         Some(command) => Some(command.name),
         None => near::nearest(word, names),
     };
-    Failure::misused("", format!("unknown command {word}{}", near::did_you_mean(meant)))
+    Error::misused("", &format!("unknown command {word}{}", near::did_you_mean(meant)))
 }
 
 /// Why a word behind `dev` is no command.
-fn unknown_dev(word: &str) -> Failure {
+fn unknown_dev(word: &str) -> Error {
     let meant = near::nearest(word, DEV.iter().map(Command::short));
-    Failure::misused("dev", format!("unknown command {word}{}", near::did_you_mean(meant)))
+    Error::misused("dev", &format!("unknown command {word}{}", near::did_you_mean(meant)))
 }
 
 /// The help of the whole, or of the command that the words name.
-fn tell_help(words: &[OsString]) -> Result<(), Failure> {
+fn tell_help(words: &[OsString]) -> Result<()> {
     let words: Vec<_> = words.iter().map(|word| word.to_string_lossy()).collect();
     let words: Vec<&str> = words.iter().map(|word| &**word).filter(|word| !is_help(word)).collect();
     let text = match words[..] {
@@ -60,7 +61,7 @@ fn tell_help(words: &[OsString]) -> Result<(), Failure> {
 }
 
 /// Reads a command's words, and runs it; or tells its help.
-fn run_command(command: &'static Command, words: &[OsString]) -> Result<(), Failure> {
+fn run_command(command: &'static Command, words: &[OsString]) -> Result<()> {
     match words::read(command, words)? {
         Some(given) => (command.run)(&given),
         None => {
@@ -70,9 +71,9 @@ fn run_command(command: &'static Command, words: &[OsString]) -> Result<(), Fail
     }
 }
 
-fn run_dev(words: &[OsString]) -> Result<(), Failure> {
+fn run_dev(words: &[OsString]) -> Result<()> {
     let Some((first, rest)) = words.split_first() else {
-        return Err(Failure::misused("dev", "which of them?".into()));
+        return Err(Error::misused("dev", "which of them?"));
     };
     let name = first.to_string_lossy();
     if is_help(&name) {
@@ -81,9 +82,9 @@ fn run_dev(words: &[OsString]) -> Result<(), Failure> {
     run_command(find_dev(&name).ok_or_else(|| unknown_dev(&name))?, rest)
 }
 
-fn run_words(words: &[OsString]) -> Result<(), Failure> {
+fn run_words(words: &[OsString]) -> Result<()> {
     let Some((first, rest)) = words.split_first() else {
-        return Err(Failure::misused("", "what shall be done?".into()));
+        return Err(Error::misused("", "what shall be done?"));
     };
     match &*first.to_string_lossy() {
         "help" => tell_help(rest),
@@ -96,25 +97,21 @@ fn run_words(words: &[OsString]) -> Result<(), Failure> {
         word if word.starts_with('-') => {
             let meant = near::nearest(word, ["--help", "--version"]);
             let why = format!("unknown option {word}{}; a command comes first", near::did_you_mean(meant));
-            Err(Failure::misused("", why))
+            Err(Error::misused("", &why))
         }
         word => run_command(find(word).ok_or_else(|| unknown(word))?, rest),
     }
 }
 
+/// Says what went wrong, and gives its exit status.
+fn complained(error: Error) -> u8 {
+    answer::complain(&error.to_string());
+    error.status()
+}
+
 /// Runs a command line, and gives its exit status.
 pub fn run(words: &[OsString]) -> u8 {
-    let mut status = match run_words(words) {
-        Ok(()) => 0,
-        Err(Failure { status, why }) => {
-            crate::telling::answer::complain(&why);
-            status
-        }
-    };
+    let status = run_words(words).err().map_or(0, complained);
     // what was told, but could not be written, is lost too
-    if let Some(why) = crate::telling::answer::untold() {
-        crate::telling::answer::complain(&why);
-        status = status.max(UNDONE);
-    }
-    status
+    status.max(answer::untold().err().map_or(0, complained))
 }

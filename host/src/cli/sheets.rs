@@ -2,10 +2,10 @@
 
 use crate::cleaning::recorder::Side;
 use crate::cli::words::Given;
+use crate::error::{Error, Result};
 use crate::recording::rescue;
 use crate::telling::json::{rounded, Json};
 use crate::telling::side::{self, Sheet};
-use crate::telling::status::{Failure, UNDONE};
 use std::path::Path;
 
 type Fields = Vec<(&'static str, Json)>;
@@ -20,27 +20,23 @@ fn of_sheet(sheet: Option<&Sheet>) -> Fields {
     ]
 }
 
-fn object(file: &Path, fields: Fields, wrong: Option<&str>) -> Json {
-    let (file, error) = (("file", file.into()), ("error", wrong.into()));
+fn object(file: &Path, fields: Fields, wrong: Option<&Error>) -> Json {
+    let (file, error) = (("file", file.into()), ("error", wrong.map(Error::to_string).into()));
     Json::Object([file].into_iter().chain(fields).chain([error]).collect())
 }
 
 /// An object for each file; and the highest status where one is bad.
-fn side_as_json(given: &Given) -> Result<(), Failure> {
-    let mut worst = 0;
+fn side_as_json(given: &Given) -> Result<()> {
+    let mut statuses = vec![];
     for path in &given.files {
         let looked = side::of(path, given.has("--quick"));
-        let wrong = looked.as_ref().err().map(|failure| failure.why.as_str());
-        crate::say!("{}", object(path, of_sheet(looked.as_ref().ok()), wrong));
-        worst = worst.max(looked.err().map_or(0, |failure| failure.status));
+        crate::say!("{}", object(path, of_sheet(looked.as_ref().ok()), looked.as_ref().err()));
+        statuses.extend(looked.err().map(|error| error.status()));
     }
-    match worst {
-        0 => Ok(()),
-        status => Err(Failure { status, why: String::new() }),
-    }
+    Error::reported(statuses)
 }
 
-pub fn side(given: &Given) -> Result<(), Failure> {
+pub fn side(given: &Given) -> Result<()> {
     match given.has("--json") {
         true => side_as_json(given),
         false => side::side(&given.files, given.has("--quick")),
@@ -48,7 +44,7 @@ pub fn side(given: &Given) -> Result<(), Failure> {
 }
 
 /// An object for each recording that was closed, and for each that could not be.
-fn mend_folder_as_json(folder: &Path) -> Result<(), Failure> {
+fn mend_folder_as_json(folder: &Path) -> Result<()> {
     let mended = rescue::mend(folder).unwrap_or_else(|why| rescue::Mended { bad: vec![why], ..Default::default() });
     let of = |seconds: [Option<f64>; 3]| {
         let seconds = seconds.map(|seconds| seconds.map(|seconds| rounded(seconds, 5)).into());
@@ -65,10 +61,10 @@ fn mend_folder_as_json(folder: &Path) -> Result<(), Failure> {
     for why in &mended.bad {
         crate::say!("{}", object(folder, of_sheet(None).into_iter().chain(of([None; 3])).collect(), Some(why)));
     }
-    mended.bad.is_empty().then_some(()).ok_or(Failure { status: UNDONE, why: String::new() })
+    Error::reported(mended.bad.iter().map(Error::status))
 }
 
-fn mend_folder(given: &Given, folder: &Path) -> Result<(), Failure> {
+fn mend_folder(given: &Given, folder: &Path) -> Result<()> {
     if given.has("--out") {
         return Err(given.wrong("--out is for a file; a folder is mended where it is"));
     }
@@ -77,11 +73,11 @@ fn mend_folder(given: &Given, folder: &Path) -> Result<(), Failure> {
     }
     match given.has("--json") {
         true => mend_folder_as_json(folder),
-        false => Ok(rescue::mend(folder)?.tell(folder)?),
+        false => rescue::mend(folder)?.tell(folder),
     }
 }
 
-pub fn mend(given: &Given) -> Result<(), Failure> {
+pub fn mend(given: &Given) -> Result<()> {
     let file = &given.files[0];
     if file.is_dir() {
         return mend_folder(given, file);
@@ -103,7 +99,7 @@ pub fn mend(given: &Given) -> Result<(), Failure> {
         Err(why) => {
             let fields = of_sheet(None).into_iter().chain(of(Json::Null, Json::Null));
             crate::say!("{}", object(&out, fields.collect(), Some(&why)));
-            Err(Failure { status: UNDONE, why: String::new() })
+            Err(Error::Reported(why.status()))
         }
     }
 }

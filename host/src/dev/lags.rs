@@ -2,6 +2,7 @@
 
 use crate::cleaning::demo::{cleaned, dictation, effect, filtered, power, Rng};
 use crate::cleaning::recorder::Way;
+use crate::error::Result;
 use crate::{FRAME, RATE};
 use nnnoiseless_text::probe::pitch::PitchFinder;
 use std::f64::consts::TAU;
@@ -80,7 +81,7 @@ fn seeded(pitch: [f64; 2], below: f64) -> Vec<([f64; 2], f64)> {
 }
 
 /// What either way makes of the demo.
-fn effects() -> Result<(), String> {
+fn effects() -> Result<()> {
     let dictations = [dictation(0), dictation(1)];
     crate::say!("\nthe demo, cleaned in either way:\n");
     crate::say!("| bench | `--lag` | noise in the pauses | voice | signal to noise, after |");
@@ -100,7 +101,7 @@ fn effects() -> Result<(), String> {
     Ok(())
 }
 
-pub fn lags() -> Result<(), String> {
+pub fn lags() -> Result<()> {
     crate::say!("within 2 samples; or an octave apart; or one a multiple of the other:\n");
     crate::say!("| voice | frames | ours and the text's | ours and the true period | the text's and the true period |");
     crate::say!("|---|---|---|---|---|");

@@ -1,9 +1,9 @@
 //! `box export`: a model in the text form of rnnoise-nu, so that ffmpeg's arnndn can run it. Behind each array ffmpeg
 //! goes on to the end of the line, so that each stands on a line of its own.
 
+use crate::error::{At, Result};
 use crate::models::import;
 use crate::models::layers::{first_array, Layers, LAYERS};
-use crate::recording::folder::told;
 use crate::recording::put;
 use std::path::Path;
 
@@ -22,8 +22,8 @@ pub fn rnnn(layers: &Layers) -> String {
 }
 
 /// Writes a model of any form as a `.rnnn`, and tells its length.
-pub fn export(model: &Path, out: &Path, force: bool) -> Result<usize, String> {
-    let layers = Layers::of(&import::read(model)?).map_err(|refusal| told(model, refusal))?;
+pub fn export(model: &Path, out: &Path, force: bool) -> Result<usize> {
+    let layers = Layers::of(&import::read(model)?).at(model)?;
     let text = rnnn(&layers);
     put::put(out, text.as_bytes(), force)?;
     Ok(text.len())

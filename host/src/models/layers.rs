@@ -1,6 +1,7 @@
 //! A model's six layers, loose: their counts, activations and arrays. The library reads them from a model file, and
 //! writes them as one.
 
+use crate::error::{Error, Reason};
 use crate::telling::refusal::Refusal;
 
 /// A layer's name, and its arrays in the order of the file.
@@ -37,6 +38,13 @@ pub struct Unwritten {
     pub layer: usize,
 }
 
+impl Unwritten {
+    /// The error in these words, with the refusal's number.
+    pub fn error(self, text: String) -> Error {
+        Error::Undone(Reason { text, refusal: Some(Refusal::of_model(self.number, self.layer as u32)) })
+    }
+}
+
 #[derive(Clone, Debug, Default, PartialEq)]
 pub struct Layers {
     /// Inputs, neurons and activation of each layer in turn.
@@ -51,7 +59,7 @@ impl Layers {
         let mut numbers = [0; 30];
         let refused = tuppence::model(&mut numbers, model);
         if refused != 0 {
-            return Err(Refusal(7 + 256 * (refused % 65_536) + 65_536 * (refused / 65_536)));
+            return Err(Refusal::of_model(refused % 65_536, refused / 65_536));
         }
         let mut layers = Layers::default();
         for (layer, header) in numbers.chunks_exact(5).enumerate() {

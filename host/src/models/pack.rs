@@ -1,9 +1,10 @@
 //! `box pack` and `box unpack`: a model file from a folder of loose arrays, and back. `layers.txt` has a line for each layer:
 //! its name, inputs, neurons and activation (0 tanh, 1 sigmoid, 2 relu). Each array is a file of signed bytes.
 
+use crate::error::{At, Error, Result};
 use crate::models::import;
 use crate::models::layers::{first_array, lengths, Layers, Unwritten, LAYERS};
-use crate::recording::folder::{told, Folder};
+use crate::recording::folder::Folder;
 use crate::recording::put;
 use crate::telling::refusal::{self, Refusal};
 use std::fs;
@@ -15,14 +16,15 @@ fn files() -> impl Iterator<Item = String> {
 }
 
 /// The eighteen numbers of `layers.txt`.
-fn shapes(text: &str) -> Result<[u32; 18], String> {
+fn shapes(text: &str) -> Result<[u32; 18]> {
     let lines: Vec<&str> = text.lines().collect();
     if lines.len() != LAYERS.len() {
-        return Err(format!("six lines are wanted, one for each layer; this has {}", lines.len()));
+        return Err(Error::undone(format!("six lines are wanted, one for each layer; this has {}", lines.len())));
     }
     let mut shapes = [0; 18];
     for (k, (line, (name, _))) in lines.iter().zip(LAYERS).enumerate() {
-        let wanted = || format!("line {}: `{name} INPUTS NEURONS ACTIVATION` is wanted, not `{line}`", k + 1);
+        let wanted =
+            || Error::undone(format!("line {}: `{name} INPUTS NEURONS ACTIVATION` is wanted, not `{line}`", k + 1));
         let words: Vec<&str> = line.split_whitespace().collect();
         if words.len() != 4 || words[0] != name {
             return Err(wanted());
@@ -35,9 +37,10 @@ fn shapes(text: &str) -> Result<[u32; 18], String> {
 }
 
 /// A refusal of the writer, in words; that of a wrong length names the array.
-fn why(Unwritten { number, layer }: Unwritten, layers: &Layers) -> String {
+fn why(refused: Unwritten, layers: &Layers) -> Error {
+    let Unwritten { number, layer } = refused;
     let Some((name, names)) = LAYERS.get(layer) else {
-        return format!("{} (refusal {number})", refusal::of_model(number));
+        return refused.error(format!("{} (refusal {number})", refusal::of_model(number)));
     };
     let [inputs, neurons] = [0, 1].map(|k| layers.shapes[3 * layer + k]);
     let what = match number {
@@ -53,19 +56,19 @@ fn why(Unwritten { number, layer }: Unwritten, layers: &Layers) -> String {
             .join("; "),
         _ => refusal::of_model(number).to_owned(),
     };
-    format!("{name}: {what} (refusal {number}, layer {layer})")
+    refused.error(format!("{name}: {what} (refusal {number}, layer {layer})"))
 }
 
 /// Reads the folder, and writes the model whole or not at all.
-pub fn pack(folder: &Path, out: &Path, force: bool) -> Result<usize, String> {
+pub fn pack(folder: &Path, out: &Path, force: bool) -> Result<usize> {
     let list = folder.join("layers.txt");
-    let text = fs::read_to_string(&list).map_err(|why| told(&list, why))?;
-    let mut layers = Layers { shapes: shapes(&text).map_err(|why| told(&list, why))?, ..Layers::default() };
+    let text = fs::read_to_string(&list).at(&list)?;
+    let mut layers = Layers { shapes: shapes(&text).at(&list)?, ..Layers::default() };
     for (array, name) in layers.arrays.iter_mut().zip(files()) {
         let path = folder.join(name);
-        *array = fs::read(&path).map_err(|why| told(&path, why))?;
+        *array = fs::read(&path).at(&path)?;
     }
-    let file = layers.file().map_err(|refused| told(folder, why(refused, &layers)))?;
+    let file = layers.file().map_err(|refused| why(refused, &layers)).at(folder)?;
     put::put(out, &file, force)?;
     Ok(file.len())
 }
@@ -79,8 +82,8 @@ fn loose(model: &[u8]) -> Result<Vec<(String, Vec<u8>)>, Refusal> {
 }
 
 /// Takes a model apart into a folder.
-pub fn unpack(model: &Path, out: &Path, force: bool) -> Result<(), String> {
-    let files = loose(&import::read(model)?).map_err(|refusal| told(model, refusal))?;
+pub fn unpack(model: &Path, out: &Path, force: bool) -> Result<()> {
+    let files = loose(&import::read(model)?).at(model)?;
     let mut folder = Folder::new(out, force)?;
     folder.claim(files.iter().map(|(name, _)| name))?;
     for (name, bytes) in &files {

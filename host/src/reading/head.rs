@@ -19,7 +19,7 @@ pub struct Head {
     pub size: u64,
 }
 
-const BEYOND: Fault = Fault::NotWav("a chunk in front of its audio goes beyond its end");
+const BEYOND: Fault = Fault::NotWav(42, "a chunk in front of its audio goes beyond its end");
 
 /// The library's refusal of a step, in words, by the bytes that it was lent.
 fn fault(refused: u32, bytes: &[u8]) -> Fault {
@@ -27,12 +27,12 @@ fn fault(refused: u32, bytes: &[u8]) -> Fault {
     // a chunk's name and size, then tag, channels, rate (4), bytes a second (4), bytes of all channels, bits
     let (tag, channels, block, bits) = (at(8), at(10), at(20), at(22));
     match refused {
-        41 if bytes.starts_with(b"RF64") => Fault::NotWav("it is RF64"),
-        41 => Fault::NotWav("it does not start as one"),
-        42 if bytes.len() < 8 => Fault::NotWav("it has no `data` chunk"),
+        41 if bytes.starts_with(b"RF64") => Fault::NotWav(41, "it is RF64"),
+        41 => Fault::NotWav(41, "it does not start as one"),
+        42 if bytes.len() < 8 => Fault::NotWav(42, "it has no `data` chunk"),
         42 => BEYOND,
-        43 => Fault::NotWav("it has no `fmt ` chunk in front of its audio"),
-        44 => Fault::NotWav("its `fmt ` chunk is too short"),
+        43 => Fault::NotWav(43, "it has no `fmt ` chunk in front of its audio"),
+        44 => Fault::NotWav(44, "its `fmt ` chunk is too short"),
         _ if channels != 1 && channels != 2 => Fault::Channels(channels),
         // an extensible format has its own tag in front of the identifier's rest
         45 => Fault::Format { tag: if tag == 0xFFFE { at(32) } else { tag }, bits },

@@ -1,12 +1,12 @@
 //! Where the bytes of both benches come from, block by block.
 
 use crate::cleaning::recorder::{Side, PIECE};
+use crate::error::{At, Error, Result};
 use crate::reading::block::Block;
 use crate::reading::form;
 use crate::reading::wav::{self, Fault, Reader};
-use crate::recording::folder::told;
 use crate::sys::stop::{self, Until};
-use crate::telling::status::Failure;
+use crate::telling::shown::line_of;
 use crate::RATE;
 use std::fs::File;
 use std::io::{self, Cursor, Read};
@@ -83,25 +83,26 @@ pub struct Recording {
 }
 
 impl Recording {
-    fn of(name: &Path, reader: Result<Reader<Box<dyn Read>>, Fault>, channels: usize) -> Result<Recording, String> {
-        let reader = reader.map_err(|fault| told(name, fault))?;
+    fn of(name: &Path, reader: Result<Reader<Box<dyn Read>>, Fault>, channels: usize) -> Result<Recording> {
+        let reader = reader.at(name)?;
         if reader.rate != RATE {
-            return Err(told(name, format!("48,000 samples a second are wanted; this has {}", reader.rate)));
+            let why = format!("48,000 samples a second are wanted; this has {}", reader.rate);
+            return Err(Error::undone(why).at(name));
         }
         if reader.channels != channels {
             let wanted = if channels == 1 { "one channel is" } else { "two channels are" };
-            return Err(told(name, format!("{wanted} wanted; this has {}", reader.channels)));
+            return Err(Error::undone(format!("{wanted} wanted; this has {}", reader.channels)).at(name));
         }
         let broken = vec![None; channels];
         Ok(Recording { name: name.to_owned(), reader, length: None, unsaid: false, broken, clipped: 0, fault: None })
     }
 
-    fn file(path: &Path, channels: usize) -> Result<Recording, String> {
-        let file = File::open(path).map_err(|why| told(path, why))?;
-        let about = file.metadata().map_err(|why| told(path, why))?;
+    fn file(path: &Path, channels: usize) -> Result<Recording> {
+        let file = File::open(path).at(path)?;
+        let about = file.metadata().at(path)?;
         let mut recording = Recording::of(path, Reader::new(Box::new(Until::file(file))), channels)?;
         if about.is_file() {
-            recording.measure(about.len()).map_err(|why| told(path, why))?;
+            recording.measure(about.len()).at(path)?;
         }
         Ok(recording)
     }
@@ -160,17 +161,17 @@ impl Recording {
             1 => "1 sample was beyond full scale, and is clipped".into(),
             n => format!("{n} samples were beyond full scale, and are clipped"),
         };
-        crate::warn!("{}", told(&self.name, clipped));
+        crate::warn!("{}", line_of(&self.name, clipped));
     }
 
     /// Why a channel ends before its recording does.
-    fn broken(&self, side: Side, channel: usize) -> Option<String> {
+    fn broken(&self, side: Side, channel: usize) -> Option<Error> {
         let at = self.broken[channel]? as f64 / f64::from(RATE);
-        Some(told(&self.name, format!("{}, at {at:.2} s: not a finite number", side.name())))
+        Some(Error::wrong(format!("{}, at {at:.2} s: not a finite number", side.name())).at(&self.name))
     }
 
     /// Why a recording ends before all of it was read.
-    fn cut(&self) -> Option<String> {
+    fn cut(&self) -> Option<Error> {
         let (read, promised) = (self.reader.given, self.reader.promised());
         let after = |of: u64| seconds(read, of);
         let why = match (&self.fault, self.length) {
@@ -180,7 +181,7 @@ impl Recording {
                 format!("stopped after {read} of {length} s")
             }
             _ if !self.reader.ended || stop::asked() => return None,
-            _ if read == 0 => return self.reader.has_head().then(|| told(&self.name, "no audio follows its header")),
+            _ if read == 0 => self.reader.has_head().then(|| "no audio follows its header".into())?,
             _ if self.unsaid => {
                 format!("its header says that there is no audio; the {} s behind it are cleaned", after(0)[0])
             }
@@ -190,18 +191,18 @@ impl Recording {
                 format!("ends after {read} of {promised} s, as its header has it")
             }
         };
-        Some(told(&self.name, why))
+        Some(Error::wrong(why).at(&self.name))
     }
 }
 
 /// Whose recording is not whole, and why.
 pub struct Lost {
     pub sides: Vec<Side>,
-    pub why: String,
+    pub why: Error,
 }
 
 impl Lost {
-    pub fn of(side: Side, why: String) -> Lost {
+    pub fn of(side: Side, why: Error) -> Lost {
         Lost { sides: vec![side], why }
     }
 }
@@ -219,33 +220,33 @@ fn standard_input() -> io::Result<File> {
 }
 
 /// Samples without a header, from the start on. What begins as another file does is none.
-fn raw(mut from: Until, name: &Path) -> Result<Reader<Box<dyn Read>>, Failure> {
+fn raw(mut from: Until, name: &Path) -> Result<Reader<Box<dyn Read>>> {
     let mut head = Vec::new();
-    from.by_ref().take(form::HEAD as u64).read_to_end(&mut head).map_err(|why| told(name, why))?;
+    from.by_ref().take(form::HEAD as u64).read_to_end(&mut head).at(name)?;
     match form::known(&head) {
-        Some(form) => Err(Failure::wrong(told(name, format!("this is {form}, and not samples alone as --raw says")))),
+        Some(form) => Err(Error::wrong(format!("this is {form}, and not samples alone as --raw says")).at(name)),
         None => Ok(Reader::raw(Box::new(Cursor::new(head).chain(from)), RATE, 2)),
     }
 }
 
 impl Recordings {
-    pub fn one(side: Side, path: &Path) -> Result<Recordings, String> {
+    pub fn one(side: Side, path: &Path) -> Result<Recordings> {
         Ok(Recordings::One(side, Recording::file(path, 1)?))
     }
 
-    pub fn two(left: &Path, right: &Path) -> Result<Recordings, String> {
+    pub fn two(left: &Path, right: &Path) -> Result<Recordings> {
         Ok(Recordings::Two([Recording::file(left, 1)?, Recording::file(right, 1)?]))
     }
 
-    pub fn stereo(path: &Path) -> Result<Recordings, String> {
+    pub fn stereo(path: &Path) -> Result<Recordings> {
         Ok(Recordings::Stereo(Recording::file(path, 2)?))
     }
 
     /// A WAV stream on standard input, or with `is_raw` samples of 16 bits, little end first, left and right in turn,
     /// without a header.
-    pub fn stream(is_raw: bool) -> Result<Recordings, Failure> {
+    pub fn stream(is_raw: bool) -> Result<Recordings> {
         let name = Path::new("standard input");
-        let from = Until::stream(standard_input().map_err(|why| told(name, why))?);
+        let from = Until::stream(standard_input().at(name)?);
         let reader = if is_raw { Ok(raw(from, name)?) } else { Reader::stream(Box::new(from) as Box<dyn Read>) };
         Ok(Recordings::Stereo(Recording::of(name, reader, 2)?))
     }

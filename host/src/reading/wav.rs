@@ -5,6 +5,7 @@ use crate::cleaning::recorder::Side;
 use crate::reading::block::{packed, Block, Layout};
 use crate::reading::head::{self, Head};
 use crate::recording::seal::Seal;
+use crate::telling::refusal::Refusal;
 use crate::{FRAME, RATE};
 use std::fmt;
 use std::io::{self, BufReader, ErrorKind, Read, Seek, SeekFrom, Write};
@@ -22,10 +23,10 @@ pub const TOO_LONG: &str = "a WAV file can't hold more than 12 hours and 19 minu
 pub const HEAD: usize = 44;
 
 /// Why a file is not taken.
-#[derive(Debug, PartialEq)]
+#[derive(Clone, Debug, PartialEq)]
 pub enum Fault {
-    /// And what tells.
-    NotWav(&'static str),
+    /// The library refused its head with this number, for this reason.
+    NotWav(u32, &'static str),
     Format {
         tag: u16,
         bits: u16,
@@ -45,10 +46,23 @@ pub enum Fault {
     Unreadable(String),
 }
 
+impl Fault {
+    /// The library's refusal, if this is one. (It reads up to 64 channels; it is the box that takes no more than two.)
+    pub fn refusal(&self) -> Option<Refusal> {
+        match self {
+            Fault::NotWav(number, _) => Some(Refusal(*number)),
+            Fault::Format { .. } => Some(Refusal(45)),
+            Fault::Channels(0 | 65..) => Some(Refusal(46)),
+            Fault::Block { .. } => Some(Refusal(47)),
+            Fault::Channels(_) | Fault::NotFinite { .. } | Fault::Unreadable(_) => None,
+        }
+    }
+}
+
 impl fmt::Display for Fault {
     fn fmt(&self, f: &mut fmt::Formatter) -> fmt::Result {
         match self {
-            Fault::NotWav(what) => write!(f, "not a WAV file: {what}"),
+            Fault::NotWav(_, what) => write!(f, "not a WAV file: {what}"),
             Fault::Format { tag, bits } => {
                 write!(f, "16-bit or 24-bit PCM or 32-bit float is wanted; this has format {tag} with {bits} bits")
             }
@@ -513,21 +527,21 @@ mod tests {
     fn broken_headers() {
         let good = write(48_000, &[1.0; 8]);
         let why = |file: &[u8]| match read(file) {
-            Err(Fault::NotWav(why)) => why,
+            Err(Fault::NotWav(number, why)) => (number, why),
             other => panic!("{other:?}"),
         };
         let mut file = good.clone();
         file[..4].copy_from_slice(b"RF64");
-        assert_eq!(why(&file), "it is RF64");
-        assert_eq!(why(&good[1..]), "it does not start as one");
-        assert_eq!(why(&good[..36]), "it has no `data` chunk");
-        assert_eq!(why(&[&good[..12], &good[36..]].concat()), "it has no `fmt ` chunk in front of its audio");
+        assert_eq!(why(&file), (41, "it is RF64"));
+        assert_eq!(why(&good[1..]), (41, "it does not start as one"));
+        assert_eq!(why(&good[..36]), (42, "it has no `data` chunk"));
+        assert_eq!(why(&[&good[..12], &good[36..]].concat()), (43, "it has no `fmt ` chunk in front of its audio"));
         file = good;
         file[16] = 14;
-        assert_eq!(why(&file), "its `fmt ` chunk is too short");
+        assert_eq!(why(&file), (44, "its `fmt ` chunk is too short"));
         for size in [60, u32::MAX] {
             file[16..20].copy_from_slice(&size.to_le_bytes());
-            assert_eq!(why(&file), "a chunk in front of its audio goes beyond its end", "{size}");
+            assert_eq!(why(&file), (42, "a chunk in front of its audio goes beyond its end"), "{size}");
         }
     }
 }

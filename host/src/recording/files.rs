@@ -4,11 +4,12 @@
 use crate::cleaning::cleaned::Summary;
 use crate::cleaning::recorder::{Frame, Side};
 use crate::cleaning::run::Sink;
+use crate::error::{At, Error, Result};
 use crate::page::about::About;
 use crate::page::{picture, table};
 use crate::reading::block::Layout;
 use crate::reading::wav::Writer;
-use crate::recording::folder::{told, Folder};
+use crate::recording::folder::Folder;
 use crate::recording::place::write_through;
 use crate::recording::records::Records;
 use crate::recording::through::Through;
@@ -45,9 +46,9 @@ struct Bench {
 }
 
 impl Bench {
-    fn new(side: Side, folder: &mut Folder) -> Result<Bench, String> {
+    fn new(side: Side, folder: &mut Folder) -> Result<Bench> {
         let (name, place) = (recording(side), folder.place(recording(side)));
-        let audio = Writer::new(folder.create(&name)?, RATE).map_err(|why| told(&place, why))?;
+        let audio = Writer::new(folder.create(&name)?, RATE).at(&place)?;
         let (path, sheet) = folder.scratch(&name, unfinished::SHEET)?;
         Ok(Bench { place, audio, records: Records::new(path, sheet, side)?, summary: Summary::of(side) })
     }
@@ -58,13 +59,12 @@ impl Bench {
 
     /// Closes the recording: its header, which says from then on where the audio ends, and then the chunk with its
     /// seal and its sheet.
-    fn finish(self) -> Result<Summary, String> {
-        let why = |why: io::Error| told(&self.place, why);
+    fn finish(self) -> Result<Summary> {
         let seal = self.audio.seal(self.summary.side);
-        let mut file = self.audio.finish(self.records.behind()).map_err(why)?;
-        file.sync_data().map_err(why)?;
+        let mut file = self.audio.finish(self.records.behind()).at(&self.place)?;
+        file.sync_data().at(&self.place)?;
         self.records.finish(&mut file, seal)?;
-        file.sync_all().map_err(why)?;
+        file.sync_all().at(&self.place)?;
         Ok(self.summary)
     }
 }
@@ -91,16 +91,16 @@ impl Files {
     /// `prefix` stands in front of all names, and `more` are those of what will be added. What comes `once` can't be read again: where its files can't be
     /// finished, they stay beside their places. No other run may be writing into the folder, and none may have left
     /// such files there.
-    pub fn new(out: &Path, prefix: &str, more: &[String], force: bool, once: bool) -> Result<Files, String> {
+    pub fn new(out: &Path, prefix: &str, more: &[String], force: bool, once: bool) -> Result<Files> {
         let mut folder = Folder::new(out, force)?.prefixed(prefix);
         folder.lock()?;
         unfinished::refuse(out)?;
         folder.claim(names().iter().chain(more))?;
         let [left, right] = Side::BOTH;
         let benches = [Bench::new(left, &mut folder)?, Bench::new(right, &mut folder)?];
-        let through = written_through(&benches).map_err(|why| told(out, why))?;
+        let through = written_through(&benches).at(out)?;
         let mut table = BufWriter::new(folder.create(TABLE)?);
-        table::head(&mut table).map_err(|why| told(&folder.place(TABLE), why))?;
+        table::head(&mut table).at(&folder.place(TABLE))?;
         write_through(out);
         Ok(Files { benches, table, through, folder, once })
     }
@@ -121,13 +121,13 @@ impl Files {
     }
 
     /// Another file, beside those that are always there.
-    pub fn add(&mut self, name: &str, bytes: &[u8]) -> Result<(), String> {
+    pub fn add(&mut self, name: &str, bytes: &[u8]) -> Result<()> {
         self.folder.write(name, bytes)
     }
 
     /// Closes all files and puts them into their places; of a bench without a sample there is no recording. `before`
     /// are the names of the recordings as they were, where these were added.
-    pub fn keep(self, before: Option<[&str; 2]>) -> Result<[Summary; 2], String> {
+    pub fn keep(self, before: Option<[&str; 2]>) -> Result<[Summary; 2]> {
         let Files { benches, table, through, mut folder, once } = self;
         drop(through);
         let kept = close(benches, table, &mut folder, before).and_then(|summaries| folder.keep().map(|()| summaries));
@@ -135,18 +135,19 @@ impl Files {
     }
 
     /// Tells why the files can't be finished, and what became of them.
-    pub fn give_up(self, why: String) -> String {
+    pub fn give_up(self, why: Error) -> Error {
         let once = self.once && !self.is_empty();
         given_up(self.folder, why, once)
     }
 }
 
-fn given_up(mut folder: Folder, why: String, once: bool) -> String {
+fn given_up(mut folder: Folder, why: Error, once: bool) -> Error {
     if !once {
         return why;
     }
     folder.leave();
-    format!("{why}; what was cleaned is left unfinished, and {} closes it", unfinished::command(folder.path()))
+    let command = unfinished::command(folder.path());
+    why.reworded(|why| format!("{why}; what was cleaned is left unfinished, and {command} closes it"))
 }
 
 fn close(
@@ -154,8 +155,8 @@ fn close(
     mut table: BufWriter<File>,
     folder: &mut Folder,
     before: Option<[&str; 2]>,
-) -> Result<[Summary; 2], String> {
-    table.flush().and_then(|()| table.get_ref().sync_all()).map_err(|why| told(&folder.place(TABLE), why))?;
+) -> Result<[Summary; 2]> {
+    table.flush().and_then(|()| table.get_ref().sync_all()).at(&folder.place(TABLE))?;
     for bench in benches.iter().filter(|bench| bench.is_empty()) {
         folder.forget(&recording(bench.summary.side));
     }
@@ -167,18 +168,18 @@ fn close(
 }
 
 impl Sink for Files {
-    fn before(&mut self, side: Side, samples: &[f32]) -> Result<(), String> {
+    fn before(&mut self, side: Side, samples: &[f32]) -> Result<()> {
         self.benches[side as usize].summary.before(samples);
         Ok(())
     }
 
-    fn after(&mut self, side: Side, bytes: &[u8]) -> Result<(), String> {
+    fn after(&mut self, side: Side, bytes: &[u8]) -> Result<()> {
         let bench = &mut self.benches[side as usize];
         bench.summary.after(&Layout::CLEANED.samples(bytes, 0));
-        bench.audio.write(bytes).map_err(|why| told(&bench.place, why))
+        bench.audio.write(bytes).at(&bench.place)
     }
 
-    fn frames(&mut self, frames: &[Vec<Frame>; 2]) -> Result<(), String> {
+    fn frames(&mut self, frames: &[Vec<Frame>; 2]) -> Result<()> {
         for (bench, frames) in self.benches.iter_mut().zip(frames) {
             for frame in frames {
                 bench.summary.frame(frame);
@@ -187,7 +188,7 @@ impl Sink for Files {
             bench.records.put()?;
         }
         let rows = table::rows(&mut self.table, frames).and_then(|()| self.table.flush());
-        rows.map_err(|why| told(&self.folder.place(TABLE), why))?;
-        self.through.look().map_err(|why| told(self.folder.path(), why))
+        rows.at(&self.folder.place(TABLE))?;
+        self.through.look().at(self.folder.path())
     }
 }

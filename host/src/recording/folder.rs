@@ -1,20 +1,16 @@
 //! Files that come to stand in a folder all together, or not at all.
 
+use crate::error::{At, Error, Result};
 use crate::recording::place::{beside, free, is_taken, new_file, put, write_through};
-use crate::telling::shown::shown;
+use crate::telling::shown::line_of;
 use std::ffi::OsString;
 use std::fs::{self, TryLockError};
 use std::io::{self, ErrorKind, Write};
 use std::path::{Path, PathBuf};
 
-/// What went wrong, and with which file.
-pub fn told(path: &Path, why: impl std::fmt::Display) -> String {
-    format!("{}: {why}", shown(path))
-}
-
 /// Why nothing is written there.
-fn taken(place: &Path) -> String {
-    told(place, "it stands there already; name another place, or write over it with --force")
+fn taken(place: &Path) -> Error {
+    Error::undone("it stands there already; name another place, or write over it with --force").at(place)
 }
 
 /// A file on its way to its place.
@@ -69,7 +65,7 @@ pub struct Folder {
 
 impl Folder {
     /// Opens a folder, and makes it where there is none. With `force` files may take the place of others.
-    pub fn new(path: &Path, force: bool) -> Result<Folder, String> {
+    pub fn new(path: &Path, force: bool) -> Result<Folder> {
         let made: Vec<_> = path.ancestors().take_while(|path| !path.exists()).map(Path::to_owned).collect();
         let folder = Folder {
             path: path.to_owned(),
@@ -80,7 +76,7 @@ impl Folder {
             force,
             lock: None,
         };
-        fs::create_dir_all(path).map_err(|why| told(path, why))?;
+        fs::create_dir_all(path).at(path)?;
         folder.made.iter().filter_map(|made| made.parent()).for_each(write_through);
         Ok(folder)
     }
@@ -100,20 +96,22 @@ impl Folder {
     }
 
     /// Refuses the folder while another run writes into it. A run that is dead holds no lock.
-    pub fn lock(&mut self) -> Result<(), String> {
-        let folder = fs::File::open(&self.path).map_err(|why| told(&self.path, why))?;
+    pub fn lock(&mut self) -> Result<()> {
+        let folder = fs::File::open(&self.path).at(&self.path)?;
         match folder.try_lock() {
             Ok(()) => self.lock = Some(folder),
-            Err(TryLockError::WouldBlock) => return Err(told(&self.path, "another run is writing into this folder")),
+            Err(TryLockError::WouldBlock) => {
+                return Err(Error::undone("another run is writing into this folder").at(&self.path));
+            }
             Err(TryLockError::Error(why)) => {
-                crate::warn!("{}", told(&self.path, format!("no second run would be noticed here: {why}")));
+                crate::warn!("{}", line_of(&self.path, format!("no second run would be noticed here: {why}")));
             }
         }
         Ok(())
     }
 
     /// Refuses the folder where one of these names is taken.
-    pub fn claim(&self, names: impl IntoIterator<Item = impl AsRef<Path>>) -> Result<(), String> {
+    pub fn claim(&self, names: impl IntoIterator<Item = impl AsRef<Path>>) -> Result<()> {
         let places = names.into_iter().map(|name| self.place(name));
         match places.into_iter().find(|place| !self.force && is_taken(place)) {
             Some(place) => Err(taken(&place)),
@@ -134,31 +132,31 @@ impl Folder {
     }
 
     /// A new file that is written beside its place.
-    pub fn create(&mut self, name: impl AsRef<Path>) -> Result<fs::File, String> {
+    pub fn create(&mut self, name: impl AsRef<Path>) -> Result<fs::File> {
         let file = File { place: self.place(&name), part: self.part(&name), aside: None, put: false };
-        let part = new_file(&file.part).map_err(|why| told(&file.part, why))?;
+        let part = new_file(&file.part).at(&file.part)?;
         self.files.push(file);
         Ok(part)
     }
 
     /// Writes a file beside its place, and through to the disk.
-    pub fn write(&mut self, name: impl AsRef<Path>, bytes: &[u8]) -> Result<(), String> {
+    pub fn write(&mut self, name: impl AsRef<Path>, bytes: &[u8]) -> Result<()> {
         let mut file = self.create(&name)?;
-        file.write_all(bytes).and_then(|()| file.sync_all()).map_err(|why| told(&self.place(name), why))
+        file.write_all(bytes).and_then(|()| file.sync_all()).at(&self.place(name))
     }
 
     /// A new file that lies beside another's place until the files are kept.
-    pub fn scratch(&mut self, name: &str, ending: &str) -> Result<(PathBuf, fs::File), String> {
+    pub fn scratch(&mut self, name: &str, ending: &str) -> Result<(PathBuf, fs::File)> {
         let path = beside(&self.path.join(name), ending);
-        let file = new_file(&path).map_err(|why| told(&path, why))?;
+        let file = new_file(&path).at(&path)?;
         self.scratch.push(path.clone());
         Ok((path, file))
     }
 
     /// What a file has that was written beside its place.
-    pub fn read_back(&self, name: impl AsRef<Path>) -> Result<Vec<u8>, String> {
+    pub fn read_back(&self, name: impl AsRef<Path>) -> Result<Vec<u8>> {
         let part = self.part(name);
-        fs::read(&part).map_err(|why| told(&part, why))
+        fs::read(&part).at(&part)
     }
 
     /// Forgets a file that was on its way to this name.
@@ -168,11 +166,11 @@ impl Folder {
     }
 
     /// Puts all files into their places. Where that fails, some may stand there already.
-    pub fn keep(&mut self) -> Result<(), String> {
+    pub fn keep(&mut self) -> Result<()> {
         for file in &mut self.files {
             file.put(self.force).map_err(|why| match why.kind() {
                 ErrorKind::AlreadyExists => taken(&file.place),
-                _ => told(&file.place, why),
+                _ => Error::from(why).at(&file.place),
             })?;
         }
         write_through(&self.path);

@@ -3,14 +3,15 @@
 
 use crate::cleaning::recorder::Side;
 use crate::cleaning::run::frames_of;
+use crate::error::{At, Error, Result};
 use crate::reading::wav::{self, Audio, Summed};
-use crate::recording::folder::told;
 use crate::recording::place::new_file;
 use crate::recording::seal::Seal;
 use crate::recording::{records, unfinished};
 use crate::telling::found::{is_of, sealed, Found, OTHER_AUDIO};
 use crate::telling::kept::Row;
 use crate::telling::refusal::Refusal;
+use crate::telling::shown::line_of;
 use crate::telling::side::Sheet;
 use crate::{FRAME, RATE};
 use std::fs::{self, File};
@@ -31,51 +32,49 @@ pub struct Mended {
     pub whole: bool,
 }
 
-fn unreadable(why: io::Error) -> String {
-    why.to_string()
-}
-
 /// The side that the seal says, or why it says none.
-fn side_of(found: &Found, file: &mut (impl Read + Seek)) -> Result<Side, String> {
-    let (chunk, seal) = found.seal().map_err(|failure| failure.why)?;
-    let is_ours = is_of(seal, chunk.audio, file).map_err(unreadable)?;
-    is_ours.then_some(seal.side).ok_or_else(|| OTHER_AUDIO.into())
+fn side_of(found: &Found, file: &mut (impl Read + Seek)) -> Result<Side> {
+    let (chunk, seal) = found.seal().map_err(Error::as_undone)?;
+    let is_ours = is_of(seal, chunk.audio, file)?;
+    is_ours.then_some(seal.side).ok_or_else(|| Error::undone(OTHER_AUDIO))
 }
 
 /// The side of a recording whose records are of one side, and whether a person told it.
-fn told_side(seal: Result<Side, String>, said: Option<Side>, records: Side) -> Result<(Side, bool), String> {
+fn told_side(seal: Result<Side>, said: Option<Side>, records: Side) -> Result<(Side, bool)> {
     let (side, by_a_person) = match (seal, said) {
         (Ok(side), _) => (side, false),
         (Err(_), Some(side)) => (side, true),
         (Err(why), None) => {
             let side = records.name();
-            return Err(format!("{why}; who knows that it is the {side} side, as its records say, adds --as {side}"));
+            let adds = format!("who knows that it is the {side} side, as its records say, adds --as {side}");
+            return Err(why.reworded(|why| format!("{why}; {adds}")));
         }
     };
     match said.filter(|other| *other != side) {
-        Some(_) => Err(format!("its seal says {}, and is of this audio", side.name())),
-        None if records != side => Err(format!("its records are of the {} side", records.name())),
+        Some(_) => Err(Error::undone(format!("its seal says {}, and is of this audio", side.name()))),
+        None if records != side => Err(Error::undone(format!("its records are of the {} side", records.name()))),
         None => Ok((side, by_a_person)),
     }
 }
 
 /// What mending gives of a file, or why it can't be mended.
-pub fn of(file: &mut (impl Read + Seek), said: Option<Side>) -> Result<Mended, String> {
-    let found = Found::of(file).map_err(unreadable)?;
-    let audio = *found.audio.as_ref().map_err(|fault| fault.to_string())?;
+pub fn of(file: &mut (impl Read + Seek), said: Option<Side>) -> Result<Mended> {
+    let found = Found::of(file)?;
+    let audio = found.audio.clone()?;
     if audio.end() > found.size {
-        return Err(Refusal(37).to_string());
+        return Err(Refusal(37).into());
     }
     if !audio.is_ours {
-        return Err("one channel of 16 bits and 48,000 samples a second is wanted, as the box writes it".into());
+        let wanted = "one channel of 16 bits and 48,000 samples a second is wanted, as the box writes it";
+        return Err(Error::undone(wanted));
     }
     let seal = side_of(&found, file);
     // a file of before has records alone
     let start = found.chunk.as_ref().map_or(audio.end(), |chunk| chunk.records());
-    file.seek(SeekFrom::Start(start)).map_err(unreadable)?;
-    let row = Row::read(file, frames_of(audio.size / 2), None, true).map_err(unreadable)?;
+    file.seek(SeekFrom::Start(start))?;
+    let row = Row::read(file, frames_of(audio.size / 2), None, true)?;
     let Some(records) = row.side.filter(|_| row.frames() > 1) else {
-        return Err(seal.err().unwrap_or_else(|| "no records follow its seal, from frame 0 on".into()));
+        return Err(seal.err().unwrap_or_else(|| Error::undone("no records follow its seal, from frame 0 on")));
     };
     let (side, said) = told_side(seal, said, records)?;
     let whole = sealed(file, false).is_ok();
@@ -88,10 +87,11 @@ impl Mended {
         self.audio.size.min((self.row.frames() - 1) * 2 * FRAME as u64)
     }
 
-    pub fn write(&self, from: &mut (impl Read + Seek), to: &mut impl Write) -> io::Result<()> {
+    pub fn write(&self, from: &mut (impl Read + Seek), to: &mut impl Write) -> Result<()> {
         from.rewind()?;
         if self.whole {
-            return io::copy(from, to).map(|_| ());
+            io::copy(from, to)?;
+            return Ok(());
         }
         let (bytes, behind) = (self.kept(), records::behind(self.row.frames()));
         to.write_all(&wav::header(RATE, bytes as u32, behind))?;
@@ -99,7 +99,7 @@ impl Mended {
         let mut summed = Summed::new(&mut *to);
         let copied = io::copy(&mut from.take(bytes), &mut summed)?;
         if copied < bytes {
-            return Err(io::ErrorKind::UnexpectedEof.into());
+            return Err(io::Error::from(io::ErrorKind::UnexpectedEof).into());
         }
         let seal = Seal { side: self.sheet.side, bytes, checksum: summed.sum };
         from.seek(SeekFrom::Start(self.start))?;
@@ -130,22 +130,24 @@ impl Mended {
 
     /// Tells what was kept and what was lost.
     pub fn tell(&self, out: &Path) {
-        crate::say!("{}\n{}", told(out, &self.sheet), self.told());
+        crate::say!("{}\n{}", line_of(out, &self.sheet), self.told());
     }
 }
 
 /// The file that is read is never written: what is written is a new file.
-pub fn mend(path: &Path, out: &Path, said: Option<Side>) -> Result<Mended, String> {
+pub fn mend(path: &Path, out: &Path, said: Option<Side>) -> Result<Mended> {
     if path.to_string_lossy().ends_with(unfinished::PART) {
         let folder = path.parent().filter(|folder| *folder != Path::new("")).unwrap_or(Path::new("."));
-        return Err(told(path, format!("this was not finished; {} closes it", unfinished::command(folder))));
+        let why = format!("this was not finished; {} closes it", unfinished::command(folder));
+        return Err(Error::undone(why).at(path));
     }
-    let mut file = File::open(path).map_err(|why| told(path, why))?;
-    let mended = of(&mut file, said).map_err(|why| told(path, why))?;
-    let mut new = new_file(out).map_err(|why| told(out, why))?;
-    mended.write(&mut file, &mut new).and_then(|()| new.sync_all()).map_err(|why| {
+    let mut file = File::open(path).at(path)?;
+    let mended = of(&mut file, said).at(path)?;
+    let mut new = new_file(out).at(out)?;
+    let written = mended.write(&mut file, &mut new).and_then(|()| Ok(new.sync_all()?));
+    if written.is_err() {
         let _ = fs::remove_file(out);
-        told(out, why)
-    })?;
+    }
+    written.at(out)?;
     Ok(mended)
 }

@@ -2,9 +2,9 @@
 //! its end.
 
 use crate::cleaning::recorder::Side;
-use crate::recording::folder::told;
+use crate::error::{At, Result};
 use crate::recording::seal::{self, Seal};
-use crate::telling::refusal::Refusal;
+use crate::telling::refusal::{done, Refusal};
 use std::fs::File;
 use std::io::{self, Read, Seek, SeekFrom, Write};
 use std::path::PathBuf;
@@ -33,8 +33,8 @@ pub struct Records {
 
 impl Records {
     /// In a new file.
-    pub fn new(path: PathBuf, mut file: File, side: Side) -> Result<Records, String> {
-        file.write_all(&seal::under_way(side)).map_err(|why| told(&path, why))?;
+    pub fn new(path: PathBuf, mut file: File, side: Side) -> Result<Records> {
+        file.write_all(&seal::under_way(side)).at(&path)?;
         Ok(Records::of(path, file, side, [0; 2]))
     }
 
@@ -43,7 +43,7 @@ impl Records {
         Records { path, file, side, entries: Vec::new(), tally }
     }
 
-    pub fn push(&mut self, entry: u64) -> Result<(), String> {
+    pub fn push(&mut self, entry: u64) -> Result<()> {
         self.entries.push(entry);
         if self.entries.len() == ENTRIES {
             self.put()?;
@@ -52,14 +52,12 @@ impl Records {
     }
 
     /// Lays down what there is.
-    pub fn put(&mut self) -> Result<(), String> {
+    pub fn put(&mut self) -> Result<()> {
         let mut records = vec![0; RECORD as usize * self.entries.len()];
-        match tuppence::sheet_records(&mut self.tally, &mut records, self.side as u32, &self.entries) {
-            0 => (),
-            refused => return Err(told(&self.path, Refusal(refused))),
-        }
+        let refused = tuppence::sheet_records(&mut self.tally, &mut records, self.side as u32, &self.entries);
+        done(refused).at(&self.path)?;
         self.entries.clear();
-        self.file.write_all(&records).map_err(|why| told(&self.path, why))
+        self.file.write_all(&records).at(&self.path)
     }
 
     pub fn inner(&self) -> &File {
@@ -72,13 +70,10 @@ impl Records {
     }
 
     /// Writes the chunk behind the audio.
-    pub fn finish(mut self, to: &mut impl Write, seal: Seal) -> Result<(), String> {
+    pub fn finish(mut self, to: &mut impl Write, seal: Seal) -> Result<()> {
         self.put()?;
-        let mut copy = || -> io::Result<()> {
-            self.file.seek(SeekFrom::Start(seal::LENGTH as u64))?;
-            write(to, seal, self.tally, &mut self.file)
-        };
-        copy().map_err(|why| told(&self.path, why))
+        self.file.seek(SeekFrom::Start(seal::LENGTH as u64)).at(&self.path)?;
+        write(to, seal, self.tally, &mut self.file).at(&self.path)
     }
 }
 
@@ -93,24 +88,21 @@ pub fn behind(records: u64) -> u32 {
 }
 
 /// The chunk behind the audio: its seal, records that are copied, and their trailer.
-pub fn write(to: &mut impl Write, seal: Seal, tally: Tally, records: &mut impl Read) -> io::Result<()> {
+pub fn write(to: &mut impl Write, seal: Seal, tally: Tally, records: &mut impl Read) -> Result<()> {
     to.write_all(NAME)?;
     to.write_all(&(contents(tally[0]) as u32).to_le_bytes())?;
     to.write_all(&seal.written())?;
     let copied = io::copy(&mut records.take(RECORD * tally[0]), to)?;
     if copied < RECORD * tally[0] {
-        return Err(io::ErrorKind::UnexpectedEof.into());
+        return Err(io::Error::from(io::ErrorKind::UnexpectedEof).into());
     }
-    to.write_all(&trailer(seal.side, tally).map_err(|refused| io::Error::other(refused.to_string()))?)
+    Ok(to.write_all(&trailer(seal.side, tally)?)?)
 }
 
 /// The end of a sheet.
 pub fn trailer(side: Side, [count, sum]: Tally) -> Result<[u8; TRAILER], Refusal> {
     let mut trailer = [0; TRAILER];
-    match tuppence::sheet_trailer(&mut trailer, side as u32, count, sum) {
-        0 => Ok(trailer),
-        refused => Err(Refusal(refused)),
-    }
+    done(tuppence::sheet_trailer(&mut trailer, side as u32, count, sum)).map(|()| trailer)
 }
 
 #[cfg(test)]

@@ -2,28 +2,30 @@
 //! again: what it has to know stands in the recording and in its records, until the recording has its place.
 
 use crate::cleaning::recorder::Side;
+use crate::error::{At, Error, Result};
 use crate::recording::files::{recording, TABLE};
-use crate::recording::folder::{told, Folder};
+use crate::recording::folder::Folder;
 use crate::recording::place::{beside, free, is_taken, put, write_through};
 use crate::recording::unfinished::{left_over, of_others, open, Kept, Unfinished, PART, SHEET};
 use crate::telling::found::sealed;
+use crate::telling::shown::line_of;
 use std::fs::{self, File};
 use std::io::{self, ErrorKind, Read, Seek, SeekFrom};
 use std::path::{Path, PathBuf};
 
 /// Gives a file its place, or where that is taken the next free one, as `left-2.wav`.
-fn put_free(part: &Path, place: &Path) -> Result<PathBuf, String> {
+fn put_free(part: &Path, place: &Path) -> Result<PathBuf> {
     let stem = place.file_stem().unwrap_or_default().to_string_lossy();
     let ending = place.extension().unwrap_or_default().to_string_lossy();
     let numbered = |number: u32| place.with_file_name(format!("{stem}-{number}.{ending}"));
     let place = free(|number| number.map_or(place.to_owned(), numbered));
-    put(part, &place).map_err(|why| told(&place, why))?;
+    put(part, &place).at(&place)?;
     Ok(place)
 }
 
-fn remove(path: &Path) -> Result<(), String> {
+fn remove(path: &Path) -> Result<()> {
     match fs::remove_file(path) {
-        Err(why) if why.kind() != ErrorKind::NotFound => Err(told(path, why)),
+        Err(why) if why.kind() != ErrorKind::NotFound => Err(Error::from(why).at(path)),
         _ => Ok(()),
     }
 }
@@ -35,14 +37,14 @@ pub struct Closed {
 }
 
 /// Closes a recording and puts it in its place, which its side names. Nothing comes back where nothing was recorded.
-fn mend_part(folder: &Path, part: &Path, sheet: &Path) -> Result<Option<Closed>, String> {
+fn mend_part(folder: &Path, part: &Path, sheet: &Path) -> Result<Option<Closed>> {
     let Some(mut unfinished) = Unfinished::find(part, sheet)? else {
         remove(part)?;
         remove(sheet)?;
         return Ok(None);
     };
     let place = folder.join(recording(unfinished.side));
-    let kept = unfinished.kept().map_err(|why| told(part, why))?;
+    let kept = unfinished.kept().at(part)?;
     unfinished.close(part, sheet)?;
     let place = put_free(part, &place)?;
     write_through(folder);
@@ -51,16 +53,16 @@ fn mend_part(folder: &Path, part: &Path, sheet: &Path) -> Result<Option<Closed>,
 }
 
 /// Records whose recording has its place already, since the run ended just before it would have removed them.
-fn mend_sheet(place: &Path, sheet: &Path) -> Result<(), String> {
+fn mend_sheet(place: &Path, sheet: &Path) -> Result<()> {
     let good = File::open(place).is_ok_and(|mut file| sealed(&mut file, true).is_ok());
     if !good {
-        return Err(told(sheet, "there is no recording beside it"));
+        return Err(Error::undone("there is no recording beside it").at(sheet));
     }
     remove(sheet)
 }
 
 /// What a run left of a recording.
-fn mend_recording(folder: &Path, side: Side) -> Result<Option<Closed>, String> {
+fn mend_recording(folder: &Path, side: Side) -> Result<Option<Closed>> {
     let place = folder.join(recording(side));
     let (part, sheet) = (beside(&place, PART), beside(&place, SHEET));
     match (is_taken(&part), is_taken(&sheet)) {
@@ -84,11 +86,11 @@ fn cut_table(part: &Path) -> io::Result<bool> {
 }
 
 /// What else a run left: the table, and what it had finished, get their places. A table without a row is none.
-fn mend_other(part: &Path) -> Result<(), String> {
+fn mend_other(part: &Path) -> Result<()> {
     open(part)?;
     let place = part.with_extension("");
     let is_table = place.file_name() == Some(TABLE.as_ref());
-    if is_table && !cut_table(part).map_err(|why| told(part, why))? {
+    if is_table && !cut_table(part).at(part)? {
         return remove(part);
     }
     put_free(part, &place).map(|_| ())
@@ -101,21 +103,21 @@ pub struct Mended {
     pub was_left: bool,
     pub closed: Vec<Closed>,
     /// What could not be closed, and why.
-    pub bad: Vec<String>,
+    pub bad: Vec<Error>,
 }
 
 impl Mended {
     /// Tells what was kept, and gives what could not be.
-    pub fn tell(&self, path: &Path) -> Result<(), String> {
+    pub fn tell(self, path: &Path) -> Result<()> {
         for closed in &self.closed {
-            crate::say!("{}", told(&closed.place, &closed.kept));
+            crate::say!("{}", line_of(&closed.place, &closed.kept));
         }
         if !self.bad.is_empty() {
-            return Err(self.bad.join("\n"));
+            return Error::several(self.bad);
         }
         match (self.was_left, &self.closed[..]) {
-            (false, _) => crate::say!("{}", told(path, "there is no unfinished recording")),
-            (true, []) => crate::say!("{}", told(path, "nothing was recorded yet")),
+            (false, _) => crate::say!("{}", line_of(path, "there is no unfinished recording")),
+            (true, []) => crate::say!("{}", line_of(path, "nothing was recorded yet")),
             _ => {}
         }
         Ok(())
@@ -123,7 +125,7 @@ impl Mended {
 }
 
 /// Closes all that a run left unfinished in a folder.
-pub fn mend(path: &Path) -> Result<Mended, String> {
+pub fn mend(path: &Path) -> Result<Mended> {
     let mut folder = Folder::new(path, false)?;
     folder.lock()?;
     let mut mended = Mended { was_left: left_over(path).is_some(), ..Mended::default() };

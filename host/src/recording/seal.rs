@@ -1,7 +1,7 @@
 //! The seal of a recording: its side, and of which audio it is. The library writes it and reads it.
 
 use crate::cleaning::recorder::Side;
-use crate::telling::refusal::Refusal;
+use crate::telling::refusal::{done, Refusal};
 
 /// `TUPP`, the side's word, how many bytes of audio there are (64 bits), their checksum, and the checksum of these 20
 /// bytes; little end first.
@@ -26,10 +26,8 @@ impl Seal {
     /// The seal in front of some bytes.
     pub fn read(bytes: &[u8]) -> Result<Seal, Refusal> {
         let mut numbers = [0; 3];
-        match tuppence::seal_read(&mut numbers, bytes) {
-            0 => Ok(Seal { side: Side::BOTH[numbers[0] as usize], bytes: numbers[1], checksum: numbers[2] as u32 }),
-            refused => Err(Refusal(refused)),
-        }
+        done(tuppence::seal_read(&mut numbers, bytes))?;
+        Ok(Seal { side: Side::BOTH[numbers[0] as usize], bytes: numbers[1], checksum: numbers[2] as u32 })
     }
 }
 

@@ -3,9 +3,9 @@
 
 use crate::cleaning::recorder::Side;
 use crate::cleaning::run::frames_of;
+use crate::error::{At, Error, Result};
 use crate::reading::wav::{self, Writer};
 use crate::recording::files::{self, recording};
-use crate::recording::folder::told;
 use crate::recording::place::{beside, is_taken};
 use crate::recording::records::Records;
 use crate::recording::seal;
@@ -49,31 +49,31 @@ pub fn command(folder: &Path) -> String {
 }
 
 /// Refuses a folder with unfinished recordings, and tells how to close them.
-pub fn refuse(folder: &Path) -> Result<(), String> {
+pub fn refuse(folder: &Path) -> Result<()> {
     let Some(first) = left_over(folder) else { return Ok(()) };
     let name = first.file_name().unwrap_or_default().to_string_lossy().into_owned();
     let why = format!("{name} is of a run that was not finished; {} closes what it recorded", command(folder));
-    Err(told(folder, why))
+    Err(Error::undone(why).at(folder))
 }
 
 /// A file, and no link to another.
-pub fn open(path: &Path) -> Result<File, String> {
-    let about = fs::symlink_metadata(path).map_err(|why| told(path, why))?;
+pub fn open(path: &Path) -> Result<File> {
+    let about = fs::symlink_metadata(path).at(path)?;
     if !about.is_file() {
         return Err(not_ours(path));
     }
-    File::options().read(true).write(true).open(path).map_err(|why| told(path, why))
+    File::options().read(true).write(true).open(path).at(path)
 }
 
-fn not_ours(path: &Path) -> String {
-    told(path, "this is no file that the box wrote; it stays as it is")
+fn not_ours(path: &Path) -> Error {
+    Error::undone("this is no file that the box wrote; it stays as it is").at(path)
 }
 
 /// Refuses a file that does not begin with one of these, or with zeros in their place, as a power cut may leave them.
-fn begins(path: &Path, with: &[&[u8]]) -> Result<(), String> {
+fn begins(path: &Path, with: &[&[u8]]) -> Result<()> {
     let (mut file, mut bytes) = (open(path)?, vec![]);
     let length = with.iter().map(|with| with.len()).max().unwrap_or(0);
-    Read::by_ref(&mut file).take(length as u64).read_to_end(&mut bytes).map_err(|why| told(path, why))?;
+    Read::by_ref(&mut file).take(length as u64).read_to_end(&mut bytes).at(path)?;
     let alike = |with: &&[u8]| bytes.iter().zip(*with).all(|(byte, ours)| byte == ours || *byte == 0);
     with.iter().any(alike).then_some(()).ok_or_else(|| not_ours(path))
 }
@@ -112,9 +112,9 @@ pub struct Unfinished {
 
 impl Unfinished {
     /// `None` where nothing was recorded yet.
-    pub fn find(part: &Path, sheet: &Path) -> Result<Option<Unfinished>, String> {
+    pub fn find(part: &Path, sheet: &Path) -> Result<Option<Unfinished>> {
         let mut audio = open(part)?;
-        let there = samples(&mut audio).map_err(|why| told(part, why))?;
+        let there = samples(&mut audio).at(part)?;
         if there == 0 {
             begins(part, &[&wav::open_head(RATE)])?;
             if is_taken(sheet) {
@@ -124,12 +124,12 @@ impl Unfinished {
         }
         let mut records = open(sheet)?;
         let mut seal = Vec::new();
-        let why = |why: io::Error| told(sheet, why);
-        Read::by_ref(&mut records).take(seal::LENGTH as u64).read_to_end(&mut seal).map_err(why)?;
-        let stays = |why: &str| told(sheet, format!("{why} {}, which stays until you move it", shown(part)));
+        Read::by_ref(&mut records).take(seal::LENGTH as u64).read_to_end(&mut seal).at(sheet)?;
+        let stays =
+            |why: &str| Error::undone(format!("{why} {}, which stays until you move it", shown(part))).at(sheet);
         let no_seal = "it does not begin with a seal, so nothing tells the side of";
         let side = seal::side(&seal).ok_or_else(|| stays(no_seal))?;
-        let row = Row::read(&mut records, frames_of(there), Some(side), true).map_err(why)?;
+        let row = Row::read(&mut records, frames_of(there), Some(side), true).at(sheet)?;
         if row.frames() < 2 {
             return Err(stays("no record in it is of the sound in"));
         }
@@ -139,16 +139,15 @@ impl Unfinished {
 
     /// Closes the recording as `box clean` does: header, audio, seal, sheet. From the first step on the header says
     /// where the audio ends.
-    pub fn close(self, part: &Path, sheet: &Path) -> Result<(), String> {
-        let why = |why: io::Error| told(part, why);
+    pub fn close(self, part: &Path, sheet: &Path) -> Result<()> {
         let size = 2 * self.kept as u32;
-        let audio = Writer::resume(self.audio, RATE, size).map_err(why)?;
+        let audio = Writer::resume(self.audio, RATE, size).at(part)?;
         let records = Records::of(sheet.to_owned(), self.sheet, self.side, self.row.tally);
         let seal = audio.seal(self.side);
-        let mut file = audio.finish(records.behind()).map_err(why)?;
-        file.sync_data().and_then(|()| file.set_len(wav::HEAD as u64 + u64::from(size))).map_err(why)?;
+        let mut file = audio.finish(records.behind()).at(part)?;
+        file.sync_data().and_then(|()| file.set_len(wav::HEAD as u64 + u64::from(size))).at(part)?;
         records.finish(&mut file, seal)?;
-        file.sync_all().map_err(why)
+        file.sync_all().at(part)
     }
 
     /// What a clerk is told of it.

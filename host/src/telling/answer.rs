@@ -1,5 +1,6 @@
 //! What is told to people, and whether it could be told.
 
+use crate::error::{Error, Result};
 use crate::telling::shown;
 use std::env;
 use std::fmt;
@@ -25,13 +26,13 @@ fn note(name: &str, written: io::Result<()>) {
 pub fn say(words: fmt::Arguments) {
     still();
     let mut to = io::stdout().lock();
-    note("standard output", writeln!(to, "{}", shown::told(&words.to_string())).and_then(|()| to.flush()));
+    note("standard output", writeln!(to, "{}", shown::safe(&words.to_string())).and_then(|()| to.flush()));
 }
 
 /// A line to standard error.
 pub fn warn(words: fmt::Arguments) {
     still();
-    note("standard error", writeln!(io::stderr(), "{}", shown::told(&words.to_string())));
+    note("standard error", writeln!(io::stderr(), "{}", shown::safe(&words.to_string())));
 }
 
 /// Whether standard error may be coloured: it is a terminal, and nobody asked for none.
@@ -45,7 +46,7 @@ pub fn complain(why: &str) {
     let name = if is_colourful() { "\x1b[1;31mbox:\x1b[0m" } else { "box:" };
     for line in why.lines() {
         still();
-        note("standard error", writeln!(io::stderr(), "{name} {}", shown::told(line)));
+        note("standard error", writeln!(io::stderr(), "{name} {}", shown::safe(line)));
     }
 }
 
@@ -66,6 +67,6 @@ pub fn still() {
 }
 
 /// Why not all that was told could be written, as on a full disk.
-pub fn untold() -> Option<String> {
-    UNTOLD.lock().unwrap().clone()
+pub fn untold() -> Result<()> {
+    UNTOLD.lock().unwrap().clone().map_or(Ok(()), |why| Err(Error::undone(why)))
 }

@@ -3,12 +3,12 @@
 
 use crate::cleaning::recorder::Side;
 use crate::cleaning::run::frames_of;
+use crate::error::{Error, Reason, Result};
 use crate::reading::wav::{self, Audio, Fault};
 use crate::recording::records::{CHUNK, NAME};
 use crate::recording::seal::{self, Seal};
 use crate::telling::refusal::Refusal;
 use crate::telling::side::Sheet;
-use crate::telling::status::{Failure, DAMAGED, NO_SHEET, UNSEALED};
 use std::io::{self, Read, Seek, SeekFrom};
 
 /// The chunk `side` where some audio ends: its contents' length, as it says, and the seal in front of them.
@@ -81,27 +81,29 @@ impl Found {
     }
 
     /// The seal where the audio ends.
-    pub fn seal(&self) -> Result<(&Chunk, Seal), Failure> {
+    pub fn seal(&self) -> Result<(&Chunk, Seal)> {
         let cut = self.audio.as_ref().is_ok_and(|audio| audio.end() > self.size);
         Err(match (&self.chunk, &self.sheet) {
             (Some(chunk), _) => match chunk.seal {
                 Ok(seal) => return Ok((chunk, seal)),
-                Err(refused) => damaged(refused.to_string()),
+                Err(refused) => Error::Damaged(refused.into()),
             },
-            (None, Ok(_)) if self.before.is_some() => damaged("its seal does not stand where its audio ends"),
-            (None, Ok((sheet, _))) if sheet.frames > 0 => {
-                Failure { status: UNSEALED, why: format!("a side sheet without a seal says: {sheet}") }
+            (None, Ok(_)) if self.before.is_some() => {
+                Error::Damaged("its seal does not stand where its audio ends".into())
             }
-            (None, Ok(_)) => no_sheet(NO_FRAMES),
-            (None, Err(_)) if cut => no_sheet(Refusal(37).to_string()),
-            (None, Err(refused)) => no_sheet(refused.to_string()),
+            (None, Ok((sheet, _))) if sheet.frames > 0 => {
+                Error::Unsealed(format!("a side sheet without a seal says: {sheet}").into())
+            }
+            (None, Ok(_)) => Error::NoSheet(NO_FRAMES.into()),
+            (None, Err(_)) if cut => Error::NoSheet(Refusal(37).into()),
+            (None, Err(refused)) => Error::NoSheet((*refused).into()),
         })
     }
 
     /// The sheet of a recording with this seal: its records start behind it and are the last of the file, number up
     /// from 0 and fit the audio's length.
-    fn sheet_of(&self, chunk: &Chunk, seal: Seal) -> Result<&Sheet, Failure> {
-        let (sheet, start) = self.sheet.as_ref().map_err(|why| damaged(format!("its seal is whole, but {why}")))?;
+    fn sheet_of(&self, chunk: &Chunk, seal: Seal) -> Result<&Sheet> {
+        let (sheet, start) = self.sheet.as_ref().map_err(torn)?;
         let frames = frames_of(chunk.audio.size / 2);
         let why = if !chunk.audio.is_ours {
             "its header is none that the box writes".into()
@@ -118,7 +120,7 @@ impl Found {
         } else {
             return Ok(sheet);
         };
-        Err(damaged(why))
+        Err(Error::Damaged(Reason::words(why)))
     }
 }
 
@@ -131,22 +133,18 @@ pub fn is_of(seal: Seal, audio: Audio, file: &mut (impl Read + Seek)) -> io::Res
 const NO_FRAMES: &str = "a side sheet without frames tells no side";
 pub const OTHER_AUDIO: &str = "its audio is not the one that it was sealed with";
 
-fn damaged(why: impl Into<String>) -> Failure {
-    Failure { status: DAMAGED, why: why.into() }
-}
-
-fn no_sheet(why: impl Into<String>) -> Failure {
-    Failure { status: NO_SHEET, why: why.into() }
+/// A seal whose sheet is refused.
+fn torn(refused: &Refusal) -> Error {
+    Error::Damaged((*refused).into()).reworded(|why| format!("its seal is whole, but {why}"))
 }
 
 /// The sheet of a sealed recording, or why it is none. `quick` looks at seal and sheet alone, and not at the audio.
-pub fn sealed(file: &mut (impl Read + Seek), quick: bool) -> Result<Sheet, Failure> {
-    let unreadable = |why: io::Error| Failure::from(why.to_string());
-    let found = Found::of(file).map_err(unreadable)?;
+pub fn sealed(file: &mut (impl Read + Seek), quick: bool) -> Result<Sheet> {
+    let found = Found::of(file)?;
     let (chunk, seal) = found.seal()?;
     let frames = found.sheet_of(chunk, seal)?.frames;
-    if !quick && !is_of(seal, chunk.audio, file).map_err(unreadable)? {
-        return Err(damaged(OTHER_AUDIO));
+    if !quick && !is_of(seal, chunk.audio, file)? {
+        return Err(Error::Damaged(OTHER_AUDIO.into()));
     }
-    found.sheet.map(|(sheet, _)| sheet).ok().filter(|_| frames > 0).ok_or_else(|| no_sheet(NO_FRAMES))
+    found.sheet.map(|(sheet, _)| sheet).ok().filter(|_| frames > 0).ok_or_else(|| Error::NoSheet(NO_FRAMES.into()))
 }

@@ -9,4 +9,3 @@ pub mod progress;
 pub mod refusal;
 pub mod shown;
 pub mod side;
-pub mod status;

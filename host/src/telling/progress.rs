@@ -3,6 +3,7 @@
 use crate::cleaning::cleaned::LIKELY;
 use crate::cleaning::recorder::{Frame, Heard, Side};
 use crate::cleaning::run::Sink;
+use crate::error::Result;
 use crate::page::picture::clock;
 use crate::telling::answer::{moving, still};
 use crate::RATE;
@@ -109,7 +110,7 @@ impl<S> Drop for Watched<'_, S> {
 }
 
 impl<S: Sink> Sink for Watched<'_, S> {
-    fn before(&mut self, side: Side, samples: &[f32]) -> Result<(), String> {
+    fn before(&mut self, side: Side, samples: &[f32]) -> Result<()> {
         if let Some(line) = &mut self.line {
             let bench = &mut line.benches[side as usize];
             let power: f64 = samples.iter().map(|x| f64::from(*x).powi(2)).sum();
@@ -119,7 +120,7 @@ impl<S: Sink> Sink for Watched<'_, S> {
         self.to.before(side, samples)
     }
 
-    fn frames(&mut self, frames: &[Vec<Frame>; 2]) -> Result<(), String> {
+    fn frames(&mut self, frames: &[Vec<Frame>; 2]) -> Result<()> {
         if let Some(line) = &mut self.line {
             for (bench, frames) in line.benches.iter_mut().zip(frames) {
                 let likely =
@@ -131,7 +132,7 @@ impl<S: Sink> Sink for Watched<'_, S> {
         self.to.frames(frames)
     }
 
-    fn after(&mut self, side: Side, bytes: &[u8]) -> Result<(), String> {
+    fn after(&mut self, side: Side, bytes: &[u8]) -> Result<()> {
         self.to.after(side, bytes)
     }
 }

@@ -7,6 +7,13 @@ use std::fmt;
 #[derive(Clone, Copy, Debug, PartialEq)]
 pub struct Refusal(pub u32);
 
+impl Refusal {
+    /// A model's refusal with this number, in this layer.
+    pub fn of_model(number: u32, layer: u32) -> Refusal {
+        Refusal(7 + 256 * number + 65_536 * layer)
+    }
+}
+
 /// What a call of the library returned: 0 is done.
 pub fn done(number: u32) -> Result<(), Refusal> {
     match number {

@@ -1,5 +1,6 @@
 //! Names as they are told to people: what a terminal would obey, or what turns the text around, is shown and not sent.
 
+use std::fmt::Display;
 use std::path::Path;
 
 /// Whether a letter steers a terminal, or the direction of the text: a name may be written so that it reads as another.
@@ -24,8 +25,13 @@ pub fn shown(path: &Path) -> String {
     escaped(&path.to_string_lossy(), |_| false)
 }
 
+/// What is said of a file, in one line.
+pub fn line_of(path: &Path, words: impl Display) -> String {
+    format!("{}: {words}", shown(path))
+}
+
 /// A text whose lines are its own.
-pub fn told(text: &str) -> String {
+pub fn safe(text: &str) -> String {
     escaped(text, |letter| letter == '\n' || letter == '\t')
 }
 
@@ -37,6 +43,6 @@ mod tests {
     fn what_steers_is_shown() {
         assert_eq!(shown(Path::new("a\u{1b}[31m\nb\t\u{9b}é")), "a\\u{1b}[31m\\nb\\t\\u{9b}é");
         assert_eq!(shown(Path::new("tfel\u{202e}thgir.wav")), "tfel\\u{202e}thgir.wav");
-        assert_eq!(told("one\n\ttwo\u{7}"), "one\n\ttwo\\u{7}");
+        assert_eq!(safe("one\n\ttwo\u{7}"), "one\n\ttwo\\u{7}");
     }
 }

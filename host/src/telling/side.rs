@@ -1,14 +1,14 @@
 //! `box side FILE..`: whose recording it is, told to a clerk where that can be relied on.
 
 use crate::cleaning::recorder::Side;
-use crate::recording::folder::told;
+use crate::error::{Error, Result};
 use crate::recording::place::without_name;
 use crate::recording::records::{trailer, RECORD, TRAILER};
 use crate::telling::found::sealed;
 use crate::telling::kept::{Gaps, Row};
 use crate::telling::names::means_another;
 use crate::telling::refusal::Refusal;
-use crate::telling::status::{Failure, MISNAMED};
+use crate::telling::shown::line_of;
 use std::fmt;
 use std::fs::File;
 use std::io::{self, Cursor, Read, Seek, SeekFrom};
@@ -94,27 +94,24 @@ fn open(path: &Path) -> io::Result<File> {
 }
 
 /// The sheet of a sealed recording whose name says no other side.
-pub fn of(path: &Path, quick: bool) -> Result<Sheet, Failure> {
-    let mut file = open(path).map_err(|why| Failure::from(why.to_string()))?;
+pub fn of(path: &Path, quick: bool) -> Result<Sheet> {
+    let mut file = open(path)?;
     let sheet = sealed(&mut file, quick)?;
     match means_another(path, sheet.side) {
-        Some(what) => Err(Failure { status: MISNAMED, why: format!("{what} says another side: {sheet}") }),
+        Some(whose) => Err(Error::Misnamed(format!("the {whose} says another side: {sheet}").into())),
         None => Ok(sheet),
     }
 }
 
 /// A line for each file that is sealed. The others come back, each with the reason, and with the highest status.
-pub fn side(paths: &[PathBuf], quick: bool) -> Result<(), Failure> {
+pub fn side(paths: &[PathBuf], quick: bool) -> Result<()> {
     let how = if quick { "; sealed, but its audio was not looked at" } else { "; sealed" };
-    let mut bad: Vec<Failure> = vec![];
+    let mut bad = vec![];
     for path in paths {
         match of(path, quick) {
-            Ok(sheet) => crate::say!("{}", told(path, format!("{sheet}{how}"))),
-            Err(failure) => bad.push(failure.of(path)),
+            Ok(sheet) => crate::say!("{}", line_of(path, format!("{sheet}{how}"))),
+            Err(error) => bad.push(error.at(path)),
         }
     }
-    match bad.iter().map(|failure| failure.status).max() {
-        None => Ok(()),
-        Some(status) => Err(Failure { status, why: bad.into_iter().map(|f| f.why).collect::<Vec<_>>().join("\n") }),
-    }
+    Error::several(bad)
 }

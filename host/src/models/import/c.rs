@@ -6,6 +6,7 @@
 use super::header_fault;
 use super::number::{count, shown, weight};
 use super::tokens::{is_word, tokens, Token};
+use crate::error::{At, Error, Result};
 use crate::models::layers::{first_array, lengths, Layers, LAYERS};
 use std::collections::BTreeMap;
 
@@ -40,13 +41,14 @@ impl<'a> Reader<'a> {
         self.tokens.next_if(|token| token.text == text).is_some()
     }
 
-    fn wants(&mut self, text: &[u8], of: &str) -> Result<(), String> {
+    fn wants(&mut self, text: &[u8], of: &str) -> Result<()> {
         match self.tokens.next() {
             Some(token) if token.text == text => Ok(()),
             Some(Token { text: other, line }) => {
-                Err(format!("line {line}: {of}: {} is wanted, not {}", shown(text), shown(other)))
+                let why = format!("line {line}: {of}: {} is wanted, not {}", shown(text), shown(other));
+                Err(Error::undone(why))
             }
-            None => Err(format!("it ends within {of}")),
+            None => Err(Error::undone(format!("it ends within {of}"))),
         }
     }
 
@@ -56,8 +58,8 @@ impl<'a> Reader<'a> {
     }
 
     /// A word, with its sign where it has one.
-    fn signed(&mut self, of: &str) -> Result<(usize, Vec<u8>), String> {
-        let ends = || format!("it ends within {of}");
+    fn signed(&mut self, of: &str) -> Result<(usize, Vec<u8>)> {
+        let ends = || Error::undone(format!("it ends within {of}"));
         let Token { text, line } = self.tokens.next().ok_or_else(ends)?;
         match text {
             b"-" | b"+" => Ok((line, [text, self.tokens.next().ok_or_else(ends)?.text].concat())),
@@ -66,7 +68,7 @@ impl<'a> Reader<'a> {
     }
 
     /// What stands between braces, one by one.
-    fn braced(&mut self, of: &str, mut each: impl FnMut(usize, &[u8]) -> Result<(), String>) -> Result<(), String> {
+    fn braced(&mut self, of: &str, mut each: impl FnMut(usize, &[u8]) -> Result<()>) -> Result<()> {
         self.wants(b"{", of)?;
         while !self.takes(b"}") {
             let (line, word) = self.signed(of)?;
@@ -80,7 +82,7 @@ impl<'a> Reader<'a> {
 
     /// `rnn_weight` is read; where an array's name and length follow, the array. One that is declared, and has no
     /// numbers, is passed over.
-    fn array(&mut self) -> Result<(), String> {
+    fn array(&mut self) -> Result<()> {
         let Some(Token { text, line }) = self.name() else { return Ok(()) };
         let name = owned(text);
         if !self.takes(b"[") {
@@ -93,19 +95,20 @@ impl<'a> Reader<'a> {
         }
         let mut numbers = Vec::new();
         self.braced(&name, |line, word| {
-            let at = |why| format!("line {line}: {name}, number {}: {why}", numbers.len() + 1);
-            let number = decimal(word).and_then(weight).map_err(at)?;
+            let at = format!("line {line}: {name}, number {}", numbers.len() + 1);
+            let number = decimal(word).and_then(weight).within(at)?;
             numbers.push(number);
             Ok(())
         })?;
         if length != numbers.len().to_string().as_bytes() {
-            return Err(format!("line {line}: {name}[{}] has {} numbers", length.escape_ascii(), numbers.len()));
+            let why = format!("line {line}: {name}[{}] has {} numbers", length.escape_ascii(), numbers.len());
+            return Err(Error::undone(why));
         }
         put(&mut self.arrays, name, numbers, line)
     }
 
     /// The kind of a layer is read; where its name and its initialiser follow, the layer.
-    fn layer(&mut self, kind: &[u8]) -> Result<(), String> {
+    fn layer(&mut self, kind: &[u8]) -> Result<()> {
         let Some(Token { text, line }) = self.name() else { return Ok(()) };
         let name = owned(text);
         if !self.takes(b"=") {
@@ -119,7 +122,7 @@ impl<'a> Reader<'a> {
         put(&mut self.layers, name, Declared { line, kind: owned(kind), parts }, line)
     }
 
-    fn read(&mut self) -> Result<(), String> {
+    fn read(&mut self) -> Result<()> {
         while let Some(Token { text, .. }) = self.tokens.next() {
             match text {
                 b"rnn_weight" => self.array()?,
@@ -131,18 +134,18 @@ impl<'a> Reader<'a> {
     }
 }
 
-fn put<T>(to: &mut BTreeMap<String, T>, name: String, what: T, line: usize) -> Result<(), String> {
+fn put<T>(to: &mut BTreeMap<String, T>, name: String, what: T, line: usize) -> Result<()> {
     if to.contains_key(&name) {
-        return Err(format!("line {line}: {name} stands there for the second time"));
+        return Err(Error::undone(format!("line {line}: {name} stands there for the second time")));
     }
     to.insert(name, what);
     Ok(())
 }
 
 /// To C a number that begins with 0 is not decimal.
-fn decimal(word: &[u8]) -> Result<&[u8], String> {
+fn decimal(word: &[u8]) -> Result<&[u8]> {
     match word.strip_prefix(b"-").or(word.strip_prefix(b"+")).unwrap_or(word) {
-        [b'0', b'0'..=b'9', ..] => Err(format!("{} is no decimal number in C", shown(word))),
+        [b'0', b'0'..=b'9', ..] => Err(Error::undone(format!("{} is no decimal number in C", shown(word)))),
         _ => Ok(word),
     }
 }
@@ -158,7 +161,7 @@ fn activation(word: &str) -> u32 {
 }
 
 /// A layer's numbers and arrays, from its declaration.
-fn fill(layers: &mut Layers, layer: usize, of: &Declared, arrays: &BTreeMap<String, Vec<u8>>) -> Result<(), String> {
+fn fill(layers: &mut Layers, layer: usize, of: &Declared, arrays: &BTreeMap<String, Vec<u8>>) -> Result<()> {
     let (name, names) = LAYERS[layer];
     // the parts in the order of C, and the places of the arrays among a `.rnn`'s
     let (kind, parts, order): (_, _, &[usize]) = match names.len() {
@@ -167,38 +170,42 @@ fn fill(layers: &mut Layers, layer: usize, of: &Declared, arrays: &BTreeMap<Stri
     };
     if of.kind != kind || of.parts.len() != order.len() + 3 {
         let has = of.parts.len();
-        return Err(format!("{name}: a {kind} of {parts} is wanted; this is a {} of {has} parts", of.kind));
+        let why = format!("{name}: a {kind} of {parts} is wanted; this is a {} of {has} parts", of.kind);
+        return Err(Error::undone(why));
     }
     let (array_names, header) = of.parts.split_at(order.len());
     for (k, word) in header[..2].iter().enumerate() {
-        let number = decimal(word.as_bytes()).and_then(count).map_err(|why| format!("{name}: {why}"))?;
+        let number = decimal(word.as_bytes()).and_then(count).within(name)?;
         layers.shapes[3 * layer + k] = number;
     }
     layers.shapes[3 * layer + 2] = activation(&header[2]);
     header_fault(layers, [&header[0], &header[1], &header[2]].map(|word| word.as_bytes()))?;
     let wanted = lengths(layer, layers.shapes[3 * layer], layers.shapes[3 * layer + 1]);
     for (array_name, place) in array_names.iter().zip(order) {
-        let none = || format!("{name}: there is no array {} of rnn_weight", shown(array_name.as_bytes()));
+        let none =
+            || Error::undone(format!("{name}: there is no array {} of rnn_weight", shown(array_name.as_bytes())));
         let array = arrays.get(array_name).ok_or_else(none)?;
         if array.len() != wanted[*place] {
             let refused = layers.fault();
             let what = format!("{array_name} has {} numbers, {} are wanted", array.len(), wanted[*place]);
-            return Err(format!("{name}: {what} (refusal {}, layer {})", refused.number, refused.layer));
+            let why = format!("{name}: {what} (refusal {}, layer {})", refused.number, refused.layer);
+            return Err(refused.error(why));
         }
         layers.arrays[first_array(layer) + place].clone_from(array);
     }
     Ok(())
 }
 
-pub fn layers(text: &[u8]) -> Result<Layers, String> {
+pub fn layers(text: &[u8]) -> Result<Layers> {
     let tokens = tokens(text)?.into_iter().peekable();
     let mut reader = Reader { tokens, arrays: BTreeMap::new(), layers: BTreeMap::new() };
     reader.read()?;
     let mut layers = Layers::default();
     for (layer, (name, _)) in LAYERS.iter().enumerate() {
-        let none = || format!("there is no layer {name} (what stands between #if and #endif is not read)");
+        let none =
+            || Error::undone(format!("there is no layer {name} (what stands between #if and #endif is not read)"));
         let declared = reader.layers.get(*name).ok_or_else(none)?;
-        fill(&mut layers, layer, declared, &reader.arrays).map_err(|why| format!("line {}: {why}", declared.line))?;
+        fill(&mut layers, layer, declared, &reader.arrays).within(format!("line {}", declared.line))?;
     }
     Ok(layers)
 }

@@ -7,8 +7,8 @@ mod number;
 mod rnnn;
 mod tokens;
 
+use crate::error::{At, Error, Result};
 use crate::models::layers::{Layers, Unwritten, LAYERS};
-use crate::recording::folder::told;
 use crate::recording::put;
 use crate::telling::refusal;
 use std::fs::File;
@@ -57,9 +57,10 @@ impl Form {
 
 /// What the writer finds wrong with a layer's three numbers, told as they stand in the text; its arrays are not known
 /// yet.
-fn header_fault(layers: &Layers, header: [&[u8]; 3]) -> Result<(), String> {
+fn header_fault(layers: &Layers, header: [&[u8]; 3]) -> Result<()> {
     let [inputs, neurons, activation] = header.map(number::shown);
-    let Unwritten { number, layer } = layers.fault();
+    let refused = layers.fault();
+    let Unwritten { number, layer } = refused;
     let what = match number {
         12 => format!("{inputs} inputs are not from 0 to 127"),
         13 => format!("{neurons} neurons are not from 1 to 127"),
@@ -67,34 +68,38 @@ fn header_fault(layers: &Layers, header: [&[u8]; 3]) -> Result<(), String> {
         15 => "it has no neurons".into(),
         _ => return Ok(()),
     };
-    Err(format!("{}: {what} (refusal {number}, layer {layer})", LAYERS[layer].0))
+    Err(refused.error(format!("{}: {what} (refusal {number}, layer {layer})", LAYERS[layer].0)))
 }
 
 /// The model as a `.rnn`. One that is a `.rnn` already is handed on as it is, for the library to read or refuse.
-pub fn model(bytes: Vec<u8>) -> Result<Vec<u8>, String> {
+pub fn model(bytes: Vec<u8>) -> Result<Vec<u8>> {
     let layers = match Form::of(&bytes) {
         Form::Rnn => return Ok(bytes),
-        Form::Newer => return Err(NEWER.into()),
-        Form::C if c::is_newer(&bytes) => return Err(NEWER.into()),
-        _ if bytes.len() > LONGEST => return Err(format!("a text of more than {} MiB is no model", LONGEST >> 20)),
+        Form::Newer => return Err(Error::undone(NEWER)),
+        Form::C if c::is_newer(&bytes) => return Err(Error::undone(NEWER)),
+        _ if bytes.len() > LONGEST => {
+            return Err(Error::undone(format!("a text of more than {} MiB is no model", LONGEST >> 20)));
+        }
         Form::Rnnn => rnnn::layers(unmarked(&bytes))?,
         Form::C => c::layers(unmarked(&bytes))?,
     };
-    layers.file().map_err(|Unwritten { number, .. }| format!("{} (refusal {number})", refusal::of_model(number)))
+    layers
+        .file()
+        .map_err(|refused| refused.error(format!("{} (refusal {})", refusal::of_model(refused.number), refused.number)))
 }
 
 /// The model in a file of any form, as a `.rnn`.
-pub fn read(path: &Path) -> Result<Vec<u8>, String> {
+pub fn read(path: &Path) -> Result<Vec<u8>> {
     let mut bytes = Vec::new();
     let most = LONGEST as u64 + 1;
-    File::open(path).and_then(|file| file.take(most).read_to_end(&mut bytes)).map_err(|why| told(path, why))?;
-    model(bytes).map_err(|why| told(path, why))
+    File::open(path).and_then(|file| file.take(most).read_to_end(&mut bytes)).at(path)?;
+    model(bytes).at(path)
 }
 
 /// Writes a model of any form as a `.rnn`, once the library has read it, and tells its length and its neurons.
-pub fn import(file: &Path, out: &Path, force: bool) -> Result<String, String> {
+pub fn import(file: &Path, out: &Path, force: bool) -> Result<String> {
     let model = read(file)?;
-    let layers = Layers::of(&model).map_err(|refusal| told(file, refusal))?;
+    let layers = Layers::of(&model).at(file)?;
     put::put(out, &model, force)?;
     let [a, b, c, d] = [0, 1, 2, 3].map(|layer| layers.shapes[3 * layer + 1]);
     Ok(format!("{} bytes, layers of {a}, {b}, {c} and {d} neurons", model.len()))

@@ -1,5 +1,7 @@
 //! Whole numbers in decimal, as both texts have them.
 
+use crate::error::{Error, Result};
+
 /// White space as C has it.
 pub fn is_space(byte: u8) -> bool {
     matches!(byte, b' ' | b'\t'..=b'\r')
@@ -14,26 +16,28 @@ pub fn shown(word: &[u8]) -> String {
 }
 
 /// Digits with or without a sign; what is too large stands at the end of the range.
-pub fn whole(word: &[u8]) -> Result<i64, String> {
+pub fn whole(word: &[u8]) -> Result<i64> {
     let (sign, digits) = match word {
         [b'-', digits @ ..] => (-1, digits),
         [b'+', digits @ ..] => (1, digits),
         digits => (1, digits),
     };
     if digits.is_empty() || !digits.iter().all(u8::is_ascii_digit) {
-        return Err(format!("{} is no whole number", shown(word)));
+        return Err(Error::undone(format!("{} is no whole number", shown(word))));
     }
     Ok(sign * digits.iter().fold(0i64, |sum, digit| sum.saturating_mul(10).saturating_add(i64::from(digit - b'0'))))
 }
 
 /// A weight or a bias, as the signed byte that it is in a `.rnn`.
-pub fn weight(word: &[u8]) -> Result<u8, String> {
+pub fn weight(word: &[u8]) -> Result<u8> {
     let number = whole(word)?;
-    i8::try_from(number).map(|number| number as u8).map_err(|_| format!("{} is not from -128 to 127", shown(word)))
+    i8::try_from(number)
+        .map(|number| number as u8)
+        .map_err(|_| Error::undone(format!("{} is not from -128 to 127", shown(word))))
 }
 
 /// A count or an activation, as the writer is given it: one that it can't be given is larger than all that it takes.
-pub fn count(word: &[u8]) -> Result<u32, String> {
+pub fn count(word: &[u8]) -> Result<u32> {
     Ok(u32::try_from(whole(word)?).unwrap_or(u32::MAX))
 }
 

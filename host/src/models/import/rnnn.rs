@@ -3,6 +3,7 @@
 
 use super::header_fault;
 use super::number::{count, is_space, shown, weight, whole};
+use crate::error::{At, Error, Result};
 use crate::models::layers::{first_array, lengths, Layers, Unwritten, LAYERS};
 
 /// The words of a text, each with its line.
@@ -25,39 +26,41 @@ impl<'a> Iterator for Words<'a> {
 }
 
 /// What stands in front of the numbers.
-fn version(words: &mut Words) -> Result<(), String> {
+fn version(words: &mut Words) -> Result<()> {
     const FIRST: [&str; 4] = ["rnnoise-nu", "model", "file", "version"];
     if FIRST.iter().any(|word| words.next().map(|(_, text)| text) != Some(word.as_bytes())) {
-        return Err("it does not begin with `rnnoise-nu model file version 1`".into());
+        return Err(Error::undone("it does not begin with `rnnoise-nu model file version 1`"));
     }
     match words.next() {
         Some((_, number)) if whole(number) == Ok(1) => Ok(()),
-        Some((_, number)) => Err(format!("version {} of rnnoise-nu's form; version 1 is read", shown(number))),
-        None => Err("it ends before its version".into()),
+        Some((_, number)) => {
+            Err(Error::undone(format!("version {} of rnnoise-nu's form; version 1 is read", shown(number))))
+        }
+        None => Err(Error::undone("it ends before its version")),
     }
 }
 
 /// A layer's inputs, neurons and activation.
-fn header(words: &mut Words, layer: usize, layers: &mut Layers) -> Result<(), String> {
+fn header(words: &mut Words, layer: usize, layers: &mut Layers) -> Result<()> {
     let (name, mut told, mut at) = (LAYERS[layer].0, Vec::new(), 0);
     for (k, what) in ["inputs", "neurons", "activation"].into_iter().enumerate() {
-        let (line, word) = words.next().ok_or_else(|| format!("it ends before the {what} of {name}"))?;
-        layers.shapes[3 * layer + k] = count(word).map_err(|why| format!("line {line}: {name}, {what}: {why}"))?;
+        let (line, word) = words.next().ok_or_else(|| Error::undone(format!("it ends before the {what} of {name}")))?;
+        layers.shapes[3 * layer + k] = count(word).within(format!("line {line}: {name}, {what}"))?;
         told.push(word);
         at = line;
     }
-    header_fault(layers, [told[0], told[1], told[2]]).map_err(|why| format!("line {at}: {why}"))
+    header_fault(layers, [told[0], told[1], told[2]]).within(format!("line {at}"))
 }
 
 /// The numbers of one array, fewer where the text ends before.
-fn array(words: &mut Words, name: &str, length: usize) -> Result<Vec<u8>, String> {
+fn array(words: &mut Words, name: &str, length: usize) -> Result<Vec<u8>> {
     let number = |(k, (line, word)): (usize, (usize, &[u8]))| {
-        weight(word).map_err(|why| format!("line {line}: {name}, number {} of {length}: {why}", k + 1))
+        weight(word).within(format!("line {line}: {name}, number {} of {length}", k + 1))
     };
     words.take(length).enumerate().map(number).collect()
 }
 
-pub fn layers(text: &[u8]) -> Result<Layers, String> {
+pub fn layers(text: &[u8]) -> Result<Layers> {
     let (mut words, mut layers) = (Words { rest: text, line: 1 }, Layers::default());
     version(&mut words)?;
     for (layer, (name, arrays)) in LAYERS.iter().enumerate() {
@@ -68,16 +71,19 @@ pub fn layers(text: &[u8]) -> Result<Layers, String> {
             layers.arrays[place] = array(&mut words, &name, length)?;
             let there = layers.arrays[place].len();
             if there < length {
-                let Unwritten { number, layer } = layers.fault();
+                let refused = layers.fault();
+                let Unwritten { number, layer } = refused;
                 let what = format!("{there} of {length} numbers are there");
-                return Err(format!("it ends within {name}: {what} (refusal {number}, layer {layer})"));
+                let why = format!("it ends within {name}: {what} (refusal {number}, layer {layer})");
+                return Err(refused.error(why));
             }
         }
     }
     match words.next() {
         None => Ok(layers),
         Some((line, word)) => {
-            Err(format!("line {line}: {} stands behind the last number of vad_output.bias", shown(word)))
+            let why = format!("line {line}: {} stands behind the last number of vad_output.bias", shown(word));
+            Err(Error::undone(why))
         }
     }
 }

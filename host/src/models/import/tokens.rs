@@ -2,6 +2,7 @@
 //! `#endif` are passed over.
 
 use super::number::is_space;
+use crate::error::{Error, Result};
 
 /// A word, or one byte that belongs to none.
 #[derive(Clone, Copy)]
@@ -38,10 +39,10 @@ impl<'a> Rest<'a> {
         passed
     }
 
-    fn comment(&mut self) -> Result<(), String> {
+    fn comment(&mut self) -> Result<()> {
         let behind = &self.text[self.at + 2..];
         let Some(length) = behind.windows(2).position(|pair| pair == b"*/") else {
-            return Err(format!("line {}: a comment begins and does not end", self.line));
+            return Err(Error::undone(format!("line {}: a comment begins and does not end", self.line)));
         };
         self.pass(length + 4);
         Ok(())
@@ -64,7 +65,7 @@ impl<'a> Rest<'a> {
         }
     }
 
-    fn directive(&mut self) -> Result<(), String> {
+    fn directive(&mut self) -> Result<()> {
         self.pass(1);
         let name = self.text[self.at..].iter().copied().skip_while(|byte| matches!(byte, b' ' | b'\t'));
         let name: Vec<u8> = name.take_while(|byte| is_word(*byte)).take(6).collect();
@@ -86,7 +87,7 @@ impl<'a> Rest<'a> {
     }
 
     /// A quoted text or character, on one line.
-    fn quoted(&mut self, quote: u8) -> Result<(), String> {
+    fn quoted(&mut self, quote: u8) -> Result<()> {
         let line = self.line;
         self.pass(1);
         while let Some(byte) = self.text.get(self.at).filter(|byte| **byte != b'\n') {
@@ -96,11 +97,11 @@ impl<'a> Rest<'a> {
                 return Ok(());
             }
         }
-        Err(format!("line {line}: a quotation begins and does not end"))
+        Err(Error::undone(format!("line {line}: a quotation begins and does not end")))
     }
 
     /// Passes over one thing, and hands out what is a token and counts.
-    fn next(&mut self) -> Result<Option<Token<'a>>, String> {
+    fn next(&mut self) -> Result<Option<Token<'a>>> {
         let (byte, line) = (self.text[self.at], self.line);
         let fresh = std::mem::replace(&mut self.fresh, false);
         if is_space(byte) {
@@ -124,7 +125,7 @@ impl<'a> Rest<'a> {
     }
 }
 
-pub fn tokens(text: &[u8]) -> Result<Vec<Token<'_>>, String> {
+pub fn tokens(text: &[u8]) -> Result<Vec<Token<'_>>> {
     let mut rest = Rest { text, at: 0, line: 1, fresh: true, within: 0 };
     let mut found = Vec::new();
     while rest.at < text.len() {
@@ -137,7 +138,7 @@ pub fn tokens(text: &[u8]) -> Result<Vec<Token<'_>>, String> {
 mod tests {
     use super::*;
 
-    fn cut(text: &str) -> Result<String, String> {
+    fn cut(text: &str) -> Result<String> {
         let words = tokens(text.as_bytes())?;
         Ok(words
             .iter()
@@ -162,7 +163,7 @@ mod tests {
             ("a \"b \\\" c\" d '\\'' e", "1:a 1:d 1:e"),
             ("", ""),
         ] {
-            assert_eq!(cut(text).as_deref(), Ok(wanted), "{text}");
+            assert_eq!(cut(text).unwrap(), wanted, "{text}");
         }
         for text in ["a /* b", "/*/", "a\n\"b\nc\"", "'", "\"\\"] {
             assert!(cut(text).is_err(), "{text}");
