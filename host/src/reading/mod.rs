@@ -3,5 +3,6 @@
 pub mod block;
 pub mod form;
 pub mod head;
+pub mod hints;
 pub mod source;
 pub mod wav;

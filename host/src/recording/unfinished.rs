@@ -10,7 +10,7 @@ use crate::recording::place::{beside, is_taken};
 use crate::recording::records::Records;
 use crate::recording::seal;
 use crate::telling::kept::Row;
-use crate::telling::shown::shown;
+use crate::telling::shown::{quoted, shown};
 use crate::telling::side::Sheet;
 use crate::{FRAME, RATE};
 use std::fmt;
@@ -42,10 +42,7 @@ pub fn left_over(folder: &Path) -> Option<PathBuf> {
 
 /// The command that closes what lies in a folder, as a shell takes it.
 pub fn command(folder: &Path) -> String {
-    let path = folder.display().to_string();
-    let is_plain = path.chars().all(|c| c.is_alphanumeric() || "._/-+,:@%".contains(c)) && !path.starts_with('-');
-    let word = if is_plain { path } else { format!("'{}'", path.replace('\'', r"'\''")) };
-    format!("`box mend {word}`")
+    format!("`box mend {}`", quoted(folder))
 }
 
 /// Refuses a folder with unfinished recordings, and tells how to close them.

@@ -2,9 +2,11 @@
 //! once.
 
 use std::ffi::{c_int, c_short, c_ulong};
-use std::fs::File;
+use std::fs::{self, File};
 use std::io::{self, ErrorKind, Read};
 use std::os::fd::{AsRawFd, RawFd};
+use std::os::unix::fs::OpenOptionsExt;
+use std::path::Path;
 use std::sync::atomic::{AtomicBool, Ordering};
 
 static ASKED: AtomicBool = AtomicBool::new(false);
@@ -66,6 +68,16 @@ fn is_ready(from: &File, milliseconds: i32) -> bool {
     unsafe { poll(&mut one, 1, milliseconds) > 0 }
 }
 
+/// Opens a pipe without waiting until somebody writes into it.
+const NONBLOCK: c_int = 0o4000;
+
+/// Opens a file to be read. A pipe is opened at once, whether or not somebody writes into it yet: waiting is left to
+/// [`Until`], where a signal ends it.
+pub fn open(path: &Path) -> io::Result<File> {
+    let is_file = fs::metadata(path)?.is_file();
+    File::options().read(true).custom_flags(if is_file { 0 } else { NONBLOCK }).open(path)
+}
+
 /// A file or a stream, which ends where a signal asks for it: at once, or behind so many bytes at most of what waits
 /// there to be read.
 pub struct Until {
@@ -99,7 +111,8 @@ impl Read for Until {
                 continue;
             }
             match self.from.read(to) {
-                Err(why) if why.kind() == ErrorKind::Interrupted => {}
+                // a pipe whose writer has nothing yet is asked again
+                Err(why) if matches!(why.kind(), ErrorKind::Interrupted | ErrorKind::WouldBlock) => {}
                 Ok(read) if asked() => {
                     self.waiting = self.waiting.saturating_sub(read);
                     return Ok(read);
