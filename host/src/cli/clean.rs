@@ -60,7 +60,9 @@ fn look_at_raw(given: &Given, inputs: Option<&Inputs>) -> Result<()> {
     let is_stream = inputs.is_some_and(|inputs| inputs.names().contains(&Path::new(STANDARD_INPUT)));
     let is_stereo = matches!(inputs, Some(Inputs::Stereo(_)));
     match given.word("--channels").as_deref() {
-        Some(_) if !given.has("--raw") => Err(given.wrong("--channels is for --raw; a WAV file says its channels itself")),
+        Some(_) if !given.has("--raw") => {
+            Err(given.wrong("--channels is for --raw; a WAV file says its channels itself"))
+        }
         _ if given.has("--raw") && !is_stream => {
             Err(given.wrong("--raw is for standard input: add -, or --left - or --right - for one bench"))
         }
@@ -250,7 +252,9 @@ fn tell_raw(inputs: &Inputs) {
         Inputs::Stereo(_) => "two channels, left and right in turn",
         _ => "one channel",
     };
-    crate::warn!("Reading standard input as samples without a header: {what}, 48,000 a second, 16 bits, little end first.");
+    crate::warn!(
+        "Reading standard input as samples without a header: {what}, 48,000 a second, 16 bits, little end first."
+    );
 }
 
 pub fn clean(given: &Given) -> Result<()> {

@@ -248,7 +248,7 @@ fn card(text: &mut String, bench: &Summary, before: Option<&str>, prefix: &str) 
     let side = bench.side.name();
     writeln!(
         text,
-        "<section class=\"bench\" aria-labelledby=\"{side}\">\n<div class=\"head\"><h2 id=\"{side}\">{}</h2>\n{}{}</div>",
+        "<section class=\"bench {side}\" aria-labelledby=\"{side}\">\n<div class=\"head\"><h2 id=\"{side}\">{}</h2>\n{}{}</div>",
         side.to_uppercase(),
         seal(bench),
         trouble(bench).unwrap_or_default(),

@@ -51,7 +51,9 @@ pub fn of_channels(name: &Path, channels: usize) -> Error {
             format!("it has one channel; `--left {file}` or `--right {file}` takes it as one bench's recording")
         }
         (1, true) => "it has one channel; `--left -` or `--right -` takes it as one bench's recording".into(),
-        (_, false) => format!("it has two channels; `--both {}` takes them as the left and the right bench", quoted(name)),
+        (_, false) => {
+            format!("it has two channels; `--both {}` takes them as the left and the right bench", quoted(name))
+        }
         (_, true) => "it has two channels; `box clean -` takes them as the left and the right bench".into(),
     })
     .at(name)

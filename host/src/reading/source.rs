@@ -266,7 +266,8 @@ impl Recording {
                 }
                 (_, Some(promised)) if read < promised => {
                     let [read, promised] = after(promised);
-                    format!("the file ends after {read} s, but its header announces {promised} s")
+                    let what = if self.length.is_some() { "the file" } else { "it" };
+                    format!("{what} ends after {read} s, but its header announces {promised} s")
                 }
                 _ => return None,
             },

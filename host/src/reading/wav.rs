@@ -262,8 +262,8 @@ pub struct Wav {
 
 /// The names of chunks that may follow the audio, and may be cut.
 const CHUNKS: [&[u8; 4]; 14] = [
-    b"side", b"LIST", b"id3 ", b"ID3 ", b"bext", b"cue ", b"fact", b"PEAK", b"JUNK", b"junk", b"PAD ", b"smpl", b"iXML",
-    b"_PMX",
+    b"side", b"LIST", b"id3 ", b"ID3 ", b"bext", b"cue ", b"fact", b"PEAK", b"JUNK", b"junk", b"PAD ", b"smpl",
+    b"iXML", b"_PMX",
 ];
 
 /// Whether a chunk begins at this place of a file: one with a name that programs use, or with any name in letters if the
