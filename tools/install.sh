@@ -12,9 +12,9 @@ install_into() {
     mkdir -p "$prefix"/{bin,share/man/man1,share/bash-completion/completions,share/doc/tuppencehop}
     install -m 755 "$program" "$prefix/bin/tuppencehop"
     ln -sf tuppencehop "$prefix/bin/box"
-    "$program" dev man >"$prefix/share/man/man1/tuppencehop.1"
+    "$program" man >"$prefix/share/man/man1/tuppencehop.1"
     ln -sf tuppencehop.1 "$prefix/share/man/man1/box.1"
-    "$program" dev completion >"$prefix/share/bash-completion/completions/tuppencehop"
+    "$program" completion >"$prefix/share/bash-completion/completions/tuppencehop"
     ln -sf tuppencehop "$prefix/share/bash-completion/completions/box"
     install -m 644 "$root/NOTICE" "$prefix/share/doc/tuppencehop/NOTICE"
 }

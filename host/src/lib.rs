@@ -1,6 +1,8 @@
 //! The recorder box: it runs both benches over one lent store through the proved library, and does itself what the library
 //! leaves to its host: files.
 
+#![deny(unsafe_code)]
+
 /// A line to standard output.
 #[macro_export]
 macro_rules! say {
@@ -15,12 +17,12 @@ macro_rules! warn {
 
 pub mod cleaning;
 pub mod cli;
-pub mod dev;
 pub mod error;
 pub mod models;
 pub mod page;
 pub mod reading;
 pub mod recording;
+#[allow(unsafe_code)]
 pub mod sys;
 pub mod telling;
 

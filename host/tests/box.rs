@@ -58,9 +58,11 @@ fn repository(name: &str) -> PathBuf {
               if [ \"$1\" = staticlib ]; then mkdir -p target/staticlib; cp crates/export/src/lib.rt target/staticlib/libexport.a; fi\n";
     write_script(&path.join("kit/bin/rt"), rt);
     symlink("../kit/bin/rt", path.join("bin/rt")).unwrap();
-    let cargo = "echo \"  Compiling much\"; echo \"  Finished\" >&2; [ ! -e broken ] || exit 101\n\
+    let cargo = "echo \"$*\" >cargo-was-called; echo \"  Compiling much\"; echo \"  Finished\" >&2; [ ! -e broken ] || exit 101\n\
                  mkdir -p target/host/release; cd target/host/release\n\
-                 printf '#!/usr/bin/env bash\\necho \"$PWD: $*\"\\n' >tuppencehop; chmod +x tuppencehop\n";
+                 for name in tuppencehop tuppencehop-dev; do\n\
+                 printf '#!/usr/bin/env bash\\necho \"$PWD: $*\"\\n' >$name; chmod +x $name\n\
+                 done\n";
     write_script(&path.join("bin/cargo"), cargo);
     path
 }
@@ -170,7 +172,7 @@ fn an_installed_program_runs_alone() {
     // the man page has every command, and reads without a warning where there is a reader
     let page = prefix.join("share/man/man1/box.1");
     let text = fs::read_to_string(&page).unwrap();
-    assert!(["clean", "side", "mend", "dev bench"].iter().all(|name| text.contains(&format!("\n.SS box {name}\n"))));
+    assert!(["clean", "side", "mend", "completion"].iter().all(|name| text.contains(&format!("\n.SS box {name}\n"))));
     if let Ok(groff) = Command::new("groff").args(["-man", "-Tutf8", "-ww", "-z"]).arg(&page).output() {
         assert_eq!(ended(groff).why, "");
     }
@@ -183,9 +185,7 @@ fn an_installed_program_runs_alone() {
         (&["box", "side", "-"], "--quick --json --help"),
         (&["box", "side", "again/l"], "again/left.wav"),
         (&["box", "clean", "--name", ""], ""),
-        (&["box", "dev", "b"], "bench"),
-        (&["box", "dev", "bench", "--j"], "--json"),
-        (&["box", "help", "de"], "demo dev"),
+        (&["box", "help", "de"], "demo"),
     ] {
         assert_eq!(offered(&prefix, words), offer, "{words:?}");
     }
@@ -206,4 +206,30 @@ fn a_package_has_all_that_goes_with_it() {
     assert!(same("lib/libtuppence.a", "target/staticlib/libexport.a"));
     assert!(same("include/tuppence.h", "bindings/c/tuppence.h") && same("NOTICE", "NOTICE"));
     assert!(installed(&within, &["--version"]).said.starts_with("box "));
+}
+
+/// The clerk's program has nothing of the Rust text in it. (host/dev/tests/words.rs sees that its names would be found.)
+#[test]
+fn the_box_has_no_symbol_of_the_text() {
+    let symbols = ended(Command::new("nm").arg(env!("CARGO_BIN_EXE_tuppencehop")).output().unwrap());
+    assert_eq!(symbols.status, Some(0), "{}", symbols.why);
+    assert!(symbols.said.contains("tuppencehop") && symbols.said.contains("tuppence_feed"), "the names are stripped");
+    let of_text: Vec<&str> = symbols.said.lines().filter(|line| line.contains("nnnoiseless")).collect();
+    assert!(of_text.is_empty(), "{of_text:?}");
+}
+
+/// `./box dev` runs the developers' program.
+#[test]
+fn the_developers_program_is_another() {
+    let path = repository("dev");
+    let told = run(&path, &["dev", "bench", "--json"]);
+    assert_eq!(
+        (told.status, &*told.said),
+        (Some(0), &*format!("{}: bench --json\n", path.canonicalize().unwrap().display()))
+    );
+    let built = fs::read_to_string(path.join("cargo-was-called")).unwrap();
+    assert!(built.contains("--package tuppencehop-dev "), "{built}");
+    run(&path, &["side"]);
+    let built = fs::read_to_string(path.join("cargo-was-called")).unwrap();
+    assert!(built.contains("--package tuppencehop "), "{built}");
 }

@@ -61,7 +61,7 @@ fn alike(tag: u16, bits: u16, audio: &[u8]) {
 fn samples_of_16_and_of_24_bits() {
     alike(1, 16, &(0..=u16::MAX).flat_map(u16::to_le_bytes).collect::<Vec<u8>>());
     // every third, and all beside the ends and zero
-    let beside = |n: u32| [n.wrapping_sub(300)..n.wrapping_add(300)].into_iter().flatten();
+    let beside = |n: u32| n.wrapping_sub(300)..n.wrapping_add(300);
     let ends = [0x7F_FFFF, 0x80_0000, 0xFF_FFFF].into_iter().flat_map(beside);
     let all = (0..0x100_0000).step_by(3).chain(ends).map(|n: u32| [n as u8, (n >> 8) as u8, (n >> 16) as u8]);
     let bytes: Vec<u8> = all.flatten().collect();

@@ -109,9 +109,9 @@ fn after_a_power_cut(path: &Path, cut: &Path, rng: &mut Rng) {
         let samples = |bytes: u64| (bytes as usize).saturating_sub(HEADER) / 2;
         let audio = part(cut, side, ".part");
         there[k] = samples(size(&audio));
-        let (seconds, zeros) = (rng.next() % 192_000, rng.next() & 1 == 0);
+        let (seconds, zeros) = (rng.draw() % 192_000, rng.draw() & 1 == 0);
         good[k] = samples(damage(&audio, seconds, zeros));
-        let (records, zeros) = (rng.next() % 1_600, rng.next() & 1 == 0);
+        let (records, zeros) = (rng.draw() % 1_600, rng.draw() & 1 == 0);
         damage(&part(cut, side, ".sheet"), records, zeros);
     }
     // where all is younger than two seconds, there may be nothing to close
@@ -134,8 +134,8 @@ fn killed_at_any_moment() {
         }
         let (path, cut) = (folder(&format!("crash-{kill}")), folder(&format!("crash-{kill}-cut")));
         let mut rng = Rng(0x9e37_79b9_7f4a_7c15 ^ (kill + 1) << 32);
-        (0..10).for_each(|_| _ = rng.next());
-        let older = killed(&path, Duration::from_millis(rng.next() % 3_600));
+        (0..10).for_each(|_| _ = rng.draw());
+        let older = killed(&path, Duration::from_millis(rng.draw() % 3_600));
         if path.join("out").exists() {
             after_a_power_cut(&path, &cut, &mut rng);
             let ended = mend(&path);
@@ -173,7 +173,7 @@ fn what_is_told() {
     for side in SIDES {
         let mut sheet = fs::read(part(&path, side, ".sheet")).unwrap();
         sheet.truncate(seal::LENGTH);
-        assert_eq!(seal::side(&sheet).unwrap().name(), side);
+        assert_eq!(seal::side_under_way(&sheet).unwrap().name(), side);
     }
     // the same folder is refused, whatever it is asked, and all stays as it was
     for words in [&["-", "--raw", "--out", "out"][..], &["-", "--raw", "--out", "out", "--force"]] {

@@ -465,7 +465,7 @@ fn quiet_and_table() {
 fn statuses_in_help() {
     let path = given("help");
     let help = run(host(&path, &["--help"])).said;
-    let man = run(host(&path, &["dev", "man"])).said;
+    let man = run(host(&path, &["man"])).said;
     for status in 0..=6 {
         assert!(help.lines().any(|line| line.starts_with(&format!("  {status}  "))), "{help}");
         assert!(man.contains(&format!(".TP\n.B {status}\n")), "{man}");

@@ -13,7 +13,7 @@ use tuppencehop::cleaning::demo::Rng;
 fn sound(seed: u64, length: usize) -> Vec<i32> {
     let (mut rng, period) = (Rng(seed), 150 + seed as usize % 300);
     let each = |i: usize| {
-        let noise = (rng.next() >> 44) as i32 - (1 << 19);
+        let noise = (rng.draw() >> 44) as i32 - (1 << 19);
         let buzz = (6_000_000 / period * (i % period)) as i32 - 3_000_000;
         [noise, noise + buzz, noise / 8 + buzz, 0][i / 5_000 % 4]
     };
@@ -301,7 +301,7 @@ fn another_right_channel() {
     let mut audio = Float.stereo(&sounds);
     let mut left = || {
         let ended = fed(clean(&path, &["-", "--out", "out", "--force"]), &wav(Float, 2, false, &audio));
-        audio.chunks_exact_mut(8).for_each(|both| both[4..].copy_from_slice(&(rng.next() as u32).to_le_bytes()));
+        audio.chunks_exact_mut(8).for_each(|both| both[4..].copy_from_slice(&(rng.draw() as u32).to_le_bytes()));
         (ended.status, recorded(&path.join("out/left.wav")))
     };
     let (status, kept) = left();

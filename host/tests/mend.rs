@@ -125,7 +125,7 @@ fn what_a_person_says() {
 #[test]
 fn a_long_row_in_parts() {
     const PART: usize = 8_192;
-    let entries: Vec<u64> = (0..2 * PART as u64 + 100).map(|n| n | (n % 3) % 2 << 32).collect();
+    let entries: Vec<u64> = (0..2 * PART as u64 + 100).map(|n| n | (((n % 3) % 2) << 32)).collect();
     let whole = sheet(1, &entries);
     let agree = |file: &[u8]| {
         // one byte more, so that it is no sheet of its own

@@ -65,8 +65,8 @@ impl Known {
     }
 
     fn any<'a>(&'a self, rng: &mut Rng) -> &'a [u8] {
-        let side = &self.0[rng.next() as usize % 2];
-        &side[rng.next() as usize % side.len()]
+        let side = &self.0[rng.draw() as usize % 2];
+        &side[rng.draw() as usize % side.len()]
     }
 
     /// The same recording's other side.
@@ -88,19 +88,19 @@ fn places(file: &[u8]) -> [usize; 2] {
 
 /// A place in a file, mostly where much depends on it.
 fn place(rng: &mut Rng, file: &[u8]) -> usize {
-    let near = rng.next() as usize % 120;
-    match rng.next() % 4 {
+    let near = rng.draw() as usize % 120;
+    match rng.draw() % 4 {
         0 => near.min(file.len()),
         1 => file.len().saturating_sub(near),
-        _ => rng.next() as usize % (file.len() + 1),
+        _ => rng.draw() as usize % (file.len() + 1),
     }
 }
 
 /// Parts of the other side's recording, which is as long, in the place of this one's.
-fn swap(rng: &mut Rng, file: &mut Vec<u8>, other: &[u8]) {
+fn swap(rng: &mut Rng, file: &mut [u8], other: &[u8]) {
     let [seal, records] = places(other);
     let parts = [HEADER..seal - 8, seal..records, records..other.len(), seal..other.len(), records..other.len() - 16];
-    let part = parts[rng.next() as usize % parts.len()].clone();
+    let part = parts[rng.draw() as usize % parts.len()].clone();
     if file.len() == other.len() {
         file[part.clone()].copy_from_slice(&other[part]);
     }
@@ -108,10 +108,10 @@ fn swap(rng: &mut Rng, file: &mut Vec<u8>, other: &[u8]) {
 
 fn damage(rng: &mut Rng, file: &mut Vec<u8>, known: &Known, other: &[u8]) {
     let at = place(rng, file);
-    match rng.next() % 8 {
-        0 | 1 if at < file.len() => file[at] ^= 1 << (rng.next() % 8),
-        2 => _ = file.splice(at..at, (0..1 + rng.next() % 9).map(|_| rng.next() as u8).collect::<Vec<_>>()),
-        3 => _ = file.drain(at..(at + 1 + rng.next() as usize % 9).min(file.len())),
+    match rng.draw() % 8 {
+        0 | 1 if at < file.len() => file[at] ^= 1 << (rng.draw() % 8),
+        2 => _ = file.splice(at..at, (0..1 + rng.draw() % 9).map(|_| rng.draw() as u8).collect::<Vec<_>>()),
+        3 => _ = file.drain(at..(at + 1 + rng.draw() as usize % 9).min(file.len())),
         4 => file[at..].fill(0),
         5 => file.truncate(at),
         6 => file.extend(known.any(rng)),
@@ -129,12 +129,12 @@ fn mutants() {
     for i in 0..many {
         let (side, n) = (i % 2, i / 2 % known.0[0].len());
         let mut file = known.0[side][n].clone();
-        (0..1 + rng.next() % 3).for_each(|_| damage(rng, &mut file, &known, known.other(side, n)));
+        (0..1 + rng.draw() % 3).for_each(|_| damage(rng, &mut file, &known, known.other(side, n)));
         if let Ok(sheet) = told(&mut Cursor::new(&file), false) {
             assert!(known.begins(sheet.side as usize, audio(&file)), "mutant {i}: {sheet}");
             counts[0] += 1;
         }
-        if let Ok(mended) = mend::of(&mut Cursor::new(&file), None) {
+        if let Ok(mended) = mend::mended_of(&mut Cursor::new(&file), None) {
             let mut new = vec![];
             mended.write(&mut Cursor::new(&file), &mut new).unwrap();
             let sheet = told(&mut Cursor::new(&new), false).expect("what is mended is sealed");
@@ -157,7 +157,7 @@ fn two_thousand_power_cuts() {
         let mut file = whole.clone();
         file[cut..].fill(0);
         assert!(told(&mut Cursor::new(&file), false).is_err() || file == whole, "{cut}");
-        match mend::of(&mut Cursor::new(&file), None) {
+        match mend::mended_of(&mut Cursor::new(&file), None) {
             Ok(mended) => {
                 assert_eq!(mended.sheet.side.name(), "right");
                 closed += 1;

@@ -26,8 +26,8 @@ fn clean(path: &Path, words: &[&str]) -> Child {
 fn deliver(mut child: Child, bytes: &[u8]) -> (Output, String) {
     let (mut to, mut rng, mut rest) = (child.stdin.take().unwrap(), Rng(12), bytes);
     while !rest.is_empty() {
-        let most = [3, 700, 4_000, 40_000][(rng.next() % 4) as usize];
-        let (part, behind) = rest.split_at(rest.len().min(1 + rng.next() as usize % most));
+        let most = [3, 700, 4_000, 40_000][(rng.draw() % 4) as usize];
+        let (part, behind) = rest.split_at(rest.len().min(1 + rng.draw() as usize % most));
         // a program that has stopped reads no more
         if to.write_all(part).is_err() {
             break;

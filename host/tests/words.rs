@@ -10,8 +10,8 @@ use std::path::{Path, PathBuf};
 use std::process::{Command, Stdio};
 use tuppencehop::reading::wav;
 
-const COMMANDS: [&str; 8] = ["clean", "side", "mend", "demo", "import", "export", "pack", "unpack"];
-const DEV: [&str; 6] = ["bench", "lags", "logs", "text", "man", "completion"];
+const COMMANDS: [&str; 10] =
+    ["clean", "side", "mend", "demo", "import", "export", "pack", "unpack", "man", "completion"];
 
 /// A folder with a short recording of each bench.
 fn given(name: &str) -> PathBuf {
@@ -72,12 +72,6 @@ fn help_for_the_whole_and_for_each() {
     for word in ["--left", "--both", "--side", "--raw", "--out DIR", "--name NAME", "--model", "--lag crate|own"] {
         assert!(good(&path, &["help", "clean"]).contains(&format!("\n  {word}")), "{word}");
     }
-    let dev = good(&path, &["dev", "--help"]);
-    assert_eq!(dev, good(&path, &["help", "dev"]));
-    for command in DEV {
-        assert!(dev.contains(&format!("\n  dev {command} ")) && !whole.contains(&format!("  {command} ")), "{command}");
-        assert!(good(&path, &["dev", command, "--help"]).starts_with(&format!("box dev {command}: ")));
-    }
     assert_eq!(names(&path), before);
     // behind -- it is a file
     assert_eq!(said(&path, &["side", "--", "--help"]).status, Some(1));
@@ -109,9 +103,8 @@ fn errors_name_what_is_wrong() {
         (vec!["clean", "--out", "out"], 2, "clean: no recording is named"),
         (vec!["clean", "l.wav", "--out", "out"], 2, "clean: l.wav: its name says neither left nor right; --side left"),
         (vec!["claen"], 2, "unknown command claen; did you mean clean?"),
-        (vec!["bench"], 2, "unknown command bench; did you mean dev bench?"),
-        (vec!["dev", "bensh"], 2, "dev: unknown command bensh; did you mean bench?"),
-        (vec!["dev"], 2, "dev: which of them?"),
+        (vec!["dev", "bench"], 2, "dev is a program of its own, tuppencehop-dev; ./box dev runs it"),
+        (vec!["help", "dev"], 2, "dev is a program of its own"),
         (vec!["--hepl"], 2, "unknown option --hepl; did you mean --help?"),
         (vec![], 2, "what shall be done?"),
         (vec!["help", "claen"], 2, "unknown command claen; did you mean clean?"),
@@ -331,14 +324,6 @@ fn answers_as_json() {
     );
 }
 
-#[test]
-fn speed_as_json() {
-    let told = good(&given("speed"), &["dev", "bench", "--json"]);
-    let fields: Vec<&str> = told.split('"').skip(1).step_by(2).collect();
-    let wanted = ["pieces", "own", "calls", "rust", "calls_to_rust", "idle", "status"];
-    assert_eq!((&fields[..], told.lines().count()), (&wanted[..], 1), "{told}");
-}
-
 /// What can't be cleaned has an object too, and the status is that without `--json`.
 #[test]
 fn faults_as_json() {
@@ -416,8 +401,8 @@ fn names_that_steer_a_terminal() {
     fs::write(path.join(name), b"none").unwrap();
     let ended = said(&path, &["side", name]);
     assert!(ended.why.starts_with(&format!("box: {shown}: not a sealed recording")), "{}", ended.why);
-    assert!(said(&path, &["clean", &format!("--\u{1b}[2J")]).why.contains("unknown option --\\u{1b}[2J"));
-    let ended = said(&path, &["clean", "--left", &format!("none\u{7}"), "--out", "new"]);
+    assert!(said(&path, &["clean", "--\u{1b}[2J"]).why.contains("unknown option --\\u{1b}[2J"));
+    let ended = said(&path, &["clean", "--left", "none\u{7}", "--out", "new"]);
     assert_eq!(ended.why, "box: clean: --left none\\u{7}: no such file\n");
     let json = said(&path, &["side", "--json", name]).said;
     assert!(json.starts_with("{\"file\": \"a\\u001b[31m\\n\\u202eleft.wav\", "), "{json}");

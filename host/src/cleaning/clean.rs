@@ -11,7 +11,7 @@ use crate::page::about::About;
 use crate::reading::source::{How, Limited, Lost, Recordings, STANDARD_INPUT};
 use crate::reading::wav;
 use crate::recording::files::{recording, Files, Place};
-use crate::sys::stop;
+use crate::sys::signals;
 use crate::telling::progress::Watched;
 use crate::RATE;
 use std::path::{Path, PathBuf};
@@ -132,9 +132,9 @@ fn is_in_the_way(file: &Path, job: &Job) -> bool {
 }
 
 /// The model, which the library must take.
-fn model(job: &Job) -> Result<Vec<u8>> {
+fn model_of_job(job: &Job) -> Result<Vec<u8>> {
     let Some(path) = &job.model else { return Ok(HOUSE.into()) };
-    let model = import::read(path)?;
+    let model = import::read_model(path)?;
     Recorder::new(job.way).open(Side::Left, &model).at(path)?;
     Ok(model)
 }
@@ -159,8 +159,8 @@ fn too_long(cut: [bool; 2]) -> impl Iterator<Item = Lost> {
 /// Runs a job. What ends one bench leaves the other as it is; what was cleaned till then is kept, and told. Where
 /// nothing was cleaned, nothing is written.
 pub fn clean(job: &Job) -> Result<Report> {
-    stop::listen();
-    let model = model(job)?;
+    signals::listen();
+    let model = model_of_job(job)?;
     if let Some(file) = job.inputs.all().into_iter().find(|file| is_in_the_way(file, job)) {
         return Err(Error::undone("this would be written over; name another folder with --out").at(file));
     }

@@ -30,7 +30,7 @@ const BELOW: f64 = 5.0;
 pub struct Rng(pub u64);
 
 impl Rng {
-    pub fn next(&mut self) -> u64 {
+    pub fn draw(&mut self) -> u64 {
         self.0 ^= self.0 << 13;
         self.0 ^= self.0 >> 7;
         self.0 ^= self.0 << 17;
@@ -39,7 +39,7 @@ impl Rng {
 
     /// From -1 to 1.
     pub fn number(&mut self) -> f64 {
-        (self.next() >> 11) as f64 / (1u64 << 52) as f64 - 1.0
+        (self.draw() >> 11) as f64 / (1u64 << 52) as f64 - 1.0
     }
 }
 
@@ -79,7 +79,7 @@ pub fn grinder(n: usize, seed: u64, hum: f64, whine: f64) -> Vec<f64> {
             let rush = 0.3 * white + 2.0 * poles[0] + 3.0 * poles[1] + 5.0 * poles[2];
             phase += whine * (1.0 + 0.03 * (TAU * 0.23 * t).sin()) / f64::from(RATE);
             let tones: f64 = (1..=8)
-                .map(|k| f64::from(k))
+                .map(f64::from)
                 .map(|k| ((TAU * hum * k * t + k).sin() + (TAU * phase * k + 2.0 * k).sin()) * 0.25 / k)
                 .sum();
             (rush + tones) * 10f64.powf(0.15 * (TAU * 0.31 * t).sin())
@@ -115,7 +115,7 @@ pub fn minutes(minutes: usize, bench: usize) -> Vec<f32> {
     let mut samples: Vec<f32> = grinder(n, 11 + bench as u64, 60.0, 280.0).iter().map(|x| (900.0 * x) as f32).collect();
     let mut at = 0;
     while at < n {
-        let (kind, length) = (rng.next() % 4, (RATE as u64 + rng.next() % (4 * RATE as u64)) as usize);
+        let (kind, length) = (rng.draw() % 4, (RATE as u64 + rng.draw() % (4 * RATE as u64)) as usize);
         for (x, i) in samples[at..n.min(at + length)].iter_mut().zip(0..) {
             match kind {
                 0 => *x = 0.0,

@@ -8,7 +8,7 @@ use crate::cleaning::recorder::{Side, Way};
 use crate::cli::words::Given;
 use crate::error::{Error, Result};
 use crate::reading::source::{How, STANDARD_INPUT};
-use crate::sys::stop;
+use crate::sys::signals;
 use crate::telling::json::{rounded, Json};
 use crate::telling::names;
 use crate::telling::shown::{line_of, shown, steers};
@@ -114,7 +114,7 @@ struct Told<'a> {
     error: Option<&'a str>,
 }
 
-fn json(told: &Told) -> Json {
+fn recording_json(told: &Told) -> Json {
     let Told { file, recording, bench, .. } = *told;
     let number = |of: fn(&Summary) -> u64| Json::from(bench.map(of));
     let decibels = |of: fn(&Summary) -> Option<f64>| Json::from(bench.and_then(of).map(|db| rounded(db, 1)));
@@ -155,7 +155,7 @@ fn tell_as_json(job: &Job, outcome: &Result<Report>) {
                 let notes = &report.notes;
                 crate::say!(
                     "{}",
-                    json(&match bench.samples {
+                    recording_json(&match bench.samples {
                         0 => {
                             let error = fault.or(Some("no sound came"));
                             Told { file: &job.out, recording, bench: None, model, notes, status, error }
@@ -169,14 +169,17 @@ fn tell_as_json(job: &Job, outcome: &Result<Report>) {
             let (status, error) = (error.status(), &*error.to_string());
             for recording in job.inputs.names() {
                 let (file, error) = (&*job.out, Some(error));
-                crate::say!("{}", json(&Told { file, recording, bench: None, model, notes: &[], status, error }));
+                crate::say!(
+                    "{}",
+                    recording_json(&Told { file, recording, bench: None, model, notes: &[], status, error })
+                );
             }
         }
     }
 }
 
 /// Runs a job, tells it by `tell`, and gives what of it is missing.
-fn run(given: &Given, job: &Job, tell: impl Fn(&Report)) -> Result<()> {
+fn run_job(given: &Given, job: &Job, tell: impl Fn(&Report)) -> Result<()> {
     let outcome = clean::clean(job);
     let is_json = given.has("--json");
     if is_json {
@@ -227,7 +230,7 @@ fn many(given: &Given, out: &Path) -> Result<()> {
     }
     let (mut bad, cleaned) = (vec![], Cell::new(false));
     for (file, job) in given.files.iter().zip(jobs) {
-        if stop::asked() {
+        if signals::asked() {
             bad.push(Error::wrong("stopped before it").at(file));
             continue;
         }
@@ -238,7 +241,7 @@ fn many(given: &Given, out: &Path) -> Result<()> {
                 crate::say!("{}", line_of(file, format!("{side} side, {frames} frames, in {place}")));
             }
         };
-        bad.extend(run(given, &job, tell).err());
+        bad.extend(run_job(given, &job, tell).err());
     }
     if cleaned.get() {
         tell_house(given);
@@ -257,14 +260,14 @@ fn tell_raw(inputs: &Inputs) {
     );
 }
 
-pub fn clean(given: &Given) -> Result<()> {
+pub fn run_clean(given: &Given) -> Result<()> {
     let (inputs, out) = (inputs(given)?, given.wanted("--out")?);
     let Some(inputs) = inputs else { return many(given, &out) };
     if given.has("--raw") && !given.has("-q") && !given.has("--json") {
         tell_raw(&inputs);
     }
     let job = job(given, inputs, out)?;
-    run(given, &job, |report| {
+    run_job(given, &job, |report| {
         for bench in written(report) {
             crate::say!("{}: {} frames", bench.side.name(), bench.frames);
         }
@@ -272,7 +275,7 @@ pub fn clean(given: &Given) -> Result<()> {
     })
 }
 
-pub fn demo(given: &Given) -> Result<()> {
+pub fn run_demo(given: &Given) -> Result<()> {
     let dir = &given.files[0];
     crate::cleaning::demo::demo(dir, way(given), given.has("--force"), given.has("--csv"))?;
     let dir = shown(dir);

@@ -1,10 +1,10 @@
 //! The commands. An option is a line of its command's table.
 
 use crate::cli::command::{Command, Files, Opt, Takes};
-use crate::cli::{clean, dev, models, sheets};
+use crate::cli::{clean, help, models, sheets, texts, Program};
 
 const FORCE: Opt = Opt::flag("--force", "Write over what stands there.");
-const JSON: Opt = Opt::flag("--json", "The answer as JSON: an object on a line for each file.");
+pub const JSON: Opt = Opt::flag("--json", "The answer as JSON: an object on a line for each file.");
 const CSV: Opt = Opt::flag("--csv", "Write frames.csv too: a row for each frame.");
 const LAG: Opt = Opt::of(
     "--lag",
@@ -12,6 +12,9 @@ const LAG: Opt = Opt::of(
     "Whose pitch finder: the Rust crate's, as where none is named, which gives what nnnoiseless gives but for the last \
      bits; or our own, with transforms as plain sums, which takes several times as long.",
 );
+
+/// The box.
+pub const BOX: Program = Program { name: "", commands: COMMANDS, help: help::help_of_box, asks: "what shall be done?" };
 
 pub const COMMANDS: &[Command] = &[
     Command {
@@ -67,7 +70,7 @@ they stay as they are, and box mend DIR closes them.",
             "box clean *.wav --out monday",
             "arecord -f S16_LE -c 2 -r 48000 -t wav | box clean - --out monday",
         ],
-        run: clean::clean,
+        run: clean::run_clean,
     },
     Command {
         name: "side",
@@ -81,7 +84,7 @@ them were heard. Of any other no side is told, but the reason, with an exit stat
 with frames; 4 a sheet without a seal; 5 a seal that is not of this audio, or damage; 6 a name or a folder that says
 another side. Of several files the highest. - is a recording on standard input.",
         examples: &["box side monday/left.wav monday/right.wav", "box side --json *.wav"],
-        run: sheets::side,
+        run: sheets::run_side,
     },
     Command {
         name: "mend",
@@ -100,7 +103,7 @@ its audio and its records both go, and put in its place, or where that is taken 
 Of a file: a recording whose side sheet was torn. The side must stand in its seal; of a recording without one --as says
 it, and the answer says that you did. As much of the audio is kept as there are records of, and it is sealed again.",
         examples: &["box mend monday", "box mend torn.wav --out left.wav"],
-        run: sheets::mend,
+        run: sheets::run_mend,
     },
     Command {
         name: "demo",
@@ -110,7 +113,7 @@ it, and the answer says that you did. As much of the audio is kept as there are 
         options: &[LAG, FORCE, CSV],
         about: "They come with the program. Writes what clean writes, and the recordings before cleaning too.",
         examples: &["box demo out"],
-        run: clean::demo,
+        run: clean::run_demo,
     },
     Command {
         name: "import",
@@ -122,7 +125,7 @@ it, and the answer says that you did. As much of the audio is kept as there are 
 From RNNoise's rnn_data.c or from rnnoise-nu's text form (.rnnn), which are told apart by their first words. --model and
 unpack take both as they are, too. What is wrong is said by layer, array and line, and then nothing is written.",
         examples: &["box import rnn_data.c --out rnnoise.rnn"],
-        run: models::import,
+        run: models::run_import,
     },
     Command {
         name: "export",
@@ -136,7 +139,7 @@ unpack take both as they are, too. What is wrong is said by layer, array and lin
         ],
         about: "",
         examples: &["box export house.rnn --as rnnn --out house.rnnn"],
-        run: models::export,
+        run: models::run_export,
     },
     Command {
         name: "pack",
@@ -152,7 +155,7 @@ unpack take both as they are, too. What is wrong is said by layer, array and lin
 FOLDER has layers.txt, a line for each layer with its name, inputs, neurons and activation, and a file of signed bytes
 for each array (input_dense.weights, input_dense.bias, vad_gru.recurrent ...).",
         examples: &["box pack --layers layers --out mine.rnn"],
-        run: models::pack,
+        run: models::run_pack,
     },
     Command {
         name: "unpack",
@@ -162,72 +165,26 @@ for each array (input_dense.weights, input_dense.bias, vad_gru.recurrent ...).",
         options: &[Opt::of("--out", Takes::Place("FOLDER"), "Where the arrays are written."), FORCE],
         about: "The other way round than pack.",
         examples: &["box unpack house.rnn --out layers"],
-        run: models::unpack,
-    },
-];
-
-/// What serves developers.
-pub const DEV: &[Command] = &[
-    Command {
-        name: "dev bench",
-        what: "How fast the box is.",
-        usage: &[""],
-        files: Files::NONE,
-        options: &[JSON],
-        about: "\
-Frames a second in pieces, as clean runs them, with either --lag; how much of a core sixteen benches leave idle; frames
-in four calls each, with this program's transforms, beside the Rust text; and where a frame's time goes.",
-        examples: &[],
-        run: dev::bench,
+        run: models::run_unpack,
     },
     Command {
-        name: "dev lags",
-        what: "How often our own lag and that of the Rust text agree.",
-        usage: &[""],
-        files: Files::NONE,
-        options: &[],
-        about: "On the demo's voices and on seeded ones of known pitch.",
-        examples: &[],
-        run: dev::lags,
-    },
-    Command {
-        name: "dev logs",
-        what: "How far the sound moves with the library's own logarithms.",
-        usage: &[""],
-        files: Files::NONE,
-        options: &[],
-        about: "Against those of this machine: on the demo and on ten minutes of noise and speech.",
-        examples: &[],
-        run: dev::logs,
-    },
-    Command {
-        name: "dev text",
-        what: "How far a recording is from what the Rust text gives.",
-        usage: &[""],
-        files: Files::NONE,
-        options: &[],
-        about: "Sample by sample beside its process_frame: on the demo and on ten minutes of noise and speech.",
-        examples: &[],
-        run: dev::text,
-    },
-    Command {
-        name: "dev man",
+        name: "man",
         what: "The man page, as `box install` puts it in its place.",
         usage: &[""],
         files: Files::NONE,
         options: &[],
         about: "",
         examples: &[],
-        run: dev::man,
+        run: texts::run_man,
     },
     Command {
-        name: "dev completion",
+        name: "completion",
         what: "The completion for bash.",
         usage: &[""],
         files: Files::NONE,
         options: &[],
         about: "",
         examples: &[],
-        run: dev::completion,
+        run: texts::run_completion,
     },
 ];

@@ -1,7 +1,7 @@
 //! Help, written from the table.
 
 use crate::cli::command::{Command, Opt};
-use crate::cli::commands::{COMMANDS, DEV};
+use crate::cli::commands::COMMANDS;
 use std::fmt::Write;
 
 const WIDE: usize = 90;
@@ -42,17 +42,17 @@ fn exit(text: &mut String) {
 }
 
 /// What each does, in a line.
-fn list(text: &mut String, commands: &[Command]) {
+pub fn list(text: &mut String, commands: &[Command]) {
     for command in commands {
         writeln!(text, "  {:14}  {}", command.name, command.what).unwrap();
     }
 }
 
-pub fn whole() -> String {
+pub fn help_of_box() -> String {
     let mut text =
         String::from("box: cleans dictations over a grinder, and tells whose each is\n\n  box COMMAND ..\n\n");
     list(&mut text, COMMANDS);
-    text += "\n  box COMMAND --help, box help COMMAND: all about one\n  box dev --help: what serves developers\n";
+    text += "\n  box COMMAND --help, box help COMMAND: all about one\n";
     text += "  box --help, box --version\n\n";
     text +=
         "Options may stand in front of files or behind them; --out=DIR is --out DIR; behind -- are files\nalone.\n\n";
@@ -65,17 +65,11 @@ pub fn whole() -> String {
     text
 }
 
-pub fn dev() -> String {
-    let mut text = String::from("box dev: what serves developers\n\n");
-    list(&mut text, DEV);
-    text
-}
-
 fn option(text: &mut String, option: &Opt) {
     writeln!(text, "  {:20}  {}", option.shown(), wrapped(option.what, 24)).unwrap();
 }
 
-pub fn of(command: &Command) -> String {
+pub fn help_of(command: &Command) -> String {
     let mut text = format!("box {}: {}\n\n", command.name, command.what);
     for usage in command.usage {
         writeln!(text, "  {}", format!("box {} {usage}", command.name).trim_end()).unwrap();

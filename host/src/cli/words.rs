@@ -130,7 +130,7 @@ fn take_option(given: &mut Given, word: &OsStr, rest: &mut std::slice::Iter<OsSt
 }
 
 /// Neither too few files nor too many, and none without a name.
-fn count(given: &Given) -> Result<()> {
+fn check_count(given: &Given) -> Result<()> {
     let files = &given.command.files;
     if let Some(more) = given.files.get(files.most) {
         return Err(given.wrong(format!("{} is one word too many", shown(more))));
@@ -145,7 +145,7 @@ fn count(given: &Given) -> Result<()> {
 }
 
 /// `None` where help is asked for.
-pub fn read(command: &'static Command, words: &[OsString]) -> Result<Option<Given>> {
+pub fn read_words(command: &'static Command, words: &[OsString]) -> Result<Option<Given>> {
     let mut given = Given { command, options: Vec::new(), files: Vec::new() };
     let plain = words.iter().take_while(|word| *word != "--");
     if plain.into_iter().any(|word| word.to_str().is_some_and(is_help)) {
@@ -161,7 +161,7 @@ pub fn read(command: &'static Command, words: &[OsString]) -> Result<Option<Give
             given.files.push(word.into());
         }
     }
-    count(&given)?;
+    check_count(&given)?;
     for (option, value) in &given.options {
         look(&given, option, value)?;
     }

@@ -23,7 +23,7 @@ pub fn rnnn(layers: &Layers) -> String {
 
 /// Writes a model of any form as a `.rnnn`, and tells its length.
 pub fn export(model: &Path, out: &Path, force: bool) -> Result<usize> {
-    let layers = Layers::of(&import::read(model)?).at(model)?;
+    let layers = Layers::of(&import::read_model(model)?).at(model)?;
     let text = rnnn(&layers);
     put::put(out, text.as_bytes(), force)?;
     Ok(text.len())

@@ -83,7 +83,7 @@ fn loose(model: &[u8]) -> Result<Vec<(String, Vec<u8>)>, Refusal> {
 
 /// Takes a model apart into a folder.
 pub fn unpack(model: &Path, out: &Path, force: bool) -> Result<()> {
-    let files = loose(&import::read(model)?).at(model)?;
+    let files = loose(&import::read_model(model)?).at(model)?;
     let mut folder = Folder::new(out, force)?;
     folder.claim(files.iter().map(|(name, _)| name))?;
     for (name, bytes) in &files {

@@ -47,7 +47,7 @@ pub fn minute(when: SystemTime) -> String {
 
 /// Year, month and day, so many days behind 1 January 1970.
 fn date(mut days: u64) -> [u64; 3] {
-    let is_leap = |year: u64| year % 4 == 0 && (year % 100 != 0 || year % 400 == 0);
+    let is_leap = |year: u64| year.is_multiple_of(4) && (!year.is_multiple_of(100) || year.is_multiple_of(400));
     let mut year = 1970;
     while days >= 365 + u64::from(is_leap(year)) {
         days -= 365 + u64::from(is_leap(year));

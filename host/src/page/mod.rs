@@ -15,7 +15,7 @@ use crate::{FRAME, RATE};
 use std::fmt::Write;
 
 /// A text as it stands on a page: what means something to a browser is escaped, and control characters are shown.
-fn escaped(text: &str) -> String {
+fn html_text(text: &str) -> String {
     let one = |letter: char| match letter {
         '&' => "&amp;".into(),
         '<' => "&lt;".into(),
@@ -104,11 +104,11 @@ fn trouble(bench: &Summary) -> Option<String> {
         (None, false) if silent => "<strong>Silent.</strong> Every sample of this recording is 0.".into(),
         (None, false) => return None,
         (None, true) => "<strong>Empty.</strong> No sound came from this bench.".into(),
-        (Some(why), true) => format!("<strong>Broken, and empty.</strong> {}", escaped(why)),
+        (Some(why), true) => format!("<strong>Broken, and empty.</strong> {}", html_text(why)),
         (Some(why), false) => format!(
             "<strong>Broken off after {}.</strong> {}. What came before is cleaned and kept.",
             length(bench.seconds()),
-            escaped(why)
+            html_text(why)
         ),
     };
     Some(format!("<p class=\"trouble\">{text}</p>"))
@@ -129,7 +129,7 @@ fn player(bench: &Summary, strip: Strip, file: &str) -> String {
 }
 
 /// A strip, which plays what is lent as its player.
-fn strip(text: &mut String, bench: &Summary, strip: Strip, plays: Strip) {
+fn strip_with_player(text: &mut String, bench: &Summary, strip: Strip, plays: Strip) {
     let (id, side, when, seconds) = (player_id(bench, strip), bench.side.name(), strip.name(), bench.seconds());
     let (wide, high) = (picture::WIDE, picture::HIGH);
     writeln!(
@@ -182,7 +182,7 @@ fn sound(text: &mut String, bench: &Summary, before: Option<&str>, prefix: &str)
     *text += "</div>\n<figure class=\"picture\">\n";
     for which in Strip::BOTH {
         let plays = if before.is_some() { which } else { Strip::After };
-        strip(text, bench, which, plays);
+        strip_with_player(text, bench, which, plays);
     }
     let (wide, high) = (picture::WIDE, picture::LANE);
     writeln!(
@@ -235,8 +235,8 @@ fn facts(text: &mut String, bench: &Summary) {
         ("gaps", unless_0(bench.gaps)),
     ];
     let of_sound = of_sound.into_iter().filter(|_| bench.samples > 0);
-    let name = [("recording", escaped(&about.name)), ("date", when)].into_iter();
-    let rows = name.chain(of_sound).chain([("model", escaped(&about.model))]);
+    let name = [("recording", html_text(&about.name)), ("date", when)].into_iter();
+    let rows = name.chain(of_sound).chain([("model", html_text(&about.model))]);
     writeln!(text, "<table class=\"facts\">\n<caption>The {} recording</caption>", bench.side.name()).unwrap();
     for (what, value) in rows {
         writeln!(text, "<tr><th scope=\"row\">{what}</th><td>{value}</td></tr>").unwrap();
@@ -326,7 +326,7 @@ mod tests {
 
     #[test]
     fn in_words() {
-        assert_eq!(escaped("a <b> & \"c\"\n\u{1b}[31m"), "a &lt;b&gt; &amp; &quot;c&quot;\\n\\u{1b}[31m");
+        assert_eq!(html_text("a <b> & \"c\"\n\u{1b}[31m"), "a &lt;b&gt; &amp; &quot;c&quot;\\n\\u{1b}[31m");
         assert_eq!(in_a_link("the \"1st\"-left.wav"), "the%20%221st%22-left.wav");
         assert_eq!([0, 999, 1_000, 1_234_567].map(grouped), ["0", "999", "1,000", "1,234,567"]);
         assert_eq!([0.0, 0.96, 1.0, 59.99, 3_725.0].map(length), ["0:00.0", "0:00.9", "0:01", "0:59", "1:02:05"]);

@@ -130,8 +130,9 @@ impl Overview {
         column.gap |= gap;
         if let Heard::Voice { probability, .. } = frame.heard {
             column.heard += 1;
-            // a model may answer with any number
-            column.likely += f64::from(probability.max(0.0).min(1.0));
+            // a model may answer with any number, and what is none counts as 0
+            let probability = if probability.is_nan() { 0.0 } else { probability };
+            column.likely += f64::from(probability.clamp(0.0, 1.0));
         }
     }
 }

@@ -105,7 +105,7 @@ fn stretches(bench: &Summary, test: fn(&Column) -> bool) -> Vec<[f64; 2]> {
 pub fn strip(text: &mut String, bench: &Summary, strip: Strip, seconds: f64) {
     let peaks = bench.overview.columns.iter().flat_map(|column| column.before.peak());
     let full = peaks.fold(1.0f32, |full, x| full.max(x.abs()));
-    let height = |sample: f32| HIGH / 2.0 - f64::from((sample / full).max(-1.0).min(1.0)) * HIGH * 0.48;
+    let height = |sample: f32| HIGH / 2.0 - f64::from((sample / full).clamp(-1.0, 1.0)) * HIGH * 0.48;
     let peak = shape(bench, seconds, |column| strip.of(column).peak().map(height));
     let rms = shape(bench, seconds, |column| {
         let rms = strip.of(column).rms().max(0.0);

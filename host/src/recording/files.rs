@@ -10,10 +10,10 @@ use crate::page::{picture, table};
 use crate::reading::block::Layout;
 use crate::reading::wav::Writer;
 use crate::recording::folder::Folder;
-use crate::recording::place::write_through;
 use crate::recording::records::Records;
 use crate::recording::through::Through;
 use crate::recording::unfinished;
+use crate::sys::disk::{sync_all, sync_data, sync_folder};
 use crate::{page, RATE};
 use std::fs::File;
 use std::io::{self, BufWriter, Write};
@@ -62,9 +62,9 @@ impl Bench {
     fn finish(self) -> Result<Summary> {
         let seal = self.audio.seal(self.summary.side);
         let mut file = self.audio.finish(self.records.behind()).at(&self.place)?;
-        file.sync_data().at(&self.place)?;
+        sync_data(&file).at(&self.place)?;
         self.records.finish(&mut file, seal)?;
-        file.sync_all().at(&self.place)?;
+        sync_all(&file).at(&self.place)?;
         Ok(self.summary)
     }
 }
@@ -115,7 +115,7 @@ impl Files {
         let through = written_through(&benches).at(place.out)?;
         let mut table = place.csv.then(|| folder.create(TABLE).map(BufWriter::new)).transpose()?;
         table.as_mut().map_or(Ok(()), table::head).at(&folder.place(TABLE))?;
-        write_through(place.out);
+        sync_folder(place.out);
         Ok(Files { benches, table, through, folder, once: place.once })
     }
 
@@ -160,7 +160,7 @@ fn given_up(mut folder: Folder, why: Error, once: bool) -> Error {
         return why;
     }
     folder.leave();
-    let command = unfinished::command(folder.path());
+    let command = unfinished::mend_command(folder.path());
     why.reworded(|why| format!("{why}; what was cleaned is left unfinished, and {command} closes it"))
 }
 
@@ -172,7 +172,7 @@ fn close(
 ) -> Result<[Summary; 2]> {
     let has_table = table.is_some();
     if let Some(table) = &mut table {
-        table.flush().and_then(|()| table.get_ref().sync_all()).at(&folder.place(TABLE))?;
+        table.flush().and_then(|()| sync_all(table.get_ref())).at(&folder.place(TABLE))?;
     } else {
         folder.clear(TABLE);
     }

@@ -1,10 +1,12 @@
 //! Files that come to stand in a folder all together, or not at all.
 
 use crate::error::{At, Error, Result};
-use crate::recording::place::{beside, free, is_taken, new_file, put, write_through};
+use crate::recording::place::{beside, free, give_place, is_taken, new_file};
+use crate::sys::disk::{sync_all, sync_folder};
+use crate::sys::lock::try_lock;
 use crate::telling::shown::line_of;
 use std::ffi::OsString;
-use std::fs::{self, TryLockError};
+use std::fs;
 use std::io::{self, ErrorKind, Write};
 use std::path::{Path, PathBuf};
 
@@ -31,10 +33,10 @@ impl File {
     fn put(&mut self, force: bool) -> io::Result<()> {
         if force && is_taken(&self.place) && !self.place.is_dir() {
             let old = self.old();
-            put(&self.place, &old)?;
+            give_place(&self.place, &old)?;
             self.aside = Some(old);
         }
-        put(&self.part, &self.place)?;
+        give_place(&self.part, &self.place)?;
         self.put = true;
         Ok(())
     }
@@ -43,7 +45,7 @@ impl File {
     fn undo(&self) {
         let _ = fs::remove_file(if self.put { &self.place } else { &self.part });
         if let Some(old) = &self.aside {
-            let _ = put(old, &self.place);
+            let _ = give_place(old, &self.place);
         }
     }
 }
@@ -80,7 +82,7 @@ impl Folder {
             lock: None,
         };
         fs::create_dir_all(path).at(path)?;
-        folder.made.iter().filter_map(|made| made.parent()).for_each(write_through);
+        folder.made.iter().filter_map(|made| made.parent()).for_each(sync_folder);
         Ok(folder)
     }
 
@@ -101,12 +103,10 @@ impl Folder {
     /// Refuses the folder while another run writes into it. A run that is dead holds no lock.
     pub fn lock(&mut self) -> Result<()> {
         let folder = fs::File::open(&self.path).at(&self.path)?;
-        match folder.try_lock() {
-            Ok(()) => self.lock = Some(folder),
-            Err(TryLockError::WouldBlock) => {
-                return Err(Error::undone("another run is writing into this folder").at(&self.path));
-            }
-            Err(TryLockError::Error(why)) => {
+        match try_lock(&folder) {
+            Ok(true) => self.lock = Some(folder),
+            Ok(false) => return Err(Error::undone("another run is writing into this folder").at(&self.path)),
+            Err(why) => {
                 crate::warn!("{}", line_of(&self.path, format!("no second run would be noticed here: {why}")));
             }
         }
@@ -145,7 +145,7 @@ impl Folder {
     /// Writes a file beside its place, and through to the disk.
     pub fn write(&mut self, name: impl AsRef<Path>, bytes: &[u8]) -> Result<()> {
         let mut file = self.create(&name)?;
-        file.write_all(bytes).and_then(|()| file.sync_all()).at(&self.place(name))
+        file.write_all(bytes).and_then(|()| sync_all(&file)).at(&self.place(name))
     }
 
     /// A new file that lies beside another's place until the files are kept.
@@ -184,7 +184,7 @@ impl Folder {
                 _ => Error::from(why).at(&file.place),
             })?;
         }
-        write_through(&self.path);
+        sync_folder(&self.path);
         let old = self.files.drain(..).filter_map(|file| file.aside).chain(self.outdated.drain(..));
         for path in old.chain(self.scratch.drain(..)) {
             let _ = fs::remove_file(path);

@@ -8,6 +8,7 @@ use crate::reading::wav::{self, Audio, Summed};
 use crate::recording::place::new_file;
 use crate::recording::seal::Seal;
 use crate::recording::{records, unfinished};
+use crate::sys::disk::sync_all;
 use crate::telling::found::{follows, is_of, sealed, Follows, Found, OTHER_AUDIO};
 use crate::telling::kept::Row;
 use crate::telling::names::means_another;
@@ -36,7 +37,7 @@ pub struct Mended {
 }
 
 /// The side that the seal says, or why it says none.
-fn side_of(found: &Found, file: &mut (impl Read + Seek)) -> Result<Side> {
+fn side_by_seal(found: &Found, file: &mut (impl Read + Seek)) -> Result<Side> {
     let (chunk, seal) = found.seal().map_err(Error::as_undone)?;
     let is_ours = is_of(seal, chunk.audio, file)?;
     is_ours.then_some(seal.side).ok_or_else(|| Error::undone(OTHER_AUDIO))
@@ -61,7 +62,7 @@ fn told_side(seal: Result<Side>, said: Option<Side>, records: Side) -> Result<(S
 }
 
 /// What mending gives of a file, or why it can't be mended.
-pub fn of(file: &mut (impl Read + Seek), said: Option<Side>) -> Result<Mended> {
+pub fn mended_of(file: &mut (impl Read + Seek), said: Option<Side>) -> Result<Mended> {
     let found = Found::of(file)?;
     let audio = found.audio.clone()?;
     if audio.end() > found.size {
@@ -71,7 +72,7 @@ pub fn of(file: &mut (impl Read + Seek), said: Option<Side>) -> Result<Mended> {
         let wanted = "one channel of 16 bits and 48,000 samples a second is wanted, as the box writes it";
         return Err(Error::undone(wanted));
     }
-    let seal = side_of(&found, file);
+    let seal = side_by_seal(&found, file);
     // a file of before has records alone
     let start = found.chunk.as_ref().map_or(audio.end(), |chunk| chunk.records());
     file.seek(SeekFrom::Start(start))?;
@@ -106,7 +107,7 @@ impl Mended {
         }
         let seal = Seal { side: self.sheet.side, bytes, checksum: summed.sum };
         from.seek(SeekFrom::Start(self.start))?;
-        records::write(to, seal, self.row.tally, from)
+        records::write_chunk(to, seal, self.row.tally, from)
     }
 
     /// How many bytes of the audio have no records, and are not kept.
@@ -143,20 +144,20 @@ impl Mended {
 }
 
 /// The file that is read is never written: what is written is a new file.
-pub fn mend(path: &Path, out: &Path, said: Option<Side>) -> Result<Mended> {
+pub fn mend_file(path: &Path, out: &Path, said: Option<Side>) -> Result<Mended> {
     if path.to_string_lossy().ends_with(unfinished::PART) {
         let folder = path.parent().filter(|folder| *folder != Path::new("")).unwrap_or(Path::new("."));
-        let why = format!("this was not finished; {} closes it", unfinished::command(folder));
+        let why = format!("this was not finished; {} closes it", unfinished::mend_command(folder));
         return Err(Error::undone(why).at(path));
     }
     let mut file = File::open(path).at(path)?;
-    let mended = of(&mut file, said).at(path)?;
+    let mended = mended_of(&mut file, said).at(path)?;
     if let Some(whose) = means_another(out, mended.sheet.side) {
         let why = format!("its {whose} says the other side: this is the {} side", mended.sheet.side.name());
         return Err(Error::wrong(format!("{why}; choose another --out")).at(out));
     }
     let mut new = new_file(out).at(out)?;
-    let written = mended.write(&mut file, &mut new).and_then(|()| Ok(new.sync_all()?));
+    let written = mended.write(&mut file, &mut new).and_then(|()| Ok(sync_all(&new)?));
     if written.is_err() {
         let _ = fs::remove_file(out);
     }

@@ -73,7 +73,7 @@ impl Records {
     pub fn finish(mut self, to: &mut impl Write, seal: Seal) -> Result<()> {
         self.put()?;
         self.file.seek(SeekFrom::Start(seal::LENGTH as u64)).at(&self.path)?;
-        write(to, seal, self.tally, &mut self.file).at(&self.path)
+        write_chunk(to, seal, self.tally, &mut self.file).at(&self.path)
     }
 }
 
@@ -88,7 +88,7 @@ pub fn behind(records: u64) -> u32 {
 }
 
 /// The chunk behind the audio: its seal, records that are copied, and their trailer.
-pub fn write(to: &mut impl Write, seal: Seal, tally: Tally, records: &mut impl Read) -> Result<()> {
+pub fn write_chunk(to: &mut impl Write, seal: Seal, tally: Tally, records: &mut impl Read) -> Result<()> {
     to.write_all(NAME)?;
     to.write_all(&(contents(tally[0]) as u32).to_le_bytes())?;
     to.write_all(&seal.written())?;
@@ -131,7 +131,7 @@ mod tests {
             assert!(chunk == [b"side", &size[..], &seal.written(), &whole].concat(), "{count} records");
             assert_eq!(chunk.len(), behind as usize);
             let bytes = std::fs::read(&path).unwrap();
-            assert_eq!(seal::side(&bytes[..seal::LENGTH]), Some(side));
+            assert_eq!(seal::side_under_way(&bytes[..seal::LENGTH]), Some(side));
             assert!(bytes[seal::LENGTH..] == whole[..8 * count], "{count} records");
             std::fs::remove_file(path).unwrap();
         }

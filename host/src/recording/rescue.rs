@@ -5,8 +5,9 @@ use crate::cleaning::recorder::Side;
 use crate::error::{At, Error, Result};
 use crate::recording::files::{recording, TABLE};
 use crate::recording::folder::Folder;
-use crate::recording::place::{beside, free, is_taken, put, write_through};
-use crate::recording::unfinished::{left_over, of_others, open, Kept, Unfinished, PART, SHEET};
+use crate::recording::place::{beside, free, give_place, is_taken};
+use crate::recording::unfinished::{left_over, of_others, open_ours, Kept, Unfinished, PART, SHEET};
+use crate::sys::disk::{sync_all, sync_folder};
 use crate::telling::found::sealed;
 use crate::telling::shown::line_of;
 use std::fs::{self, File};
@@ -19,7 +20,7 @@ fn put_free(part: &Path, place: &Path) -> Result<PathBuf> {
     let ending = place.extension().unwrap_or_default().to_string_lossy();
     let numbered = |number: u32| place.with_file_name(format!("{stem}-{number}.{ending}"));
     let place = free(|number| number.map_or(place.to_owned(), numbered));
-    put(part, &place).at(&place)?;
+    give_place(part, &place).at(&place)?;
     Ok(place)
 }
 
@@ -47,7 +48,7 @@ fn mend_part(folder: &Path, part: &Path, sheet: &Path) -> Result<Option<Closed>>
     let kept = unfinished.kept().at(part)?;
     unfinished.close(part, sheet)?;
     let place = put_free(part, &place)?;
-    write_through(folder);
+    sync_folder(folder);
     remove(sheet)?;
     Ok(Some(Closed { place, kept }))
 }
@@ -81,13 +82,13 @@ fn cut_table(part: &Path) -> io::Result<bool> {
     file.read_exact(&mut end)?;
     let torn = end.iter().rev().take_while(|byte| **byte != b'\n').count();
     file.set_len(size - torn as u64)?;
-    file.sync_all()?;
+    sync_all(&file)?;
     Ok(end.iter().filter(|byte| **byte == b'\n').count() > 1)
 }
 
 /// What else a run left: the table, and what it had finished, get their places. A table without a row is none.
 fn mend_other(part: &Path) -> Result<()> {
-    open(part)?;
+    open_ours(part)?;
     let place = part.with_extension("");
     let is_table = place.file_name() == Some(TABLE.as_ref());
     if is_table && !cut_table(part).at(part)? {
@@ -125,7 +126,7 @@ impl Mended {
 }
 
 /// Closes all that a run left unfinished in a folder.
-pub fn mend(path: &Path) -> Result<Mended> {
+pub fn mend_folder(path: &Path) -> Result<Mended> {
     let mut folder = Folder::new(path, false)?;
     folder.lock()?;
     let mut mended = Mended { was_left: left_over(path).is_some(), ..Mended::default() };

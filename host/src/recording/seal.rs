@@ -38,7 +38,7 @@ pub fn under_way(side: Side) -> [u8; LENGTH] {
 }
 
 /// The side of a recording under way, where these bytes are its seal.
-pub fn side(seal: &[u8]) -> Option<Side> {
+pub fn side_under_way(seal: &[u8]) -> Option<Side> {
     Side::BOTH.into_iter().find(|side| seal == under_way(*side))
 }
 
@@ -51,15 +51,15 @@ mod tests {
         for of in Side::BOTH {
             let seal = Seal { side: of, bytes: 0x1_2345_6789, checksum: 0xCBF4_3926 };
             assert_eq!(Seal::read(&seal.written()), Ok(seal));
-            assert_eq!(side(&under_way(of)), Some(of));
+            assert_eq!(side_under_way(&under_way(of)), Some(of));
             for at in 0..LENGTH {
                 let (mut seal, mut begun) = (seal.written(), under_way(of));
                 (seal[at], begun[at]) = (seal[at] ^ 1, begun[at] ^ 1);
                 assert_eq!(Seal::read(&seal), Err(Refusal(if at < 4 { 51 } else { 52 })), "byte {at}");
-                assert_eq!(side(&begun), None, "byte {at}");
+                assert_eq!(side_under_way(&begun), None, "byte {at}");
             }
-            assert_eq!(side(&under_way(of)[..LENGTH - 1]), None);
-            assert_eq!(side(&seal.written()), None);
+            assert_eq!(side_under_way(&under_way(of)[..LENGTH - 1]), None);
+            assert_eq!(side_under_way(&seal.written()), None);
         }
     }
 }

@@ -1,6 +1,7 @@
 //! Files that are written through to the disk while they grow, beside the work: after a power cut all is there that
 //! is older than a second.
 
+use crate::sys::disk::sync_data;
 use std::fs::File;
 use std::io;
 use std::sync::mpsc::{channel, RecvTimeoutError, Sender};
@@ -17,7 +18,7 @@ pub struct Through {
 
 impl Through {
     pub fn new(files: Vec<File>) -> Through {
-        Through::each(EVERY, move || files.iter().try_for_each(File::sync_data))
+        Through::each(EVERY, move || files.iter().try_for_each(sync_data))
     }
 
     /// Does something again and again, until the end or a fault.

@@ -9,6 +9,7 @@ use crate::recording::files::{self, recording};
 use crate::recording::place::{beside, is_taken};
 use crate::recording::records::Records;
 use crate::recording::seal;
+use crate::sys::disk::{sync_all, sync_data};
 use crate::telling::kept::Row;
 use crate::telling::shown::{quoted, shown};
 use crate::telling::side::Sheet;
@@ -41,7 +42,7 @@ pub fn left_over(folder: &Path) -> Option<PathBuf> {
 }
 
 /// The command that closes what lies in a folder, as a shell takes it.
-pub fn command(folder: &Path) -> String {
+pub fn mend_command(folder: &Path) -> String {
     format!("`box mend {}`", quoted(folder))
 }
 
@@ -49,12 +50,12 @@ pub fn command(folder: &Path) -> String {
 pub fn refuse(folder: &Path) -> Result<()> {
     let Some(first) = left_over(folder) else { return Ok(()) };
     let name = first.file_name().unwrap_or_default().to_string_lossy().into_owned();
-    let why = format!("{name} is of a run that was not finished; {} closes what it recorded", command(folder));
+    let why = format!("{name} is of a run that was not finished; {} closes what it recorded", mend_command(folder));
     Err(Error::undone(why).at(folder))
 }
 
 /// A file, and no link to another.
-pub fn open(path: &Path) -> Result<File> {
+pub fn open_ours(path: &Path) -> Result<File> {
     let about = fs::symlink_metadata(path).at(path)?;
     if !about.is_file() {
         return Err(not_ours(path));
@@ -68,7 +69,7 @@ fn not_ours(path: &Path) -> Error {
 
 /// Refuses a file that does not begin with one of these, or with zeros in their place, as a power cut may leave them.
 fn begins(path: &Path, with: &[&[u8]]) -> Result<()> {
-    let (mut file, mut bytes) = (open(path)?, vec![]);
+    let (mut file, mut bytes) = (open_ours(path)?, vec![]);
     let length = with.iter().map(|with| with.len()).max().unwrap_or(0);
     Read::by_ref(&mut file).take(length as u64).read_to_end(&mut bytes).at(path)?;
     let alike = |with: &&[u8]| bytes.iter().zip(*with).all(|(byte, ours)| byte == ours || *byte == 0);
@@ -82,7 +83,7 @@ fn samples(file: &mut File) -> io::Result<u64> {
     file.rewind()?;
     let said = match file.read_exact(&mut head) {
         Err(why) if why.kind() == ErrorKind::UnexpectedEof => Some(0),
-        read => read.map(|()| wav::said(&head, RATE))?,
+        read => read.map(|()| wav::said_size(&head, RATE))?,
     };
     Ok(said.map_or(size, |said| size.min(said.into())) / 2)
 }
@@ -110,7 +111,7 @@ pub struct Unfinished {
 impl Unfinished {
     /// `None` where nothing was recorded yet.
     pub fn find(part: &Path, sheet: &Path) -> Result<Option<Unfinished>> {
-        let mut audio = open(part)?;
+        let mut audio = open_ours(part)?;
         let there = samples(&mut audio).at(part)?;
         if there == 0 {
             begins(part, &[&wav::open_head(RATE)])?;
@@ -119,13 +120,13 @@ impl Unfinished {
             }
             return Ok(None);
         }
-        let mut records = open(sheet)?;
+        let mut records = open_ours(sheet)?;
         let mut seal = Vec::new();
         Read::by_ref(&mut records).take(seal::LENGTH as u64).read_to_end(&mut seal).at(sheet)?;
         let stays =
             |why: &str| Error::undone(format!("{why} {}, which stays until you move it", shown(part))).at(sheet);
         let no_seal = "it does not begin with a seal, so nothing tells the side of";
-        let side = seal::side(&seal).ok_or_else(|| stays(no_seal))?;
+        let side = seal::side_under_way(&seal).ok_or_else(|| stays(no_seal))?;
         let row = Row::read(&mut records, frames_of(there), Some(side), true).at(sheet)?;
         if row.frames() < 2 {
             return Err(stays("no record in it is of the sound in"));
@@ -142,9 +143,9 @@ impl Unfinished {
         let records = Records::of(sheet.to_owned(), self.sheet, self.side, self.row.tally);
         let seal = audio.seal(self.side);
         let mut file = audio.finish(records.behind()).at(part)?;
-        file.sync_data().and_then(|()| file.set_len(wav::HEAD as u64 + u64::from(size))).at(part)?;
+        sync_data(&file).and_then(|()| file.set_len(wav::HEAD as u64 + u64::from(size))).at(part)?;
         records.finish(&mut file, seal)?;
-        file.sync_all().at(part)
+        sync_all(&file).at(part)
     }
 
     /// What a clerk is told of it.
@@ -187,7 +188,7 @@ mod tests {
 
     #[test]
     fn a_command_that_can_be_pasted() {
-        let told = |path: &str| command(Path::new(path));
+        let told = |path: &str| mend_command(Path::new(path));
         assert_eq!(told("out/2024-11"), "`box mend out/2024-11`");
         assert_eq!(told("the fitter's"), r"`box mend 'the fitter'\''s'`");
     }

@@ -1,10 +1,11 @@
 //! What is told to people, and whether it could be told.
 
 use crate::error::{Error, Result};
+use crate::sys::terminal;
 use crate::telling::shown;
 use std::env;
 use std::fmt;
-use std::io::{self, ErrorKind, IsTerminal, Write};
+use std::io::{self, ErrorKind, Write};
 use std::sync::Mutex;
 
 /// Why a line could not be written, the first time that this happened.
@@ -38,7 +39,7 @@ pub fn warn(words: fmt::Arguments) {
 /// Whether standard error may be coloured: it is a terminal, and nobody asked for none.
 fn is_colourful() -> bool {
     let is_set = |name: &str| env::var_os(name).is_some_and(|value| !value.is_empty());
-    io::stderr().is_terminal() && !is_set("NO_COLOR") && env::var_os("TERM").is_none_or(|term| term != "dumb")
+    terminal::is_there() && !is_set("NO_COLOR") && env::var_os("TERM").is_none_or(|term| term != "dumb")
 }
 
 /// What went wrong, line by line, to standard error.

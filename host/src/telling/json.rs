@@ -74,7 +74,7 @@ impl<T: Clone + Into<Json>> From<&[T]> for Json {
     }
 }
 
-fn text(f: &mut fmt::Formatter, value: &str) -> fmt::Result {
+fn write_text(f: &mut fmt::Formatter, value: &str) -> fmt::Result {
     write!(f, "\"")?;
     for letter in value.chars() {
         match letter {
@@ -89,7 +89,7 @@ fn text(f: &mut fmt::Formatter, value: &str) -> fmt::Result {
     write!(f, "\"")
 }
 
-fn list<T>(
+fn write_list<T>(
     f: &mut fmt::Formatter,
     [open, close]: [&str; 2],
     of: &[T],
@@ -111,10 +111,10 @@ impl Display for Json {
             Json::Bool(value) => write!(f, "{value}"),
             Json::Number(value) if value.is_finite() => write!(f, "{value}"),
             Json::Null | Json::Number(_) => write!(f, "null"),
-            Json::Text(value) => text(f, value),
-            Json::List(values) => list(f, ["[", "]"], values, |f, value| value.fmt(f)),
-            Json::Object(fields) => list(f, ["{", "}"], fields, |f, (name, value)| {
-                text(f, name)?;
+            Json::Text(value) => write_text(f, value),
+            Json::List(values) => write_list(f, ["[", "]"], values, |f, value| value.fmt(f)),
+            Json::Object(fields) => write_list(f, ["{", "}"], fields, |f, (name, value)| {
+                write_text(f, name)?;
                 write!(f, ": {value}")
             }),
         }

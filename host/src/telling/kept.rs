@@ -36,7 +36,7 @@ fn entry(record: &[u8]) -> Option<u64> {
 }
 
 /// The side of a record.
-fn side(record: &[u8]) -> Option<Side> {
+fn side_of_record(record: &[u8]) -> Option<Side> {
     Side::BOTH.get(usize::from(record[5])).copied()
 }
 
@@ -64,7 +64,9 @@ impl Row {
     /// The good ones of a part, behind those that were read before: those that the library writes of what they say.
     /// How many there are.
     fn add(&mut self, part: &[u8]) -> u64 {
-        let Some(side) = self.side.or(part.first_chunk::<8>().and_then(|record| side(record))) else { return 0 };
+        let Some(side) = self.side.or(part.first_chunk::<8>().and_then(|record| side_of_record(record))) else {
+            return 0;
+        };
         let entries: Vec<u64> = part.chunks_exact(8).map_while(entry).collect();
         let mut written = vec![0; 8 * entries.len()];
         if tuppence::sheet_records(&mut self.tally.clone(), &mut written, side as u32, &entries) != 0 {

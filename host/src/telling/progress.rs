@@ -5,10 +5,9 @@ use crate::cleaning::recorder::{Frame, Heard, Side};
 use crate::cleaning::run::Sink;
 use crate::error::Result;
 use crate::page::picture::clock;
+use crate::sys::terminal;
 use crate::telling::answer::{moving, still};
 use crate::RATE;
-use std::io::{self, IsTerminal};
-use std::os::fd::AsRawFd;
 use std::time::{Duration, Instant};
 
 /// So often the line moves.
@@ -29,23 +28,6 @@ impl Now {
             db if db.is_finite() => format!("{db:4.0} dB"),
             _ => "no sound".into(),
         }
-    }
-}
-
-/// How many letters a line of the terminal has.
-fn width() -> usize {
-    #[repr(C)]
-    #[derive(Default)]
-    struct Size([u16; 4]);
-    const TIOCGWINSZ: u64 = 0x5413;
-    extern "C" {
-        fn ioctl(fd: i32, request: u64, ...) -> i32;
-    }
-    let mut size = Size::default();
-    // SAFETY: a size is lent for the length of the call, which writes four numbers of 16 bits
-    match unsafe { ioctl(io::stderr().as_raw_fd(), TIOCGWINSZ, &mut size) } {
-        0 if size.0[1] > 0 => size.0[1].into(),
-        _ => 80,
     }
 }
 
@@ -84,7 +66,7 @@ impl Line {
     fn look(&mut self) {
         if self.last.elapsed() >= PAUSE {
             self.last = Instant::now();
-            moving(&self.told().chars().take(width().saturating_sub(1)).collect::<String>());
+            moving(&self.told().chars().take(terminal::width().saturating_sub(1)).collect::<String>());
         }
     }
 }
@@ -99,7 +81,7 @@ impl<S> Watched<'_, S> {
     pub fn new(to: &mut S, length: Option<u64>, quiet: bool) -> Watched<'_, S> {
         let now = Instant::now();
         let line = Line { length, start: now, last: now, benches: Default::default() };
-        Watched { to, line: (!quiet && io::stderr().is_terminal()).then_some(line) }
+        Watched { to, line: (!quiet && terminal::is_there()).then_some(line) }
     }
 }
 

@@ -82,7 +82,7 @@ impl fmt::Display for Sheet {
 
 /// A file in which one can go back, or standard input where it is called `-`. A pipe is laid into a file without a name
 /// first.
-fn open(path: &Path) -> io::Result<File> {
+fn open_to_go_back(path: &Path) -> io::Result<File> {
     let path = if path == Path::new("-") { Path::new("/dev/stdin") } else { path };
     let mut file = File::open(path)?;
     if file.stream_position().is_ok() {
@@ -110,8 +110,8 @@ fn explained(file: &mut File, path: &Path, quick: bool) -> Option<Error> {
 }
 
 /// The sheet of a sealed recording whose name says no other side.
-pub fn of(path: &Path, quick: bool) -> Result<Sheet> {
-    let mut file = open(path)?;
+pub fn sheet_of(path: &Path, quick: bool) -> Result<Sheet> {
+    let mut file = open_to_go_back(path)?;
     let sheet = sealed(&mut file, quick).or_else(|why| Err(explained(&mut file, path, quick).unwrap_or(why)))?;
     match means_another(path, sheet.side) {
         Some(whose) => Err(Error::Misnamed(format!("the {whose} says another side: {sheet}").into())),
@@ -120,11 +120,11 @@ pub fn of(path: &Path, quick: bool) -> Result<Sheet> {
 }
 
 /// A line for each file that is sealed. The others come back, each with the reason, and with the highest status.
-pub fn side(paths: &[PathBuf], quick: bool) -> Result<()> {
+pub fn tell_sides(paths: &[PathBuf], quick: bool) -> Result<()> {
     let how = if quick { "; sealed, but its audio was not looked at" } else { "; sealed" };
     let mut bad = vec![];
     for path in paths {
-        match of(path, quick) {
+        match sheet_of(path, quick) {
             Ok(sheet) => crate::say!("{}", line_of(path, format!("{sheet}{how}"))),
             Err(error) => bad.push(error.at(path)),
         }

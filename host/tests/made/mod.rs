@@ -16,7 +16,7 @@ pub fn crc32(bytes: &[u8]) -> u32 {
 /// So many samples of noise, as bytes.
 pub fn noise(samples: usize, seed: u64) -> Vec<u8> {
     let mut rng = Rng(0x9e37_79b9 + seed);
-    (0..samples).flat_map(|_| (rng.next() as i16 / 8).to_le_bytes()).collect()
+    (0..samples).flat_map(|_| (rng.draw() as i16 / 8).to_le_bytes()).collect()
 }
 
 /// The entries of so many frames that number up from 0, each third of them heard.

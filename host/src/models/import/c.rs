@@ -4,7 +4,7 @@
 //! declarations.
 
 use super::header_fault;
-use super::number::{count, shown, weight};
+use super::number::{count, shown_word, weight};
 use super::tokens::{is_word, tokens, Token};
 use crate::error::{At, Error, Result};
 use crate::models::layers::{first_array, lengths, Layers, LAYERS};
@@ -45,7 +45,7 @@ impl<'a> Reader<'a> {
         match self.tokens.next() {
             Some(token) if token.text == text => Ok(()),
             Some(Token { text: other, line }) => {
-                let why = format!("line {line}: {of}: {} is wanted, not {}", shown(text), shown(other));
+                let why = format!("line {line}: {of}: {} is wanted, not {}", shown_word(text), shown_word(other));
                 Err(Error::undone(why))
             }
             None => Err(Error::undone(format!("it ends within {of}"))),
@@ -104,7 +104,7 @@ impl<'a> Reader<'a> {
             let why = format!("line {line}: {name}[{}] has {} numbers", length.escape_ascii(), numbers.len());
             return Err(Error::undone(why));
         }
-        put(&mut self.arrays, name, numbers, line)
+        insert_new(&mut self.arrays, name, numbers, line)
     }
 
     /// The kind of a layer is read; where its name and its initialiser follow, the layer.
@@ -119,7 +119,7 @@ impl<'a> Reader<'a> {
             parts.push(owned(word));
             Ok(())
         })?;
-        put(&mut self.layers, name, Declared { line, kind: owned(kind), parts }, line)
+        insert_new(&mut self.layers, name, Declared { line, kind: owned(kind), parts }, line)
     }
 
     fn read(&mut self) -> Result<()> {
@@ -134,7 +134,7 @@ impl<'a> Reader<'a> {
     }
 }
 
-fn put<T>(to: &mut BTreeMap<String, T>, name: String, what: T, line: usize) -> Result<()> {
+fn insert_new<T>(to: &mut BTreeMap<String, T>, name: String, what: T, line: usize) -> Result<()> {
     if to.contains_key(&name) {
         return Err(Error::undone(format!("line {line}: {name} stands there for the second time")));
     }
@@ -145,7 +145,7 @@ fn put<T>(to: &mut BTreeMap<String, T>, name: String, what: T, line: usize) -> R
 /// To C a number that begins with 0 is not decimal.
 fn decimal(word: &[u8]) -> Result<&[u8]> {
     match word.strip_prefix(b"-").or(word.strip_prefix(b"+")).unwrap_or(word) {
-        [b'0', b'0'..=b'9', ..] => Err(Error::undone(format!("{} is no decimal number in C", shown(word)))),
+        [b'0', b'0'..=b'9', ..] => Err(Error::undone(format!("{} is no decimal number in C", shown_word(word)))),
         _ => Ok(word),
     }
 }
@@ -183,7 +183,7 @@ fn fill(layers: &mut Layers, layer: usize, of: &Declared, arrays: &BTreeMap<Stri
     let wanted = lengths(layer, layers.shapes[3 * layer], layers.shapes[3 * layer + 1]);
     for (array_name, place) in array_names.iter().zip(order) {
         let none =
-            || Error::undone(format!("{name}: there is no array {} of rnn_weight", shown(array_name.as_bytes())));
+            || Error::undone(format!("{name}: there is no array {} of rnn_weight", shown_word(array_name.as_bytes())));
         let array = arrays.get(array_name).ok_or_else(none)?;
         if array.len() != wanted[*place] {
             let refused = layers.fault();
@@ -196,7 +196,7 @@ fn fill(layers: &mut Layers, layer: usize, of: &Declared, arrays: &BTreeMap<Stri
     Ok(())
 }
 
-pub fn layers(text: &[u8]) -> Result<Layers> {
+pub fn layers_in_c(text: &[u8]) -> Result<Layers> {
     let tokens = tokens(text)?.into_iter().peekable();
     let mut reader = Reader { tokens, arrays: BTreeMap::new(), layers: BTreeMap::new() };
     reader.read()?;

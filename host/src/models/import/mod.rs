@@ -58,7 +58,7 @@ impl Form {
 /// What the writer finds wrong with a layer's three numbers, told as they stand in the text; its arrays are not known
 /// yet.
 fn header_fault(layers: &Layers, header: [&[u8]; 3]) -> Result<()> {
-    let [inputs, neurons, activation] = header.map(number::shown);
+    let [inputs, neurons, activation] = header.map(number::shown_word);
     let refused = layers.fault();
     let Unwritten { number, layer } = refused;
     let what = match number {
@@ -80,8 +80,8 @@ pub fn model(bytes: Vec<u8>) -> Result<Vec<u8>> {
         _ if bytes.len() > LONGEST => {
             return Err(Error::undone(format!("a text of more than {} MiB is no model", LONGEST >> 20)));
         }
-        Form::Rnnn => rnnn::layers(unmarked(&bytes))?,
-        Form::C => c::layers(unmarked(&bytes))?,
+        Form::Rnnn => rnnn::layers_in_rnnn(unmarked(&bytes))?,
+        Form::C => c::layers_in_c(unmarked(&bytes))?,
     };
     layers
         .file()
@@ -89,7 +89,7 @@ pub fn model(bytes: Vec<u8>) -> Result<Vec<u8>> {
 }
 
 /// The model in a file of any form, as a `.rnn`.
-pub fn read(path: &Path) -> Result<Vec<u8>> {
+pub fn read_model(path: &Path) -> Result<Vec<u8>> {
     let mut bytes = Vec::new();
     let most = LONGEST as u64 + 1;
     File::open(path).and_then(|file| file.take(most).read_to_end(&mut bytes)).at(path)?;
@@ -98,7 +98,7 @@ pub fn read(path: &Path) -> Result<Vec<u8>> {
 
 /// Writes a model of any form as a `.rnn`, once the library has read it, and tells its length and its neurons.
 pub fn import(file: &Path, out: &Path, force: bool) -> Result<String> {
-    let model = read(file)?;
+    let model = read_model(file)?;
     let layers = Layers::of(&model).at(file)?;
     put::put(out, &model, force)?;
     let [a, b, c, d] = [0, 1, 2, 3].map(|layer| layers.shapes[3 * layer + 1]);

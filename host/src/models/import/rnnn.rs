@@ -2,7 +2,7 @@
 //! and version, and then a `.rnn`'s numbers in decimal, one behind the other, with any white space between them.
 
 use super::header_fault;
-use super::number::{count, is_space, shown, weight, whole};
+use super::number::{count, is_space, shown_word, weight, whole_number};
 use crate::error::{At, Error, Result};
 use crate::models::layers::{first_array, lengths, Layers, Unwritten, LAYERS};
 
@@ -32,16 +32,16 @@ fn version(words: &mut Words) -> Result<()> {
         return Err(Error::undone("it does not begin with `rnnoise-nu model file version 1`"));
     }
     match words.next() {
-        Some((_, number)) if whole(number) == Ok(1) => Ok(()),
+        Some((_, number)) if whole_number(number) == Ok(1) => Ok(()),
         Some((_, number)) => {
-            Err(Error::undone(format!("version {} of rnnoise-nu's form; version 1 is read", shown(number))))
+            Err(Error::undone(format!("version {} of rnnoise-nu's form; version 1 is read", shown_word(number))))
         }
         None => Err(Error::undone("it ends before its version")),
     }
 }
 
 /// A layer's inputs, neurons and activation.
-fn header(words: &mut Words, layer: usize, layers: &mut Layers) -> Result<()> {
+fn layer_header(words: &mut Words, layer: usize, layers: &mut Layers) -> Result<()> {
     let (name, mut told, mut at) = (LAYERS[layer].0, Vec::new(), 0);
     for (k, what) in ["inputs", "neurons", "activation"].into_iter().enumerate() {
         let (line, word) = words.next().ok_or_else(|| Error::undone(format!("it ends before the {what} of {name}")))?;
@@ -60,11 +60,11 @@ fn array(words: &mut Words, name: &str, length: usize) -> Result<Vec<u8>> {
     words.take(length).enumerate().map(number).collect()
 }
 
-pub fn layers(text: &[u8]) -> Result<Layers> {
+pub fn layers_in_rnnn(text: &[u8]) -> Result<Layers> {
     let (mut words, mut layers) = (Words { rest: text, line: 1 }, Layers::default());
     version(&mut words)?;
     for (layer, (name, arrays)) in LAYERS.iter().enumerate() {
-        header(&mut words, layer, &mut layers)?;
+        layer_header(&mut words, layer, &mut layers)?;
         let lengths = lengths(layer, layers.shapes[3 * layer], layers.shapes[3 * layer + 1]);
         for ((array_name, length), place) in arrays.iter().zip(lengths).zip(first_array(layer)..) {
             let name = format!("{name}.{array_name}");
@@ -82,7 +82,7 @@ pub fn layers(text: &[u8]) -> Result<Layers> {
     match words.next() {
         None => Ok(layers),
         Some((line, word)) => {
-            let why = format!("line {line}: {} stands behind the last number of vad_output.bias", shown(word));
+            let why = format!("line {line}: {} stands behind the last number of vad_output.bias", shown_word(word));
             Err(Error::undone(why))
         }
     }

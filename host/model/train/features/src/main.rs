@@ -8,7 +8,7 @@
 //!     out: for each frame 22 remembered gains, voice, and 1 for heard or 0, as the product works them out in its four
 //!     calls with this model: what train.py's own network is checked against
 
-#[path = "../../../../src/dev/transform.rs"]
+#[path = "../../../../dev/src/transform.rs"]
 #[allow(dead_code)]
 mod transform;
 

@@ -1,14 +1,15 @@
 //! How loud the features hear a recording: nnnoiseless divides its forward transform by 480, where RNNoise divides by
 //! 960 (docs/DIFFERENCES.md). The smallest input that shows it is one sample among zeros: whether its frame is silent.
 
+#[path = "../../tests/models/mod.rs"]
 mod models;
 
 use tuppencehop::cleaning::demo::filtered;
 use tuppencehop::cleaning::recorder::{Heard, Recorder, Side, Way};
-use tuppencehop::dev::reference::Reference;
-use tuppencehop::dev::transform::{Transform, SPECTRUM, WINDOW};
 use tuppencehop::reading::block::Block;
 use tuppencehop::FRAME;
+use tuppencehop_dev::reference::Reference;
+use tuppencehop_dev::transform::{Transform, SPECTRUM, WINDOW};
 
 /// A frame that begins with this sample and has no other.
 fn frame(sample: f32) -> [f32; FRAME] {

@@ -1,10 +1,10 @@
 //! `box dev text`: how far a recording, as the box cleans it, is from what the Rust text's `process_frame` gives. The
 //! finder is the same; transforms and logarithms differ in their last bits.
 
-use crate::cleaning::demo::{dictation, minutes, HOUSE};
-use crate::cleaning::recorder::{Heard, Side, Way, RECORD, STORE};
-use crate::dev::reference::Reference;
-use crate::FRAME;
+use crate::reference::Reference;
+use tuppencehop::cleaning::demo::{dictation, minutes, HOUSE};
+use tuppencehop::cleaning::recorder::{Heard, Side, Way, RECORD, STORE};
+use tuppencehop::FRAME;
 
 /// How far one cleaning of a recording is from the text's.
 #[derive(Debug, Default)]
@@ -41,7 +41,7 @@ impl Distance {
 }
 
 /// A bench of this way, a frame in each call, beside the text.
-pub fn beside(recording: &[f32], model: &[u8], way: Way) -> Distance {
+pub fn beside_text(recording: &[f32], model: &[u8], way: Way) -> Distance {
     let (mut record, mut store, mut distance) = ([0; RECORD], vec![0.0; STORE], Distance::default());
     way.open(&mut record, &mut store, 0, model).expect("a model that the library reads");
     let mut reference = Reference::new(model).expect("a model that the text reads");
@@ -55,12 +55,12 @@ pub fn beside(recording: &[f32], model: &[u8], way: Way) -> Distance {
     distance
 }
 
-pub fn text() {
-    crate::say!(
+pub fn tell_distances() {
+    tuppencehop::say!(
         "| recording | `--lag` | frames | largest difference of a sample | all differences, below the sound | \
          largest difference of a voice's probability | samples that differ in 16 bits |"
     );
-    crate::say!("|---|---|---|---|---|---|---|");
+    tuppencehop::say!("|---|---|---|---|---|---|---|");
     for (bench, side) in Side::BOTH.into_iter().enumerate() {
         let rows = [
             ("the demo", "crate", Way::Crate, dictation(bench).noisy),
@@ -68,10 +68,10 @@ pub fn text() {
             ("the demo", "own", Way::Asked, dictation(bench).noisy),
         ];
         for (what, lag, way, recording) in rows {
-            let distance = beside(&recording, HOUSE, way);
+            let distance = beside_text(&recording, HOUSE, way);
             let Distance { frames, most, rounded, voice, .. } = distance;
             let (side, below, samples) = (side.name(), distance.below(), FRAME * frames);
-            crate::say!(
+            tuppencehop::say!(
                 "| {what}, {side} | {lag} | {frames} | {most:.5} | {below:.1} dB | {voice:.7} | {rounded} of {samples} |"
             );
         }

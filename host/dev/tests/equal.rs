@@ -2,16 +2,17 @@
 //! In four calls a frame, with the text's own, it is the same bit for bit but for the signs of zeros. And however a
 //! recording is cut, it is the same.
 
+#[path = "../../tests/models/mod.rs"]
 mod models;
 
 use tuppencehop::cleaning::demo::{dictation, minutes, HOUSE};
 use tuppencehop::cleaning::recorder::{Frame, Recorder, Side, Way, PIECE};
 use tuppencehop::cleaning::run::{frames_of, in_memory};
-use tuppencehop::dev::calls::Calls;
-use tuppencehop::dev::reference::Reference;
-use tuppencehop::dev::text::{beside, Distance};
 use tuppencehop::reading::block::Block;
 use tuppencehop::FRAME;
+use tuppencehop_dev::calls::Calls;
+use tuppencehop_dev::reference::Reference;
+use tuppencehop_dev::text::{beside_text, Distance};
 
 /// One bench by the text: its output, and the voice of each frame.
 fn by_the_text(recording: &[f32], model: &[u8]) -> (Vec<f32>, Vec<f32>) {
@@ -117,11 +118,11 @@ fn is_near(distance: &Distance) -> bool {
 fn as_the_text_gives_it_but_for_the_last_bits() {
     for bench in [0, 1] {
         for recording in [dictation(bench).noisy, minutes(1, bench)] {
-            let distance = beside(&recording, HOUSE, Way::Crate);
+            let distance = beside_text(&recording, HOUSE, Way::Crate);
             assert!(is_near(&distance), "{distance:?}, {} dB", distance.below());
         }
         // our own lag, where it is another, moves it much further
-        let distance = beside(&dictation(bench).noisy, HOUSE, Way::Asked);
+        let distance = beside_text(&dictation(bench).noisy, HOUSE, Way::Asked);
         assert!(distance.most > 100.0 && distance.below() < 60.0, "{distance:?}, {} dB", distance.below());
     }
 }

@@ -1,6 +1,6 @@
 //! The Rust text's own `process_frame`, with transforms that are worked out in f64, and the machine's logarithm.
 
-use crate::dev::transform::Transform;
+use crate::transform::Transform;
 use nnnoiseless_text::{feed, DenoiseState, RnnModel};
 
 /// One bench by the text.

@@ -70,7 +70,7 @@ impl Transform {
             out[0] = x[0];
             return;
         }
-        let radix = [5, 3, 2].into_iter().find(|r| n % r == 0).unwrap();
+        let radix = [5, 3, 2].into_iter().find(|r| n.is_multiple_of(*r)).unwrap();
         let part = n / radix;
         let mut parts = vec![Complex::default(); n];
         for r in 0..radix {

@@ -1,12 +1,12 @@
 //! Frames in four calls each, with this program's transforms and logarithms and the text's own finder: what is held
 //! against the text's `process_frame` bit for bit.
 
-use crate::cleaning::recorder::{Frame, Heard, Side, Way, FRAMES, HEARD, RECORD, STORE};
-use crate::dev::transform::{Transform, SPECTRUM, WINDOW};
-use crate::telling::refusal::{done, Refusal};
+use crate::transform::{Transform, SPECTRUM, WINDOW};
 use nnnoiseless_text::probe::pitch::PitchFinder;
 use std::hint::black_box;
 use std::time::{Duration, Instant};
+use tuppencehop::cleaning::recorder::{Frame, Heard, Side, Way, FRAMES, HEARD, RECORD, STORE};
+use tuppencehop::telling::refusal::{done, Refusal};
 
 /// A side's share of the store, whose first numbers are `input_mem`: what the lag is searched in.
 const SHARE: usize = 6_144;

@@ -1,8 +1,8 @@
 //! `box dev logs`: how far the sound moves where the library's own logarithms are lent, and not those of `f32::log10`.
 
-use crate::cleaning::demo::{dictation, minutes, HOUSE};
-use crate::cleaning::recorder::{Side, Way, RECORD, STORE};
-use crate::FRAME;
+use tuppencehop::cleaning::demo::{dictation, minutes, HOUSE};
+use tuppencehop::cleaning::recorder::{Side, Way, RECORD, STORE};
+use tuppencehop::FRAME;
 
 /// The 22 logarithms of a frame.
 type Logs = [f32; 22];
@@ -71,13 +71,13 @@ fn moved(recording: &[f32], lends: [fn(&Logs) -> Logs; 2]) -> Moved {
 }
 
 pub fn logs() {
-    crate::say!("| recording | frames | logarithms that differ | largest difference of a sample | samples that differ in 16 bits |");
-    crate::say!("|---|---|---|---|---|");
+    tuppencehop::say!("| recording | frames | logarithms that differ | largest difference of a sample | samples that differ in 16 bits |");
+    tuppencehop::say!("|---|---|---|---|---|");
     for (bench, side) in Side::BOTH.into_iter().enumerate() {
         for (what, recording) in [("the demo", dictation(bench).noisy), ("ten minutes", minutes(10, bench))] {
             let Moved { frames, logs, most, rounded } = moved(&recording, [machines, ours]);
             let (all, samples) = (22 * frames, FRAME * frames);
-            crate::say!(
+            tuppencehop::say!(
                 "| {what}, {} | {frames} | {logs} of {all} | {most:.5} | {rounded} of {samples} |",
                 side.name()
             );

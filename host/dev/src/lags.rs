@@ -1,11 +1,11 @@
 //! `box dev lags`: how often our own lag (request 04) and the text's `PitchFinder` agree, and how often each is right.
 
-use crate::cleaning::demo::{cleaned, dictation, effect, filtered, power, Rng};
-use crate::cleaning::recorder::Way;
-use crate::error::Result;
-use crate::{FRAME, RATE};
 use nnnoiseless_text::probe::pitch::PitchFinder;
 use std::f64::consts::TAU;
+use tuppencehop::cleaning::demo::{cleaned, dictation, effect, filtered, power, Rng};
+use tuppencehop::cleaning::recorder::Way;
+use tuppencehop::error::Result;
+use tuppencehop::{FRAME, RATE};
 
 /// `input_mem`: what the lag is searched in.
 const INPUT_MEM: usize = 1_728;
@@ -45,7 +45,7 @@ fn multiple(a: f64, b: f64) -> bool {
 }
 
 /// How many percent of the pairs are near; or an octave apart besides; or a multiple besides.
-fn share(pairs: &[[f64; 2]]) -> String {
+fn agreement(pairs: &[[f64; 2]]) -> String {
     let percent = |test: fn(f64, f64) -> bool| {
         100.0 * pairs.iter().filter(|[a, b]| test(*a, *b)).count() as f64 / pairs.len().max(1) as f64
     };
@@ -72,7 +72,7 @@ fn seeded(pitch: [f64; 2], below: f64) -> Vec<([f64; 2], f64)> {
     (1..=VOICES)
         .flat_map(|seed| {
             let mut rng = Rng(0x9e37_79b9_7f4a_7c15_u64.wrapping_mul(seed));
-            (0..8).for_each(|_| _ = rng.next());
+            (0..8).for_each(|_| _ = rng.draw());
             let hertz = pitch[0] + (pitch[1] - pitch[0]) * (rng.number() + 1.0) / 2.0;
             let period = f64::from(RATE) / hertz;
             both(&voice(&mut rng, period, below)).into_iter().skip(4).map(move |pair| (pair, period))
@@ -83,13 +83,13 @@ fn seeded(pitch: [f64; 2], below: f64) -> Vec<([f64; 2], f64)> {
 /// What either way makes of the demo.
 fn effects() -> Result<()> {
     let dictations = [dictation(0), dictation(1)];
-    crate::say!("\nthe demo, cleaned in either way:\n");
-    crate::say!("| bench | `--lag` | noise in the pauses | voice | signal to noise, after |");
-    crate::say!("|---|---|---|---|---|");
+    tuppencehop::say!("\nthe demo, cleaned in either way:\n");
+    tuppencehop::say!("| bench | `--lag` | noise in the pauses | voice | signal to noise, after |");
+    tuppencehop::say!("|---|---|---|---|---|");
     for (name, way) in [("crate", Way::Crate), ("own", Way::Asked)] {
         for (bench, dictation) in cleaned(&dictations, way)?.iter().zip(&dictations) {
             let e = effect(dictation, &bench.after);
-            crate::say!(
+            tuppencehop::say!(
                 "| {} | {name} | {:.2} dB | {:.2} dB | {:.2} dB |",
                 bench.side.name(),
                 e.pauses,
@@ -102,9 +102,11 @@ fn effects() -> Result<()> {
 }
 
 pub fn lags() -> Result<()> {
-    crate::say!("within 2 samples; or an octave apart; or one a multiple of the other:\n");
-    crate::say!("| voice | frames | ours and the text's | ours and the true period | the text's and the true period |");
-    crate::say!("|---|---|---|---|---|");
+    tuppencehop::say!("within 2 samples; or an octave apart; or one a multiple of the other:\n");
+    tuppencehop::say!(
+        "| voice | frames | ours and the text's | ours and the true period | the text's and the true period |"
+    );
+    tuppencehop::say!("|---|---|---|---|---|");
     for (bench, name) in ["left", "right"].into_iter().enumerate() {
         let demo = dictation(bench);
         let speaking: Vec<bool> = demo.voice.chunks_exact(FRAME).map(|frame| power(frame) > 1e4).collect();
@@ -112,7 +114,7 @@ pub fn lags() -> Result<()> {
         for (how, samples) in [("alone", &alone), ("over its grinder", &demo.noisy)] {
             let pairs: Vec<_> =
                 both(samples).into_iter().zip(&speaking).filter(|(_, on)| **on).map(|(p, _)| p).collect();
-            crate::say!("| demo, {name}, {how} | {} | {} | – | – |", pairs.len(), share(&pairs));
+            tuppencehop::say!("| demo, {name}, {how} | {} | {} | – | – |", pairs.len(), agreement(&pairs));
         }
     }
     for (what, pitch) in
@@ -121,11 +123,12 @@ pub fn lags() -> Result<()> {
         for below in [60.0, 10.0, 0.0] {
             let all = seeded(pitch, below);
             let pairs: Vec<_> = all.iter().map(|(pair, _)| *pair).collect();
-            let [ours, texts] = [0, 1].map(|i| share(&all.iter().map(|(pair, t)| [pair[i], *t]).collect::<Vec<_>>()));
-            crate::say!(
+            let [ours, texts] =
+                [0, 1].map(|i| agreement(&all.iter().map(|(pair, t)| [pair[i], *t]).collect::<Vec<_>>()));
+            tuppencehop::say!(
                 "| seeded, {what}, noise {below} dB below | {} | {} | {ours} | {texts} |",
                 all.len(),
-                share(&pairs)
+                agreement(&pairs)
             );
         }
     }

@@ -1,13 +1,13 @@
 //! `box dev bench`: how fast the box is, beside the Rust text's `process_frame`.
 
-use crate::cleaning::demo::{grinder, HOUSE};
-use crate::cleaning::recorder::{Recorder, Side, Way, RECORD, STORE};
-use crate::dev::calls::{Calls, Spent};
-use crate::dev::reference::Reference;
-use crate::reading::block::{packed, Block, Layout};
-use crate::FRAME;
+use crate::calls::{Calls, Spent};
+use crate::reference::Reference;
 use std::thread::sleep;
 use std::time::{Duration, Instant};
+use tuppencehop::cleaning::demo::{grinder, HOUSE};
+use tuppencehop::cleaning::recorder::{Recorder, Side, Way, RECORD, STORE};
+use tuppencehop::reading::block::{packed, Block, Layout};
+use tuppencehop::FRAME;
 
 const FRAMES: usize = 1_000;
 const ROUNDS: usize = 7;
@@ -81,9 +81,9 @@ fn per_second(time: Duration) -> f64 {
 
 fn tell(what: &str, per_second: f64) {
     let times = per_second / 100.0;
-    crate::say!("{what}: {per_second:.0} frames a second, {times:.0} times as fast as it is spoken");
+    tuppencehop::say!("{what}: {per_second:.0} frames a second, {times:.0} times as fast as it is spoken");
     // a bench speaks a frame every 10 ms
-    crate::say!("  one core serves {:.0} benches in real time", times.floor());
+    tuppencehop::say!("  one core serves {:.0} benches in real time", times.floor());
 }
 
 /// Frames of one bench a second: in pieces as the box runs them, the same with our own lag, in four calls each, and by
@@ -102,11 +102,11 @@ pub struct Speed {
 impl Speed {
     pub fn tell(&self) {
         tell("one bench in pieces, all by the library", self.pieces);
-        crate::say!("  sixteen benches in real time leave {:.1} % of a core idle", self.idle);
+        tuppencehop::say!("  sixteen benches in real time leave {:.1} % of a core idle", self.idle);
         tell("the same with --lag own", self.own);
         tell("one bench in four calls a frame, the text's lag, this program's transforms and logarithms", self.calls);
-        crate::say!("process_frame of the Rust text with the same three: {:.0} frames a second", self.rust);
-        crate::say!("time of the four calls, the Rust = 1: {:.2}", self.rust / self.calls);
+        tuppencehop::say!("process_frame of the Rust text with the same three: {:.0} frames a second", self.rust);
+        tuppencehop::say!("time of the four calls, the Rust = 1: {:.2}", self.rust / self.calls);
         parts_of("of a frame in pieces", &self.of_pieces);
         parts_of("of a frame in four calls", &self.of_calls);
     }
@@ -149,9 +149,9 @@ fn of_calls(spent: &Spent) -> [(&'static str, Duration); 7] {
 
 fn parts_of(what: &str, parts: &[(&str, Duration)]) {
     let whole: Duration = parts.iter().map(|p| p.1).sum();
-    crate::say!("{what}:");
+    tuppencehop::say!("{what}:");
     for (name, time) in parts {
-        crate::say!(
+        tuppencehop::say!(
             "  {name:11} {:5.1} %  {:6.1} us",
             100.0 * time.as_secs_f64() / whole.as_secs_f64(),
             1e6 * time.as_secs_f64() / (ROUNDS * FRAMES) as f64
