@@ -42,7 +42,7 @@ impl Given {
 
     fn clean(&self, left: &str, right: &str, model: &str, out: &str) -> Output {
         let [l, r, m, o] = [left, right, model, out].map(|name| self.at(name));
-        host(&["clean", "--left", &l, "--right", &r, "--model", &m, "--out", &o])
+        host(&["clean", "--left", &l, "--right", &r, "--model", &m, "--out", &o, "--csv"])
     }
 
     /// What was asked could not be done: the run says this, and leaves no folder.
@@ -132,7 +132,7 @@ fn a_stereo_file_is_both_benches() {
     given.put("l.wav", &wav::write(48_000, &sides[0][..n]));
     given.put("r.wav", &wav::write(48_000, &sides[1][..n]));
     let [b, m, o] = ["both.wav", "house.rnn", "one"].map(|name| given.at(name));
-    assert!(host(&["clean", "--both", &b, "--model", &m, "--out", &o]).status.success());
+    assert!(host(&["clean", "--both", &b, "--model", &m, "--out", &o, "--csv"]).status.success());
     assert!(given.clean("l.wav", "r.wav", "house.rnn", "two").status.success());
     for name in WRITTEN {
         let read = |folder: &str| fs::read(given.path.join(folder).join(name)).unwrap();
@@ -150,7 +150,7 @@ fn a_stereo_file_is_both_benches() {
 #[test]
 fn the_demo_needs_no_files() {
     let out = folder("demo").join("out");
-    let output = host(&["demo", out.to_str().unwrap()]);
+    let output = host(&["demo", out.to_str().unwrap(), "--csv"]);
     assert!(output.status.success());
     for name in WRITTEN.iter().chain(&["left-before.wav", "right-before.wav"]) {
         assert!(out.join(name).exists(), "{name}");

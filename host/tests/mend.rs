@@ -79,15 +79,13 @@ fn what_is_refused() {
     refused(&right[..3_000], &[], "the file ends within its audio (refusal 37)");
     refused(&right[..records], &[], "no records follow its seal, from frame 0 on");
     refused(&right[..records + 15], &[], "no records follow its seal, from frame 0 on");
-    refused(b"notes", &[], "not a WAV file: it does not start as one");
+    refused(b"notes", &[], "not a WAV file: it is text");
     let elsewhere = "its seal does not stand where its audio ends";
     refused(&[&right[..500], &[7], &right[500..]].concat(), &[], elsewhere);
     refused(&[&right[..500], &[7], &right[500..]].concat(), &["--as", "right"], elsewhere);
-    refused(
-        &riff(&audio, &[]),
-        &[],
-        "no side sheet: it does not end in a trailer that points back to records (refusal 32)",
-    );
+    let why = "not a sealed recording: another program saved it, or it was never sealed. Ask for the file as the box \
+               wrote it (refusal 32)";
+    refused(&riff(&audio, &[]), &[], why);
     // sheet and seal of two sides
     let two = riff(&audio, &chunk(&seal(0, &audio), &sheet(1, &entries(5))));
     refused(&two, &[], "its records are of the right side");

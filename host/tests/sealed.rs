@@ -32,9 +32,17 @@ fn one_whole_riff() {
         assert!(file == with_entries(side, audio, &entries), "{name}");
         // RIFF says how long all is, and its three chunks are all of it
         assert_eq!(file[4..8], (file.len() as u32 - 8).to_le_bytes());
-        assert!(wav::are_chunks(Cursor::new(&file), 12).unwrap());
+        assert!(are_chunks(&file[12..]));
         assert_eq!(wav::read(&file).unwrap().channels[0].len(), 62_400);
     }
+}
+
+/// Whether these bytes are chunks and nothing else.
+fn are_chunks(bytes: &[u8]) -> bool {
+    let Some((head, rest)) = bytes.split_first_chunk::<8>() else { return bytes.is_empty() };
+    let size = u32::from_le_bytes([head[4], head[5], head[6], head[7]]) as usize;
+    head[..4].iter().all(|byte| byte.is_ascii_graphic() || *byte == b' ')
+        && rest.get(size + size % 2..).is_some_and(are_chunks)
 }
 
 /// The audio of a WAV file, as its header says.
@@ -181,11 +189,14 @@ fn the_other_bench() {
     assert_eq!(fs::read(path.join("house.rnn")).unwrap(), HOUSE);
     let refused = |words: &[&str], why: &str| {
         let ended = clean(&path, words, "new");
-        let why = format!("box: {why}; with --anyway it is taken all the same\n");
+        let why = format!("box: {why} regardless\n");
         assert_eq!(ended, Ended { status: Some(2), said: String::new(), why });
         assert!(!path.join("new").exists());
     };
-    let given = |what: &str, is: &str, bench: &str| format!("{what} says {is}, and it is given for the {bench} bench");
+    let given = |what: &str, is: &str, bench: &str| {
+        let given = format!("it is given as the {bench} bench's recording; use --anyway to clean it as {bench}");
+        format!("{what} says {is}, but {given}")
+    };
     let why = given("DIR/right.wav: its seal", "right", "left");
     refused(&["--left", "DIR/right.wav", "--right", "b.wav"], &why);
     let why = given("DIR/left.wav: its seal", "left", "right");
@@ -200,7 +211,8 @@ fn the_other_bench() {
     // one recording for both, by whatever name
     fs::hard_link(path.join("a.wav"), path.join("c.wav")).unwrap();
     for other in ["a.wav", "./a.wav", "c.wav"] {
-        refused(&["--left", "a.wav", "--right", other], "a.wav: one recording can't be both benches'");
+        let why = "a.wav: one recording can't be both benches'; use --anyway to clean it as both";
+        refused(&["--left", "a.wav", "--right", other], why);
     }
     assert_eq!(clean(&path, &["--left", "DIR/left.wav", "--right", "DIR/right.wav"], "again").status, Some(0));
     let anyway = ["--left", "DIR/right.wav", "--anyway", "--right", "DIR/right.wav"];

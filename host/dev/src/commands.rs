@@ -73,7 +73,8 @@ fn speed_json(speed: &Speed) -> Json {
         ("calls_to_rust", speed.rust / speed.calls),
         ("idle", speed.idle),
     ];
-    Json::Object(numbers.map(|(name, number)| (name, rounded(number, 3).into())).into())
+    let numbers = numbers.into_iter().map(|(name, number)| (name, rounded(number, 3).into()));
+    Json::Object(numbers.chain([("status", Json::from(0u32))]).collect())
 }
 
 fn run_bench(given: &Given) -> Result<()> {

@@ -40,7 +40,7 @@ fn errors_name_what_is_wrong() {
 fn speed_as_json() {
     let told = said(&["bench", "--json"]);
     let fields: Vec<&str> = told.split('"').skip(1).step_by(2).collect();
-    let wanted = ["pieces", "own", "calls", "rust", "calls_to_rust", "idle"];
+    let wanted = ["pieces", "own", "calls", "rust", "calls_to_rust", "idle", "status"];
     assert_eq!((&fields[..], told.lines().count()), (&wanted[..], 1), "{told}");
 }
 

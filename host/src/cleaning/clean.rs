@@ -2,20 +2,18 @@
 
 use crate::cleaning::cleaned::Summary;
 use crate::cleaning::demo::{HOUSE, HOUSE_NAME};
+use crate::cleaning::mix::{self, Apart};
 use crate::cleaning::recorder::{Recorder, Side, Way};
 use crate::cleaning::run::{run, Refused};
 use crate::error::{At, Error, Reason, Result};
 use crate::models::import;
 use crate::page::about::About;
-use crate::reading::source::{Limited, Lost, Recordings};
+use crate::reading::source::{How, Limited, Lost, Recordings, STANDARD_INPUT};
 use crate::reading::wav;
-use crate::recording::files::{recording, Files};
+use crate::recording::files::{recording, Files, Place};
 use crate::sys::signals;
-use crate::telling::found::Found;
 use crate::telling::progress::Watched;
 use crate::RATE;
-use std::fs::{self, File};
-use std::os::unix::fs::MetadataExt;
 use std::path::{Path, PathBuf};
 
 /// What to read, and where to write.
@@ -28,8 +26,11 @@ pub struct Job {
     pub quiet: bool,
     /// Whether what stands in the folder may be written over.
     pub force: bool,
-    /// Whether a recording is taken that says itself that it is the other bench's.
+    /// Whether a recording is taken although it seems to be the other bench's.
     pub anyway: bool,
+    pub how: How,
+    /// Whether the table of frames is written.
+    pub csv: bool,
     pub out: PathBuf,
     /// What stands in front of the name of each file that is written.
     pub prefix: String,
@@ -46,6 +47,7 @@ impl Job {
     }
 }
 
+/// What is read. A file called `-` is standard input.
 pub enum Inputs {
     /// A file for one bench alone.
     One { side: Side, file: PathBuf },
@@ -53,60 +55,73 @@ pub enum Inputs {
     Two { left: PathBuf, right: PathBuf },
     /// One file whose left channel is the left bench.
     Stereo(PathBuf),
-    /// The same from standard input; raw, it has no header.
-    Stream { raw: bool },
 }
 
 impl Inputs {
-    fn recordings(&self) -> Result<Recordings> {
+    fn recordings(&self, how: How) -> Result<Recordings> {
         match self {
-            Inputs::One { side, file } => Recordings::one(*side, file),
-            Inputs::Two { left, right } => Recordings::two(left, right),
-            Inputs::Stereo(both) => Recordings::stereo(both),
-            Inputs::Stream { raw } => Recordings::stream(*raw),
+            Inputs::One { side, file } => Recordings::one(*side, file, how),
+            Inputs::Two { left, right } => Recordings::two(left, right, how),
+            Inputs::Stereo(both) => Recordings::stereo(both, how),
         }
     }
 
     /// What the page says of a bench's recording.
     fn about(&self, side: Side, model: &Path) -> About {
-        match (self, side) {
-            (Inputs::One { side: its, .. }, side) if *its != side => About::nothing(),
-            (Inputs::One { file, .. }, _) => About::file(file, model),
-            (Inputs::Two { left, .. }, Side::Left) => About::file(left, model),
-            (Inputs::Two { right, .. }, Side::Right) => About::file(right, model),
-            (Inputs::Stereo(both), _) => About::file(both, model),
-            (Inputs::Stream { .. }, _) => About::stream("standard input", model),
+        match self {
+            Inputs::One { side: its, .. } if *its != side => About::nothing(),
+            _ if self.named(side) == Path::new(STANDARD_INPUT) => About::stream(STANDARD_INPUT, model),
+            _ => About::file(self.named(side), model),
         }
     }
 
-    pub fn files(&self) -> Vec<&Path> {
+    /// All files, standard input among them.
+    fn all(&self) -> Vec<&Path> {
         match self {
             Inputs::One { file, .. } => vec![file],
             Inputs::Two { left, right } => vec![left, right],
             Inputs::Stereo(both) => vec![both],
-            Inputs::Stream { .. } => vec![],
         }
+    }
+
+    /// What each recording is called.
+    pub fn names(&self) -> Vec<&Path> {
+        self.all().into_iter().map(called).collect()
     }
 
     /// What a bench's recording is called.
     pub fn named(&self, side: Side) -> &Path {
         match (self, side) {
-            (Inputs::Two { right, .. }, Side::Right) => right,
-            (Inputs::One { file, .. } | Inputs::Stereo(file) | Inputs::Two { left: file, .. }, _) => file,
-            (Inputs::Stream { .. }, _) => Path::new("standard input"),
+            (Inputs::Two { right, .. }, Side::Right) => called(right),
+            (Inputs::One { file, .. } | Inputs::Stereo(file) | Inputs::Two { left: file, .. }, _) => called(file),
         }
     }
 
-    /// Whether it can't be read again.
+    /// Whether one of them can't be read again.
     fn come_once(&self) -> bool {
-        matches!(self, Inputs::Stream { .. })
+        self.all().into_iter().any(|file| !file.is_file())
+    }
+
+    /// Whether both benches are recorded.
+    fn are_both(&self) -> bool {
+        !matches!(self, Inputs::One { .. })
     }
 }
 
-/// What was cleaned, and what of it is missing: a line for each bench or recording that ended before its time.
+fn called(file: &Path) -> &Path {
+    match file == Path::new("-") {
+        true => Path::new(STANDARD_INPUT),
+        false => file,
+    }
+}
+
+/// What was cleaned.
 pub struct Report {
     pub benches: [Summary; 2],
+    /// What of it is missing: one error for each bench or recording that ended before its time.
     pub lost: Vec<Error>,
+    /// What was not as it should be, if nothing is lost by it.
+    pub notes: Vec<String>,
 }
 
 /// Whether a file stands where a recording is written.
@@ -114,38 +129,6 @@ fn is_in_the_way(file: &Path, job: &Job) -> bool {
     let (Ok(file), Ok(out)) = (file.canonicalize(), job.out.canonicalize()) else { return false };
     let names = Side::BOTH.map(|side| job.place(side));
     names.iter().filter_map(|name| name.file_name()).any(|name| file == out.join(name))
-}
-
-/// What in a recording says that it is the other bench's. (A pipe is not looked at: what is read of it is gone.)
-fn marked_for_other(path: &Path, side: Side) -> Option<(&'static str, Side)> {
-    let mut file = File::open(path).ok().filter(|file| file.metadata().is_ok_and(|about| about.is_file()))?;
-    Found::of(&mut file).ok()?.sides().find(|(_, other)| *other != side)
-}
-
-/// Whether two names are of one file.
-fn is_one(left: &Path, right: &Path) -> bool {
-    let file = |path: &Path| fs::metadata(path).map(|about| (about.dev(), about.ino()));
-    file(left).is_ok_and(|left| file(right).is_ok_and(|right| left == right))
-}
-
-/// Refuses one file for both benches, and a recording whose seal or side sheet says the other bench.
-fn refuse_mix(inputs: &Inputs) -> Result<()> {
-    let refused = |path: &Path, why: String| Error::wrong(why + "; with --anyway it is taken all the same").at(path);
-    let given: Vec<(&Path, Side)> = match inputs {
-        Inputs::One { side, file } => vec![(file, *side)],
-        Inputs::Two { left, right } if is_one(left, right) => {
-            return Err(refused(left, "one recording can't be both benches'".into()));
-        }
-        Inputs::Two { left, right } => vec![(left, Side::Left), (right, Side::Right)],
-        _ => vec![],
-    };
-    for (path, side) in given {
-        if let Some((what, other)) = marked_for_other(path, side) {
-            let why = format!("{what} says {}, and it is given for the {} bench", other.name(), side.name());
-            return Err(refused(path, why));
-        }
-    }
-    Ok(())
 }
 
 /// The model, which the library must take.
@@ -178,22 +161,23 @@ fn too_long(cut: [bool; 2]) -> impl Iterator<Item = Lost> {
 pub fn clean(job: &Job) -> Result<Report> {
     signals::listen();
     let model = model_of_job(job)?;
-    if let Some(file) = job.inputs.files().into_iter().find(|file| is_in_the_way(file, job)) {
+    if let Some(file) = job.inputs.all().into_iter().find(|file| is_in_the_way(file, job)) {
         return Err(Error::undone("this would be written over; name another folder with --out").at(file));
     }
-    if !job.anyway {
-        refuse_mix(&job.inputs)?;
-    }
-    let mut files = Files::new(&job.out, &job.prefix, &[], job.force, job.inputs.come_once())?;
-    let mut recordings = job.inputs.recordings()?;
+    let mut notes = mix::check(&job.inputs, job.anyway)?;
+    let (out, prefix, once) = (&*job.out, &*job.prefix, job.inputs.come_once());
+    let mut files = Files::new(&Place { out, prefix, more: &[], force: job.force, once, csv: job.csv })?;
+    let mut recordings = job.inputs.recordings(job.how)?;
     Side::BOTH.into_iter().for_each(|side| files.about(side, job.inputs.about(side, job.model_name())));
     let length = recordings.length();
-    let mut limited = Limited::new(&mut recordings, wav::MOST);
+    let mut apart = Apart::new(&mut recordings, job.inputs.are_both(), job.anyway);
+    let mut limited = Limited::new(&mut apart, wav::MOST);
     let mut watched = Watched::new(&mut files, length, job.quiet);
     let outcome = run(&mut limited, [&model; 2], job.way, &mut watched, |_| ());
     drop(watched);
     let cut = limited.cut;
-    recordings.tell();
+    notes.extend(apart.found(job.inputs.named(Side::Left))?);
+    notes.extend(recordings.notes());
     let benches = match outcome {
         Ok(benches) => benches,
         Err(why) => return Err(files.give_up(why)),
@@ -204,7 +188,7 @@ pub fn clean(job: &Job) -> Result<Report> {
     if files.is_empty() {
         return Err(nothing(lost));
     }
-    Ok(Report { benches: files.keep(None)?, lost })
+    Ok(Report { benches: files.keep(None)?, lost, notes })
 }
 
 /// Why nothing is written.

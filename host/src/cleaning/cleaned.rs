@@ -1,5 +1,6 @@
 //! What cleaning a recording gave.
 
+use crate::cleaning::first_voice::FirstVoice;
 use crate::cleaning::pauses::Pauses;
 use crate::cleaning::recorder::{Frame, Heard, Side};
 use crate::page::about::About;
@@ -38,9 +39,9 @@ pub struct Summary {
     pub samples: u64,
     pub frames: u64,
     pub heard: u64,
-    /// Frames in which a voice is likely, and the number of the first of them.
+    /// The number of frames in which a voice is likely.
     pub voices: u64,
-    pub first_voice: Option<u32>,
+    pub first_voice: FirstVoice,
     pub gaps: u64,
     /// The loudest sample as it was recorded, and how many stood at full scale.
     pub peak: f32,
@@ -60,7 +61,7 @@ impl Summary {
             frames: 0,
             heard: 0,
             voices: 0,
-            first_voice: None,
+            first_voice: FirstVoice::default(),
             gaps: 0,
             peak: 0.0,
             clipped: 0,
@@ -77,7 +78,8 @@ impl Summary {
 
     /// When the first voice begins, in seconds.
     pub fn voice_at(&self) -> Option<f64> {
-        Some(f64::from(self.first_voice?) * FRAME as f64 / f64::from(RATE)).filter(|at| *at < self.seconds())
+        let at = self.first_voice.begins()? as f64 * FRAME as f64 / f64::from(RATE);
+        Some(at).filter(|at| *at < self.seconds())
     }
 
     pub fn before(&mut self, samples: &[f32]) {
@@ -101,9 +103,7 @@ impl Summary {
         self.frames += 1;
         self.heard += u64::from(frame.heard.is_heard());
         self.voices += u64::from(voice);
-        if voice {
-            self.first_voice.get_or_insert(frame.number());
-        }
+        self.first_voice.frame(voice);
         self.gaps += u64::from(gap);
         self.pauses.frame(voice);
         self.overview.frame(frame, gap);
@@ -132,7 +132,10 @@ mod tests {
         summary.before(&[-32_768.0, 32_767.0, 32_766.0]);
         summary.after(&[1.0; 24_000]);
         assert_eq!((summary.frames, summary.heard, summary.gaps, summary.seconds()), (5, 3, 2, 0.5));
-        assert_eq!((summary.voices, summary.voice_at()), (2, Some(0.2)));
+        // two likely frames are no voice
+        assert_eq!((summary.voices, summary.voice_at()), (2, None));
+        (0..45).for_each(|entry| summary.frame(&Frame { entry, heard: voice, heard_so_far: 0 }));
+        assert_eq!((summary.voices, summary.voice_at()), (47, Some(0.0)));
         assert_eq!((summary.peak, summary.clipped), (32_768.0, 2));
     }
 }

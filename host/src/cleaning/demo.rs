@@ -8,7 +8,7 @@ use crate::error::Result;
 use crate::page::about::About;
 use crate::reading::block::packed;
 use crate::reading::wav;
-use crate::recording::files::{before, Files};
+use crate::recording::files::{before, Files, Place};
 use crate::{FRAME, RATE};
 use std::f64::consts::TAU;
 use std::path::Path;
@@ -175,9 +175,9 @@ pub fn cleaned(dictations: &[Dictation; 2], way: Way) -> Result<[Cleaned; 2]> {
 }
 
 /// Writes both recordings, before and after, and all that `box clean` writes.
-fn store([left, right]: &[Cleaned; 2], out: &Path, force: bool) -> Result<()> {
+fn store([left, right]: &[Cleaned; 2], out: &Path, force: bool, csv: bool) -> Result<()> {
     let names = [left, right].map(|bench| before(bench.side));
-    let mut files = Files::new(out, "", &names, force, false)?;
+    let mut files = Files::new(&Place { out, prefix: "", more: &names, force, once: false, csv })?;
     for (bench, name) in [left, right].into_iter().zip(&names) {
         files.about(bench.side, About::stream(name, HOUSE_NAME.as_ref()));
         files.add(name, &wav::write(RATE, &bench.before))?;
@@ -189,10 +189,10 @@ fn store([left, right]: &[Cleaned; 2], out: &Path, force: bool) -> Result<()> {
 }
 
 /// Makes the dictations, cleans them, and writes both into the folder.
-pub fn demo(out: &Path, way: Way, force: bool) -> Result<()> {
+pub fn demo(out: &Path, way: Way, force: bool, csv: bool) -> Result<()> {
     let dictations = [dictation(0), dictation(1)];
     let benches = cleaned(&dictations, way)?;
-    store(&benches, out, force)?;
+    store(&benches, out, force, csv)?;
     for (bench, dictation) in benches.iter().zip(&dictations) {
         let e = effect(dictation, &bench.after);
         crate::say!(

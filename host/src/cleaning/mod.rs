@@ -3,6 +3,8 @@
 pub mod clean;
 pub mod cleaned;
 pub mod demo;
+pub mod first_voice;
+pub mod mix;
 pub mod pauses;
 pub mod recorder;
 pub mod run;

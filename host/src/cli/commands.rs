@@ -5,6 +5,7 @@ use crate::cli::{clean, help, models, sheets, texts, Program};
 
 const FORCE: Opt = Opt::flag("--force", "Write over what stands there.");
 pub const JSON: Opt = Opt::flag("--json", "The answer as JSON: an object on a line for each file.");
+const CSV: Opt = Opt::flag("--csv", "Write frames.csv too: a row for each frame.");
 const LAG: Opt = Opt::of(
     "--lag",
     Takes::OneOf(&["crate", "own"]),
@@ -23,31 +24,37 @@ pub const COMMANDS: &[Command] = &[
             "--left L.wav --right R.wav --out DIR",
             "--both STEREO.wav --out DIR",
             "FILE.. [--side left|right] --out DIR",
-            "- [--raw] --out DIR",
+            "- --out DIR",
+            "--left - [--raw] --out DIR",
         ],
         files: Files::from(0, "FILE"),
         options: &[
-            Opt::of("--left", Takes::There("FILE"), "The left bench's recording; alone, that bench's alone."),
+            Opt::of("--left", Takes::There("FILE"), "The left bench's recording; alone, that bench's alone. - is standard input."),
             Opt::of("--right", Takes::There("FILE"), "The right bench's."),
             Opt::of("--both", Takes::There("FILE"), "Both in one: the left channel is the left bench."),
             Opt::of("--side", Takes::OneOf(&["left", "right"]), "The side of the files whose name says none."),
-            Opt::flag("--raw", "The stream has no header: 16 bits, little end first, left and right in turn."),
+            Opt::flag("--raw", "Standard input has no header: 48,000 samples a second, 16 bits, little end first, left and right in turn."),
+            Opt::of("--channels", Takes::OneOf(&["1", "2"]), "The channels of --raw: 2 with -, 1 with --left - or --right -."),
+            Opt::flag("--to-the-end", "Clean all that a file holds, even if its header announces less."),
             Opt::of("--out", Takes::Place("DIR"), "Where the files are written. Of several FILEs each has a folder there."),
             Opt::of("--name", Takes::Text("NAME"), "Call what is written NAME-left.wav and so on."),
             Opt::of("--model", Takes::There("FILE"), "The model: .rnn, .rnnn or rnn_data.c. The house model where none is named."),
             LAG,
             FORCE,
-            Opt::flag("--anyway", "Take a recording that says the other side, or one file for both benches."),
-            Opt::flag("-q", "No progress."),
+            Opt::flag("--anyway", "Clean a recording although its name or its seal says the other side, or both benches' are identical."),
+            CSV,
+            Opt::flag("-q", "Print errors only."),
             JSON,
         ],
         about: "\
-Recordings of 48 kHz, 16-bit or 24-bit PCM or 32-bit float. Writes left.wav and right.wav, frames.csv, benches.svg and
-index.html, a page with all of it, into DIR. Each recording is sealed: behind its audio stands its side, with each frame's
-number. One file for both benches, and a recording whose own seal or side sheet says the other bench, are refused.
+Recordings of 48 kHz, 16-bit or 24-bit PCM or 32-bit float. Writes left.wav and right.wav, benches.svg and index.html, a
+page with all of it, into DIR. Each recording is sealed: behind its audio stands its side, with each frame's number. A
+recording whose name, seal or side sheet says the other bench, one file for both benches, and two recordings that are
+identical are refused before anything is written.
 
-FILE.. are recordings of one bench each, every one with a folder of its own in DIR that is called like the file. Its
-side is the word left or right in its name, or what --side says where the name has neither.
+FILE.. are recordings of one bench each, every one with a folder of its own in DIR that is called like the file. Its side
+is what its name says: left or right as a word, or L or R as the last word (patientR.wav, p-r-2.wav), and if it says none,
+what its folder's name says; or what --side says.
 
 - is a stereo WAV stream on standard input, of any length up to 12 hours and 19 minutes, which is what a WAV file can
 hold. All recordings are cleaned as they are read, and written as they are cleaned: it takes no more memory for ten hours
@@ -61,7 +68,7 @@ they stay as they are, and box mend DIR closes them.",
         examples: &[
             "box clean --left l.wav --right r.wav --out monday",
             "box clean *.wav --out monday",
-            "arecord -f S16_LE -c 2 -r 48000 -t raw | box clean - --raw --out monday",
+            "arecord -f S16_LE -c 2 -r 48000 -t wav | box clean - --out monday",
         ],
         run: clean::run_clean,
     },
@@ -103,7 +110,7 @@ it, and the answer says that you did. As much of the audio is kept as there are 
         what: "Two dictations over a grinder, cleaned with the house model.",
         usage: &["DIR"],
         files: Files::place("DIR"),
-        options: &[LAG, FORCE],
+        options: &[LAG, FORCE, CSV],
         about: "They come with the program. Writes what clean writes, and the recordings before cleaning too.",
         examples: &["box demo out"],
         run: clean::run_demo,

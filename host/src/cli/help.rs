@@ -23,10 +23,23 @@ fn wrapped(text: &str, behind: usize) -> String {
     lines.join(&format!("\n{:behind$}", ""))
 }
 
-const EXIT: &str = "\
-Exit status: 0 done as asked; 1 it could not be done; 2 what was given is not right: the
-command line, or a recording that is not all there, of which the rest is cleaned.
-";
+/// The exit statuses, each with its meaning.
+pub const EXIT: [(u8, &str); 7] = [
+    (0, "done as asked"),
+    (1, "it could not be done"),
+    (2, "what was given is not right: the command line, or a recording that is not whole or seems to be another bench's"),
+    (3, "`side` finds no side sheet: not a sealed recording"),
+    (4, "`side` finds a side sheet without a seal"),
+    (5, "`side` finds a recording that was changed after it was sealed, or is damaged"),
+    (6, "`side` finds a name, or a folder's name, that says the other side"),
+];
+
+fn exit(text: &mut String) {
+    *text += "Exit status, of several the highest:\n";
+    for (status, what) in EXIT {
+        writeln!(text, "  {status}  {}", wrapped(what, 5)).unwrap();
+    }
+}
 
 /// What each does, in a line.
 pub fn list(text: &mut String, commands: &[Command]) {
@@ -47,7 +60,9 @@ pub fn help_of_box() -> String {
     for example in COMMANDS.iter().flat_map(|command| command.examples) {
         writeln!(text, "  {example}").unwrap();
     }
-    text + "\n" + EXIT
+    text += "\n";
+    exit(&mut text);
+    text
 }
 
 fn option(text: &mut String, option: &Opt) {

@@ -2,6 +2,7 @@
 
 use crate::cli::command::Command;
 use crate::cli::commands::COMMANDS;
+use crate::cli::help::EXIT;
 use std::fmt::Write;
 
 /// A text as roff takes it: its own signs are escaped, and no line begins with a dot or an apostrophe.
@@ -40,9 +41,10 @@ pub fn page() -> String {
         env!("CARGO_PKG_VERSION")
     );
     COMMANDS.iter().for_each(|one| man_of(&mut text, one));
-    text += ".SH EXIT STATUS\n\
-             0 done as asked; 1 it could not be done; 2 what was given is not right: the command line, or a recording\n\
-             that is not all there, of which the rest is cleaned. Of several the highest.\n\
-             .SH ENVIRONMENT\n.TP\n.B NO_COLOR\nWhere it is set, nothing is coloured.\n";
+    text += ".SH EXIT STATUS\nOf several the highest.\n";
+    for (status, what) in EXIT {
+        writeln!(text, ".TP\n.B {status}\n{}", roff(what)).unwrap();
+    }
+    text += ".SH ENVIRONMENT\n.TP\n.B NO_COLOR\nWhere it is set, nothing is coloured.\n";
     text
 }

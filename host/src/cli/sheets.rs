@@ -21,8 +21,9 @@ fn sheet_fields(sheet: Option<&Sheet>) -> Fields {
 }
 
 fn object(file: &Path, fields: Fields, wrong: Option<&Error>) -> Json {
+    let status = ("status", wrong.map_or(0, |error| u32::from(error.status())).into());
     let (file, error) = (("file", file.into()), ("error", wrong.map(Error::to_string).into()));
-    Json::Object([file].into_iter().chain(fields).chain([error]).collect())
+    Json::Object([file].into_iter().chain(fields).chain([status, error]).collect())
 }
 
 /// An object for each file; and the highest status where one is bad.

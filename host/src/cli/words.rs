@@ -62,7 +62,9 @@ fn parts(word: &OsStr) -> (OsString, Option<OsString>) {
 
 /// A file that must be there.
 fn look_for(given: &Given, what: &str, path: &Path) -> Result<()> {
+    // `-` is standard input
     match path.symlink_metadata() {
+        _ if path == Path::new("-") => Ok(()),
         Err(why) if why.kind() == ErrorKind::NotFound => {
             Err(Error::undone(format!("{}: {what}{}: no such file", given.command.name, shown(path))))
         }

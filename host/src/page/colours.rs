@@ -1,6 +1,6 @@
 //! The colours of the page and of the picture, by their names, on a light ground and on a dark one. host/tests/page.rs reads their contrasts.
 
-pub type Colours = [(&'static str, &'static str); 14];
+pub type Colours = [(&'static str, &'static str); 16];
 
 pub const LIGHT: Colours = [
     ("paper", "#f3f3ef"),
@@ -17,6 +17,8 @@ pub const LIGHT: Colours = [
     ("voice", "#b3471d"),
     ("heard", "#8a6d1f"),
     ("gap", "#c00000"),
+    ("left", "#1b4fa0"),
+    ("right", "#9a3d00"),
 ];
 
 pub const DARK: Colours = [
@@ -34,6 +36,8 @@ pub const DARK: Colours = [
     ("voice", "#ff9a6b"),
     ("heard", "#d9b24c"),
     ("gap", "#ff6b6b"),
+    ("left", "#9cc4ff"),
+    ("right", "#ffb37a"),
 ];
 
 /// As the variables of a style sheet.

@@ -248,7 +248,7 @@ fn card(text: &mut String, bench: &Summary, before: Option<&str>, prefix: &str) 
     let side = bench.side.name();
     writeln!(
         text,
-        "<section class=\"bench\" aria-labelledby=\"{side}\">\n<div class=\"head\"><h2 id=\"{side}\">{}</h2>\n{}{}</div>",
+        "<section class=\"bench {side}\" aria-labelledby=\"{side}\">\n<div class=\"head\"><h2 id=\"{side}\">{}</h2>\n{}{}</div>",
         side.to_uppercase(),
         seal(bench),
         trouble(bench).unwrap_or_default(),
@@ -277,9 +277,9 @@ fn key(text: &mut String) {
     *text += "</ul>\n";
 }
 
-/// `before` are the names of the recordings as they were, where these stand in the folder too; `prefix` stands in front
-/// of the names of all other files.
-pub fn html(benches: &[Summary; 2], before: Option<[&str; 2]>, prefix: &str) -> String {
+/// `before` are the names of the recordings as they were, if these are in the folder too; `prefix` is the beginning of
+/// the names of all other files; `has_table` says whether frames.csv is one of them.
+pub fn html(benches: &[Summary; 2], before: Option<[&str; 2]>, prefix: &str, has_table: bool) -> String {
     let file = |name: &str| in_a_link(&format!("{prefix}{name}"));
     let asked = || benches.iter().filter(|bench| !bench.about.absent);
     let title = match &asked().collect::<Vec<_>>()[..] {
@@ -300,16 +300,19 @@ pub fn html(benches: &[Summary; 2], before: Option<[&str; 2]>, prefix: &str) -> 
         card(&mut text, bench, before.map(|names| names[bench.side as usize]), prefix);
     }
     text += "</main>\n<footer>\n";
+    let table = match has_table {
+        true => format!("What each frame was is in <a href=\"{}\">frames.csv</a>. ", file("frames.csv")),
+        false => String::new(),
+    };
     key(&mut text);
     writeln!(
         text,
         "<p>A press in a picture plays from there; by keyboard the arrows move, and Enter plays. A frame is {} ms. It was heard where it is not \
          silent, steady noise too; voice are the frames in which a voice is likely. The noise taken away \
-         is that of the others, the middle one of them. What each frame \
-         was stands in <a href=\"{}\">frames.csv</a>, the picture of both in <a href=\"{}\">benches.svg</a>.</p>\n</footer>\n\
+         is that of the others, the middle one of them. {}The picture of both is in <a href=\"{}\">benches.svg</a>.</p>\n</footer>\n\
          <script>\n{}</script>\n</body>\n</html>",
         1000 * FRAME / RATE as usize,
-        file("frames.csv"),
+        table,
         file("benches.svg"),
         include_str!("page.js"),
     )

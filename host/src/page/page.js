@@ -3,8 +3,12 @@
 const player = element => document.getElementById(element.dataset.player);
 const clock = at => Math.floor(at / 60) + ':' + String(Math.floor(at % 60)).padStart(2, '0');
 
+// One player at a time, whatever starts it: both benches at once would be one voice over the other.
+const players = [...document.querySelectorAll('audio')];
+for (const audio of players)
+  audio.addEventListener('play', () => { for (const other of players) if (other !== audio) other.pause(); });
+
 function play(audio, at) {
-  for (const other of document.querySelectorAll('audio')) if (other !== audio) other.pause();
   audio.currentTime = at;
   audio.play();
 }

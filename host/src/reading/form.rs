@@ -1,7 +1,76 @@
-//! What kind of file bytes are the start of, where they are told to be samples and nothing else.
+//! Which kind of file begins with some bytes. The box reads WAV alone, and `--raw` takes samples alone: any other file
+//! that is recognised here is refused by its name, with what makes a WAV file of it.
 
-/// So many bytes tell.
+use std::fmt;
+
+/// This many bytes are enough to recognise a file.
 pub const HEAD: usize = 4_096;
+
+/// A kind of file.
+#[derive(Clone, Copy, Debug, PartialEq)]
+pub enum Form {
+    /// WAV, with its numbers little end first, as the box reads it; RF64 is WAV for more than 4 GiB.
+    Wav,
+    /// WAV with its numbers big end first.
+    Rifx,
+    Flac,
+    Ogg,
+    Mp3,
+    Aiff,
+    Caf,
+    /// Sony Wave64.
+    W64,
+    Au,
+    /// M4A, MP4 and other files of QuickTime's kind.
+    M4a,
+    Text,
+}
+
+impl Form {
+    /// The program of the two that people have which reads this.
+    pub fn converter(self) -> Option<Converter> {
+        match self {
+            Form::Text => None,
+            Form::Mp3 | Form::M4a => Some(Converter::Ffmpeg),
+            _ => Some(Converter::Sox),
+        }
+    }
+}
+
+impl fmt::Display for Form {
+    fn fmt(&self, f: &mut fmt::Formatter) -> fmt::Result {
+        f.write_str(match self {
+            Form::Wav => "a WAV file",
+            Form::Rifx => "a WAV file with the big end first (RIFX)",
+            Form::Flac => "a FLAC file",
+            Form::Ogg => "an Ogg file",
+            Form::Mp3 => "an MP3 file",
+            Form::Aiff => "an AIFF file",
+            Form::Caf => "a CAF file",
+            Form::W64 => "a W64 file",
+            Form::Au => "an AU file",
+            Form::M4a => "an M4A or MP4 file",
+            Form::Text => "text",
+        })
+    }
+}
+
+/// What makes a WAV file that the box reads of another file.
+#[derive(Clone, Copy, Debug, PartialEq)]
+pub enum Converter {
+    Sox,
+    Ffmpeg,
+}
+
+impl Converter {
+    /// Its command, for a file's name as a shell takes it.
+    pub fn command(self, file: &str) -> String {
+        match self {
+            Converter::Sox => format!("sox {file} -r 48000 -b 24 NEW.wav"),
+            Converter::Ffmpeg => format!("ffmpeg -i {file} -ar 48000 -c:a pcm_s24le NEW.wav"),
+        }
+    }
+}
 
 /// The kilobits a second of a frame of MP3, by its number, for MPEG 1 and for 2 and 2.5.
 const RATES: [[usize; 14]; 2] = [
@@ -29,16 +98,43 @@ fn is_mp3(head: &[u8]) -> bool {
         || frame(head).is_some_and(|size| head.get(size..).is_some_and(|next| frame(next).is_some()))
 }
 
-/// The kind of file that begins so.
-pub fn known(head: &[u8]) -> Option<&'static str> {
-    let is_wave = [b"RIFF", b"RIFX", b"RF64"].iter().any(|word| head.starts_with(*word));
-    match head {
-        _ if is_wave && head.get(8..12) == Some(b"WAVE") => Some("a WAV file"),
-        _ if head.starts_with(b"fLaC") => Some("a FLAC file"),
-        _ if head.starts_with(b"OggS") => Some("an Ogg file"),
-        _ if is_mp3(head) => Some("an MP3 file"),
-        _ => None,
-    }
+/// Letters, as a text has them and samples don't: no control characters but those that end lines and words.
+fn is_text(head: &[u8]) -> bool {
+    let text = match std::str::from_utf8(head) {
+        Ok(text) => text,
+        // the last letter may be cut
+        Err(why) if why.error_len().is_none() => std::str::from_utf8(&head[..why.valid_up_to()]).unwrap_or_default(),
+        Err(_) => return false,
+    };
+    text.len() >= 4 && !text.contains(|c: char| c.is_control() && !matches!(c, '\n' | '\r' | '\t' | '\x0c'))
+}
+
+/// The first words of files that begin with one of their own, and then the second word, if there is one, and its place.
+const WORDS: [(&[u8], usize, &[u8], Form); 13] = [
+    (b"RIFF", 8, b"WAVE", Form::Wav),
+    (b"RF64", 8, b"WAVE", Form::Wav),
+    (b"BW64", 8, b"WAVE", Form::Wav),
+    (b"RIFX", 8, b"WAVE", Form::Rifx),
+    (b"fLaC", 0, b"", Form::Flac),
+    (b"OggS", 0, b"", Form::Ogg),
+    (b"FORM", 8, b"AIFF", Form::Aiff),
+    (b"FORM", 8, b"AIFC", Form::Aiff),
+    (b"caff", 4, b"\0\x01", Form::Caf),
+    (b"riff\x2e\x91\xcf\x11", 0, b"", Form::W64),
+    (b".snd", 0, b"", Form::Au),
+    (b"", 4, b"ftyp", Form::M4a),
+    (b"", 4, b"moov", Form::M4a),
+];
+
+/// The kind of file that begins with these bytes.
+pub fn known(head: &[u8]) -> Option<Form> {
+    let begins = |first: &[u8], place: usize, second: &[u8]| {
+        head.starts_with(first) && head.get(place..place + second.len()) == Some(second)
+    };
+    let word = WORDS.into_iter().find(|(first, place, second, _)| begins(first, *place, second));
+    word.map(|(.., form)| form)
+        .or_else(|| is_mp3(head).then_some(Form::Mp3))
+        .or_else(|| is_text(head).then_some(Form::Text))
 }
 
 #[cfg(test)]
@@ -52,7 +148,7 @@ mod tests {
         for at in [0, 384] {
             mp3[at..at + 4].copy_from_slice(&[0xFF, 0xFB, 0x94, 0]);
         }
-        assert_eq!((frame(&mp3), known(&mp3)), (Some(384), Some("an MP3 file")));
+        assert_eq!((frame(&mp3), known(&mp3)), (Some(384), Some(Form::Mp3)));
         mp3[384] = 0xFE;
         assert_eq!(known(&mp3), None);
         // 64 kilobits of MPEG 2 at 24 kHz, one byte longer; no layer, no bit rate, no frequency
@@ -62,11 +158,29 @@ mod tests {
 
     #[test]
     fn other_files() {
-        assert_eq!(known(b"RIFF\0\0\0\0WAVEfmt "), Some("a WAV file"));
-        assert_eq!(known(b"RF64\xFF\xFF\xFF\xFFWAVE"), Some("a WAV file"));
-        assert_eq!(known(b"fLaC\0"), Some("a FLAC file"));
-        assert_eq!(known(b"OggS\0"), Some("an Ogg file"));
-        assert_eq!(known(b"ID3\x04"), Some("an MP3 file"));
-        assert_eq!([&b""[..], b"RIFF", b"RIFF\0\0\0\0AVI ", b"\0\0\0\0"].map(known), [None; 4]);
+        let begin: [(&[u8], Form); 16] = [
+            (b"RIFF\0\0\0\0WAVEfmt ", Form::Wav),
+            (b"RF64\xFF\xFF\xFF\xFFWAVE", Form::Wav),
+            (b"RIFX\0\0\0\0WAVE", Form::Rifx),
+            (b"fLaC\0", Form::Flac),
+            (b"OggS\0", Form::Ogg),
+            (b"ID3\x04", Form::Mp3),
+            (b"FORM\0\0\0\x10AIFFCOMM", Form::Aiff),
+            (b"FORM\0\0\0\x10AIFCFVER", Form::Aiff),
+            (b"caff\0\x01\0\0desc", Form::Caf),
+            (b"riff\x2e\x91\xcf\x11\xa5\xd6\x28\xdb", Form::W64),
+            (b".snd\0\0\0\x18", Form::Au),
+            (b"\0\0\0\x1cftypM4A ", Form::M4a),
+            (b"no sound at all", Form::Text),
+            (b"side,frame\r\nleft,0\n\t1", Form::Text),
+            ("links, für den Fuß\n".as_bytes(), Form::Text),
+            (&"Fuß".as_bytes()[..4], Form::Text),
+        ];
+        for (head, form) in begin {
+            assert_eq!(known(head), Some(form), "{form}");
+        }
+        let others: [&[u8]; 7] =
+            [b"", b"RIFF\0\0\0\0", b"RIFF\0\0\0\0AVI ", b"\0\0\0\0", b"ab", b"left\0", b"left\xff\xff right"];
+        assert_eq!(others.map(known), [None; 7]);
     }
 }

@@ -3,6 +3,7 @@
 pub mod block;
 pub mod form;
 pub mod head;
+pub mod hints;
 pub mod source;
 pub mod until;
 pub mod wav;

@@ -4,11 +4,13 @@ use crate::cleaning::recorder::{Side, PIECE};
 use crate::error::{At, Error, Result};
 use crate::reading::block::Block;
 use crate::reading::form;
+use crate::reading::hints;
 use crate::reading::until::Until;
 use crate::reading::wav::{self, Fault, Reader};
 use crate::sys::signals;
+use crate::sys::wait::open_to_read;
 use crate::telling::shown::line_of;
-use crate::RATE;
+use crate::{FRAME, RATE};
 use std::fs::File;
 use std::io::{self, Cursor, Read};
 use std::os::fd::AsFd;
@@ -66,14 +68,81 @@ fn seconds(samples: u64, of: u64) -> [String; 2] {
     [1, 3].map(told).into_iter().find(|[a, b]| a != b).unwrap_or_else(|| told(5))
 }
 
+/// What standard input is called in answers.
+pub const STANDARD_INPUT: &str = "standard input";
+
+/// How recordings are read.
+#[derive(Clone, Copy, Debug, Default)]
+pub struct How {
+    /// Standard input has no header: its samples have 16 bits, little end first.
+    pub raw: bool,
+    /// A file is read to its end even if its header announces less audio.
+    pub to_the_end: bool,
+}
+
+/// A recording that is opened, but of which nothing was read yet.
+struct Opened {
+    name: PathBuf,
+    from: Until,
+    /// The bytes of a file. Nobody knows those of a pipe.
+    size: Option<u64>,
+    is_standard_input: bool,
+}
+
+impl Opened {
+    /// A file or a pipe; `-` is standard input. A pipe is opened once, and not waited for here.
+    fn new(path: &Path) -> Result<Opened> {
+        if path == Path::new("-") {
+            let name = PathBuf::from(STANDARD_INPUT);
+            let from = Until::stream(standard_input().at(&name)?);
+            return Ok(Opened { name, from, size: None, is_standard_input: true });
+        }
+        let file = open_to_read(path).at(path)?;
+        let about = file.metadata().at(path)?;
+        let size = about.is_file().then_some(about.len());
+        let from = if size.is_some() { Until::file(file) } else { Until::stream(file) };
+        Ok(Opened { name: path.to_owned(), from, size, is_standard_input: false })
+    }
+
+    /// Reads on to the audio, which must have this many channels.
+    fn read(self, channels: usize, how: How) -> Result<Recording> {
+        let Opened { name, from, size, is_standard_input } = self;
+        let reader = match size {
+            _ if how.raw && is_standard_input => Ok(raw(from, &name, channels)?),
+            Some(_) => Reader::new(Box::new(from) as Box<dyn Read>),
+            None => Reader::stream(Box::new(from) as Box<dyn Read>),
+        };
+        if reader.is_err() && size.is_none() && signals::asked() {
+            return Err(Error::undone("stopped before any sound came; nothing is written").at(&name));
+        }
+        let mut recording = Recording::of(&name, reader, channels)?;
+        match size {
+            Some(bytes) => recording.measure(bytes, how.to_the_end).at(&name)?,
+            None if how.to_the_end => recording.reader.to_the_end(),
+            None => {}
+        }
+        Ok(recording)
+    }
+}
+
+/// Audio that the header of a file does not announce.
+#[derive(Clone, Copy, Debug, PartialEq)]
+enum Unannounced {
+    /// There is none.
+    None,
+    /// The header announces no audio at all. All of it is read.
+    All,
+    /// The file holds this many samples of each channel, more than the header announces. Whether they are read.
+    More { holds: u64, are_read: bool },
+}
+
 /// A WAV file, or a stream.
 pub struct Recording {
     name: PathBuf,
     reader: Reader<Box<dyn Read>>,
     /// How many samples each channel has, where that is known.
     length: Option<u64>,
-    /// Whether its header says, wrongly, that there is no audio.
-    unsaid: bool,
+    unannounced: Unannounced,
     /// Where a channel has a sample that is NaN or infinite, the first of them, counted from 0. It gives none from
     /// there on.
     broken: Vec<Option<u64>>,
@@ -85,36 +154,31 @@ pub struct Recording {
 
 impl Recording {
     fn of(name: &Path, reader: Result<Reader<Box<dyn Read>>, Fault>, channels: usize) -> Result<Recording> {
-        let reader = reader.at(name)?;
+        let reader = reader.map_err(|fault| hints::of_fault(name, fault))?;
         if reader.rate != RATE {
-            let why = format!("48,000 samples a second are wanted; this has {}", reader.rate);
-            return Err(Error::undone(why).at(name));
+            return Err(hints::of_rate(name, reader.rate));
         }
         if reader.channels != channels {
-            let wanted = if channels == 1 { "one channel is" } else { "two channels are" };
-            return Err(Error::undone(format!("{wanted} wanted; this has {}", reader.channels)).at(name));
+            return Err(hints::of_channels(name, reader.channels));
         }
-        let broken = vec![None; channels];
-        Ok(Recording { name: name.to_owned(), reader, length: None, unsaid: false, broken, clipped: 0, fault: None })
+        let (broken, unannounced) = (vec![None; channels], Unannounced::None);
+        Ok(Recording { name: name.to_owned(), reader, length: None, unannounced, broken, clipped: 0, fault: None })
     }
 
-    fn file(path: &Path, channels: usize) -> Result<Recording> {
-        let file = File::open(path).at(path)?;
-        let about = file.metadata().at(path)?;
-        let mut recording = Recording::of(path, Reader::new(Box::new(Until::file(file))), channels)?;
-        if about.is_file() {
-            recording.measure(about.len()).at(path)?;
+    /// How long a file of so many bytes is. Its header may announce less audio than the file holds: none if the
+    /// recorder had no time to write the size, or less if the size is wrong or did not fit into 32 bits.
+    fn measure(&mut self, bytes: u64, to_the_end: bool) -> io::Result<()> {
+        let (announced, end) = (self.reader.length(bytes), self.reader.end());
+        if bytes > end && !wav::is_chunk(File::open(&self.name)?, end)? {
+            let holds = announced + (bytes - end) / self.reader.layout().size() as u64;
+            self.unannounced = match announced {
+                0 => Unannounced::All,
+                _ if holds < announced + FRAME as u64 => Unannounced::None,
+                _ => Unannounced::More { holds, are_read: to_the_end },
+            };
         }
-        Ok(recording)
-    }
-
-    /// How long a file of so many bytes is. A stream's header means by 0 that its length is not known; where a file's
-    /// says so, and what stands behind it is no other chunk, its recorder did not come to mend it.
-    fn measure(&mut self, bytes: u64) -> io::Result<()> {
-        let (empty, end) = (self.reader.length(bytes) == 0, self.reader.end());
-        if empty && bytes > end && !wav::are_chunks(File::open(&self.name)?, end)? {
+        if matches!(self.unannounced, Unannounced::All | Unannounced::More { are_read: true, .. }) {
             self.reader.to_the_end();
-            self.unsaid = true;
         }
         self.length = Some(self.reader.length(bytes));
         Ok(())
@@ -155,14 +219,21 @@ impl Recording {
         Side::BOTH.map(|side| self.channel(&bytes, side as usize))
     }
 
-    /// Tells what was not as it should be, where nothing is lost by it.
-    fn tell(&self) {
+    /// What was not as it should be, if nothing is lost by it.
+    fn notes(&self) -> Vec<String> {
         let clipped = match self.clipped {
-            0 => return,
-            1 => "1 sample was beyond full scale, and is clipped".into(),
-            n => format!("{n} samples were beyond full scale, and are clipped"),
+            0 => None,
+            1 => Some("1 sample was beyond full scale, and is clipped".into()),
+            n => Some(format!("{n} samples were beyond full scale, and are clipped")),
         };
-        crate::warn!("{}", line_of(&self.name, clipped));
+        let more = match self.unannounced {
+            Unannounced::More { holds, are_read: true } => {
+                let [announced, holds] = seconds(self.reader.promised().unwrap_or(0), holds);
+                Some(format!("its header announces {announced} s of audio; all {holds} s are cleaned"))
+            }
+            _ => None,
+        };
+        [more, clipped].into_iter().flatten().map(|note| line_of(&self.name, note)).collect()
     }
 
     /// Why a channel ends before its recording does.
@@ -183,14 +254,25 @@ impl Recording {
             }
             _ if !self.reader.ended || signals::asked() => return None,
             _ if read == 0 => self.reader.has_head().then(|| "no audio follows its header".into())?,
-            _ if self.unsaid => {
+            _ if self.unannounced == Unannounced::All => {
                 format!("its header says that there is no audio; the {} s behind it are cleaned", after(0)[0])
             }
-            _ => {
-                let promised = promised.filter(|promised| read < *promised)?;
-                let [read, promised] = after(promised);
-                format!("ends after {read} of {promised} s, as its header has it")
-            }
+            _ if matches!(self.unannounced, Unannounced::More { are_read: true, .. }) => return None,
+            _ => match (self.unannounced, promised) {
+                (Unannounced::More { holds, .. }, _) => {
+                    let [read, holds] = after(holds);
+                    format!(
+                        "its header announces {read} s of audio, but the file holds {holds} s; the rest is not \
+                         cleaned. --to-the-end cleans all of it"
+                    )
+                }
+                (_, Some(promised)) if read < promised => {
+                    let [read, promised] = after(promised);
+                    let what = if self.length.is_some() { "the file" } else { "it" };
+                    format!("{what} ends after {read} s, but its header announces {promised} s")
+                }
+                _ => return None,
+            },
         };
         Some(Error::wrong(why).at(&self.name))
     }
@@ -220,36 +302,29 @@ fn standard_input() -> io::Result<File> {
     Ok(io::stdin().as_fd().try_clone_to_owned()?.into())
 }
 
-/// Samples without a header, from the start on. What begins as another file does is none.
-fn raw(mut from: Until, name: &Path) -> Result<Reader<Box<dyn Read>>> {
+/// Samples without a header, from the start on. Bytes with which another kind of file begins are refused.
+fn raw(mut from: Until, name: &Path, channels: usize) -> Result<Reader<Box<dyn Read>>> {
     let mut head = Vec::new();
     from.by_ref().take(form::HEAD as u64).read_to_end(&mut head).at(name)?;
     match form::known(&head) {
         Some(form) => Err(Error::wrong(format!("this is {form}, and not samples alone as --raw says")).at(name)),
-        None => Ok(Reader::raw(Box::new(Cursor::new(head).chain(from)), RATE, 2)),
+        None => Ok(Reader::raw(Box::new(Cursor::new(head).chain(from)), RATE, channels)),
     }
 }
 
 impl Recordings {
-    pub fn one(side: Side, path: &Path) -> Result<Recordings> {
-        Ok(Recordings::One(side, Recording::file(path, 1)?))
+    pub fn one(side: Side, path: &Path, how: How) -> Result<Recordings> {
+        Ok(Recordings::One(side, Opened::new(path)?.read(1, how)?))
     }
 
-    pub fn two(left: &Path, right: &Path) -> Result<Recordings> {
-        Ok(Recordings::Two([Recording::file(left, 1)?, Recording::file(right, 1)?].into()))
+    /// Both are opened before either is read: one program may write into two pipes.
+    pub fn two(left: &Path, right: &Path, how: How) -> Result<Recordings> {
+        let (left, right) = (Opened::new(left)?, Opened::new(right)?);
+        Ok(Recordings::Two([left.read(1, how)?, right.read(1, how)?].into()))
     }
 
-    pub fn stereo(path: &Path) -> Result<Recordings> {
-        Ok(Recordings::Stereo(Recording::file(path, 2)?))
-    }
-
-    /// A WAV stream on standard input, or with `is_raw` samples of 16 bits, little end first, left and right in turn,
-    /// without a header.
-    pub fn stream(is_raw: bool) -> Result<Recordings> {
-        let name = Path::new("standard input");
-        let from = Until::stream(standard_input().at(name)?);
-        let reader = if is_raw { Ok(raw(from, name)?) } else { Reader::stream(Box::new(from) as Box<dyn Read>) };
-        Ok(Recordings::Stereo(Recording::of(name, reader, 2)?))
+    pub fn stereo(path: &Path, how: How) -> Result<Recordings> {
+        Ok(Recordings::Stereo(Opened::new(path)?.read(2, how)?))
     }
 
     fn all(&self) -> &[Recording] {
@@ -264,9 +339,9 @@ impl Recordings {
         self.all().iter().map(|recording| recording.length).max().flatten()
     }
 
-    /// Tells what was not as it should be, where nothing is lost by it.
-    pub fn tell(&self) {
-        self.all().iter().for_each(Recording::tell);
+    /// What was not as it should be, if nothing is lost by it.
+    pub fn notes(&self) -> Vec<String> {
+        self.all().iter().flat_map(Recording::notes).collect()
     }
 
     /// What is missing of what should have been read.

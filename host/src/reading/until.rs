@@ -44,7 +44,8 @@ impl Read for Until {
                 continue;
             }
             match self.from.read(to) {
-                Err(why) if why.kind() == ErrorKind::Interrupted => {}
+                // a pipe whose writer has nothing yet is asked again
+                Err(why) if matches!(why.kind(), ErrorKind::Interrupted | ErrorKind::WouldBlock) => {}
                 Ok(read) if asked() => {
                     self.waiting = self.waiting.saturating_sub(read);
                     return Ok(read);

@@ -3,6 +3,7 @@
 
 use crate::cleaning::recorder::Side;
 use crate::reading::block::{packed, Block, Layout};
+use crate::reading::form::Form;
 use crate::reading::head::{self, Head};
 use crate::recording::seal::Seal;
 use crate::telling::refusal::Refusal;
@@ -27,6 +28,8 @@ pub const HEAD: usize = 44;
 pub enum Fault {
     /// The library refused its head with this number, for this reason.
     NotWav(u32, &'static str),
+    /// It is another kind of file.
+    Form(Form),
     Format {
         tag: u16,
         bits: u16,
@@ -51,6 +54,7 @@ impl Fault {
     pub fn refusal(&self) -> Option<Refusal> {
         match self {
             Fault::NotWav(number, _) => Some(Refusal(*number)),
+            Fault::Form(_) => Some(Refusal(41)),
             Fault::Format { .. } => Some(Refusal(45)),
             Fault::Channels(0 | 65..) => Some(Refusal(46)),
             Fault::Block { .. } => Some(Refusal(47)),
@@ -59,12 +63,26 @@ impl Fault {
     }
 }
 
+/// How samples are stored, in words, by the number of their format.
+fn samples(tag: u16, bits: u16) -> String {
+    match tag {
+        1 => format!("{bits}-bit integers"),
+        3 => format!("{bits}-bit floats"),
+        6 => "samples in A-law".into(),
+        7 => "samples in µ-law".into(),
+        2 | 0x11 => "samples in ADPCM".into(),
+        0x50 | 0x55 => "samples in MP3".into(),
+        _ => format!("samples in format {tag} with {bits} bits"),
+    }
+}
+
 impl fmt::Display for Fault {
     fn fmt(&self, f: &mut fmt::Formatter) -> fmt::Result {
         match self {
             Fault::NotWav(_, what) => write!(f, "not a WAV file: {what}"),
+            Fault::Form(form) => write!(f, "not a WAV file: it is {form}"),
             Fault::Format { tag, bits } => {
-                write!(f, "16-bit or 24-bit PCM or 32-bit float is wanted; this has format {tag} with {bits} bits")
+                write!(f, "it has {}; the box reads 16-bit and 24-bit integers and 32-bit floats", samples(*tag, *bits))
             }
             Fault::Channels(n) => write!(f, "one or two channels are wanted; this has {n}"),
             Fault::Block { bytes, wanted } => {
@@ -122,6 +140,8 @@ pub struct Reader<R> {
     sample: Sample,
     /// Where the audio starts, and how many bytes it says it has.
     place: [u64; 2],
+    /// Whether it is RF64, which the box reads and never writes.
+    is_long: bool,
     /// Bytes that are not yet a sample of each channel.
     carried: Vec<u8>,
     /// How many samples of a channel were read.
@@ -171,16 +191,16 @@ impl<R: Read> Reader<R> {
 
     /// Samples of 16 bits, little end first, without a header, up to the end.
     pub fn raw(from: R, rate: u32, channels: usize) -> Reader<R> {
-        Reader::of(from, vec![], Head { place: 0, format: 16, channels, rate, size: UNKNOWN.into() })
+        Reader::of(from, vec![], Head { place: 0, format: 16, channels, rate, size: UNKNOWN.into(), is_long: false })
     }
 
-    fn of(from: R, read: Vec<u8>, Head { place, format, channels, rate, size }: Head) -> Self {
+    fn of(from: R, read: Vec<u8>, Head { place, format, channels, rate, size, is_long }: Head) -> Self {
         // A stream that does not know its length says so, and a recorder that lost power leaves a size that is too large: what is there counts.
         let most = if size == UNKNOWN.into() { u64::MAX } else { size };
         let (early, sample) = (read.len(), Sample::of(format));
         let from = io::Cursor::new(read).chain(from).take(most);
         let (carried, given, ended) = (Vec::new(), 0, false);
-        Reader { from, early, rate, channels, sample, place: [place, size], carried, given, ended }
+        Reader { from, early, rate, channels, sample, place: [place, size], is_long, carried, given, ended }
     }
 
     /// How its samples stand in its bytes.
@@ -240,18 +260,20 @@ pub struct Wav {
     pub clipped: u64,
 }
 
-/// Whether nothing but chunks stands from here to the end of the file.
-pub fn are_chunks(mut from: impl Read + Seek, mut at: u64) -> io::Result<bool> {
+/// The names of chunks that may follow the audio, and may be cut.
+const CHUNKS: [&[u8; 4]; 14] = [
+    b"side", b"LIST", b"id3 ", b"ID3 ", b"bext", b"cue ", b"fact", b"PEAK", b"JUNK", b"junk", b"PAD ", b"smpl",
+    b"iXML", b"_PMX",
+];
+
+/// Whether a chunk begins at this place of a file: one with a name that programs use, or with any name in letters if the
+/// file is long enough for it.
+pub fn is_chunk(mut from: impl Read + Seek, at: u64) -> io::Result<bool> {
     let end = from.seek(SeekFrom::End(0))?;
-    while at < end {
-        from.seek(SeekFrom::Start(at))?;
-        let Ok((name, size)) = chunk(&mut from) else { return Ok(false) };
-        if !name.iter().all(|byte| (b' '..=b'~').contains(byte)) {
-            return Ok(false);
-        }
-        at += 8 + u64::from(size) + u64::from(size % 2);
-    }
-    Ok(at == end)
+    from.seek(SeekFrom::Start(at))?;
+    let Ok((name, size)) = chunk(&mut from) else { return Ok(false) };
+    let is_name = name.iter().all(|byte| (b' '..=b'~').contains(byte));
+    Ok(CHUNKS.contains(&&name) || is_name && at + 8 + u64::from(size) <= end)
 }
 
 /// Where the audio of a file is, as its header says.
@@ -274,7 +296,8 @@ pub fn audio(from: impl Read) -> Result<Audio, Fault> {
     let reader = Reader::new(from)?;
     let is_mono = reader.channels == 1 && matches!(reader.sample, Sample::Pcm16);
     let [place, size] = reader.place;
-    Ok(Audio { place, size, is_ours: is_mono && reader.rate == RATE && size % 2 == 0 })
+    let is_ours = is_mono && !reader.is_long && reader.rate == RATE && size % 2 == 0;
+    Ok(Audio { place, size, is_ours })
 }
 
 /// A whole file, where no sample is broken.
@@ -532,7 +555,7 @@ mod tests {
         };
         let mut file = good.clone();
         file[..4].copy_from_slice(b"RF64");
-        assert_eq!(why(&file), (41, "it is RF64"));
+        assert_eq!(why(&file), (41, "it does not start as one"));
         assert_eq!(why(&good[1..]), (41, "it does not start as one"));
         assert_eq!(why(&good[..36]), (42, "it has no `data` chunk"));
         assert_eq!(why(&[&good[..12], &good[36..]].concat()), (43, "it has no `fmt ` chunk in front of its audio"));

@@ -33,7 +33,7 @@ pub fn before(side: Side) -> String {
     format!("{}-before.wav", side.name())
 }
 
-/// All that is written of every dictation, by name.
+/// All that may be written of a dictation, by name.
 pub fn names() -> Vec<String> {
     Side::BOTH.map(recording).into_iter().chain([TABLE, PICTURE, PAGE].map(String::from)).collect()
 }
@@ -81,28 +81,42 @@ fn written_through(benches: &[Bench; 2]) -> io::Result<Through> {
 /// A folder on its way. (It is the last to go, once nothing lies in it any more.)
 pub struct Files {
     benches: [Bench; 2],
-    table: BufWriter<File>,
+    /// The table of frames, if it is asked for.
+    table: Option<BufWriter<File>>,
     through: Through,
     folder: Folder,
     once: bool,
 }
 
+/// Where files are written, and which.
+pub struct Place<'a> {
+    pub out: &'a Path,
+    /// The beginning of all names.
+    pub prefix: &'a str,
+    /// The names of what will be added.
+    pub more: &'a [String],
+    /// Whether files that exist may be overwritten.
+    pub force: bool,
+    /// Whether the recordings can't be read again. If their files can't be finished, they stay beside their places.
+    pub once: bool,
+    /// Whether the table of frames is written.
+    pub csv: bool,
+}
+
 impl Files {
-    /// `prefix` stands in front of all names, and `more` are those of what will be added. What comes `once` can't be read again: where its files can't be
-    /// finished, they stay beside their places. No other run may be writing into the folder, and none may have left
-    /// such files there.
-    pub fn new(out: &Path, prefix: &str, more: &[String], force: bool, once: bool) -> Result<Files> {
-        let mut folder = Folder::new(out, force)?.prefixed(prefix);
+    /// No other run may be writing into the folder, and none may have left unfinished files there.
+    pub fn new(place: &Place) -> Result<Files> {
+        let mut folder = Folder::new(place.out, place.force)?.prefixed(place.prefix);
         folder.lock()?;
-        unfinished::refuse(out)?;
-        folder.claim(names().iter().chain(more))?;
+        unfinished::refuse(place.out)?;
+        folder.claim(names().iter().chain(place.more))?;
         let [left, right] = Side::BOTH;
         let benches = [Bench::new(left, &mut folder)?, Bench::new(right, &mut folder)?];
-        let through = written_through(&benches).at(out)?;
-        let mut table = BufWriter::new(folder.create(TABLE)?);
-        table::head(&mut table).at(&folder.place(TABLE))?;
-        sync_folder(out);
-        Ok(Files { benches, table, through, folder, once })
+        let through = written_through(&benches).at(place.out)?;
+        let mut table = place.csv.then(|| folder.create(TABLE).map(BufWriter::new)).transpose()?;
+        table.as_mut().map_or(Ok(()), table::head).at(&folder.place(TABLE))?;
+        sync_folder(place.out);
+        Ok(Files { benches, table, through, folder, once: place.once })
     }
 
     /// Whether there is nothing to keep.
@@ -152,18 +166,23 @@ fn given_up(mut folder: Folder, why: Error, once: bool) -> Error {
 
 fn close(
     benches: [Bench; 2],
-    mut table: BufWriter<File>,
+    mut table: Option<BufWriter<File>>,
     folder: &mut Folder,
     before: Option<[&str; 2]>,
 ) -> Result<[Summary; 2]> {
-    table.flush().and_then(|()| sync_all(table.get_ref())).at(&folder.place(TABLE))?;
+    let has_table = table.is_some();
+    if let Some(table) = &mut table {
+        table.flush().and_then(|()| sync_all(table.get_ref())).at(&folder.place(TABLE))?;
+    } else {
+        folder.clear(TABLE);
+    }
     for bench in benches.iter().filter(|bench| bench.is_empty()) {
         folder.forget(&recording(bench.summary.side));
     }
     let [left, right] = benches;
     let summaries = [left.finish()?, right.finish()?];
     folder.write(PICTURE, picture::svg(&summaries).as_bytes())?;
-    folder.write(PAGE, page::html(&summaries, before, folder.prefix()).as_bytes())?;
+    folder.write(PAGE, page::html(&summaries, before, folder.prefix(), has_table).as_bytes())?;
     Ok(summaries)
 }
 
@@ -187,8 +206,9 @@ impl Sink for Files {
             }
             bench.records.put()?;
         }
-        let rows = table::rows(&mut self.table, frames).and_then(|()| self.table.flush());
-        rows.at(&self.folder.place(TABLE))?;
+        if let Some(table) = &mut self.table {
+            table::rows(table, frames).and_then(|()| table.flush()).at(&self.folder.place(TABLE))?;
+        }
         self.through.look().at(self.folder.path())
     }
 }

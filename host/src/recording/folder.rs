@@ -60,6 +60,8 @@ pub struct Folder {
     files: Vec<File>,
     /// What lies beside the files until they are kept.
     scratch: Vec<PathBuf>,
+    /// What goes when the files are kept, and stays if they are not.
+    outdated: Vec<PathBuf>,
     force: bool,
     /// Held for as long as this is here; it goes with the process, however that ends.
     lock: Option<fs::File>,
@@ -75,6 +77,7 @@ impl Folder {
             made,
             files: Vec::new(),
             scratch: Vec::new(),
+            outdated: Vec::new(),
             force,
             lock: None,
         };
@@ -159,6 +162,14 @@ impl Folder {
         fs::read(&part).at(&part)
     }
 
+    /// A file of this name that was written earlier is removed when the others are put into their places.
+    pub fn clear(&mut self, name: &str) {
+        let place = self.place(name);
+        if self.force && place.is_file() {
+            self.outdated.push(place);
+        }
+    }
+
     /// Forgets a file that was on its way to this name.
     pub fn forget(&mut self, name: &str) {
         let place = self.place(name);
@@ -174,7 +185,8 @@ impl Folder {
             })?;
         }
         sync_folder(&self.path);
-        for path in self.files.drain(..).filter_map(|file| file.aside).chain(self.scratch.drain(..)) {
+        let old = self.files.drain(..).filter_map(|file| file.aside).chain(self.outdated.drain(..));
+        for path in old.chain(self.scratch.drain(..)) {
             let _ = fs::remove_file(path);
         }
         self.made.clear();

@@ -9,8 +9,9 @@ use crate::recording::place::new_file;
 use crate::recording::seal::Seal;
 use crate::recording::{records, unfinished};
 use crate::sys::disk::sync_all;
-use crate::telling::found::{is_of, sealed, Found, OTHER_AUDIO};
+use crate::telling::found::{follows, is_of, sealed, Follows, Found, OTHER_AUDIO};
 use crate::telling::kept::Row;
+use crate::telling::names::means_another;
 use crate::telling::refusal::Refusal;
 use crate::telling::shown::line_of;
 use crate::telling::side::Sheet;
@@ -31,6 +32,8 @@ pub struct Mended {
     row: Row,
     /// The file was good as it was.
     pub whole: bool,
+    /// What follows the recording in the file, and is left out.
+    follows: Follows,
 }
 
 /// The side that the seal says, or why it says none.
@@ -78,8 +81,8 @@ pub fn mended_of(file: &mut (impl Read + Seek), said: Option<Side>) -> Result<Me
         return Err(seal.err().unwrap_or_else(|| Error::undone("no records follow its seal, from frame 0 on")));
     };
     let (side, said) = told_side(seal, said, records)?;
-    let whole = sealed(file, false).is_ok();
-    Ok(Mended { sheet: Sheet::of_row(side, &row), said, audio, start, row, whole })
+    let (whole, follows) = (sealed(file, false).is_ok(), follows(file, false)?);
+    Ok(Mended { sheet: Sheet::of_row(side, &row), said, audio, start, row, whole, follows })
 }
 
 impl Mended {
@@ -123,6 +126,11 @@ impl Mended {
             let behind = seconds(self.lost());
             text += &format!(" The {behind:.2} s behind them have no records, and stand in the torn file alone.");
         }
+        match self.follows {
+            Follows::Nothing => {}
+            Follows::Bytes(n) => text += &format!(" The {n} bytes after its end are left out."),
+            Follows::Recording => text += " Another recording follows in the file: this is the first one.",
+        }
         if self.said {
             text += &format!(" That it is the {} side stands in no seal: you said it.", self.sheet.side.name());
         }
@@ -144,6 +152,10 @@ pub fn mend_file(path: &Path, out: &Path, said: Option<Side>) -> Result<Mended> 
     }
     let mut file = File::open(path).at(path)?;
     let mended = mended_of(&mut file, said).at(path)?;
+    if let Some(whose) = means_another(out, mended.sheet.side) {
+        let why = format!("its {whose} says the other side: this is the {} side", mended.sheet.side.name());
+        return Err(Error::wrong(format!("{why}; choose another --out")).at(out));
+    }
     let mut new = new_file(out).at(out)?;
     let written = mended.write(&mut file, &mut new).and_then(|()| Ok(sync_all(&new)?));
     if written.is_err() {

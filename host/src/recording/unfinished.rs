@@ -11,7 +11,7 @@ use crate::recording::records::Records;
 use crate::recording::seal;
 use crate::sys::disk::{sync_all, sync_data};
 use crate::telling::kept::Row;
-use crate::telling::shown::shown;
+use crate::telling::shown::{quoted, shown};
 use crate::telling::side::Sheet;
 use crate::{FRAME, RATE};
 use std::fmt;
@@ -43,10 +43,7 @@ pub fn left_over(folder: &Path) -> Option<PathBuf> {
 
 /// The command that closes what lies in a folder, as a shell takes it.
 pub fn mend_command(folder: &Path) -> String {
-    let path = folder.display().to_string();
-    let is_plain = path.chars().all(|c| c.is_alphanumeric() || "._/-+,:@%".contains(c)) && !path.starts_with('-');
-    let word = if is_plain { path } else { format!("'{}'", path.replace('\'', r"'\''")) };
-    format!("`box mend {word}`")
+    format!("`box mend {}`", quoted(folder))
 }
 
 /// Refuses a folder with unfinished recordings, and tells how to close them.

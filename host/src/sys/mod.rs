@@ -5,6 +5,7 @@
 //! |---|---|---|
 //! | `signal` | `signals` | Ctrl-C, TERM and HUP end what is read, so that what was recorded is closed and not lost |
 //! | `poll` | `wait` | a stream is waited for so that a signal can end the wait |
+//! | `open` | `wait` | a pipe that nobody writes into yet is opened at once, so that a signal can end the wait |
 //! | `ioctl` | `terminal` | the line that moves must not be wider than the terminal |
 //! | `isatty` | `terminal` | progress and colour are for a terminal alone |
 //! | `renameat2` | `rename` | a file gets its place in one step that writes over nothing |

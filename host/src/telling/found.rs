@@ -96,6 +96,13 @@ impl Found {
             }
             (None, Ok(_)) => Error::NoSheet(NO_FRAMES.into()),
             (None, Err(_)) if cut => Error::NoSheet(Refusal(37).into()),
+            (None, Err(refused @ Refusal(31 | 32))) => Error::NoSheet((*refused).into()).reworded(|_| {
+                let number = refused.0;
+                format!(
+                    "not a sealed recording: another program saved it, or it was never sealed. Ask for the file as the \
+                     box wrote it (refusal {number})"
+                )
+            }),
             (None, Err(refused)) => Error::NoSheet((*refused).into()),
         })
     }
@@ -136,6 +143,59 @@ pub const OTHER_AUDIO: &str = "its audio is not the one that it was sealed with"
 /// A seal whose sheet is refused.
 fn torn(refused: &Refusal) -> Error {
     Error::Damaged((*refused).into()).reworded(|why| format!("its seal is whole, but {why}"))
+}
+
+/// The beginning of a file, up to a place.
+struct Front<'a, F> {
+    file: &'a mut F,
+    at: u64,
+    end: u64,
+}
+
+impl<F: Read + Seek> Read for Front<'_, F> {
+    fn read(&mut self, to: &mut [u8]) -> io::Result<usize> {
+        let left = usize::try_from(self.end.saturating_sub(self.at)).unwrap_or(usize::MAX);
+        let most = to.len().min(left);
+        self.file.seek(SeekFrom::Start(self.at))?;
+        let read = self.file.read(&mut to[..most])?;
+        self.at += read as u64;
+        Ok(read)
+    }
+}
+
+impl<F: Read + Seek> Seek for Front<'_, F> {
+    fn seek(&mut self, to: SeekFrom) -> io::Result<u64> {
+        let at = match to {
+            SeekFrom::Start(at) => Some(at),
+            SeekFrom::End(by) => self.end.checked_add_signed(by),
+            SeekFrom::Current(by) => self.at.checked_add_signed(by),
+        };
+        self.at = at.ok_or(io::ErrorKind::InvalidInput)?;
+        Ok(self.at)
+    }
+}
+
+/// What follows the end of a recording in its file.
+#[derive(Clone, Copy, Debug, PartialEq)]
+pub enum Follows {
+    Nothing,
+    /// This many bytes, such as a tag.
+    Bytes(u64),
+    /// Another recording.
+    Recording,
+}
+
+/// What follows a recording that is sealed, but for that. The box writes nothing after a recording.
+pub fn follows(file: &mut (impl Read + Seek), quick: bool) -> io::Result<Follows> {
+    let found = Found::of(file)?;
+    let Ok((chunk, _)) = found.seal() else { return Ok(Follows::Nothing) };
+    let end = chunk.end();
+    if end >= found.size || sealed(&mut Front { file, at: 0, end }, quick).is_err() {
+        return Ok(Follows::Nothing);
+    }
+    let next = bytes(file, end, 12)?;
+    let is_wave = next.starts_with(b"RIFF") && next.ends_with(b"WAVE");
+    Ok(if is_wave { Follows::Recording } else { Follows::Bytes(found.size - end) })
 }
 
 /// The sheet of a sealed recording, or why it is none. `quick` looks at seal and sheet alone, and not at the audio.

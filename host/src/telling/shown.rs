@@ -25,6 +25,16 @@ pub fn shown(path: &Path) -> String {
     escaped(&path.to_string_lossy(), |_| false)
 }
 
+/// A name as a shell takes it, so that a command with it can be pasted.
+pub fn quoted(path: &Path) -> String {
+    let path = path.display().to_string();
+    let is_plain = path.chars().all(|c| c.is_alphanumeric() || "._/-+,:@%".contains(c)) && !path.starts_with('-');
+    match is_plain && !path.is_empty() {
+        true => path,
+        false => format!("'{}'", path.replace('\'', r"'\''")),
+    }
+}
+
 /// What is said of a file, in one line.
 pub fn line_of(path: &Path, words: impl Display) -> String {
     format!("{}: {words}", shown(path))

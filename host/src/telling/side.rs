@@ -4,11 +4,11 @@ use crate::cleaning::recorder::Side;
 use crate::error::{Error, Result};
 use crate::recording::place::without_name;
 use crate::recording::records::{trailer, RECORD, TRAILER};
-use crate::telling::found::sealed;
+use crate::telling::found::{follows, sealed, Follows};
 use crate::telling::kept::{Gaps, Row};
-use crate::telling::names::says_another;
+use crate::telling::names::means_another;
 use crate::telling::refusal::Refusal;
-use crate::telling::shown::line_of;
+use crate::telling::shown::{line_of, quoted};
 use std::fmt;
 use std::fs::File;
 use std::io::{self, Cursor, Read, Seek, SeekFrom};
@@ -93,12 +93,28 @@ fn open_to_go_back(path: &Path) -> io::Result<File> {
     Ok(copy)
 }
 
+/// Why a file is not sealed, if it is a sealed recording but for what follows its end.
+fn explained(file: &mut File, path: &Path, quick: bool) -> Option<Error> {
+    let mend = |what: &str| format!("`box mend {} --out NEW.wav` {what}", quoted(path));
+    let why = match follows(file, quick).ok()? {
+        Follows::Nothing => return None,
+        Follows::Bytes(n) => {
+            let bytes = if n == 1 { "1 byte was".into() } else { format!("{n} bytes were") };
+            format!("another program changed it: {bytes} added after its end, such as a tag; {}", mend("restores it"))
+        }
+        Follows::Recording => {
+            format!("another recording was joined to its end; {}", mend("keeps the first"))
+        }
+    };
+    Some(Error::Damaged(why.into()))
+}
+
 /// The sheet of a sealed recording whose name says no other side.
 pub fn sheet_of(path: &Path, quick: bool) -> Result<Sheet> {
     let mut file = open_to_go_back(path)?;
-    let sheet = sealed(&mut file, quick)?;
-    match says_another(path, sheet.side) {
-        Some(what) => Err(Error::Misnamed(format!("{what} says another side: {sheet}").into())),
+    let sheet = sealed(&mut file, quick).or_else(|why| Err(explained(&mut file, path, quick).unwrap_or(why)))?;
+    match means_another(path, sheet.side) {
+        Some(whose) => Err(Error::Misnamed(format!("the {whose} says another side: {sheet}").into())),
         None => Ok(sheet),
     }
 }

@@ -15,7 +15,9 @@ use tuppencehop::telling::found::sealed;
 use tuppencehop::telling::side::Sheet;
 
 pub const HEADER: usize = 44;
-pub const WRITTEN: [&str; 5] = ["benches.svg", "frames.csv", "index.html", "left.wav", "right.wav"];
+/// What `clean` writes, and what it writes with `--csv`.
+pub const WRITTEN: [&str; 4] = ["benches.svg", "index.html", "left.wav", "right.wav"];
+pub const WITH_TABLE: [&str; 5] = ["benches.svg", "frames.csv", "index.html", "left.wav", "right.wav"];
 
 /// A folder of its own for each test, with the house model in it.
 pub fn folder(name: &str) -> PathBuf {
@@ -43,9 +45,9 @@ pub fn host(path: &Path, words: &[&str]) -> Command {
     command
 }
 
-/// `box clean` with the house model.
+/// `box clean` with the house model, and the table of frames.
 pub fn clean(path: &Path, words: &[&str]) -> Command {
-    let mut command = host(path, &["clean", "--model", "house.rnn"]);
+    let mut command = host(path, &["clean", "--model", "house.rnn", "--csv"]);
     command.args(words);
     command
 }
