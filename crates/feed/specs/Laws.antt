@@ -1,9 +1,11 @@
--- What is claimed of a feed by itself. The proofs are in proofs/Ranged.antt.
-use Rattle.rules.specs.Common.{ℕ, _<_, false, List, _≡_, Float}
+-- What is claimed of a feed by itself. The proofs are in proofs/Ranged.antt and proofs/Own.antt.
+use Rattle.rules.specs.Common.{ℕ, _≤_, _<_, false, List, [], map, _≡_, length, getD, Float}
 use Rattle.frame.specs.Effect.{refusal}
 use Rattle.frame.specs.Reply.{passed}
 use Rattle.desk.specs.declared.Record.{Record}
-use Rattle.feed.specs.Feed.{Block, entryOf, feed}
+use Rattle.pcm.specs.Pcm.{width}
+use Rattle.pcm.specs.Laws.{interleaved, Recorded, sampleOf}
+use Rattle.feed.specs.Feed.{Block, samplesOf, entryOf, feed}
 
 -- refused, it leaves the record and the store, and writes to no buffer
 abbrev pub FeedLeaves : Type 0
@@ -15,3 +17,19 @@ FeedLeaves =
 -- an entry is one that the side sheet takes
 abbrev pub EntrySmall : Type 0
 EntrySmall = (frame j : ℕ) (heard : Float) → entryOf frame j heard < 8589934592
+
+-- a block is the bytes of a recording, and the bench's own channel in it is this list of samples
+pub record Carries (b : Block) (own : List (List ℕ)) : Type 0 where
+  -- the lists of all its channels, this one among them
+  pub channels : List (List (List ℕ))
+  pub known : 0 < width (b .format)
+  pub recorded : Recorded (width (b .format)) (length own) channels
+  pub bytes : b .bytes ≡ interleaved (length own) channels
+  pub many : b .channels ≡ length channels
+  pub few : length channels ≤ 65535
+  pub among : b .channel < length channels
+  pub mine : own ≡ getD channels (b .channel) []
+
+-- then the samples that are taken from the block are those of this list
+abbrev pub OwnSamples : Type 0
+OwnSamples = (b : Block) (own : List (List ℕ)) → Carries b own → samplesOf b ≡ map (sampleOf (b .format)) own

@@ -1,9 +1,7 @@
 -- What a bench receives is made of its own channel's bytes (`bytes-to-bytes`). Assumes nothing.
-use Rattle.rules.proofs.Common.{ℕ, zero, suc, cond, List, [], _∷_, map, _≡_, refl, sym, ap, ap₂, _∙_, eqb, length, Float}
-use native.Mathlib.Nat.{zero-lt-suc}
+use Rattle.rules.proofs.Common.{ℕ, cond, List, [], _∷_, map, _≡_, refl, sym, ap, ap₂, _∙_, eqb, length, Float}
 use Rattle.rules.specs.F32.{zeros}
 use Rattle.rules.specs.Refusals.{refusing}
-use Rattle.rules.specs.Tab.{tab}
 use Rattle.frame.specs.Effect.{Effect, refusal}
 use Rattle.frame.specs.Share.{SHARE}
 use Rattle.frame.specs.declared.Reply.the-variants.{Refused}
@@ -15,20 +13,15 @@ use Rattle.whole.specs.Whole.{take}
 use Rattle.isolation.specs.Run.{Returned, returned, on, State, after, received}
 use Rattle.isolation.specs.Isolation.{allZeros, own, alone}
 use Rattle.isolation.proofs.Isolated.{isolated}
-use Rattle.pcm.specs.Pcm.{unpacked}
-use Rattle.pcm.specs.Laws.{AgreeIn}
-use Rattle.pcm.proofs.Channels.{own-channel}
-use Rattle.feed.specs.Feed.{Block, blockOf, ROOM, samplesIn, sizeOf, samplesOf, feedRows, fedBy}
+use Rattle.pcm.specs.Laws.{sampleOf}
+use Rattle.feed.specs.Feed.{Block, ROOM, sizeOf, samplesOf, feedRows, fedBy}
 use Rattle.feed.specs.Feed as feeding
-use Rattle.feed.proofs.Blocks.{block-fits}
+use Rattle.feed.proofs.Own.{own-samples}
 use Rattle.feed.specs.Surface.{hostedFeed}
 use Rattle.surface.specs.Surface.{Call, surface}
 use Rattle.surface.specs.Bytes.{SameChannel, Alike, same, fed, AllAlike, BytesToBytes, OurBytes}
+use Rattle.surface.proofs.Rows.{size-is}
 use Rattle.surface.proofs.Surfaced.{owned}
-
-none : (bytes : List ℕ) (format channels channel : ℕ) → unpacked 0 bytes format channels channel ≡ []
-unfolding unpacked tab
-none bytes format channels channel = refl
 
 -- a feed by the samples that it sees
 abbrev seen : ℕ → ℕ → Record → List Float → ℕ → List Float → List ℕ → ℕ → ℕ → ℕ → Effect Answer
@@ -43,34 +36,19 @@ unfolding feeding.feed
 seen-is n side rec store b model cleaned entries answers = refl
 
 -- the samples of two such blocks
-same-samples : (format channels channel : ℕ) (bytes bytes′ : List ℕ) → let n = samplesIn (length bytes) format channels channel in
-    AgreeIn n format channels channel bytes bytes′ → unpacked n bytes format channels channel ≡ unpacked n bytes′ format channels channel
-same-samples format channels channel bytes bytes′ agree = go (samplesIn (length bytes) format channels channel) refl agree
-  where
-    go : (n : ℕ) → samplesIn (length bytes) format channels channel ≡ n → AgreeIn n format channels channel bytes bytes′
-        → unpacked n bytes format channels channel ≡ unpacked n bytes′ format channels channel
-    go zero e a = none bytes format channels channel ∙ sym (none bytes′ format channels channel)
-    go (suc n) e a = own-channel (suc n) format channels channel bytes bytes′ (block-fits (length bytes) format channels channel (rw e (zero-lt-suc n)) .known) a
-
-pub samples-alike : (format channels channel : ℕ) (bytes bytes′ : List ℕ) → length bytes ≡ length bytes′
-    → AgreeIn (samplesIn (length bytes) format channels channel) format channels channel bytes bytes′
-    → samplesOf (blockOf bytes format channels channel) ≡ samplesOf (blockOf bytes′ format channels channel)
-samples-alike format channels channel bytes bytes′ size agree =
-    same-samples format channels channel bytes bytes′ agree
-    ∙ ap (λ (k : ℕ). unpacked (samplesIn k format channels channel) bytes′ format channels channel) size
+pub samples-alike : (b b′ : Block) → SameChannel b b′ → samplesOf b ≡ samplesOf b′
+samples-alike b b′ h =
+    own-samples b (h .own) (h .here) ∙ ap (λ (f : ℕ). map (sampleOf f) (h .own)) (h .format) ∙ sym (own-samples b′ (h .own) (h .there))
 
 -- of a block a feed sees its samples alone
 feed-alike : (n side : ℕ) (rec : Record) (store : List Float) (b b′ : Block) (model : List ℕ) (cleaned entries answers : ℕ) → SameChannel b b′
     → feeding.feed n side rec store b model cleaned entries answers ≡ feeding.feed n side rec store b′ model cleaned entries answers
 feed-alike n side rec store b b′ model cleaned entries answers h =
-    let shape : blockOf (b′ .bytes) (b .format) (b .channels) (b .channel) ≡ b′ = rw (h .format, h .channels, h .channel) in
-    let other = blockOf (b′ .bytes) (b .format) (b .channels) (b .channel) in
-    let sizes : sizeOf b ≡ sizeOf other = ap (λ (k : ℕ). samplesIn k (b .format) (b .channels) (b .channel)) (h .size) in
-    let samples = samples-alike (b .format) (b .channels) (b .channel) (b .bytes) (b′ .bytes) (h .size) (h .agree) in
+    let samples = samples-alike b b′ h in
+    let sizes : sizeOf b ≡ sizeOf b′ = sym (size-is b) ∙ ap length samples ∙ size-is b′ in
     seen-is n side rec store b model cleaned entries answers
     ∙ ap₂ (λ (size : ℕ) (xs : List Float). seen n side rec store size xs model cleaned entries answers) sizes samples
-    ∙ sym (seen-is n side rec store other model cleaned entries answers)
-    ∙ ap (λ (x : Block). feeding.feed n side rec store x model cleaned entries answers) shape
+    ∙ sym (seen-is n side rec store b′ model cleaned entries answers)
 
 -- ---- one call, and any run
 

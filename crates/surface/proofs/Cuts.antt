@@ -108,7 +108,7 @@ bytes-in-a-row n s st calls format channels channel model bytes k =
 -- ---- however they are cut
 
 pub however-cut : HoweverCut
-however-cut n s st st′ calls calls′ format channels channel model bytes bytes′ k k′ alike e f =
+however-cut n s st st′ calls calls′ format channels channel channels′ channel′ model bytes bytes′ k k′ alike e f =
     bytes-in-a-row n s st calls format channels channel model bytes k
-    ∙ rw (e, f, samples-alike format channels channel bytes bytes′ (alike .size) (alike .agree))
-    (sym (bytes-in-a-row n s st′ calls′ format channels channel model bytes′ k′))
+    ∙ rw (e, f, samples-alike (blockOf bytes format channels channel) (blockOf bytes′ format channels′ channel′) alike)
+    (sym (bytes-in-a-row n s st′ calls′ format channels′ channel′ model bytes′ k′))

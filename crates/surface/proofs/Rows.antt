@@ -21,7 +21,7 @@ use Rattle.desk.specs.declared.Record.{Record}
 use Rattle.dictation.specs.Dictation.{Lent, dictate}
 use Rattle.dictation.proofs.Joins.{recAfter, shareAfter}
 use Rattle.pcm.specs.Pcm.{width, numberAt, placeOf, unpacked, byteOf, nearest16, packed, UnpackFits}
-use Rattle.pcm.proofs.Channels.{own-channel}
+use Rattle.pcm.proofs.Channels.{same-number, same-channel}
 use Rattle.pcm.proofs.Patterns.{room}
 use Rattle.feed.specs.Feed.{Block, blockOf, samplesIn, sizeOf, samplesOf, entryOf, entriesOf}
 use Rattle.feed.proofs.Blocks.{block-fits, whole}
@@ -78,12 +78,9 @@ unfolding unpacked
 size-is b = length-tab (sizeOf b) _
 
 module _ (xs ys : List ℕ) where
-  shifted : (format a : ℕ) → numberAt format (xs ++ ys) (length xs + a) ≡ numberAt format ys a
-  unfolding numberAt
-  shifted format a = rw (getD-append-add xs ys a 0, next 1, next 2, next 3)
-    where
-      next : (j : ℕ) → natAt (xs ++ ys) (length xs + a + j) ≡ natAt ys (a + j)
-      next j = ap (natAt (xs ++ ys)) (add-assoc (length xs) a j) ∙ getD-append-add xs ys (a + j) 0
+  shifted : (format a : ℕ) → 0 < width format → numberAt format (xs ++ ys) (length xs + a) ≡ numberAt format ys a
+  shifted format a k =
+      same-number (xs ++ ys) ys (length xs + a) a format k (λ j h. ap (natAt (xs ++ ys)) (add-assoc (length xs) a j) ∙ getD-append-add xs ys (a + j) 0)
 
   module _ (format channels channel n m : ℕ) (f : UnpackFits n (length xs) format channels channel) (g : UnpackFits m (length ys) format channels channel) where
     place : (i : ℕ) → placeOf format channels channel (n + i) ≡ length xs + placeOf format channels channel i
@@ -99,9 +96,9 @@ module _ (xs ys : List ℕ) where
     unpacked-both =
         tab-both n m (λ i. numberAt format (xs ++ ys) (placeOf format channels channel i))
         ∙ ap₂ (λ (u v : List Float). u ++ v)
-        (own-channel n format channels channel (xs ++ ys) xs (f .known)
+        (same-channel n format channels channel (xs ++ ys) xs (f .known)
         (λ i h j k. List·getD-append xs ys 0 _ (omega (arith, room n (length xs) format channels channel (width format) f refl i h .2, k))))
-        (tab-same m _ _ (λ i h. ap (numberAt format (xs ++ ys)) (place i) ∙ shifted format (placeOf format channels channel i)))
+        (tab-same m _ _ (λ i h. ap (numberAt format (xs ++ ys)) (place i) ∙ shifted format (placeOf format channels channel i) (f .known)))
 
     sizes-both : samplesIn (length (xs ++ ys)) format channels channel ≡ n + m
     sizes-both =

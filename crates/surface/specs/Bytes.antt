@@ -8,19 +8,19 @@ use Rattle.frame.specs.Share.{SHARE}
 use Rattle.desk.specs.Gate.{BENCHES}
 use Rattle.isolation.specs.Run.{On, received}
 use Rattle.isolation.specs.Isolation.{allZeros, own}
-use Rattle.pcm.specs.Laws.{AgreeIn}
-use Rattle.feed.specs.Feed.{Block, sizeOf}
+use Rattle.feed.specs.Feed.{Block}
+use Rattle.feed.specs.Laws.{Carries}
 use Rattle.surface.specs.Surface.{Call, feed, surface}
 
--- two blocks of one shape that have the same bytes at the bench's own places
+-- two blocks of one format that carry the same samples in the bench's own channel. In all else they may differ: in how many channels they have, in which of
+-- them is the bench's, and in every byte of the others
 pub record SameChannel (b b′ : Block) : Type 0 where
+  pub own : List (List ℕ)
   pub format : b .format ≡ b′ .format
-  pub channels : b .channels ≡ b′ .channels
-  pub channel : b .channel ≡ b′ .channel
-  pub size : length (b .bytes) ≡ length (b′ .bytes)
-  pub agree : AgreeIn (sizeOf b) (b .format) (b .channels) (b .channel) (b .bytes) (b′ .bytes)
+  pub here : Carries b own
+  pub there : Carries b′ own
 
--- two calls that differ, if at all, in the bytes of other channels; and so one by one
+-- two calls that differ, if at all, in other channels; and so one by one
 pub data Alike : Call → Call → Type 0 where
   same : (c : Call) → Alike c c
   fed : {b b′ : Block} → SameChannel b b′ → (m : List ℕ) (c e a : ℕ) → Alike (feed b m c e a) (feed b′ m c e a)

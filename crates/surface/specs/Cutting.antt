@@ -90,11 +90,12 @@ BytesInARow =
     → Streams n s st calls format channels channel model bytes
     → hasOf n s st calls ≡ hasSaid (recordAt s st) (get (shareOf s) (st .store)) (samplesOf (blockOf bytes format channels channel)) model
 
--- so two runs in which a bench begins with the same record and share, and is fed streams that agree in its channel, each cut in its own way, give it the same
+-- so two runs in which a bench begins with the same record and share, and is fed streams with the same samples in its channel, each cut in its own way, give it
+-- the same
 abbrev pub HoweverCut : Type 0
 HoweverCut =
-    (n s : ℕ) (st st′ : State) (calls calls′ : List (On Call)) (format channels channel : ℕ) (model bytes bytes′ : List ℕ)
-    → Streams n s st calls format channels channel model bytes → Streams n s st′ calls′ format channels channel model bytes′
-    → SameChannel (blockOf bytes format channels channel) (blockOf bytes′ format channels channel)
+    (n s : ℕ) (st st′ : State) (calls calls′ : List (On Call)) (format channels channel channels′ channel′ : ℕ) (model bytes bytes′ : List ℕ)
+    → Streams n s st calls format channels channel model bytes → Streams n s st′ calls′ format channels′ channel′ model bytes′
+    → SameChannel (blockOf bytes format channels channel) (blockOf bytes′ format channels′ channel′)
     → st .numbers s ≡ st′ .numbers s → get (shareOf s) (st .store) ≡ get (shareOf s) (st′ .store)
     → hasOf n s st calls ≡ hasOf n s st′ calls′
