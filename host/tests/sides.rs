@@ -57,7 +57,7 @@ fn cards(page: &str) -> [&str; 2] {
 fn each_recording_comes_out_on_its_own_side() {
     let path = given("ways");
     let alone = |side: &str, file: &str| {
-        let out = format!("{side}-alone");
+        let out = format!("{side}-{file}-alone");
         assert_eq!(cleaned(&path, &[&format!("--{side}"), file], &out).status, Some(0));
         assert_eq!(names(&path.join(&out)), ["benches.svg", "frames.csv", "index.html", &format!("{side}.wav")]);
         bytes(&path, &format!("{out}/{side}.wav"))
@@ -215,25 +215,34 @@ fn a_broken_recording_is_marked_on_its_own_card() {
     assert_eq!(cards(&page).map(|card| card.contains("Broken off")), [true; 2]);
 }
 
+/// A recording of so many channels, as 32-bit floats.
+fn floats(channels: u8, samples: &[f32]) -> Vec<u8> {
+    let mut file = wav::write(48_000, &vec![0.0; 2 * samples.len()]);
+    (file[20], file[22], file[32], file[34]) = (3, channels, 4 * channels, 32);
+    file.splice(HEADER.., samples.iter().flat_map(|x| (x / 32_768.0).to_le_bytes()));
+    file
+}
+
 /// A sample that is no number ends its own channel.
 #[test]
 fn a_broken_sample_ends_its_own_bench() {
     let path = given("nan");
     for (bench, side) in SIDES.iter().enumerate() {
         let mut both: Vec<f32> = tone(0).into_iter().zip(tone(1)).flat_map(|(l, r)| [l, r]).collect();
-        both.iter_mut().for_each(|x| *x /= 32_768.0);
         both[2 * 1_200 + bench] = f32::NAN;
-        let audio: Vec<u8> = both.iter().flat_map(|x| x.to_le_bytes()).collect();
-        let mut file = wav::write(48_000, &vec![0.0; audio.len() / 2]);
-        (file[20], file[22], file[32], file[34]) = (3, 2, 8, 32);
-        file.splice(HEADER.., audio);
-        fs::write(path.join("nan.wav"), file).unwrap();
+        fs::write(path.join("nan.wav"), floats(2, &both)).unwrap();
         let ended = cleaned(&path, &["--both", "nan.wav"], side);
         assert_eq!(ended.why, format!("box: nan.wav: {side}, at 0.03 s: not a finite number\n"));
         let lengths = SIDES.map(|name| sound(&path.join(side).join(format!("{name}.wav")), name).len());
         assert_eq!(lengths, [0, 1].map(|other| if other == bench { 1_200 } else { 2_400 }));
         let page = fs::read_to_string(path.join(side).join("index.html")).unwrap();
         assert_eq!(cards(&page).map(|card| card.contains("Broken off")), [bench == 0, bench == 1]);
+        // alone
+        let mut one = tone(bench);
+        one[1_200] = f32::INFINITY;
+        fs::write(path.join("one.wav"), floats(1, &one)).unwrap();
+        let ended = cleaned(&path, &[&format!("--{side}"), "one.wav"], &format!("{side}-alone"));
+        assert_eq!(ended.why, format!("box: one.wav: {side}, at 0.03 s: not a finite number\n"));
     }
 }
 
@@ -260,7 +269,9 @@ fn each_card_is_of_its_own_bench() {
     let page = page::html(&benches(), Some(["left-before.wav", "right-before.wav"]), "");
     for (side, card) in SIDES.iter().zip(cards(&page)) {
         let other = SIDES[usize::from(*side == "left")];
-        assert!(!card.contains(other) && !card.contains(&other.to_uppercase()), "{side}: {card}");
+        // but for a place in the style sheet's words
+        let words = card.replace("style=\"left: ", "");
+        assert!(!words.contains(other) && !words.contains(&other.to_uppercase()), "{side}: {words}");
         for text in [
             format!("<h2 id=\"{side}\">{}</h2>", side.to_uppercase()),
             format!("<audio id=\"{side}-before\" controls preload=\"metadata\" aria-label=\"{side} bench, before cleaning\" src=\"{side}-before.wav\">"),

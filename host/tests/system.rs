@@ -7,7 +7,7 @@ use common::*;
 use std::fs;
 use std::io::Write;
 use std::path::{Path, PathBuf};
-use std::process::Command;
+use std::process::{Command, Stdio};
 use std::sync::OnceLock;
 use std::thread::sleep;
 use std::time::Duration;
@@ -62,8 +62,12 @@ fn a_disk_that_fails_at_the_end() {
 fn a_disk_that_fails_while_a_stream_runs() {
     let path = given("stream");
     let mut command = failing(clean(&path, &["-", "--raw", "-q", "--out", "out"]), "fdatasync");
-    let mut child = command.stdin(std::process::Stdio::piped()).spawn().unwrap();
+    command.env("SHIM_WHEN", path.join("now"));
+    let mut child = command.stdin(Stdio::piped()).spawn().unwrap();
     let (mut to, part) = (child.stdin.take().unwrap(), raw(0.1));
+    to.write_all(&raw(0.5)).unwrap();
+    soon("nothing is written", || size(&path.join("out/left.wav.part")) > 20_000);
+    fs::write(path.join("now"), "").unwrap();
     // the pipe stays open: it is not the end of the stream that ends the run
     let mut written = 0;
     while to.write_all(&part).is_ok() {
@@ -99,7 +103,7 @@ fn a_file_system_without_renameat2() {
     assert_eq!(names(&path.join("out")), WRITTEN);
     // what comes to stand there meanwhile stays
     let mut command = failing(clean(&path, &["-", "--raw", "-q", "--out", "new"]), "renameat2");
-    let mut child = command.stdin(std::process::Stdio::piped()).spawn().unwrap();
+    let mut child = command.stdin(Stdio::piped()).spawn().unwrap();
     let mut to = child.stdin.take().unwrap();
     to.write_all(&raw(0.5)).unwrap();
     soon("nothing is written", || size(&path.join("new/left.wav.part")) > 10_000);

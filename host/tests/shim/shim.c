@@ -1,5 +1,5 @@
-/* Calls of the system that fail as the environment says, for tests: SHIM names one of the calls below. It is loaded in
-   front of the system's library by LD_PRELOAD. */
+/* Calls of the system that fail as the environment says, for tests: SHIM names one of the calls below. If SHIM_WHEN names
+   a file, the call fails once that file is there. It is loaded in front of the system's library by LD_PRELOAD. */
 #define _GNU_SOURCE
 #include <dlfcn.h>
 #include <errno.h>
@@ -10,8 +10,8 @@
 #include <unistd.h>
 
 static int fails(const char *call) {
-    const char *shim = getenv("SHIM");
-    return shim && strcmp(shim, call) == 0;
+    const char *shim = getenv("SHIM"), *when = getenv("SHIM_WHEN");
+    return shim && strcmp(shim, call) == 0 && (!when || access(when, F_OK) == 0);
 }
 
 /* The disk is broken. */
