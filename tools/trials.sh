@@ -3,7 +3,7 @@
 # one check there and wants it to fail with the words that name the fault. Without the change the check must succeed.
 #   tools/trials.sh           the quick trials, a few seconds in all; the gate runs them
 #   tools/trials.sh --slow    those that prove or compile as well, some minutes. Needs the crates proved in target/, the
-#                             static library and cargo
+#                             static library and cargo. With names (prover, without_a_group, lower_limit) these alone
 set -euo pipefail
 cd "$(dirname "$0")/.."
 root=$PWD
@@ -19,8 +19,8 @@ copy() {
     cp -r target/tools "$scratch/all/target"
 }
 
-# A fresh tree of links to that copy: to the files of what is changed here, and to the other crates as they are. A change
-# may replace a file; before it adds to one, it makes it its own.
+# A fresh tree of links to that copy: to the files of what is changed here, and to the other crates as they are. A
+# change may replace a file; before it adds to one, it makes it its own.
 fresh() {
     rm -rf "$scratch/tree"
     mkdir -p "$scratch/tree/crates"
@@ -196,7 +196,7 @@ prover() {
     mkdir -p "$tree/crates" "$tree/tools" "$tree/target/rlib" "$tree/target/stamp"
     cp -r crates/rules crates/checksum "$tree/crates"
     cp tools/must_fail_reasons.sh "$tree/tools"
-    cp target/rlib/{rules,checksum}.rlib "$tree/target/rlib"
+    cp -r target/rlib/{rules,checksum}.rlib "$tree/target/rlib"
     cp -r target/stamp/{rules,checksum} "$tree/target/stamp"
     printf 'rules:\nchecksum: rules\n' >"$tree/crates.txt"
     rm "$tree"/crates/checksum/must-fail/*.edit
@@ -260,12 +260,14 @@ mkdir -p target/tools
 for tool in definitions public refusals make_header; do
     [ "target/tools/$tool" -nt "tools/$tool.rs" ] || rustc --edition 2021 -o "target/tools/$tool" "tools/$tool.rs"
 done
-copy
-quick
+if [ $# -lt 2 ]; then
+    copy
+    quick
+fi
 if [ "${1:-}" = --slow ]; then
-    prover
-    without_a_group
-    lower_limit
+    shift
+    [ $# -gt 0 ] || set -- prover without_a_group lower_limit
+    for slow in "$@"; do "$slow"; done
 fi
 echo "$passed trials refused, as they must be; $failed went wrong"
 [ "$failed" = 0 ]
