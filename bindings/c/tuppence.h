@@ -275,6 +275,32 @@ uint32_t tuppence_autocorr(float *ac, size_t ac_len, const float *x, size_t x_le
 uint32_t tuppence_downsample(float *x_lp, size_t x_lp_len, const float *x, size_t x_len);
 
 
+/* ---- recording: whether a file's bytes are, one for one, those that the box writes for a side. */
+
+/* A judge: `numbers` has nine places, and `held` 44 bytes. What they held is overwritten. */
+uint32_t tuppence_judge_begin(uint64_t *numbers, size_t numbers_len, uint8_t *held, size_t held_len);
+
+/* `numbers` has nine places and `held` 44 bytes, as they were left. The next `bytes` of the file,
+   as many as there are. */
+uint32_t tuppence_judge_more(uint64_t *numbers, size_t numbers_len, uint8_t *held, size_t held_len,
+    const uint8_t *bytes, size_t bytes_len);
+
+/* The file ends here. `numbers` has nine places and `held` 44 bytes, as they were left. `out` has
+   three places: the side, how many frames, and how many were heard. Or 61 to 66: the first part
+   that is not as the box writes it. */
+uint32_t tuppence_judge_verdict(uint64_t *out, size_t out_len,
+    const uint64_t *numbers, size_t numbers_len, const uint8_t *held, size_t held_len);
+
+/* `out` has 44 bytes: the head in front of so many bytes of audio, whole samples, and at most
+   4,259,471,040. */
+uint32_t tuppence_recording_head(uint8_t *out, size_t out_len, uint32_t size);
+
+/* `out` has 32 bytes: what stands between so many bytes of audio, which have this `checksum`, and
+   the side sheet. */
+uint32_t tuppence_recording_chunk(uint8_t *out, size_t out_len, uint32_t side, uint32_t size,
+    uint32_t checksum);
+
+
 /* ---- sheet: written, at once and in parts, read, asked for an entry, and mended. An entry is a frame's
    number, and 2^32 more where it was heard. Refusals: 5 a wrong length, or no such entry; 31 a file
    too short for a sheet; 32 no trailer that points back to records; 33 no side; 34 a broken record;

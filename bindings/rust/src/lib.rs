@@ -184,6 +184,17 @@ surface! {
     tuppence_wav_read as wav_read(numbers: &mut [u64], file: &[u8]) -> u32;
 }
 
+// A judge of a recording, in nine numbers and 44 bytes; of a file that is told, the side, how many frames, and how many were
+// heard. What stands around the audio of a recording: 44 bytes in front, and 32 between it and its side sheet.
+#[cfg(feature = "recording")]
+surface! {
+    tuppence_judge_begin as judge_begin(numbers: &mut [u64], held: &mut [u8]) -> u32;
+    tuppence_judge_more as judge_more(numbers: &mut [u64], held: &mut [u8], bytes: &[u8]) -> u32;
+    tuppence_judge_verdict as judge_verdict(out: &mut [u64], numbers: &[u64], held: &[u8]) -> u32;
+    tuppence_recording_head as recording_head(out: &mut [u8], size: u32) -> u32;
+    tuppence_recording_chunk as recording_chunk(out: &mut [u8], side: u32, size: u32, checksum: u32) -> u32;
+}
+
 // A format is 16, 24, or 32 for floats; of so many channels by turns one is unpacked. Packed are 16 bits, two bytes for each sample.
 #[cfg(feature = "pcm")]
 surface! {
