@@ -324,6 +324,38 @@ uint32_t tuppence_autocorr(float *ac, size_t ac_len, const float *x, size_t x_le
 uint32_t tuppence_downsample(float *x_lp, size_t x_lp_len, const float *x, size_t x_len);
 
 
+/* ---- recording: whether a file's bytes are exactly those that the box writes for a side, and what is
+   around its audio. Refusals: 5 a wrong length; 53 no side; 61 the head, or a size that no
+   recording has; 62 it ends within its audio; 63 what is between the audio and the records; 64 the
+   records; 65 their trailer; 66 something follows. */
+
+/* A judge: `numbers` has eleven places, and `held` 76 bytes. What they held is overwritten. */
+uint32_t tuppence_judge_begin(uint64_t *numbers, size_t numbers_len, uint8_t *held, size_t held_len);
+
+/* `numbers` has eleven places and `held` 76 bytes, as they were left. The next `bytes` of the file,
+   as many as there are. */
+uint32_t tuppence_judge_more(uint64_t *numbers, size_t numbers_len, uint8_t *held, size_t held_len,
+    const uint8_t *bytes, size_t bytes_len);
+
+/* The file ends here. `numbers` has eleven places and `held` 76 bytes, as they were left. `out` has
+   five places: the side, when it began, the number of its first frame, how many frames, and how
+   many were heard. Or 61 to 66: the first part that is not as the box writes it. */
+uint32_t tuppence_judge_verdict(uint64_t *out, size_t out_len,
+    const uint64_t *numbers, size_t numbers_len, const uint8_t *held, size_t held_len);
+
+/* `out` has 76 bytes: the head of a recording of a side, 0 for left, 1 for right, which `began` so
+   many seconds after 1970 began, 0 if nobody knows; its `first` frame has this number, and its
+   audio `size` bytes, whole samples, and at most 4,259,471,040; or 4,294,967,295 while it is being
+   made. */
+uint32_t tuppence_recording_head(uint8_t *out, size_t out_len, uint32_t side, uint64_t began,
+    uint32_t first, uint32_t size);
+
+/* `out` has 32 bytes: what is between `size` bytes of audio, which have this `checksum`, and the
+   records. `side` and `first` as in the head. */
+uint32_t tuppence_recording_chunk(uint8_t *out, size_t out_len, uint32_t side, uint32_t first,
+    uint32_t size, uint32_t checksum);
+
+
 /* ---- sheet: written, at once and in parts, read, asked for an entry, and mended. An entry is a frame's
    number, and 2^32 more where it was heard. Refusals: 5 a wrong length, or no such entry; 31 a file
    too short for a sheet; 32 no trailer that points back to records; 33 no side; 34 a broken record;
@@ -369,20 +401,30 @@ uint32_t tuppence_inverse(float *samples, size_t samples_len,
     const float *spectrum, size_t spectrum_len);
 
 
-/* ---- checksum and wav: a checksum, a recording's seal, and the head of a WAV file. */
+/* ---- checksum and wav: a checksum, a recording's two seals, and the head of a WAV file. */
 
 /* The checksum of what was handed in `before`, 0 of nothing, and of these `bytes` behind it, as
    many as there are. */
 uint32_t tuppence_checksum(uint32_t before, const uint8_t *bytes, size_t bytes_len);
 
-/* `out` has 24 bytes. The seal of a side, 0 for left, 1 for right, whose audio has `size` bytes
-   with this `checksum`. */
+/* `out` has 24 bytes. The end seal of a recording of a side, 0 for left, 1 for right, whose audio
+   has `size` bytes with this `checksum`. */
 uint32_t tuppence_seal_write(uint8_t *out, size_t out_len, uint32_t side, uint64_t size,
     uint32_t checksum);
 
 /* `numbers` has three places: the side, how many bytes of audio, and their checksum. `file` is what
-   stands where the seal begins, of any length. */
+   is there from the end seal on, of any length. */
 uint32_t tuppence_seal_read(uint64_t *numbers, size_t numbers_len,
+    const uint8_t *file, size_t file_len);
+
+/* `out` has 24 bytes. The front seal of a recording of a side, which `began` so many seconds after
+   1970 began, 0 if nobody knows, and whose `first` frame has this number. */
+uint32_t tuppence_front_write(uint8_t *out, size_t out_len, uint32_t side, uint64_t began,
+    uint32_t first);
+
+/* `numbers` has three places: the side, when it began, and the number of its first frame. `file` is
+   what is there from the front seal on, of any length. */
+uint32_t tuppence_front_read(uint64_t *numbers, size_t numbers_len,
     const uint8_t *file, size_t file_len);
 
 /* `out` has 44 bytes. So many bytes of audio at a rate, and of chunks `behind` it. */

@@ -7,6 +7,7 @@
 
 pub mod models;
 pub mod plain_pcm;
+pub mod plain_recording;
 pub mod plain_sheet;
 pub mod plain_wav;
 pub mod reader;
@@ -61,6 +62,8 @@ pub mod pcm;
 pub mod pieces;
 #[cfg(feature = "pitch")]
 pub mod pitch;
+#[cfg(feature = "recording")]
+pub mod recording;
 #[cfg(feature = "frame")]
 pub mod shadow;
 #[cfg(feature = "sheet")]
@@ -134,6 +137,8 @@ pub const GROUPS: &[Group] = &[
     ("mend", mend::compare),
     #[cfg(feature = "wav")]
     ("wav", wav::compare),
+    #[cfg(feature = "recording")]
+    ("recording", recording::compare),
     #[cfg(feature = "pcm")]
     ("pcm", pcm::compare),
     #[cfg(feature = "network")]

@@ -139,8 +139,21 @@ surface! {
     tuppence_checksum as checksum(before: u32, bytes: &[u8]) -> u32;
     tuppence_seal_write as seal_write(out: &mut [u8], side: u32, size: u64, checksum: u32) -> u32;
     tuppence_seal_read as seal_read(numbers: &mut [u64], file: &[u8]) -> u32;
+    tuppence_front_write as front_write(out: &mut [u8], side: u32, began: u64, first: u32) -> u32;
+    tuppence_front_read as front_read(numbers: &mut [u64], file: &[u8]) -> u32;
     tuppence_wav_head as wav_head(out: &mut [u8], rate: u32, size: u32, behind: u32) -> u32;
     tuppence_wav_read as wav_read(numbers: &mut [u64], file: &[u8]) -> u32;
+}
+
+// A judge of a recording, in eleven numbers and 76 bytes. It reports the side, when it began, the number of its first
+// frame, how many frames there are, and how many were heard. What is around the audio of a recording: 76 bytes before
+// it, and 32 between it and its records.
+surface! {
+    tuppence_judge_begin as judge_begin(numbers: &mut [u64], held: &mut [u8]) -> u32;
+    tuppence_judge_more as judge_more(numbers: &mut [u64], held: &mut [u8], bytes: &[u8]) -> u32;
+    tuppence_judge_verdict as judge_verdict(out: &mut [u64], numbers: &[u64], held: &[u8]) -> u32;
+    tuppence_recording_head as recording_head(out: &mut [u8], side: u32, began: u64, first: u32, size: u32) -> u32;
+    tuppence_recording_chunk as recording_chunk(out: &mut [u8], side: u32, first: u32, size: u32, checksum: u32) -> u32;
 }
 
 // A format is 16, 24, or 32 for floats; of so many channels by turns one is unpacked. Packed are 16 bits, two bytes for each sample.

@@ -364,6 +364,27 @@ fn of_wav(rng: &mut Rng) -> Vec<Row> {
     )]
 }
 
+/// Ten seconds, handed over in parts of 65,536 bytes, beside the library's own checksum of the same parts.
+#[cfg(feature = "recording")]
+fn of_recording(rng: &mut Rng) -> Vec<Row> {
+    use oracle::plain_recording::{Front, Recording};
+    let front = Front { side: 1, began: 0, first: 0 };
+    let file = Recording { front, audio: rng.bytes(960_000), heard: vec![true; 1_001] }.bytes();
+    let again = file.clone();
+    vec![row(
+        "a recording of ten seconds, judged, beside its checksum alone",
+        move || {
+            let (mut numbers, mut held, mut out) = ([0; 11], [0; 76], [0; 5]);
+            tuppence::judge_begin(&mut numbers, &mut held);
+            for part in black_box(&file).chunks(65_536) {
+                tuppence::judge_more(&mut numbers, &mut held, part);
+            }
+            assert_eq!(tuppence::judge_verdict(&mut out, &numbers, &held), 0);
+        },
+        move || black_box(&again).chunks(65_536).fold(0, tuppence::checksum),
+    )]
+}
+
 /// What a frame is given.
 #[cfg(feature = "frame")]
 struct Frame {
@@ -592,6 +613,8 @@ fn main() {
     rows.extend(of_sheet(rng));
     #[cfg(feature = "wav")]
     rows.extend(of_wav(rng));
+    #[cfg(feature = "recording")]
+    rows.extend(of_recording(rng));
     #[cfg(feature = "frame")]
     rows.extend([of_frame(rng), of_whole(rng)].into_iter().flatten());
     #[cfg(feature = "blocks")]
