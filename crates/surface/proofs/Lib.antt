@@ -8,3 +8,4 @@ pub mod Rows
 pub mod Bytes
 pub mod Fed
 pub mod Cuts
+pub mod Owner

@@ -2,3 +2,4 @@ pub mod Surface
 pub mod Between
 pub mod Bytes
 pub mod Cutting
+pub mod Owner
