@@ -9,3 +9,5 @@ pub mod Bytes
 pub mod Fed
 pub mod Cuts
 pub mod Owner
+pub mod Acceptance
+pub mod Accepted

@@ -3,3 +3,4 @@ pub mod Between
 pub mod Bytes
 pub mod Cutting
 pub mod Owner
+pub mod Acceptance
