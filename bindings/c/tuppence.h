@@ -22,7 +22,7 @@ extern "C" {
 
 /* The numbers of the store, which serves all benches, and of a bench's record: zeros before its first opening. */
 #define TUPPENCE_STORE 98304
-#define TUPPENCE_RECORD 11
+#define TUPPENCE_RECORD 12
 
 /* What a call returns if it refuses, and 40, which is no refusal; docs/REFUSALS.md says of each exactly when. */
 #define TUPPENCE_NO_SUCH_SIDE 1
@@ -94,16 +94,17 @@ uint32_t tuppence_window_in_place(float *xs, size_t xs_len);
 
 
 /* ---- desk: an opening, the frame calls and pieces of dictation, for a host that has numbers alone.
-   `record` is a side's record as eleven numbers: due call, cepstral index, the three GRU counts,
+   `record` is a side's record as twelve numbers: due call, cepstral index, the three GRU counts,
    frames, heard frames, the samples that wait, the size of an unfinished piece and its progress,
-   and the side's way: 0 for our own lag and the plain sums, 1 for nnnoiseless's lag and the fast
-   transforms. `answer` is call 3's as three: heard or not, voice, energy. Returned is 0 or the
-   refusal. `store` is the one of all benches, of the length that is published, and `model` the
-   bytes of a model file. Refusals, the first that is due: 1 no such side; 2 another length of
-   `store` or `record`, or a record out of range; 3 the side is closed; 4 another call is due; 5
-   another wrong length; 6 a lag above 768; 7 + 256 times its refusal + 65,536 times the layer, a
-   model that does not read; 8 other counts than at the opening; 9 a sample outside of -32,768 to
-   32,767. */
+   the side's way: 0 for our own lag and the plain sums, 1 for nnnoiseless's lag and the fast
+   transforms; and the side plus 1, which an opening notes, so that no other side takes the record.
+   A closed record is all zeros. `answer` is call 3's as three: heard or not, voice, energy.
+   Returned is 0 or the refusal. `store` is the one of all benches, of the length that is published,
+   and `model` the bytes of a model file. Refusals, the first that is due: 1 no such side; 2 another
+   length of `store` or `record`, a record out of range, or another side's; 3 the side is closed; 4
+   another call is due; 5 another wrong length; 6 a lag above 768; 7 + 256 times its refusal +
+   65,536 times the layer, a model that does not read; 8 other counts than at the opening; 9 a
+   sample outside of -32,768 to 32,767. */
 
 /* A bench's side: 0 left for an even one, 1 right for an odd one. */
 uint32_t tuppence_side_of(uint32_t bench);
@@ -171,7 +172,7 @@ uint32_t tuppence_resume(uint32_t *record, size_t record_len, float *store, size
     float *sums, size_t sums_len, float *answer, size_t answer_len);
 
 
-/* ---- feed: a block of recorded bytes in one call. `record` is a side's record as eleven numbers, and
+/* ---- feed: a block of recorded bytes in one call. `record` is a side's record as twelve numbers, and
    `store` 98,304, as in `of_desk`; `model` is a model file's bytes. Returned is 0 or the refusal. */
 
 /* `bytes` are 1 to 4,096 whole samples of all channels, little end first; `format` is 16, 24, or 32

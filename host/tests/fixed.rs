@@ -37,7 +37,7 @@ fn a_lag_of_768_passes_and_769_gives_6() {
     assert_eq!(tuppence::call2(&mut record, &mut store, 1, &[0.5; 961], 769, &mut window, &mut sums), 6);
     assert!(before == (store.clone(), record, window, sums));
     assert_eq!(tuppence::call2(&mut record, &mut store, 1, &[0.5; 961], 768, &mut window, &mut sums), 0);
-    assert_eq!(record, [3, 0, 1, 1, 1, 0, 0, 0, 0, 0, 0]);
+    assert_eq!(record, [3, 0, 1, 1, 1, 0, 0, 0, 0, 0, 0, 2]);
     // The other fifteen shares were never opened, and are as they were.
     assert!(store[..6_144].iter().chain(&store[12_288..]).all(|x| *x == 1.0));
 }
@@ -85,13 +85,13 @@ fn bench_15_is_the_last_and_98_304_numbers_are_the_only_store() {
     assert_eq!([12_288, 98_303, 98_305].map(|len| open(0, len)), [2; 3]);
 }
 
-/// The eleventh number of a record is the way of its bench.
+/// The eleventh number of a record is the way of its bench, and the twelfth its bench, counted from 1.
 #[test]
 fn an_opening_settles_the_way() {
     for (way, number) in [(Way::Asked, 0), (Way::Crate, 1)] {
         let (mut store, mut record) = (vec![1.0; 98_304], [0; RECORD]);
         assert_eq!(way.open(&mut record, &mut store, 0, &smallest()), Ok(()));
-        assert_eq!(record, [1, 0, 1, 1, 1, 0, 0, 0, 0, 0, number]);
+        assert_eq!(record, [1, 0, 1, 1, 1, 0, 0, 0, 0, 0, number, 1]);
         let mut frame = |record: &mut [u32]| {
             let (mut out, mut answer) = ([0.0; FRAME], [0.0; 3]);
             tuppence::frame(record, &mut store, 0, &[100.0; FRAME], &smallest(), &mut out, &mut answer)

@@ -2,11 +2,13 @@
 //! plain packing and numbering, on a second store. (The package `feed` of this folder is another thing: it hands the text its transforms and logarithms.)
 
 use crate::answers::Answers;
+use crate::beside::another_bench;
 use crate::desk::{
-    self, gate, pass, Due, Way, BENCHES, COUNTS, DUE, FRAMES, INDEX, RECORD, STORE, UNFINISHED, WAIT, WAITING, WAY,
+    self, gate, pass, Due, Way, BENCH, BENCHES, COUNTS, DUE, FRAMES, INDEX, RECORD, STORE, UNFINISHED, WAIT, WAITING,
+    WAY,
 };
 use crate::dictation::{completed, LONGEST};
-use crate::faults::{befallen, closed_with_a_way, unfinished, Fault, SHAPE, SIDE};
+use crate::faults::{befallen, closed_but_for_its_bench, closed_with_a_way, unfinished, Fault, SHAPE, SIDE};
 use crate::models::{self, Shape};
 use crate::pcm::NO_FORMATS;
 use crate::plain_pcm::{self as plain, Layout};
@@ -209,7 +211,7 @@ fn interleaved(tally: &mut Tally, rng: &mut Rng, feed: Feed, frames: u64) -> Met
 
 /// Now and then something is another; the bench goes on as if nothing had been.
 fn damage(rng: &mut Rng, case: &mut Case) -> bool {
-    match rng.below(24) {
+    match rng.below(25) {
         0 => case.layout.format = rng.pick(&NO_FORMATS),
         1 => case.layout.channels = rng.pick(&[0, 9, 65_536, u32::MAX]),
         2 => case.layout.channel = rng.pick(&[case.layout.channels, 65_535, u32::MAX]),
@@ -223,6 +225,7 @@ fn damage(rng: &mut Rng, case: &mut Case) -> bool {
         10 => case.record.fill(0),
         11 => case.bytes.resize(case.bytes.len() + 12 * LONGEST, 0),
         12 => (case.record[DUE], case.record[WAITING]) = (2, 0),
+        13 => case.record[BENCH] = another_bench(rng, case.side as usize),
         _ => return false,
     }
     true
@@ -251,6 +254,12 @@ const ANY: &[Fault<Case>] = &[
     (2, |c| c.record[WAY] = 2),
     (2, |c| c.record[WAY] = u32::MAX),
     (2, |c| closed_with_a_way(&mut c.record)),
+    (2, |c| (c.record[DUE], c.record[BENCH]) = (1, 0)),
+    (2, |c| c.record[BENCH] = SIDE),
+    (2, |c| c.record[BENCH] = 17),
+    (2, |c| c.record[BENCH] = u32::MAX),
+    (2, |c| closed_but_for_its_bench(&mut c.record)),
+    (2, |c| (c.record[DUE], c.side) = (1, 0)),
     (3, |c| c.record.fill(0)),
     (4, |c| (c.record[DUE], c.record[WAITING]) = (2, 0)),
     (4, |c| unfinished(&mut c.record)),

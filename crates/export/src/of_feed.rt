@@ -1,4 +1,4 @@
-// feed: a block of recorded bytes in one call. `record` is a side's record as eleven numbers, and `store` 98,304, as in
+// feed: a block of recorded bytes in one call. `record` is a side's record as twelve numbers, and `store` 98,304, as in
 // `of_desk`; `model` is a model file's bytes. Returned is 0 or the refusal.
 ghost use mathlib.Core.List.{[], _∷_};
 ghost use lib.ListN.{length};
@@ -27,7 +27,7 @@ pub extern "C" fn tuppence_feed(
     answers: &mut [f32],
 ) -> u32
     ensures { λ r. ⌜ WorkedBoth
-        (handed (now («record» .entry))
+        (handed side (now («record» .entry))
         (hostedFeed BENCHES side (now («record» .entry)) (now (store .entry)) (blockOf (now (bytes .entry)) format channels channel)
         (now (model .entry)) (length (now (out .entry))) (length (now (entries .entry))) (length (now (answers .entry)))))
         (r, now («record» .exit)) (now (store .exit)) (now (answers .entry) ∷ []) (now (answers .exit) ∷ [])
@@ -35,7 +35,7 @@ pub extern "C" fn tuppence_feed(
 {
     let given = feed::feed(
         Side(side as usize),
-        crate::of_desk::record_in(record),
+        crate::of_desk::record_in(side, record),
         store,
         bytes,
         format,
@@ -46,5 +46,5 @@ pub extern "C" fn tuppence_feed(
         entries,
         answers,
     );
-    crate::of_desk::hand_back(record, given)
+    crate::of_desk::hand_back(side, record, given)
 }

@@ -15,7 +15,7 @@ use Rattle.desk.specs.declared.Record.{Record}
 use Rattle.desk.specs.Gate.{PIECE, inRange, gate}
 use Rattle.desk.proofs.Replies.{SmallSeven}
 use Rattle.whole.specs.Whole.{take}
-use Rattle.whole.proofs.Ranged.{take-small, take-range, take-by}
+use Rattle.whole.proofs.Ranged.{take-small, take-range, take-seated, take-by}
 use Rattle.feed.specs.Feed.{Block, ROOM, sizeOf, samplesOf, feedRows, fedBy, feed}
 use Rattle.feed.specs.Laws.{FeedLeaves, EntrySmall}
 
@@ -35,6 +35,11 @@ module _ (n side : ℕ) (rec : Record) (store : List Float) (b : Block) (model :
   feed-range =
       feed-by (λ o. passed (o .answer .reply) ≡ true → (inRange rec ≡ true) × (inRange (o .answer .rec) ≡ true)) (λ _ q. absurd (false≢true q))
       (take-range n side (samplesOf b) model rec store ROOM answers)
+
+  pub feed-seated : passed (feed n side rec store b model cleaned entries answers .answer .reply) ≡ true → side < n
+  feed-seated =
+      feed-by (λ o. passed (o .answer .reply) ≡ true → side < n) (λ _ q. absurd (false≢true q))
+      (take-seated n side (samplesOf b) model rec store ROOM answers)
 
 pub feed-leaves : FeedLeaves
 feed-leaves n side rec store b model cleaned entries answers =

@@ -13,9 +13,9 @@ pub record Returned : Type 0 where
   pub numbers : List ℕ
   pub written : List Written
 
--- of what a call gave, with this record: a refusal leaves it
-abbrev pub returned : List ℕ → Effect Answer → Returned
-returned ns o = record { number = replyNumber (o .answer .reply); numbers = handedBack (o .answer) ns; written = o .written }
+-- of what a call gave on this side, with this record: a refusal leaves it
+abbrev pub returned : ℕ → List ℕ → Effect Answer → Returned
+returned side ns o = record { number = replyNumber (o .answer .reply); numbers = handedBack side (o .answer) ns; written = o .written }
 
 -- a kind of calls: what one gives on one of n sides, with the side's record and the store
 abbrev pub Kind : Type 0 → Type 0
@@ -34,14 +34,14 @@ pub record State : Type 0 where
   pub store : List Float
 
 abbrev pub recordAt : ℕ → State → Record
-recordAt s st = recordIn (st .numbers s)
+recordAt s st = recordIn s (st .numbers s)
 
 module _ {C : Type 0} (serve : Kind C) (n : ℕ) where
   abbrev pub given : State → On C → Effect Answer
   given st c = serve n (c .side) (st .numbers (c .side)) (st .store) (c .call)
 
   abbrev pub gets : State → On C → Returned
-  gets st c = returned (st .numbers (c .side)) (given st c)
+  gets st c = returned (c .side) (st .numbers (c .side)) (given st c)
 
   abbrev pub after : State → On C → State
   after st c = record { numbers = λ s. cond (eqb (c .side) s) (gets st c .numbers) (st .numbers s); store = given st c .kept }

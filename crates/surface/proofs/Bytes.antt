@@ -11,7 +11,7 @@ use Rattle.desk.specs.Gate.{BENCHES, PIECE, gate}
 use Rattle.desk.specs.Surface.{recordIn}
 use Rattle.whole.specs.Whole.{take}
 use Rattle.isolation.specs.Run.{Returned, returned, on, State, after, received}
-use Rattle.isolation.specs.Isolation.{allZeros, own, alone}
+use Rattle.isolation.specs.Isolation.{asBench, allZeros, own, alone}
 use Rattle.isolation.proofs.Isolated.{isolated}
 use Rattle.pcm.specs.Laws.{sampleOf}
 use Rattle.feed.specs.Feed.{Block, ROOM, sizeOf, samplesOf, feedRows, fedBy}
@@ -54,19 +54,19 @@ feed-alike n side rec store b b′ model cleaned entries answers h =
 
 -- the state behind a call of side 0
 abbrev next : State → Effect Answer → State
-next st g = record { numbers = λ s. cond (eqb 0 s) (returned (st .numbers 0) g .numbers) (st .numbers s); store = g .kept }
+next st g = record { numbers = λ s. cond (eqb 0 s) (returned 0 (st .numbers 0) g .numbers) (st .numbers s); store = g .kept }
 
 call-alike : (n side : ℕ) (ns : List ℕ) (store : List Float) {c c′ : Call} → Alike c c′ → surface n side ns store c ≡ surface n side ns store c′
 unfolding hostedFeed
 call-alike n side ns store (same c) = refl
-call-alike n side ns store (fed {b} {b′} h m k e a) = feed-alike n side (recordIn ns) store b b′ m k e a h
+call-alike n side ns store (fed {b} {b′} h m k e a) = feed-alike n side (recordIn side ns) store b b′ m k e a h
 
 runs-alike : (cs cs′ : List Call) → AllAlike cs cs′ → (st : State) → received surface 1 0 st (map (on 0) cs) ≡ received surface 1 0 st (map (on 0) cs′)
 unfolding received
 runs-alike [] [] h st = refl
 runs-alike (c ∷ cs) (c′ ∷ cs′) h st =
     let here = call-alike 1 0 (st .numbers 0) (st .store) (h .0) in
-    ap₂ {C = List Returned} (λ (x : Returned) (xs : List Returned). x ∷ xs) (ap (returned (st .numbers 0)) here)
+    ap₂ {C = List Returned} (λ (x : Returned) (xs : List Returned). x ∷ xs) (ap (returned 0 (st .numbers 0)) here)
     (runs-alike cs cs′ (h .1) (after surface 1 st (on 0 c))
     ∙ ap (λ (g : Effect Answer). received surface 1 0 (next st g) (map (on 0) cs′)) here)
 runs-alike [] (c′ ∷ cs′) h st = absurd h
@@ -76,7 +76,7 @@ pub bytes-to-bytes : (n : ℕ) → BytesToBytes n
 unfolding alone
 bytes-to-bytes n s inside store store′ l l′ calls calls′ alike =
     isolated surface owned n s inside store l calls
-    ∙ runs-alike (own s calls) (own s calls′) alike (allZeros (zeros SHARE))
+    ∙ ap (map (asBench s)) (runs-alike (own s calls) (own s calls′) alike (allZeros (zeros SHARE)))
     ∙ sym (isolated surface owned n s inside store′ l′ calls′)
 
 pub our-bytes : OurBytes

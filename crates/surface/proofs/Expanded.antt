@@ -57,40 +57,40 @@ own side s numbers = go (eqb side s) refl
     go false e = refl
 
 -- the record that a call of the desk hands back, of one that is done and of any behind it
-back : (a : Answer) (ns : List ℕ) → passed (a .reply) ≡ true → handedBack a ns ≡ numbersOf (a .rec)
-back a ns p = rw p
+back : (side : ℕ) (a : Answer) (ns : List ℕ) → passed (a .reply) ≡ true → handedBack side a ns ≡ numbersOf side (a .rec)
+back side a ns p = rw p
 
 handed : (n side : ℕ) (rec : Record) (store : List Float) (a : Ask)
-    → let o = desk n side rec store a in handedBack (o .answer) (numbersOf rec) ≡ numbersOf (o .answer .rec)
+    → let o = desk n side rec store a in handedBack side (o .answer) (numbersOf side rec) ≡ numbersOf side (o .answer .rec)
 handed n side rec store a = go (passed (o .answer .reply)) refl
   where
     o : Effect Answer
     o = desk n side rec store a
 
-    go : (t : Bool) → passed (o .answer .reply) ≡ t → cond t (numbersOf (o .answer .rec)) (numbersOf rec) ≡ numbersOf (o .answer .rec)
+    go : (t : Bool) → passed (o .answer .reply) ≡ t → cond t (numbersOf side (o .answer .rec)) (numbersOf side rec) ≡ numbersOf side (o .answer .rec)
     go true p = refl
-    go false p = ap numbersOf (sym (refused-keeps n side rec store a p .0))
+    go false p = ap (numbersOf side) (sym (refused-keeps n side rec store a p .0))
 
 module _ (n side : ℕ) (st : State) where
   again : (rec : Record) (store : List Float) (a : Ask)
       → let o = desk n side rec store a in
-      after desks n (leaving st side (numbersOf rec) store) (on side a) ≡ leaving st side (numbersOf (o .answer .rec)) (o .kept)
+      after desks n (leaving st side (numbersOf side rec) store) (on side a) ≡ leaving st side (numbersOf side (o .answer .rec)) (o .kept)
   unfolding hosted recordIn
   again rec store a =
-      let mine : cond (eqb side side) (numbersOf rec) (st .numbers side) ≡ numbersOf rec = rw (eq-eqb side side refl) in
+      let mine : cond (eqb side side) (numbersOf side rec) (st .numbers side) ≡ numbersOf side rec = rw (eq-eqb side side refl) in
       let o = desk n side rec store a in
-      let first = leaving st side (numbersOf rec) store in
-      ap (λ (ns : List ℕ). let g = desk n side (recordIn ns) store a in leaving first side (handedBack (g .answer) ns) (g .kept)) mine
-      ∙ ap (λ (r : Record). let g = desk n side r store a in leaving first side (handedBack (g .answer) (numbersOf rec)) (g .kept)) (reads rec)
+      let first = leaving st side (numbersOf side rec) store in
+      ap (λ (ns : List ℕ). let g = desk n side (recordIn side ns) store a in leaving first side (handedBack side (g .answer) ns) (g .kept)) mine
+      ∙ ap (λ (r : Record). let g = desk n side r store a in leaving first side (handedBack side (g .answer) (numbersOf side rec)) (g .kept)) (reads side rec)
       ∙ ap (λ (ns : List ℕ). leaving first side ns (o .kept)) (handed n side rec store a)
-      ∙ ap (λ (f : ℕ → List ℕ). record { numbers = f; store = o .kept }) (fun-ext (λ s. over side s (numbersOf (o .answer .rec)) (numbersOf rec) (st .numbers s)))
+      ∙ ap (λ (f : ℕ → List ℕ). record { numbers = f; store = o .kept }) (fun-ext (λ s. over side s (numbersOf side (o .answer .rec)) (numbersOf side rec) (st .numbers s)))
 
   begun : (a : Ask) → let o = desk n side (recordAt side st) (st .store) a in
-      passed (o .answer .reply) ≡ true → leaving st side (numbersOf (o .answer .rec)) (o .kept) ≡ after desks n st (on side a)
+      passed (o .answer .reply) ≡ true → leaving st side (numbersOf side (o .answer .rec)) (o .kept) ≡ after desks n st (on side a)
   unfolding hosted
   begun a p =
       let o = desk n side (recordAt side st) (st .store) a in
-      ap (λ (ns : List ℕ). leaving st side ns (o .kept)) (sym (back (o .answer) (st .numbers side) p))
+      ap (λ (ns : List ℕ). leaving st side ns (o .kept)) (sym (back side (o .answer) (st .numbers side) p))
 
   pub unmoved : leaving st side (st .numbers side) (st .store) ≡ st
   unmoved = ap (λ (f : ℕ → List ℕ). record { numbers = f; store = st .store }) (fun-ext (λ s. own side s (st .numbers)))
@@ -103,7 +103,7 @@ map-more f (y ∷ xs) x = ap (λ (cs : List (On Ask)). f y ∷ cs) (map-more f x
 
 -- so many calls of the desk lead to what was given
 abbrev Leads : ℕ → ℕ → State → List Ask → Effect Answer → Type 0
-Leads n side st asks o = leaving st side (handedBack (o .answer) (st .numbers side)) (o .kept) ≡ ended desks n st (map (on side) asks)
+Leads n side st asks o = leaving st side (handedBack side (o .answer) (st .numbers side)) (o .kept) ≡ ended desks n st (map (on side) asks)
 
 module _ (n side : ℕ) (st : State) where
   abbrev ns : List ℕ
@@ -115,7 +115,7 @@ module _ (n side : ℕ) (st : State) where
   -- a call that is refused is made of none
   none-runs : (reply : Reply) → passed reply ≡ false → Leads n side st [] (refusal (record { reply = reply; rec = recordAt side st }) (st .store))
   unfolding ended
-  none-runs reply p = ap (λ (t : Bool). leaving st side (cond t (numbersOf rec) ns) (st .store)) p ∙ unmoved n side st
+  none-runs reply p = ap (λ (t : Bool). leaving st side (cond t (numbersOf side rec) ns) (st .store)) p ∙ unmoved n side st
 
   frame-runs : (x : List Float) (m : List ℕ) (o : ℕ)
       → Leads n side st (madeOf n side (recordAt side st) (st .store) (frame x m o)) (whole.frame n side (recordAt side st) (st .store) x m o)
@@ -137,12 +137,12 @@ module _ (n side : ℕ) (st : State) where
       go : (t : Bool) → passed reply ≡ t → Leads n side st (cond t (firstHalf x 22 ∷ second ∷ []) []) (whole.frame n side rec (st .store) x m o)
       go true p =
           let h = two-halves n side rec (st .store) x m o p in
-          ap (λ (g : Effect Answer). leaving st side (handedBack (g .answer) ns) (g .kept)) (h .2)
-          ∙ ap (λ (r : List ℕ). leaving st side r (two .kept)) (back (two .answer) ns (h .1))
+          ap (λ (g : Effect Answer). leaving st side (handedBack side (g .answer) ns) (g .kept)) (h .2)
+          ∙ ap (λ (r : List ℕ). leaving st side r (two .kept)) (back side (two .answer) ns (h .1))
           ∙ sym (again n side st (one .answer .rec) (one .kept) second)
           ∙ ap (λ (s : State). after desks n s (on side second)) (begun n side st (firstHalf x 22) (h .0))
       go false p =
-          ap (λ (g : Effect Answer). leaving st side (handedBack (g .answer) ns) (g .kept)) (refused-is n side rec (st .store) x m o p)
+          ap (λ (g : Effect Answer). leaving st side (handedBack side (g .answer) ns) (g .kept)) (refused-is n side rec (st .store) x m o p)
           ∙ none-runs reply p
 
   module _ (x : List Float) (m : List ℕ) (o : ℕ) where
@@ -153,7 +153,7 @@ module _ (n side : ℕ) (st : State) where
     resumed j = resume x (logsOf (stands j .sums)) m o 22
 
     pub steps : passed (desk n side (recordAt side st) (st .store) (piece x o 22) .answer .reply) ≡ true
-        → (j : ℕ) → leaving st side (numbersOf (stands j .rec)) (stands j .store) ≡ ended desks n st (map (on side) (piece x o 22 ∷ tab j resumed))
+        → (j : ℕ) → leaving st side (numbersOf side (stands j .rec)) (stands j .store) ≡ ended desks n st (map (on side) (piece x o 22 ∷ tab j resumed))
     unfolding takeFrames loop tab ended
     steps p zero = begun n side st (piece x o 22) p
     steps p (suc j) =
@@ -179,7 +179,7 @@ module _ (n side : ℕ) (st : State) where
         go : (t : Bool) → passed reply ≡ t
             → Leads n side st (cond t (piece x o 22 ∷ tab k resumed) []) (cond t (takenAs reply end) (refusal (record { reply = reply; rec = rec }) (st .store)))
         go true p =
-            ap (λ (t : Bool). leaving st side (cond t (numbersOf (end .rec)) ns) (end .store)) p
+            ap (λ (t : Bool). leaving st side (cond t (numbersOf side (end .rec)) ns) (end .store)) p
             ∙ steps (take-done n side rec (st .store) x m o a p .0) k
         go false p = none-runs reply p
 
@@ -191,7 +191,7 @@ module _ (n side : ℕ) (st : State) where
       let rows = feedRows (gate n side rec (length (st .store)) PIECE) (rec .waiting) (sizeOf b) cleaned entries answers in
       let asks = madeOf n side rec (st .store) (take (samplesOf b) m ROOM answers) in
       let run : List Ask → State = λ xs. ended desks n st (map (on side) xs) in
-      along (λ (o : Effect Answer). leaving st side (handedBack (o .answer) ns) (o .kept)) (λ r. refusal (record { reply = Refused r; rec = rec }) (st .store))
+      along (λ (o : Effect Answer). leaving st side (handedBack side (o .answer) ns) (o .kept)) (λ r. refusal (record { reply = Refused r; rec = rec }) (st .store))
       (fedBy (rec .frame) (whole.take n side rec (st .store) (samplesOf b) m ROOM answers)) (λ _. st) (run asks) rows
       (λ _. unmoved n side st) (λ _. take-runs (samplesOf b) m ROOM answers)
       ∙ sym (along run (λ _. []) asks (λ _. st) (run asks) rows (λ _. refl) (λ _. refl))

@@ -45,7 +45,7 @@ use Rattle.surface.proofs.Surfaced.{owned}
 abbrev gaveOf : ℕ → List ℕ → Effect Answer → Has
 gaveOf s ns g =
     record {
-      rec = recordIn (returned ns g .numbers);
+      rec = recordIn s (returned s ns g .numbers);
       share = get (shareOf s) (g .kept);
       cleaned = wholesIn (getD (g .written) 1 nothing);
       entries = wholesIn (getD (g .written) 2 nothing);
@@ -61,7 +61,7 @@ abbrev replyTo : ℕ → ℕ → List ℕ → List Float → Call → Reply
 replyTo n side ns store c = surface n side ns store c .answer .reply
 
 gave-nothing : (n s : ℕ) (ns : List ℕ) (store : List Float) (c : Call) → passed (replyTo n s ns store c) ≡ false
-    → gaveOf s ns (surface n s ns store c) ≡ bare (recordIn ns) (get (shareOf s) store)
+    → gaveOf s ns (surface n s ns store c) ≡ bare (recordIn s ns) (get (shareOf s) store)
 gave-nothing n s ns store c p = let k = refused-leaves n s ns store c p in rw (p, k .1, k .2)
 
 -- samples that a bench's feed says, behind those that wait
@@ -71,7 +71,7 @@ pub record Says (b : Record) (samples : List Float) : Type 0 where
 
 module _ (n s : ℕ) (inside : s < n) (ns : List ℕ) (store : List Float) (l : length store ≡ n * SHARE) (b : Block) (model : List ℕ) (cleaned entries answers : ℕ) where
   abbrev rec : Record
-  rec = recordIn ns
+  rec = recordIn s ns
 
   abbrev share : List Float
   share = get (shareOf s) store
@@ -106,7 +106,7 @@ module _ (n s : ℕ) (inside : s < n) (ns : List ℕ) (store : List Float) (l : 
       get-put (shareOf s) store (d .kept) (omega arith)
       (share-size rec share (waitingIn (rec .waiting) share ++ samplesOf b) (lentToEach rec (samplesOf b) model) full) in (
         record { waits = sizes .0; some = sizes .1 },
-        ap (gaveOf s ns) (f .0) ∙ ap (λ (g : Effect Answer). gaveOf s ns (fedBy (rec .frame) g)) (t .1) ∙ rw (f .1, back, reads (d .rec)),
+        ap (gaveOf s ns) (f .0) ∙ ap (λ (g : Effect Answer). gaveOf s ns (fedBy (rec .frame) g)) (t .1) ∙ rw (f .1, back, reads s (d .rec)),
       )
 
 -- ---- calls that are done, one after the other
@@ -147,7 +147,7 @@ module _ (n s : ℕ) (inside : s < n) where
     abbrev gave : Effect Answer
     gave = surface n s (st .numbers s) (st .store) c
 
-    numbers-are : after surface n st (on s c) .numbers s ≡ returned (st .numbers s) (surface n s (st .numbers s) (st .store) c) .numbers
+    numbers-are : after surface n st (on s c) .numbers s ≡ returned s (st .numbers s) (surface n s (st .numbers s) (st .store) c) .numbers
     numbers-are = rw (eq-eqb s s refl)
 
     done-are : done surface n s st (on s c ∷ cs) ≡ cond (passed (replyTo n s (st .numbers s) (st .store) c)) (c ∷ done surface n s next cs) (done surface n s next cs)
@@ -160,7 +160,7 @@ module _ (n s : ℕ) (inside : s < n) where
 
   own-done : (c : Call) (rest : List Call) (h : Has) (ns : List ℕ) (store : List Float) → length store ≡ n * SHARE → passed (replyTo n s ns store c) ≡ true
       → ((b : Record) (xs : List Float) → gaveOf s ns (surface n s ns store c) .rec ≡ b → gaveOf s ns (surface n s ns store c) .share ≡ xs → Comes rest b xs h)
-      → Comes (c ∷ rest) (recordIn ns) (get (shareOf s) store) (ahead (gaveOf s ns (surface n s ns store c)) h)
+      → Comes (c ∷ rest) (recordIn s ns) (get (shareOf s) store) (ahead (gaveOf s ns (surface n s ns store c)) h)
   unfolding Comes hostedFeed
   own-done (ask a) rest h ns store l p ih = tt
   own-done (frame x m o) rest h ns store l p ih = tt
@@ -178,16 +178,16 @@ module _ (n s : ℕ) (inside : s < n) where
       h : Has
       h = hasOf n s (next c cs st) cs
 
-      mine : recordIn (next c cs st .numbers s) ≡ recordIn (returned (st .numbers s) (gave c cs st) .numbers)
-      mine = ap recordIn (numbers-are c cs st)
+      mine : recordIn s (next c cs st .numbers s) ≡ recordIn s (returned s (st .numbers s) (gave c cs st) .numbers)
+      mine = ap (recordIn s) (numbers-are c cs st)
 
       go : (t : Bool) → passed (reply c cs st) ≡ t
-          → Comes (cond t (c ∷ rest) rest) (recordIn (st .numbers s)) (get (shareOf s) (st .store)) (ahead (gaveOf s (st .numbers s) (gave c cs st)) h)
+          → Comes (cond t (c ∷ rest) rest) (recordIn s (st .numbers s)) (get (shareOf s) (st .store)) (ahead (gaveOf s (st .numbers s) (gave c cs st)) h)
       go true p = own-done c rest h (st .numbers s) (st .store) l p (λ b′ xs′ e′ f′. ih b′ xs′ (mine ∙ e′) f′)
       go false p =
           let k = gave-nothing n s (st .numbers s) (st .store) c p in
-          subst (λ (x : Has). Comes rest (recordIn (st .numbers s)) (get (shareOf s) (st .store)) (ahead x h)) (sym k)
-          (ih (recordIn (st .numbers s)) (get (shareOf s) (st .store)) (mine ∙ ap (λ (x : Has). x .rec) k) (ap (λ (x : Has). x .share) k))
+          subst (λ (x : Has). Comes rest (recordIn s (st .numbers s)) (get (shareOf s) (st .store)) (ahead x h)) (sym k)
+          (ih (recordIn s (st .numbers s)) (get (shareOf s) (st .store)) (mine ∙ ap (λ (x : Has). x .rec) k) (ap (λ (x : Has). x .share) k))
 
   other-call : (side : ℕ) → eqb side s ≡ false → (c : Call) (cs : List (On Call)) (st : State) → length (st .store) ≡ n * SHARE
       → Runs cs (after surface n st (on side c)) → Runs (on side c ∷ cs) st

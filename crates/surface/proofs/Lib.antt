@@ -8,3 +8,6 @@ pub mod Rows
 pub mod Bytes
 pub mod Fed
 pub mod Cuts
+pub mod Owner
+pub mod Acceptance
+pub mod Accepted

@@ -331,10 +331,10 @@ zero-is-passed (Misread n l) k = sym (ne-eqb (replyNumber (Misread n l)) 0 (λ e
 
 known : (n side : ℕ) (ns : List ℕ) (store : List Float) (c : Call) → Known (surface n side ns store c .answer .reply)
 unfolding hosted hostedFrame hostedTake hostedFeed
-known n side ns store (ask a) = of-desk n side (recordIn ns) store a
-known n side ns store (frame x m out) = of-frame n side (recordIn ns) store x m out
-known n side ns store (take x m out answers) = of-take n side (recordIn ns) store x m out answers
-known n side ns store (feed b m c e a) = of-feed n side (recordIn ns) store b m c e a
+known n side ns store (ask a) = of-desk n side (recordIn side ns) store a
+known n side ns store (frame x m out) = of-frame n side (recordIn side ns) store x m out
+known n side ns store (take x m out answers) = of-take n side (recordIn side ns) store x m out answers
+known n side ns store (feed b m c e a) = of-feed n side (recordIn side ns) store b m c e a
 
 pub zero-is-done : ZeroIsDone
 zero-is-done n side ns store c =

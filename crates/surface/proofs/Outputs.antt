@@ -198,12 +198,12 @@ module _ (n s side : ℕ) (mine : eqb side s ≡ true) (st : State) (x : List Fl
   -- the resume of frame j
   one-more : (k j : ℕ) → column k n s (ended desks n st (so-far j)) (on side (next j) ∷ []) ≡ wrote k (next j) (desk n side (at j .rec) (at j .store) (next j))
   one-more k j =
-      let there = leaving st side (numbersOf (at j .rec)) (at j .store) in
-      let own : there .numbers side ≡ numbersOf (at j .rec) = rw (eq-eqb side side refl) in
+      let there = leaving st side (numbersOf side (at j .rec)) (at j .store) in
+      let own : there .numbers side ≡ numbersOf side (at j .rec) = rw (eq-eqb side side refl) in
       ap (λ (t : State). column k n s t (on side (next j) ∷ [])) (sym (steps n side st x m o began j))
       ∙ one-out n s side k mine (next j) there
-      ∙ ap (λ (ns : List ℕ). wrote k (next j) (desk n side (recordIn ns) (at j .store) (next j))) own
-      ∙ ap (λ (r : Record). wrote k (next j) (desk n side r (at j .store) (next j))) (reads (at j .rec))
+      ∙ ap (λ (ns : List ℕ). wrote k (next j) (desk n side (recordIn side ns) (at j .store) (next j))) own
+      ∙ ap (λ (r : Record). wrote k (next j) (desk n side r (at j .store) (next j))) (reads side (at j .rec))
 
   -- what is handed out frame by frame
   along : (k : ℕ) (f : Taking → List Float) → f (at 0) ≡ wrote k (piece x o 22) (desk n side (recordAt side st) (st .store) (piece x o 22))

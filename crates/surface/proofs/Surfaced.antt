@@ -49,7 +49,8 @@ use Rattle.feed.specs.Surface.{hostedFeed}
 use Rattle.isolation.specs.Local.{Local, performed}
 use Rattle.isolation.specs.Isolation.{own, Owned}
 use Rattle.isolation.specs.Run.{on}
-use Rattle.isolation.proofs.Isolated.{lone, next, in-any-run, alone-lone, isolated, undisturbed}
+use Rattle.isolation.proofs.Runs.{reads}
+use Rattle.isolation.proofs.Isolated.{alone-does, lone, next, in-any-run, alone-lone, isolated, undisturbed}
 use Rattle.surface.specs.Surface.{Call, ask, frame, take, feed, surface, OurSurface, Anew}
 use Rattle.surface.proofs.Refusing.{nor-besides}
 
@@ -92,13 +93,14 @@ ask-blind (resume x g m o s) e b xs ys d = absurd (omega arith)
 unfoldable asking : Ask → Local
 asking a = record { call = callOf a; work = askWork a; sized = λ b share k. admitted-kept b share a 0 .size k; blind = ask-blind a }
 
-ask-does : (a : Ask) (n side : ℕ) (ns : List ℕ) (store : List Float) → hosted n side ns store a ≡ performed n side (recordIn ns) store (asking a)
-unfolding hosted performed asking desk
-ask-does a n side ns store = go (eqb number 0)
-  where
-    b : Record
-    b = recordIn ns
+-- what the desk gives, with what a host is told besides
+abbrev withBesides : Ask → Effect Answer → Effect Answer
+withBesides a o = record { answer = o .answer; kept = o .kept; written = o .written ++ besides a (o .answer .reply) }
 
+desk-does : (a : Ask) (n side : ℕ) (b : Record) (store : List Float) → withBesides a (desk n side b store a) ≡ performed n side b store (asking a)
+unfolding performed asking desk
+desk-does a n side b store = go (eqb number 0)
+  where
     share : List Float
     share = get (shareOf side) store
 
@@ -116,6 +118,10 @@ ask-does a n side ns store = go (eqb number 0)
     go : (t : Bool) → told (cond t (onShare b share a) (refusal (Refused number) share)) ≡ cond t (placed side store (askWork a b share)) (unchanged (Refused number) b store)
     go true = refl
     go false = rw (refused b a number, put-get (shareOf side) store, nor-besides a (Refused number) refl)
+
+ask-does : (a : Ask) (n side : ℕ) (ns : List ℕ) (store : List Float) → hosted n side ns store a ≡ performed n side (recordIn side ns) store (asking a)
+unfolding hosted
+ask-does a n side ns store = desk-does a n side (recordIn side ns) store
 
 -- ---- a frame
 
@@ -310,12 +316,12 @@ locals (frame x m o) = framing x m o
 locals (take x m o a) = taking x m o a
 locals (feed b m c e a) = feeding b m c e a
 
-does : (n side : ℕ) (ns : List ℕ) (store : List Float) (c : Call) → surface n side ns store c ≡ performed n side (recordIn ns) store (locals c)
+does : (n side : ℕ) (ns : List ℕ) (store : List Float) (c : Call) → surface n side ns store c ≡ performed n side (recordIn side ns) store (locals c)
 unfolding hostedFrame hostedTake hostedFeed locals
 does n side ns store (ask a) = ask-does a n side ns store
-does n side ns store (frame x m o) = frame-does x m o n side (recordIn ns) store
-does n side ns store (take x m o a) = take-does x m o a n side (recordIn ns) store
-does n side ns store (feed b m c e a) = feed-does b m c e a n side (recordIn ns) store
+does n side ns store (frame x m o) = frame-does x m o n side (recordIn side ns) store
+does n side ns store (take x m o a) = take-does x m o a n side (recordIn side ns) store
+does n side ns store (feed b m c e a) = feed-does b m c e a n side (recordIn side ns) store
 
 pub owned : Owned surface
 owned = record { local = locals; does = does }
@@ -323,23 +329,36 @@ owned = record { local = locals; does = does }
 pub our-surface : OurSurface
 our-surface = (isolated surface owned BENCHES, undisturbed surface owned BENCHES)
 
+-- an opening on a desk of one bench
+opening-does : (rec : Record) (xs : List Float) (way : Way) (model : List ℕ)
+    → alone-does surface owned rec xs (ask (opening way model)) ≡ withBesides (opening way model) (desk 1 0 rec xs (opening way model))
+unfolding owned locals
+opening-does rec xs way model = sym (desk-does (opening way model) 1 0 rec xs)
+
 -- what an opening gives that is done hangs neither on the record nor on the store
-opens-alike : (more : List Call) (ns : List ℕ) (xs : List Float) (way : Way) (model : List ℕ) → length xs ≡ SHARE
-    → passed (desk 1 0 (recordIn ns) xs (opening way model) .answer .reply) ≡ true
-    → next surface owned more ns (hosted 1 0 ns xs (opening way model))
-    ≡ next surface owned more (numbersOf closed) (hosted 1 0 (numbersOf closed) (zeros SHARE) (opening way model))
-unfolding hosted recordIn
-opens-alike more ns xs way model l p =
-    let same = anew (recordIn ns) xs (zeros SHARE) l refl way model p in
-    rw (same, ← same, p)
+opens-alike : (s : ℕ) (more : List Call) (rec : Record) (ns : List ℕ) (xs : List Float) (way : Way) (model : List ℕ) → length xs ≡ SHARE
+    → passed (desk 1 0 rec xs (opening way model) .answer .reply) ≡ true
+    → next surface owned s more ns (alone-does surface owned rec xs (ask (opening way model)))
+    ≡ next surface owned s more (numbersOf s closed) (alone-does surface owned closed (zeros SHARE) (ask (opening way model)))
+opens-alike s more rec ns xs way model l p =
+    let same = anew rec xs (zeros SHARE) l refl way model p in
+    ap (next surface owned s more ns) (opening-does rec xs way model)
+    ∙ alike same
+    ∙ ap (next surface owned s more (numbersOf s closed)) (sym (opening-does closed (zeros SHARE) way model))
+  where
+    alike : desk 1 0 rec xs (opening way model) ≡ desk 1 0 closed (zeros SHARE) (opening way model)
+        → next surface owned s more ns (withBesides (opening way model) (desk 1 0 rec xs (opening way model)))
+        ≡ next surface owned s more (numbersOf s closed) (withBesides (opening way model) (desk 1 0 closed (zeros SHARE) (opening way model)))
+    alike same = rw (same, ← same, p)
 
 pub starts-anew : (n : ℕ) → Anew n
 unfolding own lone hosted
 starts-anew n s h st l way model p calls =
     let xs = get (shareOf s) (st .store) in
     let all = length-get (shareOf s) (st .store) (omega arith) in
-    let done : passed (desk 1 0 (recordIn (st .numbers s)) xs (opening way model) .answer .reply) ≡ true =
-    rw (its-own n s (recordIn (st .numbers s)) (st .store) (opening way model) l h) at p in
+    let mine = recordIn s (st .numbers s) in
+    let done : passed (desk 1 0 mine xs (opening way model) .answer .reply) ≡ true = rw (its-own n s mine (st .store) (opening way model) l h) at p in
     in-any-run surface owned n s h (on s (ask (opening way model)) ∷ calls) st l
-    ∙ rw (eq-eqb s s refl) (opens-alike (own s calls) (st .numbers s) xs way model all done)
-    ∙ sym (alone-lone surface owned (ask (opening way model) ∷ own s calls))
+    ∙ rw (eq-eqb s s refl) (opens-alike s (own s calls) mine (st .numbers s) xs way model all done)
+    ∙ ap (λ (rec : Record). next surface owned s (own s calls) (numbersOf s closed) (alone-does surface owned rec (zeros SHARE) (ask (opening way model)))) (sym (reads s closed))
+    ∙ sym (alone-lone surface owned s (ask (opening way model) ∷ own s calls))

@@ -45,7 +45,7 @@ Anew n =
     (s : ℕ) → s < n → (st : State) → length (st .store) ≡ n * SHARE
     → (way : Way) (model : List ℕ) → passed (hosted n s (st .numbers s) (st .store) (opening way model) .answer .reply) ≡ true
     → (calls : List (On Call))
-    → received surface n s st (on s (ask (opening way model)) ∷ calls) ≡ alone surface (ask (opening way model) ∷ own s calls)
+    → received surface n s st (on s (ask (opening way model)) ∷ calls) ≡ alone surface s (ask (opening way model) ∷ own s calls)
 
 -- ---- mixed sequences: a frame is its two halves, a take its piece and a resume for each frame that it completes, and a feed its take; refused, none is any
 
@@ -75,7 +75,7 @@ abbrev pub RefusedLeaves : Type 0
 RefusedLeaves =
     (n side : ℕ) (ns : List ℕ) (store : List Float) (c : Call)
     → let o = surface n side ns store c in
-    passed (o .answer .reply) ≡ false → (handedBack (o .answer) ns ≡ ns) × (o .kept ≡ store) × (o .written ≡ [])
+    passed (o .answer .reply) ≡ false → (handedBack side (o .answer) ns ≡ ns) × (o .kept ≡ store) × (o .written ≡ [])
 
 -- 0 is done: it is returned exactly where the reply passed. A refusal is 1 to 6, 8 or 9; 7 comes with the model's own, 11 to 22, and a layer, 0 to 6
 abbrev pub ZeroIsDone : Type 0

@@ -5,7 +5,7 @@
 --     frame-no-out                 a frame with no place for its samples is refused
 --     take-by                      what holds of a take, by its tests
 -- Assumes nothing.
-use Rattle.rules.proofs.Common.{ℕ, zero, suc, _*_, Bool, true, false, cond, not, false≢true, List, [], _∷_, _++_, _≡_, refl, sym, _∙_, eqb, leb}
+use Rattle.rules.proofs.Common.{ℕ, zero, suc, _*_, _<_, Bool, true, false, cond, not, false≢true, List, [], _∷_, _++_, _≡_, refl, sym, _∙_, eqb, leb}
 use Rattle.rules.proofs.Common.{length, Float}
 use native.Mathlib.Omega.{arith}
 use borrow.Author.Tests.{not-false}
@@ -32,7 +32,7 @@ use Rattle.desk.proofs.Buffers.{buffers}
 use Rattle.desk.proofs.Ranged.{range-kept}
 use Rattle.desk.proofs.Replies.{SmallSeven, small}
 use Rattle.desk.proofs.Kept.{refused-keeps}
-use Rattle.desk.proofs.Turned.{none}
+use Rattle.desk.proofs.Turned.{none, through}
 use Rattle.whole.specs.Whole.{frameRows, frameReply, frameBegins, frameEnds, frame, takeRows, takeReply, Taking, takeStep, takeFrames, takeBegins, takeEnds, takenAs, take}
 use Rattle.whole.proofs.Accepted.{frame-accepted, take-accepted}
 
@@ -93,6 +93,13 @@ module _ (n side : ℕ) (rec : Record) (store samples : List Float) (model : Lis
         (λ p q.
         let k = frame-accepted n side rec store samples model out p in
         (let-in-range n side rec (length store) 1 (k .gated), range-kept n side (one .answer .rec) (one .kept) asked q .1))
+        (λ f q. absurd (false≢true (sym f ∙ q)))
+
+    -- and its side is one of the benches
+    pub frame-seated : passed (frame n side rec store samples model out .answer .reply) ≡ true → side < n
+    frame-seated =
+        frame-by (λ o. passed (o .answer .reply) ≡ true → side < n)
+        (λ p _. through n side rec (length store) 1 (frame-accepted n side rec store samples model out p .gated) .0)
         (λ f q. absurd (false≢true (sym f ∙ q)))
 
     pub frame-buffers : length (frame n side rec store samples model out .written) ≡ cond (passed (frame n side rec store samples model out .answer .reply)) 1 0
@@ -165,4 +172,10 @@ module _ (n side : ℕ) where
           let k = take-accepted n side rec store samples model out answers p in
           let r = let-in-range n side rec (length store) PIECE (k .gated) in
           (r, steps-range (completes (rec .waiting) (length samples)) out (takeBegins n side rec store samples out) (stays rec store (piece samples out 22) r)))
+          (λ f q. absurd (false≢true (sym f ∙ q)))
+
+      pub take-seated : passed (take n side rec store samples model out answers .answer .reply) ≡ true → side < n
+      take-seated =
+          take-by (λ o. passed (o .answer .reply) ≡ true → side < n)
+          (λ p _. through n side rec (length store) PIECE (take-accepted n side rec store samples model out answers p .gated) .0)
           (λ f q. absurd (false≢true (sym f ∙ q)))

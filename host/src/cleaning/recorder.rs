@@ -7,7 +7,7 @@ use std::time::{Duration, Instant};
 
 /// The store's published length, and a record's (docs/STORE.md).
 pub const STORE: usize = 98_304;
-pub const RECORD: usize = 11;
+pub const RECORD: usize = 12;
 /// Where in a record the two numbers stand that count frames.
 pub const FRAMES: usize = 5;
 pub const HEARD: usize = 6;

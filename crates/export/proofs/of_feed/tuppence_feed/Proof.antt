@@ -11,7 +11,7 @@ use Rattle.desk.specs.Surface.{recordIn, numbersOf, replyNumber}
 use Rattle.desk.specs.Surface as surface
 use Rattle.feed.specs.Feed.{Block, blockOf, feed}
 use Rattle.feed.specs.Surface.{hostedFeed}
-use Rattle.feed.proofs.Ranged.{feed-small, feed-range}
+use Rattle.feed.proofs.Ranged.{feed-small, feed-range, feed-seated}
 use Rattle.export.specs.Parts.{HandsBack}
 use Rattle.export.proofs.Given as any
 use Rattle.export.proofs.of_feed.tuppence_feed.Statement.{statement}
@@ -19,20 +19,21 @@ use Rattle.export.proofs.of_feed.tuppence_feed.Tie as tie
 
 -- the record as the code has it, and what the feed left
 module _ (side : ℕ) (ns : List ℕ) (b : Record) (store : List Float) (block : Block) (model cleaned entries : List ℕ) (answers : List Float)
-    {store′ : List Float} {cleaned′ entries′ : List ℕ} {answers′ : List Float} {given : Answer} (read : b ≡ recordIn ns)
+    {store′ : List Float} {cleaned′ entries′ : List ℕ} {answers′ : List Float} {given : Answer} (read : b ≡ recordIn side ns)
     (fed : WorkedBoth (feed BENCHES side b store block model (length cleaned) (length entries) (length answers)) given store′
     (answers ∷ []) (answers′ ∷ []) (cleaned ∷ entries ∷ []) (cleaned′ ∷ entries′ ∷ [])) where
-  hands-back : HandsBack ns given
+  hands-back : HandsBack side ns given
   hands-back =
-      any.hands-back ns b read
+      any.hands-back side ns b read
       (record {
         small = feed-small BENCHES side b store block model (length cleaned) (length entries) (length answers);
         ranged = feed-range BENCHES side b store block model (length cleaned) (length entries) (length answers);
+        seated = feed-seated BENCHES side b store block model (length cleaned) (length entries) (length answers);
       })
       (fed .floats .answers)
 
-  handed : {number : ℕ} {ns′ : List ℕ} → (number ≡ replyNumber (given .reply)) × (ns′ ≡ cond (passed (given .reply)) (numbersOf (given .rec)) ns)
-      → WorkedBoth (surface.handed ns (hostedFeed BENCHES side ns store block model (length cleaned) (length entries) (length answers))) (number, ns′) store′
+  handed : {number : ℕ} {ns′ : List ℕ} → (number ≡ replyNumber (given .reply)) × (ns′ ≡ cond (passed (given .reply)) (numbersOf side (given .rec)) ns)
+      → WorkedBoth (surface.handed side ns (hostedFeed BENCHES side ns store block model (length cleaned) (length entries) (length answers))) (number, ns′) store′
       (answers ∷ []) (answers′ ∷ []) (cleaned ∷ entries ∷ []) (cleaned′ ∷ entries′ ∷ [])
   unfolding hostedFeed
   handed h =
