@@ -18,7 +18,7 @@ FRAME = 480
 PIECE = 4096
 FRAMES = 9
 STORE = 98304
-RECORD = 11
+RECORD = 12
 
 _HERE = pathlib.Path(__file__).resolve().parent
 _PLACE_FRAMES = 5

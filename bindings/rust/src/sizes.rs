@@ -7,7 +7,7 @@ pub const SHARE: usize = 6_144;
 /// Numbers of the store.
 pub const STORE: usize = BENCHES * SHARE;
 /// Numbers of a bench's record.
-pub const RECORD: usize = 11;
+pub const RECORD: usize = 12;
 /// Samples of a frame, 10 ms at 48 kHz.
 pub const FRAME: usize = 480;
 /// The most samples that a piece, a take or a feed is given.
@@ -37,4 +37,6 @@ pub mod place {
     pub const PROGRESS: usize = 9;
     /// 0 for our own lag and transforms, 1 for nnnoiseless's.
     pub const WAY: usize = 10;
+    /// The bench's number plus 1, or 0 in a closed record.
+    pub const BENCH: usize = 11;
 }
