@@ -109,10 +109,10 @@ impl Error {
 
     /// The same error with another text. Status and refusal stay as they are.
     pub fn reworded(self, words: impl Fn(&str) -> String) -> Error {
-        self.reworded_by(&words)
+        self.with_words(&words)
     }
 
-    fn reworded_by(self, words: &dyn Fn(&str) -> String) -> Error {
+    fn with_words(self, words: &dyn Fn(&str) -> String) -> Error {
         let reworded = |reason: Reason| Reason { text: words(&reason.text), ..reason };
         match self {
             Error::Undone(reason) => Error::Undone(reworded(reason)),
@@ -121,7 +121,7 @@ impl Error {
             Error::Unsealed(reason) => Error::Unsealed(reworded(reason)),
             Error::Damaged(reason) => Error::Damaged(reworded(reason)),
             Error::Misnamed(reason) => Error::Misnamed(reworded(reason)),
-            Error::Several(all) => Error::Several(all.into_iter().map(|one| one.reworded_by(words)).collect()),
+            Error::Several(all) => Error::Several(all.into_iter().map(|one| one.with_words(words)).collect()),
             Error::Reported(status) => Error::Reported(status),
         }
     }

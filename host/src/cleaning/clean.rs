@@ -197,3 +197,47 @@ fn nothing(mut lost: Vec<Error>) -> Error {
     lost.push(last.reworded(|why| format!("{why}; nothing is written")));
     Error::Several(lost)
 }
+
+#[cfg(test)]
+mod tests {
+    use super::*;
+    use crate::telling::refusal::Refusal;
+
+    fn told(lost: impl Iterator<Item = Lost>) -> Vec<(Vec<Side>, String, Option<Refusal>)> {
+        lost.map(|lost| (lost.sides, lost.why.to_string(), lost.why.refusal())).collect()
+    }
+
+    /// What ended a bench is said of that bench, and marks its page.
+    #[test]
+    fn each_bench_has_its_own_end() {
+        let at = |number: u32, sample: u64| Some(Refused { refusal: Refusal(number), sample });
+        let why = |side: &str, time: &str, number: u32| format!("{side}, at {time} s: {}", Refusal(number));
+        let [left, right] = [Side::Left, Side::Right];
+        let only = |side: Side, text: String, number: u32| vec![(vec![side], text, Some(Refusal(number)))];
+        assert_eq!(told(refused([at(8, 48_000), None])), only(left, why("left", "1.00", 8), 8));
+        assert_eq!(told(refused([None, at(3, 24_000)])), only(right, why("right", "0.50", 3), 3));
+        assert_eq!(told(refused([None, None])), []);
+        let both = told(refused([at(8, 0), at(3, 0)]));
+        assert_eq!([&both[0].0[..], &both[1].0], [[left], [right]]);
+        for (cut, side) in [([true, false], left), ([false, true], right)] {
+            let lost = told(too_long(cut));
+            assert_eq!((lost.len(), &lost[0].0[..]), (1, &[side][..]));
+            assert!(lost[0].1.starts_with(&format!("{}, at 44", side.name())), "{}", lost[0].1);
+            assert_eq!(lost[0].2, None);
+        }
+    }
+
+    /// Each bench's page names its own recording, and so does the answer.
+    #[test]
+    fn each_bench_has_its_own_name() {
+        let inputs = Inputs::Two { left: "dir/a.wav".into(), right: "dir/b.wav".into() };
+        let about = Side::BOTH.map(|side| inputs.about(side, Path::new("m.rnn")).name);
+        assert_eq!(about, ["a.wav", "b.wav"]);
+        assert_eq!(Side::BOTH.map(|side| inputs.named(side)), ["dir/a.wav", "dir/b.wav"].map(Path::new));
+        for one in Side::BOTH {
+            let inputs = Inputs::One { side: one, file: "c.wav".into() };
+            let absent = Side::BOTH.map(|side| inputs.about(side, Path::new("m.rnn")).absent);
+            assert_eq!(absent, Side::BOTH.map(|side| side != one));
+        }
+    }
+}
