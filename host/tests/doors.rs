@@ -164,6 +164,11 @@ fn one_voice_as_it_comes() {
     assert_eq!((child.wait().unwrap().code(), path.join("out").exists()), (Some(2), false));
 }
 
+/// What `arecord -c 1 -t raw` gives.
+fn one_channel() -> Vec<u8> {
+    dictations()[0].iter().flat_map(|x| (*x as i16).to_le_bytes()).collect()
+}
+
 /// `--raw` says what it takes the bytes for, and `--channels` says what they are.
 #[test]
 fn samples_without_a_header() {
@@ -184,6 +189,14 @@ fn samples_without_a_header() {
         assert_eq!(sound(&path.join("out/right.wav"), "right").len(), 24_000);
         fs::remove_dir_all(path.join("out")).unwrap();
     }
+    // one channel that is read as two
+    let ended = fed(host(&path, &["clean", "-", "--raw", "-q", "--out", "out"]), &one_channel());
+    let why = "box: standard input: the samples are of one channel, and --raw reads them as two: use --left - or \
+               --right -; use --anyway to clean it as both regardless\n";
+    assert_eq!((ended.status, &*ended.why), (Some(2), why));
+    assert!(!path.join("out").exists());
+    let ended = fed(host(&path, &["clean", "-", "--raw", "-q", "--anyway", "--out", "any"]), &one_channel());
+    assert_eq!((ended.status, &*ended.why), (Some(0), ""));
     for (words, why) in [
         (
             &["-", "--raw", "--channels", "1"][..],
