@@ -1,6 +1,6 @@
 #!/usr/bin/env bash
-# What rustfmt and clippy say of all Rust that is ours: the box, the developers' program, the comparison, the bindings and
-# the program that works out features for training. Any warning is an error. (The Rust text itself is not ours: its
+# What rustfmt and clippy say of all Rust that is ours: the box, the developers' program, the comparison, the bindings
+# and the program that works out features for training. Any warning is an error. (The Rust text itself is not ours: its
 # crate allows all that clippy finds.)
 #   tools/lint.sh              both
 #   tools/lint.sh --format     rustfmt alone, which needs no library

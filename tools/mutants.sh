@@ -39,11 +39,13 @@ find "$tree/host/src" -type f -exec touch {} +
 
 # The library is linked as it stands in target/staticlib: nothing is proved here.
 triple=$(rustc -vV | sed -n 's/^host: //p')
-flags=(--quiet --offline --locked --package tuppencehop --manifest-path "$tree/host/Cargo.toml" --target-dir "$root/target/mutants/build"
+flags=(--quiet --offline --locked --package tuppencehop --manifest-path "$tree/host/Cargo.toml"
+    --target-dir "$root/target/mutants/build"
     --config "target.$triple.export.rustc-link-search=['native=$root/target/staticlib']"
     --config "target.$triple.export.rustc-link-lib=['static=export']"
     --config "target.$triple.export.kit='the tree'")
-export CARGO_INCREMENTAL=1 CARGO_PROFILE_DEV_OPT_LEVEL=0 CARGO_PROFILE_TEST_OPT_LEVEL=0 CARGO_PROFILE_DEV_DEBUG=0 CARGO_PROFILE_TEST_DEBUG=0
+export CARGO_INCREMENTAL=1 CARGO_PROFILE_DEV_OPT_LEVEL=0 CARGO_PROFILE_TEST_OPT_LEVEL=0
+export CARGO_PROFILE_DEV_DEBUG=0 CARGO_PROFILE_TEST_DEBUG=0
 
 # The binary in which a test is: `lib`, or a file of host/tests.
 binary() {
@@ -72,9 +74,10 @@ try() {
     FROM=${froms[$1]} TO=${tos[$1]} perl -0777 -pi -e '
         my ($from, $to) = @ENV{"FROM", "TO"};
         my $count = () = /\Q$from\E/g;
-        $count == 1 or $ENV{FROM} = "", warn "it stands there $count times\n";
+        warn "it stands there $count times\n" if $count != 1;
         s/\Q$from\E/$to/ if $count == 1' "$file" 2>"$log"
-    if cmp -s "$file" "host/src/${files[$1]}" || ! cargo test "${flags[@]}" "$(binary "$where")" --no-run >>"$log" 2>&1; then
+    if cmp -s "$file" "host/src/${files[$1]}" ||
+        ! cargo test "${flags[@]}" "$(binary "$where")" --no-run >>"$log" 2>&1; then
         verdict=2
     elif ! timeout 300 cargo test "${flags[@]}" "$(binary "$where")" -- "$test" >>"$log" 2>&1; then
         ! grep -q "$test.* FAILED" "$log" || verdict=0

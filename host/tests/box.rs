@@ -73,6 +73,27 @@ fn run(path: &Path, words: &[&str]) -> Ended {
     ended(command.output().unwrap())
 }
 
+/// `./box` may be called through links: one to it, and one to that.
+#[test]
+fn through_a_symlink() {
+    let path = repository("symlink");
+    assert_eq!(run(&path, &["side"]).status, Some(0));
+    let elsewhere = path.join("home/bin");
+    fs::create_dir_all(&elsewhere).unwrap();
+    symlink("../../box", elsewhere.join("one")).unwrap();
+    symlink("one", elsewhere.join("box")).unwrap();
+    let mut command = Command::new(elsewhere.join("box"));
+    command
+        .arg("side")
+        .current_dir(&elsewhere)
+        .env_clear()
+        .env("PATH", path.join("bin"))
+        .env("HOME", path.join("home"));
+    let ended = ended(command.output().unwrap());
+    assert_eq!(ended.status, Some(0), "{}", ended.why);
+    assert_eq!(ended.said, format!("{}: side\n", elsewhere.canonicalize().unwrap().display()));
+}
+
 /// How often `rt` was called since the last time.
 fn calls(path: &Path) -> usize {
     let calls = fs::read_to_string(path.join("rt-was-called")).unwrap_or_default().lines().count();

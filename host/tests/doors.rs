@@ -164,6 +164,11 @@ fn one_voice_as_it_comes() {
     assert_eq!((child.wait().unwrap().code(), path.join("out").exists()), (Some(2), false));
 }
 
+/// What `arecord -c 1 -t raw` gives.
+fn one_channel() -> Vec<u8> {
+    dictations()[0].iter().flat_map(|x| (*x as i16).to_le_bytes()).collect()
+}
+
 /// `--raw` says what it takes the bytes for, and `--channels` says what they are.
 #[test]
 fn samples_without_a_header() {
@@ -184,6 +189,14 @@ fn samples_without_a_header() {
         assert_eq!(sound(&path.join("out/right.wav"), "right").len(), 24_000);
         fs::remove_dir_all(path.join("out")).unwrap();
     }
+    // one channel that is read as two
+    let ended = fed(host(&path, &["clean", "-", "--raw", "-q", "--out", "out"]), &one_channel());
+    let why = "box: standard input: the samples are of one channel, and --raw reads them as two: use --left - or \
+               --right -; use --anyway to clean it as both regardless\n";
+    assert_eq!((ended.status, &*ended.why), (Some(2), why));
+    assert!(!path.join("out").exists());
+    let ended = fed(host(&path, &["clean", "-", "--raw", "-q", "--anyway", "--out", "any"]), &one_channel());
+    assert_eq!((ended.status, &*ended.why), (Some(0), ""));
     for (words, why) in [
         (
             &["-", "--raw", "--channels", "1"][..],
@@ -230,12 +243,12 @@ fn files_of_other_kinds() {
         |file: &str| format!("`ffmpeg -i {file} -ar 48000 -c:a pcm_s24le NEW.wav` makes a file that the box reads");
     let kinds: [(&str, &[u8], &str, Option<&dyn Fn(&str) -> String>); 11] = [
         ("x.flac", b"fLaC\0\0\0\x22\x10\0\x10\0", "a FLAC file", Some(&sox)),
-        ("x.ogg", b"OggS\0\x02\0\0\0\0\0\0", "an Ogg file", Some(&sox)),
+        ("x.ogg", b"OggS\0\x02\0\0\0\0\0\0", "an Ogg file", Some(&ffmpeg)),
         ("x y.mp3", b"ID3\x04\0\0\0\0\0\x23TSSE", "an MP3 file", Some(&ffmpeg)),
         ("x.aiff", b"FORM\0\x01\0\x2eAIFFCOMM\0\0\0\x12", "an AIFF file", Some(&sox)),
         ("x.aifc", b"FORM\0\x01\0\x2eAIFCFVER\0\0\0\x04", "an AIFF file", Some(&sox)),
-        ("x.caf", b"caff\0\x01\0\0desc\0\0\0\0", "a CAF file", Some(&sox)),
-        ("x.w64", b"riff\x2e\x91\xcf\x11\xa5\xd6\x28\xdb\x04\xc1\0\0", "a W64 file", Some(&sox)),
+        ("x.caf", b"caff\0\x01\0\0desc\0\0\0\0", "a CAF file", Some(&ffmpeg)),
+        ("x.w64", b"riff\x2e\x91\xcf\x11\xa5\xd6\x28\xdb\x04\xc1\0\0", "a W64 file", Some(&ffmpeg)),
         ("x.au", b".snd\0\0\0\x18\xff\xff\xff\xff\0\0\0\x03", "an AU file", Some(&sox)),
         ("x.m4a", b"\0\0\0\x1cftypM4A \0\0\x02\0", "an M4A or MP4 file", Some(&ffmpeg)),
         ("x.wav", b"RIFX\0\0\0\x24WAVEfmt \0\0\0\x10", "a WAV file with the big end first (RIFX)", Some(&sox)),

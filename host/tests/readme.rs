@@ -101,7 +101,9 @@ fn run(folder: &Path, command: &str) {
     let mut host = Command::new("sh");
     host.args(["-c", &format!("\"$0\" {command}"), env!("CARGO_BIN_EXE_tuppencehop")]).current_dir(folder);
     match words[..] {
-        ["clean", "-", ..] => _ = host.stdin(File::open(folder.join("stream")).unwrap()),
+        ["clean", "-", "--raw", ..] => _ = host.stdin(File::open(folder.join("stream")).unwrap()),
+        ["clean", "-", ..] => _ = host.stdin(File::open(folder.join("STEREO.wav")).unwrap()),
+        ["clean", "--left", "-", ..] => _ = host.stdin(File::open(folder.join("L.wav")).unwrap()),
         ["mend", torn, "--out", _] => tear(folder, torn),
         ["mend", old, "--as", _, "--out", _] => unseal(folder, old),
         ["mend", dir] => cut_short(folder, dir),

@@ -66,7 +66,8 @@ fn each_recording_comes_out_on_its_own_side() {
     let audio = |file: &[u8]| file[HEADER..HEADER + 4_800].to_vec();
     assert!(audio(&wanted[0]) != audio(&wanted[1]));
     // the same sound on the other bench is the same but for the seal and the sheet
-    let other = alone("right", "l.wav");
+    fs::copy(path.join("l.wav"), path.join("same.wav")).unwrap();
+    let other = alone("right", "same.wav");
     assert!(audio(&other) == audio(&wanted[0]) && other != wanted[0]);
     let raw = bytes(&path, "both.wav")[HEADER..].to_vec();
     assert_eq!(cleaned(&path, &["--left", "l.wav", "--right", "r.wav"], "two").status, Some(0));
@@ -125,13 +126,18 @@ fn a_seal_of_the_other_bench() {
         let name = format!("{bench}-1.wav");
         fs::write(path.join(&name), sealed(number as u32, &noise(960, 1))).unwrap();
         let (option, own) = (format!("--{bench}"), format!("--{is}"));
-        let why = format!("box: {name}: its seal says {is}, and it is given for the {bench} bench; with --anyway");
+        let given = format!("it is given as the {bench} bench's recording; use --anyway to clean it as {bench}");
+        let why = format!("box: {name}: its seal says {is}, but {given} regardless\n");
         for words in [&[&*option, &*name][..], &[&option, &name, &own, "l.wav"], &[&name]] {
             let ended = cleaned(&path, words, "new");
             assert!(ended.status == Some(2) && ended.why.starts_with(&why), "{words:?}: {}", ended.why);
             assert!(!path.join("new").exists());
         }
-        assert_eq!(cleaned(&path, &[&own, &name], is).status, Some(0));
+        fs::copy(path.join(&name), path.join("one.wav")).unwrap();
+        assert_eq!(cleaned(&path, &[&own, "one.wav"], is).status, Some(0));
+        assert_eq!(cleaned(&path, &[&option, "one.wav", "--anyway"], bench).status, Some(0));
+        fs::remove_dir_all(path.join(bench)).unwrap();
+        fs::remove_dir_all(path.join(is)).unwrap();
     }
 }
 
@@ -149,7 +155,7 @@ fn a_seal_that_does_not_stand_where_the_audio_ends() {
         let (n, bench) = (number as u32, SIDES[1 - number]);
         let refused = |why: &str| {
             let ended = cleaned(&path, &[&format!("--{bench}"), "1.wav"], "new");
-            let why = format!("box: 1.wav: {why} says {is}, and it is given for the {bench} bench");
+            let why = format!("box: 1.wav: {why} says {is}, but it is given as the {bench} bench's recording");
             assert!(ended.status == Some(2) && ended.why.starts_with(&why), "{}", ended.why);
             assert!(!path.join("new").exists());
         };
@@ -201,7 +207,11 @@ fn a_broken_recording_is_marked_on_its_own_card() {
         let file = ["l.wav", "r.wav"][bench];
         fs::write(path.join(file), &whole[bench][..3_000]).unwrap();
         let ended = cleaned(&path, &["--left", "l.wav", "--right", "r.wav"], side);
-        assert!(ended.status == Some(2) && ended.why.starts_with(&format!("box: {file}: ends after")), "{}", ended.why);
+        assert!(
+            ended.status == Some(2) && ended.why.starts_with(&format!("box: {file}: the file ends after")),
+            "{}",
+            ended.why
+        );
         let page = fs::read_to_string(path.join(side).join("index.html")).unwrap();
         let marked = cards(&page).map(|card| card.contains("Broken off"));
         assert_eq!(marked, [bench == 0, bench == 1], "{side}");
@@ -246,15 +256,15 @@ fn a_broken_sample_ends_its_own_bench() {
     }
 }
 
-/// Two benches that are told apart by all that is said of them: the left one has a gap and a voice from frame 2 on.
+/// Two benches that are told apart by all that is said of them: the left one has a gap and a voice from frame 40 on.
 fn benches() -> [Summary; 2] {
     Side::BOTH.map(|side| {
         let mut summary = Summary::of(side);
         let level = if side == Side::Left { 100.0 } else { 9_000.0 };
-        summary.before(&[level; 4_800]);
-        summary.after(&[level / 2.0; 4_800]);
-        for number in (0..11).filter(|number| side == Side::Right || *number != 5) {
-            let probability = if side == Side::Left && number >= 2 { 0.9 } else { 0.1 };
+        summary.before(&[level; 38_400]);
+        summary.after(&[level / 2.0; 38_400]);
+        for number in (0..81).filter(|number| side == Side::Right || *number != 5) {
+            let probability = if side == Side::Left && number >= 40 { 0.9 } else { 0.1 };
             let heard = Heard::Voice { probability, energy: 1.0 };
             summary.frame(&Frame { entry: number.into(), heard, heard_so_far: number });
         }
@@ -266,7 +276,7 @@ fn benches() -> [Summary; 2] {
 /// A card speaks of its own bench alone, and plays its own recordings.
 #[test]
 fn each_card_is_of_its_own_bench() {
-    let page = page::html(&benches(), Some(["left-before.wav", "right-before.wav"]), "");
+    let page = page::html(&benches(), Some(["left-before.wav", "right-before.wav"]), "", true);
     for (side, card) in SIDES.iter().zip(cards(&page)) {
         let other = SIDES[usize::from(*side == "left")];
         // but for a place in the style sheet's words
@@ -287,7 +297,7 @@ fn each_card_is_of_its_own_bench() {
     assert!(left.contains("one.wav") && right.contains("two.wav"));
     assert!(left.contains("in 1 gap") && !right.contains("in 1 gap"));
     assert!(right.contains("−11.2 dB of full scale") && left.contains("−50.3 dB of full scale"), "{right}");
-    assert!(left.contains("data-at=\"0.02\"") && right.contains("no voice was found"));
+    assert!(left.contains("data-at=\"0.39\"") && right.contains("no voice was found"));
     // each card has the picture of its own: the very same strip as alone
     for (bench, card) in benches().iter().zip([left, right]) {
         let mut strip = String::new();
@@ -328,7 +338,7 @@ fn each_label_is_of_its_own_strip() {
             let (_, behind) = rest.split_once(&label).unwrap_or_else(|| panic!("{label}"));
             let (of_this, _) = behind.split_once("</g>\n</g>").or(behind.split_once("</g>\n<text")).unwrap();
             let mut strip = String::new();
-            picture::strip(&mut strip, bench, which, 0.1);
+            picture::strip(&mut strip, bench, which, 0.8);
             assert!(of_this.contains(strip.lines().next().unwrap()), "{label}{of_this}");
             rest = behind;
         }

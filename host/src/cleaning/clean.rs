@@ -170,7 +170,8 @@ pub fn clean(job: &Job) -> Result<Report> {
     let mut recordings = job.inputs.recordings(job.how)?;
     Side::BOTH.into_iter().for_each(|side| files.about(side, job.inputs.about(side, job.model_name())));
     let length = recordings.length();
-    let mut apart = Apart::new(&mut recordings, job.inputs.are_both(), job.anyway);
+    let is_raw = job.how.raw && matches!(job.inputs, Inputs::Stereo(_));
+    let mut apart = Apart::new(&mut recordings, job.inputs.are_both(), job.anyway).in_turns(is_raw);
     let mut limited = Limited::new(&mut apart, wav::MOST);
     let mut watched = Watched::new(&mut files, length, job.quiet);
     let outcome = run(&mut limited, [&model; 2], job.way, &mut watched, |_| ());

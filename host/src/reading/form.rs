@@ -31,7 +31,8 @@ impl Form {
     pub fn converter(self) -> Option<Converter> {
         match self {
             Form::Text => None,
-            Form::Mp3 | Form::M4a => Some(Converter::Ffmpeg),
+            // sox reads these with further packages alone
+            Form::Mp3 | Form::M4a | Form::Ogg | Form::Caf | Form::W64 => Some(Converter::Ffmpeg),
             _ => Some(Converter::Sox),
         }
     }

@@ -64,7 +64,7 @@ impl Fault {
 }
 
 /// How samples are stored, in words, by the number of their format.
-fn samples(tag: u16, bits: u16) -> String {
+fn format_in_words(tag: u16, bits: u16) -> String {
     match tag {
         1 => format!("{bits}-bit integers"),
         3 => format!("{bits}-bit floats"),
@@ -82,7 +82,11 @@ impl fmt::Display for Fault {
             Fault::NotWav(_, what) => write!(f, "not a WAV file: {what}"),
             Fault::Form(form) => write!(f, "not a WAV file: it is {form}"),
             Fault::Format { tag, bits } => {
-                write!(f, "it has {}; the box reads 16-bit and 24-bit integers and 32-bit floats", samples(*tag, *bits))
+                write!(
+                    f,
+                    "it has {}; the box reads 16-bit and 24-bit integers and 32-bit floats",
+                    format_in_words(*tag, *bits)
+                )
             }
             Fault::Channels(n) => write!(f, "one or two channels are wanted; this has {n}"),
             Fault::Block { bytes, wanted } => {

@@ -30,7 +30,7 @@ fn contains(name: &str, side: Side) -> bool {
 }
 
 /// The side that a name means. A name that contains both sides means none.
-fn side_of(name: &str) -> Option<Side> {
+fn side_in_name(name: &str) -> Option<Side> {
     match Side::BOTH.map(|side| contains(name, side)) {
         [true, false] => Some(Side::Left),
         [false, true] => Some(Side::Right),
@@ -54,7 +54,7 @@ pub fn meant(path: &Path) -> Option<(Side, &'static str)> {
     if path == Path::new("-") {
         return None;
     }
-    let side = |name: Option<&std::ffi::OsStr>| side_of(&name.unwrap_or_default().to_string_lossy());
+    let side = |name: Option<&std::ffi::OsStr>| side_in_name(&name.unwrap_or_default().to_string_lossy());
     let own = side(path.file_stem()).map(|side| (side, "name"));
     own.or_else(|| Some((side(folder(path).file_name())?, "folder's name")))
 }
