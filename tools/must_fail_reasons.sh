@@ -10,6 +10,8 @@ set -euo pipefail
 cd "$(dirname "$0")/.."
 shape='can be named from here|has no field|has no such|no such (file|module)|not in scope|not found|unbound name'
 shape+='|not a constructor|too (few|many) arguments'
+# what the checker says, at the function itself, of a fact that it can't show without a proof file
+unproved='it is not proved that'
 edits=0 bad=0
 shopt -s nullglob
 for edit in crates/*/must-fail/*.edit; do
@@ -20,13 +22,15 @@ for edit in crates/*/must-fail/*.edit; do
     log=target/must-fail/$crate/$name/.log first='' at=''
     # the line of the first error and the next one, by the file's name within its crate
     if [ -f "$log" ]; then
-        first=$(grep -m 1 -A 1 ': error' "$log" | tr '\n' ' ' | sed -E "s,^[^ ]*/must-fail/$crate/$name/,,") || first=''
+        first=$(grep -m 1 -A 1 -E ": error|$unproved" "$log" | tr '\n' ' ' |
+            sed -E "s,^(note: )?[^ ]*/must-fail/$crate/$name/,,") || first=''
         at=${first%%:*}
     fi
     kind=fact
     if [[ $'\n'$changed == *$'\n'proofs/* ]]; then kind=PROOF
     elif [ ! -f "$log" ]; then kind=NOLOG first='it was not tried'
     elif [ -z "$first" ]; then kind=SHAPE first='its log has no error'
+    elif [[ $first == *"$unproved"* ]]; then kind=fact
     elif [[ $at == specs/* ]] || grep -qxF -- "$at" <<<"$changed"; then kind=ITSELF
     elif [[ $first =~ $shape ]]; then kind=SHAPE; fi
     [ "$kind" = fact ] || bad=$((bad + 1))
