@@ -1,5 +1,5 @@
 -- A feed, and any call: what specs/Acceptance.antt claims. Assumes nothing.
-use Rattle.rules.proofs.Common.{ℕ, _*_, Bool, true, false, not, _&&_, List, [], _∷_, _++_, _≡_, refl, ap, _∙_, eqb, leb, length, Float}
+use Rattle.rules.proofs.Common.{ℕ, _*_, Bool, true, false, not, _&&_, List, [], _∷_, _++_, _≡_, refl, sym, ap, _∙_, eqb, leb, length, Float}
 use Rattle.rules.specs.Place.{get}
 use Rattle.rules.specs.Refusals.{_when_, refusing}
 use Rattle.samples.specs.Samples.{good}
@@ -10,14 +10,16 @@ use Rattle.pieces.specs.Pieces.{waitingIn, completes, pieceFits}
 use Rattle.desk.specs.declared.Answer.{Answer}
 use Rattle.desk.specs.declared.Record.{Record}
 use Rattle.desk.specs.Gate.{PIECE, gate, shareOf}
+use Rattle.desk.specs.Desk.{piece}
 use Rattle.desk.specs.Surface.{recordIn, hosted}
 use Rattle.whole.specs.Surface.{hostedFrame, hostedTake}
 use Rattle.whole.specs.Whole as whole
+use Rattle.whole.proofs.Accepted.{good-bad, good-rest}
 use Rattle.feed.specs.Feed.{Block, ROOM, sizeOf, samplesOf, fedBy}
 use Rattle.feed.specs.Feed as feeding
 use Rattle.feed.specs.Surface.{hostedFeed}
 use Rattle.surface.specs.Surface.{ask, frame, take, feed}
-use Rattle.surface.specs.Acceptance.{inOrder, mayAsk, suits, wants, Acceptance}
+use Rattle.surface.specs.Acceptance.{inOrder, mayAsk, suits, takeAsks, wants, Acceptance, TakeAsItsPiece, FeedAsItsTake}
 use Rattle.surface.proofs.Acceptance.{gate-opens, desk-asks, frame-asks, take-asks}
 use Rattle.surface.proofs.Rows.{size-is}
 
@@ -69,3 +71,53 @@ accepted n side ns store (ask a) = desk-asks n side (recordIn side ns) store a
 accepted n side ns store (frame x m o) = frame-asks n side (recordIn side ns) store x m o
 accepted n side ns store (take x m o a) = take-asks n side (recordIn side ns) store x m o a
 accepted n side ns store (feed b m c e a) = feed-asks n side (recordIn side ns) store b m c e a
+
+-- ---- a take beside its piece, and a feed beside its take
+
+good-each : (xs ys : List Float) → good (xs ++ ys) ≡ (good xs && good ys)
+good-each xs ys = go (good xs) refl
+  where
+    go : (t : Bool) → good xs ≡ t → good (xs ++ ys) ≡ (t && good ys)
+    go true e = good-rest xs ys e
+    go false e = good-bad xs ys e
+
+pub take-as-its-piece : TakeAsItsPiece
+take-as-its-piece n side ns store x m o a =
+    let rec = recordIn side ns in
+    let share = get (shareOf side) store in
+    accepted n side ns store (take x m o a)
+    ∙ rw (good-each (waitingIn (rec .waiting) share) x)
+    (go (inOrder n side rec (length store)) (mayAsk rec PIECE) (pieceFits (rec .waiting) (length x) o 22) (leb (3 * completes (rec .waiting) (length x)) a) (suits rec m)
+    (good (waitingIn (rec .waiting) share)) (good x))
+    ∙ ap (λ (t : Bool). t && (leb (3 * completes (rec .waiting) (length x)) a && suits rec m)) (sym (accepted n side ns store (ask (piece x o 22))))
+  where
+    go : (k m f l s g h : Bool) → (k && (m && (f && (l && (s && (g && h)))))) ≡ ((k && (m && (f && (g && h)))) && (l && s))
+    go false m f l s g h = refl
+    go true false f l s g h = refl
+    go true true false l s g h = refl
+    go true true true false s false h = refl
+    go true true true false s true false = refl
+    go true true true false s true true = refl
+    go true true true true false false h = refl
+    go true true true true false true false = refl
+    go true true true true false true true = refl
+    go true true true true true false h = refl
+    go true true true true true true false = refl
+    go true true true true true true true = refl
+
+pub feed-as-its-take : FeedAsItsTake
+feed-as-its-take n side ns store b m c e a =
+    let rec = recordIn side ns in
+    let frames = completes (rec .waiting) (sizeOf b) in
+    accepted n side ns store (feed b m c e a)
+    ∙ go (inOrder n side rec (length store)) (leb (960 * frames) c) (leb frames e) (takeAsks rec (get (shareOf side) store) (samplesOf b) m ROOM a)
+    ∙ ap (λ (t : Bool). t && (leb (960 * frames) c && leb frames e)) (sym (accepted n side ns store (take (samplesOf b) m ROOM a)))
+  where
+    go : (k c e t : Bool) → (k && (c && (e && t))) ≡ ((k && t) && (c && e))
+    go false c e t = refl
+    go true false e true = refl
+    go true false e false = refl
+    go true true false true = refl
+    go true true false false = refl
+    go true true true true = refl
+    go true true true false = refl

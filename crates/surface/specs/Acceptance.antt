@@ -16,7 +16,7 @@ use Rattle.desk.specs.declared.Record.{Record}
 use Rattle.desk.specs.Gate.{PIECE, RESUME, inRange, isDue, shareOf}
 use Rattle.desk.specs.Desk.{Ask, opening, call1, call2, call2Own, call3, call4, firstHalf, secondHalf, piece, resume}
 use Rattle.desk.specs.Surface.{recordIn}
-use Rattle.feed.specs.Feed.{ROOM, sizeOf, samplesOf}
+use Rattle.feed.specs.Feed.{Block, ROOM, sizeOf, samplesOf}
 use Rattle.surface.specs.Surface.{Call, ask, frame, take, feed, surface}
 
 -- there is such a bench, the store has the published length, and the record is in range
@@ -73,3 +73,22 @@ Acceptance =
     (n side : ℕ) (ns : List ℕ) (store : List Float) (c : Call)
     → let rec = recordIn side ns in
     passed (surface n side ns store c .answer .reply) ≡ (inOrder n side rec (length store) && wants rec (get (shareOf side) store) c)
+
+-- ---- a take beside its piece, and a feed beside its take
+
+-- a take is accepted exactly when its piece is, with room for 22 sums, and it has room for its answers and a model that suits: then no resume is refused
+-- (`ComesToItsEnd`, dictation/specs/Resuming)
+abbrev pub TakeAsItsPiece : Type 0
+TakeAsItsPiece =
+    (n side : ℕ) (ns : List ℕ) (store x : List Float) (m : List ℕ) (o a : ℕ)
+    → let rec = recordIn side ns in
+    passed (surface n side ns store (take x m o a) .answer .reply)
+    ≡ (passed (surface n side ns store (ask (piece x o 22)) .answer .reply) && (leb (3 * completes (rec .waiting) (length x)) a && suits rec m))
+
+-- a feed is accepted exactly when the take of its channel is, and it has room for its bytes and its entries
+abbrev pub FeedAsItsTake : Type 0
+FeedAsItsTake =
+    (n side : ℕ) (ns : List ℕ) (store : List Float) (b : Block) (m : List ℕ) (c e a : ℕ)
+    → let frames = completes (recordIn side ns .waiting) (sizeOf b) in
+    passed (surface n side ns store (feed b m c e a) .answer .reply)
+    ≡ (passed (surface n side ns store (take (samplesOf b) m ROOM a) .answer .reply) && (leb (960 * frames) c && leb frames e))
