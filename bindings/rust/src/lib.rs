@@ -184,7 +184,7 @@ surface! {
     tuppence_wav_read as wav_read(numbers: &mut [u64], file: &[u8]) -> u32;
 }
 
-// A format is 16, 24, or 32 for floats; of so many channels by turns one is unpacked. Packed are 16 bits, two bytes for each sample.
+// A format is 16, 24, 32 for floats, or 33 for 32-bit integers; of so many channels by turns one is unpacked. Packed are 16 bits, two bytes for each sample.
 #[cfg(feature = "pcm")]
 surface! {
     tuppence_unpack as unpack(out: &mut [f32], bytes: &[u8], format: u32, channels: u32, channel: u32) -> u32;
