@@ -175,9 +175,10 @@ uint32_t tuppence_resume(uint32_t *record, size_t record_len, float *store, size
 /* ---- feed: a block of recorded bytes in one call. `record` is a side's record as twelve numbers, and
    `store` 98,304, as in `of_desk`; `model` is a model file's bytes. Returned is 0 or the refusal. */
 
-/* `bytes` are 1 to 4,096 whole samples of all channels, little end first; `format` is 16, 24, or 32
-   for floats; of so many channels by turns one is the bench's. For each frame that its samples
-   complete `out` has 960 bytes, `entries` one number and `answers` three, or more, which stay. */
+/* `bytes` are 1 to 4,096 whole samples of all channels, little end first; `format` is 16, 24, 32
+   for floats, or 33 for 32-bit integers; of so many channels by turns one is the bench's. For each
+   frame that its samples complete `out` has 960 bytes, `entries` one number and `answers` three, or
+   more, which stay. */
 uint32_t tuppence_feed(uint32_t *record, size_t record_len, float *store, size_t store_len,
     uint32_t side, const uint8_t *bytes, size_t bytes_len, uint32_t format, uint32_t channels,
     uint32_t channel, const uint8_t *model, size_t model_len, uint8_t *out, size_t out_len,
@@ -286,8 +287,9 @@ uint32_t tuppence_filter(float *output, size_t output_len, float *memory, size_t
 
 /* ---- pcm: recorded bytes as samples, and samples as bytes. */
 
-/* `format` is 16, 24, or 32 for floats; of so many channels by turns, one is unpacked. `bytes` are
-   whole samples of all channels, little end first, and `out` has a place for each. */
+/* `format` is 16, 24, 32 for floats, or 33 for 32-bit integers; of so many channels by turns, one
+   is unpacked. `bytes` are whole samples of all channels, little end first, and `out` has a place
+   for each. */
 uint32_t tuppence_unpack(float *out, size_t out_len, const uint8_t *bytes, size_t bytes_len,
     uint32_t format, uint32_t channels, uint32_t channel);
 

@@ -83,6 +83,7 @@ fn format(body: &[u8], size: u32) -> Result<Format, u32> {
     let (bits, bytes) = match (tag, at(14)) {
         (1, 16) => (16, 2),
         (1, 24) => (24, 3),
+        (1, 32) => (33, 4),
         (3, 32) => (32, 4),
         _ => return Err(45),
     };

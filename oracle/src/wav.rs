@@ -64,7 +64,7 @@ fn chunk(name: &[u8; 4], size: u32, body: &[u8]) -> Vec<u8> {
 fn any_format(rng: &mut Rng) -> Vec<u8> {
     let (tag, bits) = match rng.below(12) {
         0 => (rng.pick(&[0u16, 1, 2, 3, 7, 0xFFFE]), rng.pick(&[0u16, 8, 16, 20, 24, 32, 64])),
-        k => [(1, 16), (1, 24), (3, 32)][k % 3],
+        k => [(1, 16), (1, 24), (1, 32), (3, 32)][k % 4],
     };
     let channels = if rng.once_in(6) { rng.pick(&[0u16, 3, 63, 64, 65, 256, 65_535]) } else { 1 + rng.below(2) as u16 };
     let wanted = channels.wrapping_mul(bits / 8);

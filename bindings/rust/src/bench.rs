@@ -22,6 +22,8 @@ pub enum Format {
     Bits24,
     /// 32-bit floats, of which 1.0 is full scale.
     Float,
+    /// 32-bit integers.
+    Bits32,
 }
 
 impl Format {
@@ -31,6 +33,7 @@ impl Format {
             Format::Bits16 => 16,
             Format::Bits24 => 24,
             Format::Float => 32,
+            Format::Bits32 => 33,
         }
     }
 }

@@ -156,7 +156,8 @@ surface! {
     tuppence_recording_chunk as recording_chunk(out: &mut [u8], side: u32, first: u32, size: u32, checksum: u32) -> u32;
 }
 
-// A format is 16, 24, or 32 for floats; of so many channels by turns one is unpacked. Packed are 16 bits, two bytes for each sample.
+// A format is 16, 24, 32 for floats, or 33 for 32-bit integers. One of the channels, which take turns, is unpacked.
+// Packed are 16 bits, two bytes for each sample.
 surface! {
     tuppence_unpack as unpack(out: &mut [f32], bytes: &[u8], format: u32, channels: u32, channel: u32) -> u32;
     tuppence_pack as pack(out: &mut [u8], samples: &[f32]) -> u32;

@@ -9,7 +9,7 @@ ghost use Rattle.feed.specs.Feed.{blockOf};
 ghost use Rattle.feed.specs.Surface.{hostedFeed};
 use desk::Side;
 
-// `bytes` are 1 to 4,096 whole samples of all channels, little end first; `format` is 16, 24, or 32 for floats; of so many
+// `bytes` are 1 to 4,096 whole samples of all channels, little end first; `format` is 16, 24, 32 for floats, or 33 for 32-bit integers; of so many
 // channels by turns one is the bench's. For each frame that its samples complete `out` has 960 bytes, `entries` one number
 // and `answers` three, or more, which stay.
 #[no_mangle]

@@ -35,8 +35,8 @@ unfoldable pub clipped : Float → Float → Float → Float
 clipped low high y = cond (finite y) (clamped y low high) y
 
 -- to -32768 and 32767
-abbrev pub inRange : Float → Float
-inRange y = clipped (neg (f32 0x47000000)) (f32 0x46FFFE00) y
+abbrev pub asSample : Float → Float
+asSample y = clipped (neg (f32 0x47000000)) (f32 0x46FFFE00) y
 
 -- 32 bits: the upper two bytes are whole, the lower two a fraction. Each is exact, and so their sum is rounded once
 unfoldable pub halves : List ℕ → ℕ → Float
@@ -48,8 +48,8 @@ unfoldable pub numberAt : ℕ → List ℕ → ℕ → Float
 unfolding signed clipped halves
 numberAt format bytes a =
     cond (eqb format 16) (signed 32768 (two bytes a))
-    (cond (eqb format 24) (inRange (signed 8388608 (three bytes a) ⊘ f32 0x43800000))
-    (cond (eqb format 33) (inRange (halves bytes a))
+    (cond (eqb format 24) (asSample (signed 8388608 (three bytes a) ⊘ f32 0x43800000))
+    (cond (eqb format 33) (asSample (halves bytes a))
     (f32 0x47000000 ⊗ clipped (neg (f32 0x3F800000)) (f32 0x3F7FFE00) (ofBits binary32 (four bytes a)))))
 
 -- where sample i of a channel stands, of so many channels by turns

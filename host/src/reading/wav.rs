@@ -111,6 +111,7 @@ impl From<io::Error> for Fault {
 enum Sample {
     Pcm16,
     Pcm24,
+    Pcm32,
     Float,
 }
 
@@ -120,7 +121,18 @@ impl Sample {
         match format {
             16 => Sample::Pcm16,
             24 => Sample::Pcm24,
+            33 => Sample::Pcm32,
             _ => Sample::Float,
+        }
+    }
+
+    /// The library's number.
+    fn format(self) -> u32 {
+        match self {
+            Sample::Pcm16 => 16,
+            Sample::Pcm24 => 24,
+            Sample::Pcm32 => 33,
+            Sample::Float => 32,
         }
     }
 
@@ -128,7 +140,7 @@ impl Sample {
         match self {
             Sample::Pcm16 => 2,
             Sample::Pcm24 => 3,
-            Sample::Float => 4,
+            Sample::Pcm32 | Sample::Float => 4,
         }
     }
 }
@@ -209,7 +221,7 @@ impl<R: Read> Reader<R> {
 
     /// How its samples stand in its bytes.
     pub fn layout(&self) -> Layout {
-        Layout { format: 8 * self.sample.size() as u32, channels: self.channels as u32 }
+        Layout { format: self.sample.format(), channels: self.channels as u32 }
     }
 
     /// How many samples each channel has, in a file of so many bytes of which none of these was read yet.
