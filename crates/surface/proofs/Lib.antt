@@ -7,4 +7,5 @@ pub mod Between
 pub mod Rows
 pub mod Bytes
 pub mod Fed
+pub mod Entries
 pub mod Cuts
