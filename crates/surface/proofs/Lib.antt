@@ -7,6 +7,7 @@ pub mod Between
 pub mod Rows
 pub mod Bytes
 pub mod Fed
+pub mod Entries
 pub mod Cuts
 pub mod Owner
 pub mod Acceptance

@@ -1,15 +1,16 @@
--- A stream of recorded bytes, cut into blocks: what is claimed. The proofs are in proofs/Fed.antt and proofs/Cuts.antt.
+-- A stream of recorded bytes, cut into blocks: what is claimed. The proofs are in proofs/Fed.antt, proofs/Cuts.antt and proofs/Entries.antt.
 --
 -- A feed is a take of its channel's samples. Where a bench's stream is cut makes no difference: its cleaned bytes, entries and answers in a row, and its record and share at the end, are
 -- those of one dictation of its channel, whatever other benches do in between, and however often a call of its own is refused.
-use Rattle.rules.specs.Common.{ℕ, _*_, _<_, List, [], _∷_, _++_, _≡_, length, getD, Float}
+use Rattle.rules.specs.Common.{ℕ, _+_, _*_, _%_, _<_, Bool, false, cond, List, [], _∷_, _++_, map, _≡_, length, getD, Float}
 use Rattle.rules.specs.Place.{get}
 use Rattle.frame.specs.Written.{nothing, firstIn, wholesIn}
 use Rattle.frame.specs.Share.{SHARE}
+use Rattle.frame.specs.Reply.{isHeard}
 use Rattle.desk.specs.declared.Record.{Record}
 use Rattle.desk.specs.Gate.{shareOf}
 use Rattle.whole.specs.Taking.{lentToEach, answersOf}
-use Rattle.dictation.specs.Dictation.{Dictated, dictatedOn}
+use Rattle.dictation.specs.Dictation.{Told, Dictated, dictatedOn}
 use Rattle.isolation.specs.Run.{Returned, On, State, recordAt, ended, received, done}
 use Rattle.pcm.specs.Pcm.{packed}
 use Rattle.feed.specs.Feed.{blockOf, samplesOf, entriesOf}
@@ -89,6 +90,15 @@ BytesInARow =
     (n s : ℕ) (st : State) (calls : List (On Call)) (format channels channel : ℕ) (model bytes : List ℕ)
     → Streams n s st calls format channels channel model bytes
     → hasOf n s st calls ≡ hasSaid (recordAt s st) (get (shareOf s) (st .store)) (samplesOf (blockOf bytes format channels channel)) model
+
+-- and entry j of a dictation is the frame's number, counted on from the bench's own, with 2^32 more exactly if the frame's reply says that it was heard
+abbrev pub heardIn : List Told → List Bool
+heardIn told = map (λ (f : Told). isHeard (f .1)) told
+
+abbrev pub EntriesTell : Type 0
+EntriesTell =
+    (frame : ℕ) (told : List Told) (j : ℕ) → j < length told
+    → getD (entriesOf frame (answersOf told)) j 0 ≡ (frame + j) % 4294967296 + cond (getD (heardIn told) j false) 4294967296 0
 
 -- so two runs in which a bench begins with the same record and share, and is fed streams with the same samples in its channel, each cut in its own way, give it
 -- the same
