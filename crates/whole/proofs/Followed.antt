@@ -104,7 +104,7 @@ three-long (Refused m) = refl
 three-long (Misread m l) = refl
 
 -- what is written behind the front of a buffer
-further-on : (m : ℕ) (xs ys held : List Float) → length xs ≡ m → over (from m ys) (over (from 0 xs) held) ≡ over (from 0 (xs ++ ys)) held
+pub further-on : (m : ℕ) (xs ys held : List Float) → length xs ≡ m → over (from m ys) (over (from 0 xs) held) ≡ over (from 0 (xs ++ ys)) held
 further-on m xs ys held e =
     let here : m ≡ 0 + m = omega arith in
     ap (λ (i : ℕ). over (from i ys) (over (from 0 xs) held)) here ∙ over-next 0 m xs ys held e (omega arith)

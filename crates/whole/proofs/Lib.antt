@@ -5,3 +5,5 @@ mod Framed
 pub mod Halves
 pub mod Ranged
 mod Taken
+mod Frames
+mod AsSaid

@@ -3,3 +3,4 @@ pub mod Surface
 pub mod Laws
 pub mod Taking
 pub mod Parts
+pub mod Said

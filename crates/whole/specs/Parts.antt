@@ -1,4 +1,4 @@
--- For the parts of the code: a take between two calls, with the buffers that they are lent.
+-- For the parts of the code. A take between two calls of the desk is still what proofs/Followed goes along.
 use Rattle.rules.specs.Common.{ℕ, _*_, List, [], _∷_, length, getD, Float}
 use Rattle.rules.specs.Loop.{loop}
 use Rattle.rules.specs.Place.{Place, put}
