@@ -29,6 +29,5 @@ pub fn take(
     }
     let start = side.0 * frame::SHARE;
     let end = start + frame::SHARE;
-    let last = crate::spoken::dictate(&mut store[start..end], rec, piece, model, out, answers);
-    Answer { reply, rec: last }
+    crate::spoken::dictate(&mut store[start..end], rec, piece, model, out, answers)
 }

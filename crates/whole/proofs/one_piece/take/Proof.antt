@@ -9,8 +9,9 @@ use Rattle.rules.proofs.Tests.{answered-no, answered-yes}
 use Rattle.frame.specs.Share.{SHARE}
 use Rattle.desk.specs.Gate.{BENCHES}
 use Rattle.desk.proofs.Turned.{through}
+use Rattle.whole.specs.Whole.{takenOn, take}
 use Rattle.whole.proofs.Accepted.{Take, take-known}
-use Rattle.whole.proofs.Taken.{ready, refused, took}
+use Rattle.whole.proofs.Behind.{take-ready, refused, done-there}
 use Rattle.whole.proofs.one_piece.take.Statement.{statement}
 use Rattle.whole.proofs.one_piece.take.Tie as tie
 
@@ -30,25 +31,25 @@ unfolding get
 dictate-requires c κs =
     let e = c .before .before .before .before in
     let a = e .before .before .before .before .before .before .before .before .before .args in
-    ready BENCHES (a .side .0) (now (a .piece)) (now (a .model)) (a .rec) (now (a .store)) (known e)
+    take-ready BENCHES (a .side .0) (a .rec) (now (a .store)) (now (a .piece)) (now (a .model)) (known e)
 
 returns : tie.Need-returns
+unfolding take
 returns c =
     let r = c .before .before in
     let a = r .before .before .before .before .before .before .before .args in
-    refused BENCHES (a .side .0) (now (a .piece)) (now (a .model)) (a .rec) (now (a .store)) (now (a .out)) (now (a .answers)) (r .take-reply .ensures)
+    refused _ (a .side .0) (a .rec) (now (a .store)) (λ share. takenOn (a .rec) share (now (a .piece)) (now (a .model))) (r .take-reply .ensures)
     (answered-no (c .before .passed .ensures) (c .if1 .taken))
 
 returns-2 : tie.Need-returns-2
-unfolding get put
+unfolding take get put
 returns-2 c =
     let d = c .before .before .before .before .before .before in
     let e = d .before .before .before .before .before in
     let r = e .before .before in
     let a = r .before .before .before .before .before .before .before .args in
-    let k = d .dictate .ensures in
-    took BENCHES (a .side .0) (now (a .piece)) (now (a .model)) (a .rec) (now (a .store)) (now (a .out)) (now (a .answers)) (r .take-reply .ensures)
-    (answered-yes (e .before .passed .ensures) (e .if1 .left)) (k .0) (k .1 .0) (k .1 .1 .0) (k .1 .1 .1)
+    done-there _ (a .side .0) (a .rec) (now (a .store)) (λ share. takenOn (a .rec) share (now (a .piece)) (now (a .model))) (r .take-reply .ensures)
+    (answered-yes (e .before .passed .ensures) (e .if1 .left)) (d .dictate .ensures)
 
 pub take-spec : {M : Type 1} → statement M
 take-spec =
