@@ -37,7 +37,7 @@ use Rattle.feed.specs.Surface.{hostedFeed}
 use Rattle.isolation.specs.Run.{on, State, recordAt, after, ended, desks, Expands}
 use Rattle.isolation.proofs.Memories.{counts}
 use Rattle.isolation.proofs.Runs.{reads, expanding}
-use Rattle.surface.specs.Surface.{Call, ask, frame, take, feed, surface, resumed, madeOf, OurCalls}
+use Rattle.surface.specs.Surface.{Call, ask, frame, take, feed, surface, resumeFor, madeOf, OurCalls}
 
 -- ---- the records and the store
 
@@ -148,12 +148,12 @@ module _ (n side : ℕ) (st : State) where
   -- along the resumes of a piece
   row-runs : (x : List Float) (m : List ℕ) (o k : ℕ) {e : Effect Answer} {d : Dictated} → Row n side x o e (replicate k (ourLent m)) d
       → leaving st side (numbersOf (d .rec)) (d .kept)
-      ≡ ended desks n (leaving st side (numbersOf (e .answer .rec)) (e .kept)) (map (on side) (map (resumed x m o) (d .told)))
+      ≡ ended desks n (leaving st side (numbersOf (e .answer .rec)) (e .kept)) (map (on side) (map (resumeFor x m o) (d .told)))
   unfolding ended
   row-runs x m o zero (rowEnd p) = refl
   row-runs x m o (suc k) (rowMore {o = e} {next = next} {d = d} p q more) =
       row-runs x m o k more
-      ∙ ap (λ (s : State). ended desks n s (map (on side) (map (resumed x m o) (d .told))))
+      ∙ ap (λ (s : State). ended desks n s (map (on side) (map (resumeFor x m o) (d .told))))
       (ap (λ (g : Effect Answer). leaving st side (numbersOf (g .answer .rec)) (g .kept)) q
       ∙ sym (again n side st (e .answer .rec) (e .kept) (resume x (logsOf (sumsIn e)) m o 22)))
 
@@ -169,12 +169,12 @@ module _ (n side : ℕ) (st : State) where
       d = dictated side rec (st .store) x (lentToEach rec x m)
 
       go : (t : Bool) → passed reply ≡ t
-          → Leads n side st (cond t (piece x o 22 ∷ map (resumed x m o) (d .told)) [])
+          → Leads n side st (cond t (piece x o 22 ∷ map (resumeFor x m o) (d .told)) [])
           (cond t (placed side (st .store) (takenOn rec (get (shareOf side) (st .store)) x m)) (refusal (record { reply = reply; rec = rec }) (st .store)))
       go true p =
           let row = take-row n side rec (st .store) x m o a p in
           row-runs x m o (completes (rec .waiting) (length x)) row
-          ∙ ap (λ (s : State). ended desks n s (map (on side) (map (resumed x m o) (d .told)))) (begun n side st (piece x o 22) (row-passes row))
+          ∙ ap (λ (s : State). ended desks n s (map (on side) (map (resumeFor x m o) (d .told)))) (begun n side st (piece x o 22) (row-passes row))
       go false p = none-runs reply p
 
   feed-runs : (b : Block) (m : List ℕ) (cleaned entries answers : ℕ)

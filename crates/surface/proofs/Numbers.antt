@@ -21,12 +21,12 @@ use Rattle.frame.specs.declared.Reply.{Reply}
 use Rattle.frame.specs.declared.Reply.the-variants.{Done, Silent, Heard, Numbered, Refused, Misread}
 use Rattle.frame.specs.declared.Way.{Way}
 use Rattle.frame.specs.declared.Hearing.{Hearing}
-use Rattle.frame.specs.Reply.{passed, _when_, firstRefusal}
+use Rattle.frame.specs.Reply.{passed, _when_}
 use Rattle.frame.specs.Share.{SHARE, PART, inputMem, keptEx}
 use Rattle.frame.specs.Heard.{spoken}
 use Rattle.frame.specs.Frame.{done3, counted, checked, modelled}
 use Rattle.frame.specs.Frame as frames
-use Rattle.frame.proofs.Tables.{by-rows, by-each}
+use Rattle.frame.proofs.Tables.{Each, by-rows, by-each}
 use Rattle.halves.specs.Own as own
 use Rattle.halves.specs.Ways.{lagBy, remembered, forwardBy}
 use Rattle.halves.specs.Halves as halves
@@ -37,6 +37,7 @@ use Rattle.desk.specs.declared.Answer.{Answer}
 use Rattle.desk.specs.declared.Record.{Record}
 use Rattle.desk.specs.Gate.{PIECE, refusals, gate, shareOf}
 use Rattle.desk.specs.Desk.{Ask, opening, call1, call2, call2Own, call3, call4, firstHalf, secondHalf, piece, resume, callOf, opened, onShare, admitted, desk}
+use Rattle.desk.specs.Laws.{placed}
 use Rattle.desk.specs.Surface.{recordIn, replyNumber, hosted}
 use Rattle.desk.proofs.Answered.{replied-by}
 use Rattle.dictation.specs.Dictation.{frameOn}

@@ -18,7 +18,7 @@ use Rattle.frame.specs.Effect.{Effect, refusal}
 use Rattle.frame.specs.declared.Reply.{Reply}
 use Rattle.frame.specs.declared.Reply.the-variants.{Done, Silent, Heard, Numbered, Refused, Misread}
 use Rattle.frame.specs.Reply.{passed}
-use Rattle.pieces.specs.Pieces.{waitingIn, waits, further}
+use Rattle.pieces.specs.Pieces.{waitingIn, waits, completes, further}
 use Rattle.pieces.specs.Pieces as pieces
 use Rattle.desk.specs.declared.Record.{Record}
 use Rattle.desk.specs.Gate.{PIECE, gate, shareOf}
@@ -42,7 +42,7 @@ use Rattle.feed.specs.Surface.{hostedFeed}
 use Rattle.isolation.specs.Isolation.{own}
 use Rattle.isolation.specs.Run.{On, on, State, recordAt, given, gets, after, ended, done, desks, expand}
 use Rattle.isolation.proofs.Runs.{reads}
-use Rattle.surface.specs.Surface.{Call, ask, frame, take, feed, surface, resumed, madeOf}
+use Rattle.surface.specs.Surface.{Call, ask, frame, take, feed, surface, resumeFor, madeOf}
 use Rattle.surface.specs.Between.{resumes, InARow, lastPiece, morePieces, inBuffer, answersAt, NoFeed, All}
 use Rattle.surface.proofs.Expanded.{leaving, again, begun, one-call}
 
@@ -198,7 +198,7 @@ module _ (n s side : ℕ) (mine : eqb side s ≡ true) (st : State) where
   -- the resumes of a piece, by what each of them hands out
   module _ (x : List Float) (m : List ℕ) (o : ℕ) where
     abbrev row : Dictated → List (On Ask)
-    row d = map (on side) (map (resumed x m o) (d .told))
+    row d = map (on side) (map (resumeFor x m o) (d .told))
 
     row-columns : (k : ℕ) {e : Effect Answer} {d : Dictated} → Row n side x o e (replicate k (ourLent m)) d
         → let there = leaving st side (numbersOf (e .answer .rec)) (e .kept) in
@@ -213,8 +213,8 @@ module _ (n s side : ℕ) (mine : eqb side s ≡ true) (st : State) where
         let passes : passed (desk n side b (e .kept) a .answer .reply) ≡ true = rw q at (row-passes more) in
         let to : (c : ℕ) → column c n s (leaving st side (numbersOf b) (e .kept)) (on side a ∷ row d)
         ≡ wrote c a next ++ column c n s (leaving st side (numbersOf (next .answer .rec)) (next .kept)) (row d) = λ c. rw q (next-column c b (e .kept) a (row d)) in (
-          to 0 ∙ ap₂ (λ (u v : List Float). u ++ v) (rw q (resume-first n side b (e .kept) x o logs m passes)) (ih .0),
-          to 2 ∙ ap₂ (λ (u v : List Float). u ++ v) (rw q (resume-heard n side b (e .kept) x o logs m passes)) (ih .1),
+          to 0 ∙ ap₂ (λ (u v : List Float). u ++ v) (subst (λ (g : Effect Answer). wrote 0 a g ≡ firstIn (g .written)) (sym q) (resume-first n side b (e .kept) x o logs m passes)) (ih .0),
+          to 2 ∙ ap₂ (λ (u v : List Float). u ++ v) (subst (λ (g : Effect Answer). wrote 2 a g ≡ heardOf (g .answer .reply)) (sym q) (resume-heard n side b (e .kept) x o logs m passes)) (ih .1),
         )
 
     module _ (a : ℕ) (p : passed (takeReply n side (recordAt side st) (st .store) x m o a) ≡ true) where
@@ -224,7 +224,7 @@ module _ (n s side : ℕ) (mine : eqb side s ≡ true) (st : State) where
       -- where the piece writes nothing to it
       from-piece : (k : ℕ) {ys : List Float} → let e = desk n side (recordAt side st) (st .store) (piece x o 22) in
           wrote k (piece x o 22) e ≡ [] → column k n s (leaving st side (numbersOf (e .answer .rec)) (e .kept)) (row d) ≡ ys
-          → ys ≡ column k n s st (map (on side) (piece x o 22 ∷ map (resumed x m o) (d .told)))
+          → ys ≡ column k n s st (map (on side) (piece x o 22 ∷ map (resumeFor x m o) (d .told)))
       unfolding ended
       from-piece k none more =
           let done = row-passes (take-row n side (recordAt side st) (st .store) x m o a p) in
@@ -233,15 +233,15 @@ module _ (n s side : ℕ) (mine : eqb side s ≡ true) (st : State) where
           ∙ ap₂ (λ (u v : List Float). u ++ v) (one-out n s side k mine (piece x o 22) st ∙ none)
           (ap (λ (t : State). column k n s t (row d)) (sym (begun n side st (piece x o 22) done)) ∙ more))
 
-      take-outputs : d .out ≡ column 0 n s st (map (on side) (piece x o 22 ∷ map (resumed x m o) (d .told)))
+      take-outputs : d .out ≡ column 0 n s st (map (on side) (piece x o 22 ∷ map (resumeFor x m o) (d .told)))
       take-outputs =
           let r = take-row n side (recordAt side st) (st .store) x m o a p in
-          from-piece 0 (piece-none n side (recordAt side st) (st .store) x o (row-passes r)) (row-columns _ r .0)
+          from-piece 0 (piece-none n side (recordAt side st) (st .store) x o (row-passes r)) (row-columns (completes (recordAt side st .waiting) (length x)) r .0)
 
-      take-answers : answersOf (d .told) ≡ column 2 n s st (map (on side) (piece x o 22 ∷ map (resumed x m o) (d .told)))
+      take-answers : answersOf (d .told) ≡ column 2 n s st (map (on side) (piece x o 22 ∷ map (resumeFor x m o) (d .told)))
       take-answers =
           let r = take-row n side (recordAt side st) (st .store) x m o a p in
-          from-piece 2 (piece-unheard n side (recordAt side st) (st .store) x o (row-passes r)) (row-columns _ r .1)
+          from-piece 2 (piece-unheard n side (recordAt side st) (st .store) x o (row-passes r)) (row-columns (completes (recordAt side st .waiting) (length x)) r .1)
 
 -- ---- one call of the surface
 
@@ -268,7 +268,7 @@ module _ (P : Call → Type 0) (which : Call → ℕ) (k : ℕ) (asked : (a : As
     → passed (takeReply n side (recordAt side st) (st .store) x m o a) ≡ true
     → let d = dictated side (recordAt side st) (st .store) x (lentToEach (recordAt side st) x m) in
     numbersIn (getD (from 0 (d .out) ∷ from 0 (answersOf (d .told)) ∷ []) (which (take x m o a)) nothing)
-    ≡ column k n s st (map (on side) (piece x o 22 ∷ map (resumed x m o) (d .told))))
+    ≡ column k n s st (map (on side) (piece x o 22 ∷ map (resumeFor x m o) (d .told))))
     (feeds : (b : Block) (m : List ℕ) (c e a : ℕ) → P (feed b m c e a) → (number : ℕ) (ws : List Written)
     → numbersIn (getD (fedOf number ws) (which (feed b m c e a)) nothing) ≡ numbersIn (getD ws (which (take (samplesOf b) m ROOM a)) nothing)) where
   module _ (side : ℕ) (mine : eqb side s ≡ true) (st : State) where
@@ -292,7 +292,7 @@ module _ (P : Call → Type 0) (which : Call → ℕ) (k : ℕ) (asked : (a : As
 
         go : (t : Bool) → passed reply ≡ t
             → numbersIn (getD (cond t (placed side (st .store) (takenOn rec (get (shareOf side) (st .store)) x m)) (refusal (record { reply = reply; rec = rec }) (st .store)) .written) (which (take x m o a)) nothing)
-            ≡ column k n s st (map (on side) (cond t (piece x o 22 ∷ map (resumed x m o) (d .told)) []))
+            ≡ column k n s st (map (on side) (cond t (piece x o 22 ∷ map (resumeFor x m o) (d .told)) []))
         go true p = takes side mine st x m o a p
         go false p = refl
 

@@ -183,7 +183,7 @@ module _ (samples : List Float) (model : List ℕ) (out : ℕ) where
       go false e = rw e
 
   frame-does : (n side : ℕ) (b : Record) (store : List Float) → telling (whole.frame n side b store samples model out) ≡ performed n side b store framing
-  unfolding whole.frame frameReply
+  unfolding whole.frame frameReply framing tabled
   frame-does n side b store =
       telling-in (replyOf (gate n side b (length store) 1) (frameRows b samples model out)) side b store (frameOn b (get (shareOf side) store) samples (ourLent model))
       ∙ table-does 1 (λ z. omega arith) (λ b _. frameRows b samples model out) frameWork frame-size n side b store
@@ -205,13 +205,14 @@ module _ (samples : List Float) (model : List ℕ) (out answers : ℕ) where
 
   module _ (n side : ℕ) (b : Record) (store : List Float) where
     take-does : whole.take n side b store samples model out answers ≡ performed n side b store taking
-    unfolding whole.take takeReply
+    unfolding whole.take takeReply taking tabled
     take-does =
         table-does PIECE (λ z. omega arith) (λ b share. takeRows b share samples model out answers) (λ b share. takenOn b share samples model) said-size n side b store
 
     -- let through
     take-inside : gate n side b (length store) PIECE ≡ 0
         → whole.take n side b store samples model out answers ≡ placed side store (takeWork b (get (shareOf side) store))
+    unfolding taking tabled
     take-inside z =
         take-does
         ∙ table-inside PIECE (λ z. omega arith) (λ b share. takeRows b share samples model out answers) (λ b share. takenOn b share samples model) said-size n side b store z

@@ -50,13 +50,13 @@ Anew n =
 -- ---- mixed sequences: a frame is its two halves, a take its piece and a resume with our logarithms for each frame told, and a feed its take; refused,
 -- none is any
 
-abbrev pub resumed : List Float → List ℕ → ℕ → Told → Ask
-resumed x m o told = resume x (logsOf (told .0)) m o 22
+abbrev pub resumeFor : List Float → List ℕ → ℕ → Told → Ask
+resumeFor x m o told = resume x (logsOf (told .0)) m o 22
 
 abbrev pub takeMade : ℕ → ℕ → Record → List Float → List Float → List ℕ → ℕ → ℕ → List Ask
 takeMade n side rec store x m o a =
     cond (passed (takeReply n side rec store x m o a))
-    (piece x o 22 ∷ map (resumed x m o) (dictated side rec store x (lentToEach rec x m) .told)) []
+    (piece x o 22 ∷ map (resumeFor x m o) (dictated side rec store x (lentToEach rec x m) .told)) []
 
 abbrev pub madeOf : Made Call
 madeOf n side rec store (ask a) = a ∷ []
