@@ -11,7 +11,7 @@ use borrow.Author.Tests.{ne-eqb, leb-true}
 use lib.ListN.{List·getD-append, take as list-take}
 use lib.Seq.{take-at}
 use Rattle.rules.specs.F32.{at, part}
-use Rattle.rules.specs.Place.{put}
+use Rattle.rules.specs.Place.{get, put}
 use Rattle.rules.specs.Refusals.{_when_, refusing}
 use Rattle.rules.specs.Tab.{tab}
 use Rattle.frame.specs.Written.{from, over, atFront}
@@ -23,8 +23,9 @@ use Rattle.frame.specs.Reply.{passed}
 use Rattle.pieces.specs.Pieces.{completes, pieceFits}
 use Rattle.desk.specs.declared.Answer.{Answer}
 use Rattle.desk.specs.declared.Record.{Record}
-use Rattle.desk.specs.Gate.{PIECE, gate}
-use Rattle.whole.specs.Whole.{takeEnds, take}
+use Rattle.desk.specs.Gate.{PIECE, gate, shareOf}
+use Rattle.whole.specs.Whole.{lentToEach, answersOf, take}
+use Rattle.dictation.specs.Dictation.{dictatedOn}
 use Rattle.whole.proofs.Accepted.{fits-sizes}
 use Rattle.whole.proofs.Dictations.{take-fills}
 use Rattle.whole.proofs.Ranged.{take-by}
@@ -58,12 +59,12 @@ module _ (n side : ℕ) (rec : Record) (store samples : List Float) (model : Lis
         (λ o. Worked o a s (out ∷ told ∷ []) (out′ ∷ told′ ∷ [])
         → WorkedBoth (fedBy (rec .frame) o) a s (told ∷ []) (told′ ∷ []) (cleaned ∷ entries ∷ []) (cleaned′ ∷ entries′ ∷ []))
         (λ q v.
-        let t = takeEnds n side rec store samples model (length out) in
+        let d = dictatedOn rec (get (shareOf side) store) samples (lentToEach rec samples model) in
         let f = take-fills n side rec store samples model (length out) (length told) q in
-        let o : out′ ≡ over (from 0 (t .out)) out = ap (λ (xs : List (List Float)). getD xs 0 []) (v .writes) in
-        let l : told′ ≡ over (from 0 (t .answers)) told = ap (λ (xs : List (List Float)). getD xs 1 []) (v .writes) in
-        let cleans = h .0 ∙ ap (λ (x : List ℕ). atFront x cleaned) (front-bytes k (rec .frame) (t .out) out o (f .0 ∙ ap (λ (m : ℕ). 480 * m) (sym count))) in
-        let notes = h .1 ∙ ap (λ (x : List ℕ). atFront x entries) (front-entries k (rec .frame) (t .answers) told l (f .1 ∙ ap (λ (m : ℕ). 3 * m) (sym count))) in
+        let o : out′ ≡ over (from 0 (d .out)) out = ap (λ (xs : List (List Float)). getD xs 0 []) (v .writes) in
+        let l : told′ ≡ over (from 0 (answersOf (d .told))) told = ap (λ (xs : List (List Float)). getD xs 1 []) (v .writes) in
+        let cleans = h .0 ∙ ap (λ (x : List ℕ). atFront x cleaned) (front-bytes k (rec .frame) (d .out) out o (f .0 ∙ ap (λ (m : ℕ). 480 * m) (sym count))) in
+        let notes = h .1 ∙ ap (λ (x : List ℕ). atFront x entries) (front-entries k (rec .frame) (answersOf (d .told)) told l (f .1 ∙ ap (λ (m : ℕ). 3 * m) (sym count))) in
         record {
           floats = record { answers = v .answers; keeps = v .keeps; writes = ap (λ (x : List Float). x ∷ []) l };
           notes = ap₂ (λ (x y : List ℕ). x ∷ y ∷ []) cleans notes;
@@ -77,7 +78,7 @@ module _ (n side : ℕ) (rec : Record) (store samples : List Float) (model : Lis
         take-by n side samples model rec store (length out) (length told)
         (λ o. Worked o a s (out ∷ told ∷ []) (out′ ∷ told′ ∷ [])
         → WorkedBoth (fedBy (rec .frame) o) a s (told ∷ []) (told′ ∷ []) (cleaned ∷ entries ∷ []) (cleaned ∷ entries ∷ []))
-        (λ q v. absurd (false≢true (sym p ∙ e ∙ ap (λ (x : Answer). passed (x .reply)) (v .answers) ∙ q)))
+        (λ _ v. absurd (false≢true (sym p ∙ e ∙ ap (λ (x : Answer). passed (x .reply)) (v .answers))))
         (λ q v. record { floats = record { answers = v .answers; keeps = v .keeps; writes = ap (drop 1) (v .writes) }; notes = refl })
         w
 

@@ -1,8 +1,8 @@
 -- What a feed gives a host that hands its record back as numbers.
 --     feed-small, feed-range    a refused model's number and layer are small; where it is done, both records are in range
---     feed-leaves, entry-small  what specs/Laws.antt claims
+--     feed-leaves, entry-small  refused, it changes nothing; what specs/Laws.antt claims
 -- Assumes nothing.
-use Rattle.rules.proofs.Common.{ℕ, _+_, _%_, _<_, Bool, true, false, cond, true≢false, false≢true, List, _≡_, refl, sym, _∙_, length, Float}
+use Rattle.rules.proofs.Common.{ℕ, _+_, _%_, _<_, Bool, true, false, cond, true≢false, false≢true, List, _≡_, refl, length, Float}
 use native.Mathlib.Omega.{arith}
 use lib.Ieee.{eq}
 use Rattle.rules.specs.F32.{f32}
@@ -17,7 +17,7 @@ use Rattle.desk.proofs.Replies.{SmallSeven}
 use Rattle.whole.specs.Whole.{take}
 use Rattle.whole.proofs.Ranged.{take-small, take-range, take-seated, take-by}
 use Rattle.feed.specs.Feed.{Block, ROOM, sizeOf, samplesOf, feedRows, fedBy, feed}
-use Rattle.feed.specs.Laws.{FeedLeaves, EntrySmall}
+use Rattle.feed.specs.Laws.{EntrySmall}
 
 module _ (n side : ℕ) (rec : Record) (store : List Float) (b : Block) (model : List ℕ) (cleaned entries answers : ℕ) where
   -- what holds of a refusal, and of what comes of the take, holds of a feed
@@ -41,13 +41,14 @@ module _ (n side : ℕ) (rec : Record) (store : List Float) (b : Block) (model :
       feed-by (λ o. passed (o .answer .reply) ≡ true → side < n) (λ _ q. absurd (false≢true q))
       (take-seated n side (samplesOf b) model rec store ROOM answers)
 
-pub feed-leaves : FeedLeaves
+pub feed-leaves : (n side : ℕ) (rec : Record) (store : List Float) (b : Block) (model : List ℕ) (cleaned entries answers : ℕ)
+    → let o = feed n side rec store b model cleaned entries answers in passed (o .answer .reply) ≡ false → o ≡ refusal (record { reply = o .answer .reply; rec = rec }) store
 feed-leaves n side rec store b model cleaned entries answers =
     feed-by n side rec store b model cleaned entries answers
     (λ o. passed (o .answer .reply) ≡ false → o ≡ refusal (record { reply = o .answer .reply; rec = rec }) store) (λ _ _. refl)
     (take-by n side (samplesOf b) model rec store ROOM answers
     (λ t. passed (t .answer .reply) ≡ false → fedBy (rec .frame) t ≡ refusal (record { reply = t .answer .reply; rec = rec }) store)
-    (λ p e. absurd (true≢false (sym p ∙ e)))
+    (λ _ e. absurd (true≢false e))
     (λ _ _. refl))
 
 pub entry-small : EntrySmall

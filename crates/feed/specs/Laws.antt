@@ -1,18 +1,8 @@
 -- What is claimed of a feed by itself. The proofs are in proofs/Ranged.antt and proofs/Own.antt.
-use Rattle.rules.specs.Common.{ℕ, _≤_, _<_, false, List, [], map, _≡_, length, getD, Float}
-use Rattle.frame.specs.Effect.{refusal}
-use Rattle.frame.specs.Reply.{passed}
-use Rattle.desk.specs.declared.Record.{Record}
+use Rattle.rules.specs.Common.{ℕ, _≤_, _<_, List, [], map, _≡_, length, getD, Float}
 use Rattle.pcm.specs.Pcm.{width}
 use Rattle.pcm.specs.Laws.{interleaved, Recorded, sampleOf}
-use Rattle.feed.specs.Feed.{Block, samplesOf, entryOf, feed}
-
--- refused, it leaves the record and the store, and writes to no buffer
-abbrev pub FeedLeaves : Type 0
-FeedLeaves =
-    (n side : ℕ) (rec : Record) (store : List Float) (b : Block) (model : List ℕ) (cleaned entries answers : ℕ)
-    → let o = feed n side rec store b model cleaned entries answers in
-    passed (o .answer .reply) ≡ false → o ≡ refusal (record { reply = o .answer .reply; rec = rec }) store
+use Rattle.feed.specs.Feed.{Block, samplesOf, entryOf}
 
 -- an entry is one that the side sheet takes
 abbrev pub EntrySmall : Type 0

@@ -36,7 +36,7 @@ use Rattle.dictation.proofs.Joins.{first, second, shareAfter, recAfter, dictate
 use Rattle.dictation.proofs.Taken.{onward, ends, pauses, piece-passed}
 use Rattle.dictation.proofs.Follows.{place, following, follows}
 use Rattle.dictation.proofs.Cuts.{short, long}
-use Rattle.whole.specs.Taking.{answersOf}
+use Rattle.whole.specs.Whole.{answersOf}
 use Rattle.whole.proofs.Dictations.{answers-both}
 use Rattle.isolation.specs.Run.{On, State, recordAt, given, gets, after, ended, done, desks, expand}
 use Rattle.isolation.proofs.Runs.{record-after, store-after}

@@ -12,7 +12,7 @@ use Rattle.desk.specs.declared.Record.{Record}
 use Rattle.desk.specs.Gate.{shareOf}
 use Rattle.dictation.specs.Dictation.{Lent, Dictated, dictate}
 use Rattle.dictation.proofs.Joins.{share-size, then, rejoin}
-use Rattle.whole.specs.Taking.{ourLent, lentToEach, answersOf}
+use Rattle.whole.specs.Whole.{ourLent, lentToEach, answersOf}
 use Rattle.whole.proofs.Dictations.{answers-length, answers-both}
 use Rattle.isolation.specs.Run.{recordAt}
 use Rattle.feed.specs.Feed.{blockOf, samplesOf, entriesOf}

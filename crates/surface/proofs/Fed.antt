@@ -2,8 +2,8 @@
 --     gave-nothing, gave-said     a refused call, and a feed that is done
 --     Comes, lone-run             a bench's calls that are done, one after the other, and that any run comes to these
 -- Assumes nothing.
-use Rattle.rules.proofs.Common.{ℕ, _*_, _≤_, _<_, Bool, true, false, cond, not, false≢true, List, [], _∷_, _++_, _≡_, refl, sym, ap, ap₂, subst, _∙_}
-use Rattle.rules.proofs.Common.{eqb, length, getD, drop, Float}
+use Rattle.rules.proofs.Common.{ℕ, _*_, _≤_, _<_, Bool, true, false, cond, false≢true, List, [], _∷_, _++_, _≡_, refl, sym, ap, ap₂, subst, _∙_}
+use Rattle.rules.proofs.Common.{eqb, length, getD, Float}
 use native.Mathlib.Omega.{arith}
 use borrow.Author.Tests.{eqb-true, eqb-false, eq-eqb}
 use Rattle.rules.specs.Place.{get, put}
@@ -19,13 +19,12 @@ use Rattle.frame.specs.Share.{SHARE}
 use Rattle.pieces.specs.Pieces.{waitingIn}
 use Rattle.desk.specs.declared.Record.{Record}
 use Rattle.desk.specs.Gate.{PIECE, gate, shareOf}
+use Rattle.desk.specs.Laws.{placed}
 use Rattle.desk.specs.Surface.{recordIn}
 use Rattle.dictation.proofs.Joins.{share-size}
-use Rattle.whole.specs.Whole.{takeReply}
+use Rattle.whole.specs.Whole.{takeReply, lentToEach, takenOn}
 use Rattle.whole.specs.Whole as whole
-use Rattle.whole.specs.Taking.{lentToEach}
 use Rattle.whole.proofs.Accepted.{take-accepted, fits-sizes}
-use Rattle.whole.proofs.Dictations.{as-dictated}
 use Rattle.whole.proofs.Ranged.{take-by}
 use Rattle.isolation.specs.Run.{returned, On, on, State, recordAt, after, ended, received, done}
 use Rattle.isolation.proofs.Isolated.{beside}
@@ -94,11 +93,14 @@ module _ (n s : ℕ) (inside : s < n) (ns : List ℕ) (store : List Float) (l : 
             (λ (o : Effect Answer). passed (o .answer .reply) ≡ true → passed (takeReply n s rec store (samplesOf b) model ROOM answers) ≡ true) (λ q _. q) (λ _ q. q) p,
       ))
 
+  taken-is : passed (takeReply n s rec store (samplesOf b) model ROOM answers) ≡ true → taken ≡ placed s store (takenOn rec share (samplesOf b) model)
+  unfolding whole.take
+  taken-is p = rw p
+
   gave-said : passed (feeding.feed n s rec store b model cleaned entries answers .answer .reply) ≡ true
       → Says rec (samplesOf b) × (gaveOf s ns (feeding.feed n s rec store b model cleaned entries answers) ≡ hasSaid rec share (samplesOf b) model)
   gave-said p =
       let f = fed-is p in
-      let t = as-dictated n s rec store (samplesOf b) model ROOM answers (f .1) in
       let d = said rec share (samplesOf b) model in
       let sizes = fits-sizes (rec .waiting) (length (samplesOf b)) ROOM 22 (take-accepted n s rec store (samplesOf b) model ROOM answers (f .1) .fits) in
       let full : length share ≡ SHARE = length-get (shareOf s) store (omega arith) in
@@ -106,7 +108,7 @@ module _ (n s : ℕ) (inside : s < n) (ns : List ℕ) (store : List Float) (l : 
       get-put (shareOf s) store (d .kept) (omega arith)
       (share-size rec share (waitingIn (rec .waiting) share ++ samplesOf b) (lentToEach rec (samplesOf b) model) full) in (
         record { waits = sizes .0; some = sizes .1 },
-        ap (gaveOf s ns) (f .0) ∙ ap (λ (g : Effect Answer). gaveOf s ns (fedBy (rec .frame) g)) (t .1) ∙ rw (f .1, back, reads s (d .rec)),
+        ap (gaveOf s ns) (f .0) ∙ ap (λ (g : Effect Answer). gaveOf s ns (fedBy (rec .frame) g)) (taken-is (f .1)) ∙ rw (back, reads s (d .rec)),
       )
 
 -- ---- calls that are done, one after the other

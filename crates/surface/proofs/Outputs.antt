@@ -4,14 +4,12 @@
 --     told-is, received-is         one call, where what it is made of are pieces and resumes, and any run
 --     own-asks                     any run in which a side makes no whole calls
 -- Assumes nothing.
-use Rattle.rules.proofs.Common.{ℕ, zero, suc, _-_, _≤_, _<_, Bool, true, false, cond, _&&_, false≢true, List, [], _∷_, _++_, map, _≡_, refl, sym, ap}
-use Rattle.rules.proofs.Common.{ap₂, subst, _∙_, eqb, ltb, length, getD, drop, Float}
+use Rattle.rules.proofs.Common.{ℕ, zero, suc, _-_, Bool, true, false, cond, _&&_, false≢true, List, [], _∷_, _++_, map, _≡_, refl, sym, ap}
+use Rattle.rules.proofs.Common.{ap₂, subst, _∙_, eqb, ltb, length, getD, drop, replicate, Float}
 use native.Mathlib.Omega.{arith}
 use mathlib.Core.List.{append-assoc, append-nil}
 use borrow.Author.Tests.{eq-eqb}
-use Rattle.rules.specs.Loop.{loop}
 use Rattle.rules.specs.Place.{get}
-use Rattle.rules.specs.Tab.{tab}
 use Rattle.rules.proofs.Refusals as by-gates
 use Rattle.frame.specs.Written.{Written, all, from, nothing, numbersIn, firstIn}
 use Rattle.logs.specs.Log10.{logsOf}
@@ -25,14 +23,18 @@ use Rattle.pieces.specs.Pieces as pieces
 use Rattle.desk.specs.declared.Record.{Record}
 use Rattle.desk.specs.Gate.{PIECE, gate, shareOf}
 use Rattle.desk.specs.Desk.{Ask, opening, call1, call2, call2Own, call3, call4, firstHalf, secondHalf, piece, resume, desk}
+use Rattle.desk.specs.Laws.{placed}
 use Rattle.desk.specs.Surface.{numbersOf, recordIn, replyNumber, heardOf, besides, telling, hosted}
 use Rattle.desk.proofs.Buffers.{buffers}
-use Rattle.dictation.specs.Dictation.{Lent}
+use Rattle.dictation.specs.Dictation.{Lent, Dictated, dictated}
 use Rattle.dictation.proofs.Taken.{onward, piece-passed}
-use Rattle.whole.specs.Whole.{frameReply, frameBegins, takeReply, Taking, takeFrames, takeEnds, takenAs}
+use Rattle.dictation.specs.Cutting.{sumsIn}
+use Rattle.dictation.proofs.Cuts.{Row, rowEnd, rowMore, row-passes}
+use Rattle.whole.specs.Laws.{frameBegins}
+use Rattle.whole.specs.Whole.{ourLent, frameReply, takeReply, lentToEach, answersOf, takenOn}
 use Rattle.whole.specs.Whole as whole
 use Rattle.whole.specs.Surface.{hostedFrame, hostedTake}
-use Rattle.whole.proofs.Dictations.{take-done}
+use Rattle.whole.proofs.Dictations.{take-row}
 use Rattle.whole.proofs.Halves.{two-halves, refused-is}
 use Rattle.feed.specs.Feed.{Block, ROOM, sizeOf, samplesOf, feedRows, fedOf, fedBy}
 use Rattle.feed.specs.Feed as feeding
@@ -40,9 +42,9 @@ use Rattle.feed.specs.Surface.{hostedFeed}
 use Rattle.isolation.specs.Isolation.{own}
 use Rattle.isolation.specs.Run.{On, on, State, recordAt, given, gets, after, ended, done, desks, expand}
 use Rattle.isolation.proofs.Runs.{reads}
-use Rattle.surface.specs.Surface.{Call, ask, frame, take, feed, surface, madeOf}
+use Rattle.surface.specs.Surface.{Call, ask, frame, take, feed, surface, resumeFor, madeOf}
 use Rattle.surface.specs.Between.{resumes, InARow, lastPiece, morePieces, inBuffer, answersAt, NoFeed, All}
-use Rattle.surface.proofs.Expanded.{leaving, map-more, stands, resumed, steps, one-call}
+use Rattle.surface.proofs.Expanded.{leaving, again, begun, one-call}
 
 abbrev pub column : ℕ → ℕ → ℕ → State → List (On Ask) → List Float
 column k n s st cs = inBuffer desks (λ _. k) n s st cs
@@ -178,61 +180,68 @@ module _ (n s side : ℕ) where
 
 -- ---- a take
 
-module _ (n s side : ℕ) (mine : eqb side s ≡ true) (st : State) (x : List Float) (m : List ℕ) (o a : ℕ)
-    (p : passed (takeReply n side (recordAt side st) (st .store) x m o a) ≡ true) where
-  abbrev b : Record
-  b = recordAt side st
+module _ (n s side : ℕ) (mine : eqb side s ≡ true) (st : State) where
+  -- a call of the desk, and those after it
+  next-column : (k : ℕ) (b : Record) (store : List Float) (a : Ask) (rest : List (On Ask))
+      → let o = desk n side b store a in
+      column k n s (leaving st side (numbersOf side b) store) (on side a ∷ rest) ≡ wrote k a o ++ column k n s (leaving st side (numbersOf side (o .answer .rec)) (o .kept)) rest
+  unfolding ended
+  next-column k b store a rest =
+      let there = leaving st side (numbersOf side b) store in
+      let own : there .numbers side ≡ numbersOf side b = rw (eq-eqb side side refl) in
+      column-more k n s (on side a ∷ []) rest there
+      ∙ ap₂ (λ (u v : List Float). u ++ v)
+      (one-out n s side k mine a there ∙ ap (λ (ns : List ℕ). wrote k a (desk n side (recordIn side ns) store a)) own
+      ∙ ap (λ (r : Record). wrote k a (desk n side r store a)) (reads side b))
+      (ap (λ (t : State). column k n s t rest) (again n side st b store a))
 
-  abbrev at : ℕ → Taking
-  at j = stands n side st x m o j
+  -- the resumes of a piece, by what each of them hands out
+  module _ (x : List Float) (m : List ℕ) (o : ℕ) where
+    abbrev row : Dictated → List (On Ask)
+    row d = map (on side) (map (resumeFor x m o) (d .told))
 
-  abbrev next : ℕ → Ask
-  next j = resumed n side st x m o j
+    row-columns : (k : ℕ) {e : Effect Answer} {d : Dictated} → Row n side x o e (replicate k (ourLent m)) d
+        → let there = leaving st side (numbersOf side (e .answer .rec)) (e .kept) in
+        (column 0 n s there (row d) ≡ d .out) × (column 2 n s there (row d) ≡ answersOf (d .told))
+    unfolding inBuffer
+    row-columns zero (rowEnd p) = (refl, refl)
+    row-columns (suc k) (rowMore {o = e} {next = next} {d = d} p q more) =
+        let b = e .answer .rec in
+        let logs = logsOf (sumsIn e) in
+        let a = resume x logs m o 22 in
+        let ih = row-columns k more in
+        let passes : passed (desk n side b (e .kept) a .answer .reply) ≡ true = rw q at (row-passes more) in
+        let to : (c : ℕ) → column c n s (leaving st side (numbersOf side b) (e .kept)) (on side a ∷ row d)
+        ≡ wrote c a next ++ column c n s (leaving st side (numbersOf side (next .answer .rec)) (next .kept)) (row d) = λ c. rw q (next-column c b (e .kept) a (row d)) in (
+          to 0 ∙ ap₂ (λ (u v : List Float). u ++ v) (subst (λ (g : Effect Answer). wrote 0 a g ≡ firstIn (g .written)) (sym q) (resume-first n side b (e .kept) x o logs m passes)) (ih .0),
+          to 2 ∙ ap₂ (λ (u v : List Float). u ++ v) (subst (λ (g : Effect Answer). wrote 2 a g ≡ heardOf (g .answer .reply)) (sym q) (resume-heard n side b (e .kept) x o logs m passes)) (ih .1),
+        )
 
-  abbrev so-far : ℕ → List (On Ask)
-  so-far j = map (on side) (piece x o 22 ∷ tab j (resumed n side st x m o))
+    module _ (a : ℕ) (p : passed (takeReply n side (recordAt side st) (st .store) x m o a) ≡ true) where
+      abbrev d : Dictated
+      d = dictated side (recordAt side st) (st .store) x (lentToEach (recordAt side st) x m)
 
-  began : passed (desk n side (recordAt side st) (st .store) (piece x o 22) .answer .reply) ≡ true
-  began = take-done n side b (st .store) x m o a p .0
+      -- where the piece writes nothing to it
+      from-piece : (k : ℕ) {ys : List Float} → let e = desk n side (recordAt side st) (st .store) (piece x o 22) in
+          wrote k (piece x o 22) e ≡ [] → column k n s (leaving st side (numbersOf side (e .answer .rec)) (e .kept)) (row d) ≡ ys
+          → ys ≡ column k n s st (map (on side) (piece x o 22 ∷ map (resumeFor x m o) (d .told)))
+      unfolding ended
+      from-piece k none more =
+          let done = row-passes (take-row n side (recordAt side st) (st .store) x m o a p) in
+          sym
+          (column-more k n s (on side (piece x o 22) ∷ []) (row d) st
+          ∙ ap₂ (λ (u v : List Float). u ++ v) (one-out n s side k mine (piece x o 22) st ∙ none)
+          (ap (λ (t : State). column k n s t (row d)) (sym (begun n side st (piece x o 22) done)) ∙ more))
 
-  -- the resume of frame j
-  one-more : (k j : ℕ) → column k n s (ended desks n st (so-far j)) (on side (next j) ∷ []) ≡ wrote k (next j) (desk n side (at j .rec) (at j .store) (next j))
-  one-more k j =
-      let there = leaving st side (numbersOf side (at j .rec)) (at j .store) in
-      let own : there .numbers side ≡ numbersOf side (at j .rec) = rw (eq-eqb side side refl) in
-      ap (λ (t : State). column k n s t (on side (next j) ∷ [])) (sym (steps n side st x m o began j))
-      ∙ one-out n s side k mine (next j) there
-      ∙ ap (λ (ns : List ℕ). wrote k (next j) (desk n side (recordIn side ns) (at j .store) (next j))) own
-      ∙ ap (λ (r : Record). wrote k (next j) (desk n side r (at j .store) (next j))) (reads side (at j .rec))
+      take-outputs : d .out ≡ column 0 n s st (map (on side) (piece x o 22 ∷ map (resumeFor x m o) (d .told)))
+      take-outputs =
+          let r = take-row n side (recordAt side st) (st .store) x m o a p in
+          from-piece 0 (piece-none n side (recordAt side st) (st .store) x o (row-passes r)) (row-columns (completes (recordAt side st .waiting) (length x)) r .0)
 
-  -- what is handed out frame by frame
-  along : (k : ℕ) (f : Taking → List Float) → f (at 0) ≡ wrote k (piece x o 22) (desk n side (recordAt side st) (st .store) (piece x o 22))
-      → ((j : ℕ) → j < completes (recordAt side st .waiting) (length x) → f (at (suc j)) ≡ f (at j) ++ wrote k (next j) (desk n side (at j .rec) (at j .store) (next j)))
-      → (j : ℕ) → j ≤ completes (recordAt side st .waiting) (length x) → f (at j) ≡ column k n s st (so-far j)
-  unfolding tab
-  along k f start step zero few = start ∙ sym (one-out n s side k mine (piece x o 22) st)
-  along k f start step (suc j) few =
-      step j few
-      ∙ ap₂ (λ (u v : List Float). u ++ v) (along k f start step j (omega arith)) (sym (one-more k j))
-      ∙ sym (column-more k n s (so-far j) (on side (next j) ∷ []) st)
-      ∙ ap (column k n s st) (sym (map-more (on side) (piece x o 22 ∷ tab j (resumed n side st x m o)) (next j)))
-
-  abbrev count : ℕ
-  count = completes (recordAt side st .waiting) (length x)
-
-  take-outputs : at count .out ≡ column 0 n s st (so-far count)
-  unfolding takeFrames loop
-  take-outputs =
-      along 0 (λ t. t .out) (sym (piece-none n side b (st .store) x o began))
-      (λ j few. ap (λ (v : List Float). at j .out ++ v) (sym (resume-first n side (at j .rec) (at j .store) x o (logsOf (at j .sums)) m (take-done n side b (st .store) x m o a p .1 j few))))
-      count (omega arith)
-
-  take-answers : at count .answers ≡ column 2 n s st (so-far count)
-  unfolding takeFrames loop
-  take-answers =
-      along 2 (λ t. t .answers) (sym (piece-unheard n side b (st .store) x o began))
-      (λ j few. ap (λ (v : List Float). at j .answers ++ v) (sym (resume-heard n side (at j .rec) (at j .store) x o (logsOf (at j .sums)) m (take-done n side b (st .store) x m o a p .1 j few))))
-      count (omega arith)
+      take-answers : answersOf (d .told) ≡ column 2 n s st (map (on side) (piece x o 22 ∷ map (resumeFor x m o) (d .told)))
+      take-answers =
+          let r = take-row n side (recordAt side st) (st .store) x m o a p in
+          from-piece 2 (piece-unheard n side (recordAt side st) (st .store) x o (row-passes r)) (row-columns (completes (recordAt side st .waiting) (length x)) r .1)
 
 -- ---- one call of the surface
 
@@ -257,9 +266,9 @@ split-own P false c cs k = (k, λ e. absurd (false≢true e))
 module _ (P : Call → Type 0) (which : Call → ℕ) (k : ℕ) (asked : (a : Ask) → which (ask a) ≡ k) (n s : ℕ)
     (takes : (side : ℕ) → eqb side s ≡ true → (st : State) (x : List Float) (m : List ℕ) (o a : ℕ)
     → passed (takeReply n side (recordAt side st) (st .store) x m o a) ≡ true
-    → let t = takeEnds n side (recordAt side st) (st .store) x m o in
-    numbersIn (getD (from 0 (t .out) ∷ from 0 (t .answers) ∷ []) (which (take x m o a)) nothing)
-    ≡ column k n s st (map (on side) (piece x o 22 ∷ tab (completes (recordAt side st .waiting) (length x)) (resumed n side st x m o))))
+    → let d = dictated side (recordAt side st) (st .store) x (lentToEach (recordAt side st) x m) in
+    numbersIn (getD (from 0 (d .out) ∷ from 0 (answersOf (d .told)) ∷ []) (which (take x m o a)) nothing)
+    ≡ column k n s st (map (on side) (piece x o 22 ∷ map (resumeFor x m o) (d .told))))
     (feeds : (b : Block) (m : List ℕ) (c e a : ℕ) → P (feed b m c e a) → (number : ℕ) (ws : List Written)
     → numbersIn (getD (fedOf number ws) (which (feed b m c e a)) nothing) ≡ numbersIn (getD ws (which (take (samplesOf b) m ROOM a)) nothing)) where
   module _ (side : ℕ) (mine : eqb side s ≡ true) (st : State) where
@@ -278,9 +287,12 @@ module _ (P : Call → Type 0) (which : Call → ℕ) (k : ℕ) (asked : (a : As
         reply : Reply
         reply = takeReply n side rec (st .store) x m o a
 
+        d : Dictated
+        d = dictated side rec (st .store) x (lentToEach rec x m)
+
         go : (t : Bool) → passed reply ≡ t
-            → numbersIn (getD (cond t (takenAs reply (takeEnds n side rec (st .store) x m o)) (refusal (record { reply = reply; rec = rec }) (st .store)) .written) (which (take x m o a)) nothing)
-            ≡ column k n s st (map (on side) (cond t (piece x o 22 ∷ tab (completes (rec .waiting) (length x)) (resumed n side st x m o)) []))
+            → numbersIn (getD (cond t (placed side (st .store) (takenOn rec (get (shareOf side) (st .store)) x m)) (refusal (record { reply = reply; rec = rec }) (st .store)) .written) (which (take x m o a)) nothing)
+            ≡ column k n s st (map (on side) (cond t (piece x o 22 ∷ map (resumeFor x m o) (d .told)) []))
         go true p = takes side mine st x m o a p
         go false p = refl
 

@@ -1,31 +1,30 @@
 -- Every call of the C surface is the gate and a function of the bench's own record and share.
+--     tabled                               a call after a table of its own
 --     asking, framing, taking, feeding     each of them as such, and that it is (ask-does, frame-does, take-does, feed-does)
 --     owned                                any of them
 --     our-surface, starts-anew             what specs/Surface.antt claims
 -- Assumes nothing.
-use Rattle.rules.proofs.Common.{ℕ, _*_, _<_, Bool, true, false, cond, not, List, [], _∷_, _++_, _≡_, refl, sym, ap, _∙_, eqb, leb, length, drop, Float}
+use Rattle.rules.proofs.Common.{ℕ, Bool, true, false, cond, not, List, [], _∷_, _++_, _≡_, refl, sym, ap, _∙_, eqb, length, Float}
 use native.Mathlib.Omega.{arith}
 use mathlib.Core.Logic.{inl, inr}
 use borrow.Author.Tests.{eq-eqb, eqb-true}
 use Rattle.rules.specs.F32.{zeros}
 use Rattle.rules.specs.Place.{get, put}
 use Rattle.rules.specs.Refusals.{Row, refusing}
-use Rattle.rules.proofs.Places.{length-get, length-put, get-put, put-get, put-put}
+use Rattle.rules.proofs.Places.{length-get, put-get}
 use Rattle.rules.proofs.Refusals.{along, by-rows}
-use Rattle.samples.specs.Samples.{good}
-use Rattle.logs.specs.Log10.{logsOf}
 use Rattle.model.specs.Model.{readOf}
 use Rattle.model.specs.declared.Reading.{Reading}
 use Rattle.model.specs.declared.Reading.the-variants.{Good, Refused as Unread}
 use Rattle.frame.specs.Effect.{Effect, refusal}
-use Rattle.frame.specs.Written.{from, firstIn}
 use Rattle.frame.specs.declared.Reply.{Reply}
 use Rattle.frame.specs.declared.Reply.the-variants.{Refused}
 use Rattle.frame.specs.declared.Way.{Way}
-use Rattle.frame.specs.Frame.{counted, checked}
 use Rattle.frame.specs.Reply.{passed, _when_, firstRefusal}
 use Rattle.frame.specs.Share.{SHARE}
-use Rattle.pieces.specs.Pieces.{waitingIn, completes, pieceFits}
+use Rattle.pieces.specs.Pieces.{waitingIn}
+use Rattle.pieces.proofs.Halved.{first-length, second-length}
+use Rattle.pieces.proofs.Shares.{part-length, frame-length}
 use Rattle.desk.specs.declared.Answer.{Answer}
 use Rattle.desk.specs.declared.Record.{Record}
 use Rattle.desk.specs.Gate.{BENCHES, PIECE, gate, shareOf}
@@ -33,16 +32,13 @@ use Rattle.desk.specs.Desk.{Ask, opening, call1, call2, call2Own, call3, call4,
 use Rattle.desk.specs.Surface.{numbersOf, recordIn, besides, telling, hosted}
 use Rattle.desk.specs.Laws.{placed, AnsweredAlike}
 use Rattle.desk.proofs.Answered.{refused, givenOf}
-use Rattle.desk.proofs.Apart.{its-own, one-length, anew}
+use Rattle.desk.proofs.Apart.{its-own, anew}
 use Rattle.desk.proofs.Kept.{admitted-kept}
-use Rattle.desk.proofs.Turned.{through}
-use Rattle.dictation.specs.Dictation.{Dictated, dictatedOn}
+use Rattle.dictation.specs.Dictation.{frameOn}
 use Rattle.dictation.proofs.Joins.{share-size}
-use Rattle.whole.specs.Whole.{frameRows, frameReply, frameEnds, takeReply}
+use Rattle.whole.specs.Whole.{ourLent, replyOf, unlessRefused, frameRows, frameReply, takeRows, takeReply, lentToEach, takenOn}
 use Rattle.whole.specs.Whole as whole
 use Rattle.whole.specs.Surface.{hostedFrame, hostedTake}
-use Rattle.whole.specs.Taking.{lentToEach, answersOf}
-use Rattle.whole.proofs.Dictations.{as-dictated}
 use Rattle.feed.specs.Feed.{Block, ROOM, sizeOf, samplesOf, feedRows, fedBy}
 use Rattle.feed.specs.Feed as feeds
 use Rattle.feed.specs.Surface.{hostedFeed}
@@ -123,143 +119,109 @@ ask-does : (a : Ask) (n side : ℕ) (ns : List ℕ) (store : List Float) → hos
 unfolding hosted
 ask-does a n side ns store = desk-does a n side (recordIn side ns) store
 
--- ---- a frame
+-- ---- a call after a table of its own: the gate's row, and these on the record and the share
 
--- a call of the desk on a store into which a share was put
-again : (n side : ℕ) (store : List Float) → side < n → length store ≡ n * SHARE → (xs : List Float) → length xs ≡ SHARE → (a : Ask) (b : Record)
-    → desk n side b (put (shareOf side) store xs) a ≡ placed side store (desk 1 0 b xs a)
-again n side store h l xs k a b =
-    let o = desk 1 0 b xs a in
-    its-own n side b (put (shareOf side) store xs) a (length-put (shareOf side) store xs (omega arith) k ∙ l) h
-    ∙ ap (λ (ys : List Float). placed side (put (shareOf side) store xs) (desk 1 0 b ys a)) (get-put (shareOf side) store xs (omega arith) k)
-    ∙ ap (λ (ys : List Float). record { answer = o .answer; kept = ys; written = o .written }) (put-put (shareOf side) store xs (o .kept) (omega arith) k)
+module _ (call : ℕ) (some : call ≡ 0 → ⊥) (rows : Record → List Float → List Reply) (work : Record → List Float → Effect Answer)
+    (size : (b : Record) (share : List Float) → length share ≡ SHARE → length (work b share .kept) ≡ SHARE) where
+  abbrev tableWork : Record → List Float → Effect Answer
+  tableWork b share = let r = firstRefusal (rows b share) in cond (passed r) (work b share) (unchanged r b share)
 
-module _ (samples : List Float) (model : List ℕ) (out : ℕ) where
-  -- the rows behind the gate's
-  abbrev frameRight : Record → Reply
-  frameRight b = firstRefusal (drop 1 (frameRows 0 0 b 0 samples model out))
-
-  abbrev frameWork : Record → List Float → Effect Answer
-  frameWork b share =
-      telling (cond (passed (frameRight b)) (frameEnds 1 0 b share samples model out) (unchanged (frameRight b) b share))
-
-  frame-sized : (b : Record) (share : List Float) → length share ≡ SHARE → length (frameWork b share .kept) ≡ SHARE
-  frame-sized b share k = go (passed (frameRight b))
+  table-sized : (b : Record) (share : List Float) → length share ≡ SHARE → length (tableWork b share .kept) ≡ SHARE
+  table-sized b share k = go (passed r)
     where
-      one : Effect Answer
-      one = desk 1 0 b share (firstHalf samples 22)
+      r : Reply
+      r = firstRefusal (rows b share)
 
-      go : (t : Bool) → length (cond t (frameEnds 1 0 b share samples model out) (unchanged (frameRight b) b share) .kept) ≡ SHARE
-      go true = one-length (one .answer .rec) (one .kept) (secondHalf (logsOf (firstIn (one .written))) model out) (one-length b share (firstHalf samples 22) k)
+      go : (t : Bool) → length (cond t (work b share) (unchanged r b share) .kept) ≡ SHARE
+      go true = size b share k
       go false = k
 
-  unfoldable framing : Local
-  framing = record { call = 1; work = frameWork; sized = frame-sized; blind = λ z. absurd (omega arith) }
+  unfoldable tabled : Local
+  tabled = record { call = call; work = tableWork; sized = table-sized; blind = λ z. absurd (some z) }
 
   module _ (n side : ℕ) (b : Record) (store : List Float) where
-    abbrev frameNumber : ℕ
-    frameNumber = gate n side b (length store) 1
+    abbrev number : ℕ
+    number = gate n side b (length store) call
 
-    ends-own : side < n → length store ≡ n * SHARE
-        → frameEnds n side b store samples model out ≡ placed side store (frameEnds 1 0 b (get (shareOf side) store) samples model out)
-    ends-own h l =
-        let share = get (shareOf side) store in
-        let one = desk 1 0 b share (firstHalf samples 22) in
-        let full = length-get (shareOf side) store (omega arith) in
-        ap (λ (o : Effect Answer). desk n side (o .answer .rec) (o .kept) (secondHalf (logsOf (firstIn (o .written))) model out)) (its-own n side b store (firstHalf samples 22) l h)
-        ∙ again n side store h l (one .kept) (one-length b share (firstHalf samples 22) full) (secondHalf (logsOf (firstIn (one .written))) model out) (one .answer .rec)
-
-    frame-does : telling (whole.frame n side b store samples model out) ≡ performed n side b store framing
-    unfolding whole.frame frameReply performed framing
-    frame-does = go (eqb frameNumber 0) refl
+    table-does : unlessRefused (replyOf (gate n side b (length store) call) (rows b (get (shareOf side) store))) side b store (work b (get (shareOf side) store))
+        ≡ performed n side b store tabled
+    unfolding performed tabled
+    table-does = go (eqb number 0) (passed r) refl
       where
-        r : Reply
-        r = frameRight b
-
         share : List Float
         share = get (shareOf side) store
 
-        inner : (u : Bool) → gate n side b (length store) 1 ≡ 0
-            → telling (cond u (frameEnds n side b store samples model out) (unchanged r b store))
-            ≡ placed side store (telling (cond u (frameEnds 1 0 b share samples model out) (unchanged r b share)))
-        inner true z = let t = through n side b (length store) 1 z in ap telling (ends-own (t .0) (t .1))
-        inner false z = rw (put-get (shareOf side) store)
+        r : Reply
+        r = firstRefusal (rows b share)
 
-        go : (t : Bool) → eqb frameNumber 0 ≡ t
-            → let row = frameNumber when not t in
-            let reply = cond (passed row) r row in
-            telling (cond (passed reply) (frameEnds n side b store samples model out) (unchanged reply b store))
-            ≡ cond t (placed side store (frameWork b share)) (unchanged (Refused frameNumber) b store)
-        go true e = inner (passed r) (eqb-true frameNumber 0 e)
-        go false e = refl
+        go : (t u : Bool) → passed r ≡ u
+            → let row = number when not t in
+            unlessRefused (cond (passed row) r row) side b store (work b share)
+            ≡ cond t (placed side store (cond u (work b share) (unchanged r b share))) (unchanged (Refused number) b store)
+        go true true e = rw e
+        go true false e = rw (e, put-get (shareOf side) store)
+        go false u e = refl
+
+    -- let through
+    table-inside : gate n side b (length store) call ≡ 0 → performed n side b store tabled ≡ placed side store (tableWork b (get (shareOf side) store))
+    unfolding performed tabled
+    table-inside z = rw (eq-eqb number 0 z)
+
+-- ---- a frame
+
+module _ (samples : List Float) (model : List ℕ) (out : ℕ) where
+  abbrev frameWork : Record → List Float → Effect Answer
+  frameWork b share = telling (frameOn b share samples (ourLent model))
+
+  frame-size : (b : Record) (share : List Float) → length share ≡ SHARE → length (frameWork b share .kept) ≡ SHARE
+  frame-size b share k = frame-length share k _ (second-length _ (b .hearing) _ model 480 (first-length _ (b .hearing .way) samples 22 (part-length share k)))
+
+  framing : Local
+  framing = tabled 1 (λ z. omega arith) (λ b _. frameRows b samples model out) frameWork frame-size
+
+  -- of a refusal nothing is told besides
+  telling-in : (reply : Reply) (side : ℕ) (b : Record) (store : List Float) (o : Effect Answer)
+      → telling (unlessRefused reply side b store o) ≡ unlessRefused reply side b store (telling o)
+  telling-in reply side b store o = go (passed reply) refl
+    where
+      go : (t : Bool) → passed reply ≡ t → telling (cond t (placed side store o) (unchanged reply b store)) ≡ cond t (placed side store (telling o)) (unchanged reply b store)
+      go true e = refl
+      go false e = rw e
+
+  frame-does : (n side : ℕ) (b : Record) (store : List Float) → telling (whole.frame n side b store samples model out) ≡ performed n side b store framing
+  unfolding whole.frame frameReply framing tabled
+  frame-does n side b store =
+      telling-in (replyOf (gate n side b (length store) 1) (frameRows b samples model out)) side b store (frameOn b (get (shareOf side) store) samples (ourLent model))
+      ∙ table-does 1 (λ z. omega arith) (λ b _. frameRows b samples model out) frameWork frame-size n side b store
 
 -- ---- a take: the dictation of its samples
 
 module _ (samples : List Float) (model : List ℕ) (out answers : ℕ) where
-  -- the rows behind the gate's
-  abbrev takeRight : Record → List Float → Reply
-  takeRight b share =
-      firstRefusal
-      (5 when not (pieceFits (b .waiting) (length samples) out 22)
-      ∷ 5 when not (leb (3 * completes (b .waiting) (length samples)) answers)
-      ∷ checked (counted (b .hearing)) (readOf model)
-      ∷ 9 when not (good (waitingIn (b .waiting) share ++ samples))
-      ∷ [])
-
-  abbrev saidOn : Record → List Float → Dictated
-  saidOn b share = dictatedOn b share samples (lentToEach b samples model)
-
-  abbrev takenOn : Reply → Record → List Float → Effect Answer
-  takenOn r b share =
-      let d = saidOn b share in
-      record { answer = record { reply = r; rec = d .rec }; kept = d .kept; written = from 0 (d .out) ∷ from 0 (answersOf (d .told)) ∷ [] }
+  abbrev said-size : (b : Record) (share : List Float) → length share ≡ SHARE → length (takenOn b share samples model .kept) ≡ SHARE
+  said-size b share k = share-size b share (waitingIn (b .waiting) share ++ samples) (lentToEach b samples model) k
 
   abbrev takeWork : Record → List Float → Effect Answer
-  takeWork b share = let r = takeRight b share in cond (passed r) (takenOn r b share) (unchanged r b share)
+  takeWork = tableWork PIECE (λ z. omega arith) (λ b share. takeRows b share samples model out answers) (λ b share. takenOn b share samples model) said-size
 
   take-sized : (b : Record) (share : List Float) → length share ≡ SHARE → length (takeWork b share .kept) ≡ SHARE
-  take-sized b share k = go (passed (takeRight b share))
-    where
-      go : (t : Bool) → length (cond t (takenOn (takeRight b share) b share) (unchanged (takeRight b share) b share) .kept) ≡ SHARE
-      go true = share-size b share (waitingIn (b .waiting) share ++ samples) (lentToEach b samples model) k
-      go false = k
+  take-sized = table-sized PIECE (λ z. omega arith) (λ b share. takeRows b share samples model out answers) (λ b share. takenOn b share samples model) said-size
 
-  unfoldable taking : Local
-  taking = record { call = PIECE; work = takeWork; sized = take-sized; blind = λ z. absurd (omega arith) }
+  taking : Local
+  taking = tabled PIECE (λ z. omega arith) (λ b share. takeRows b share samples model out answers) (λ b share. takenOn b share samples model) said-size
 
   module _ (n side : ℕ) (b : Record) (store : List Float) where
-    abbrev takeNumber : ℕ
-    takeNumber = gate n side b (length store) PIECE
-
-    abbrev replies : Reply
-    replies = takeRight b (get (shareOf side) store)
-
-    reply-is : (t : Bool) → eqb takeNumber 0 ≡ t → takeReply n side b store samples model out answers ≡ cond t replies (Refused takeNumber)
-    unfolding takeReply
-    reply-is true e = rw e
-    reply-is false e = rw e
-
-    take-refused : passed (takeReply n side b store samples model out answers) ≡ false
-        → whole.take n side b store samples model out answers ≡ unchanged (takeReply n side b store samples model out answers) b store
-    unfolding whole.take
-    take-refused p = rw p
-
-    by-cases : (t u : Bool) → eqb takeNumber 0 ≡ t → passed replies ≡ u
-        → whole.take n side b store samples model out answers ≡ performed n side b store taking
-    unfolding performed taking
-    by-cases true true e p =
-        let q : passed (takeReply n side b store samples model out answers) ≡ true = rw (reply-is true e) p in
-        as-dictated n side b store samples model out answers q .1 ∙ rw (reply-is true e, e, p)
-    by-cases true false e p = take-refused (rw (reply-is true e) p) ∙ rw (reply-is true e, e, p, put-get (shareOf side) store)
-    by-cases false u e p = take-refused (rw (reply-is false e)) ∙ rw (reply-is false e, e)
-
     take-does : whole.take n side b store samples model out answers ≡ performed n side b store taking
-    take-does = by-cases (eqb takeNumber 0) (passed replies) refl refl
+    unfolding whole.take takeReply taking tabled
+    take-does =
+        table-does PIECE (λ z. omega arith) (λ b share. takeRows b share samples model out answers) (λ b share. takenOn b share samples model) said-size n side b store
 
     -- let through
-    take-inside : takeNumber ≡ 0 → whole.take n side b store samples model out answers ≡ placed side store (takeWork b (get (shareOf side) store))
-    unfolding performed taking
-    take-inside z = take-does ∙ rw (eq-eqb takeNumber 0 z)
+    take-inside : gate n side b (length store) PIECE ≡ 0
+        → whole.take n side b store samples model out answers ≡ placed side store (takeWork b (get (shareOf side) store))
+    unfolding taking tabled
+    take-inside z =
+        take-does
+        ∙ table-inside PIECE (λ z. omega arith) (λ b share. takeRows b share samples model out answers) (λ b share. takenOn b share samples model) said-size n side b store z
 
 -- ---- a feed: its take, told otherwise
 

@@ -7,7 +7,7 @@ use Rattle.frame.specs.Share.{SHARE}
 use Rattle.desk.specs.Gate.{shareOf}
 use Rattle.desk.specs.Desk.{Ask, piece, resume}
 use Rattle.dictation.specs.Dictation.{Lent, Told, dictatedOn}
-use Rattle.whole.specs.Taking.{answersOf}
+use Rattle.whole.specs.Whole.{answersOf}
 use Rattle.isolation.specs.Isolation.{own}
 use Rattle.isolation.specs.Run.{Kind, On, State, recordAt, given, after, ended, done, desks, expand}
 use Rattle.surface.specs.Surface.{Call, ask, frame, take, feed, surface, madeOf}

@@ -9,7 +9,7 @@ use Rattle.frame.specs.Share.{SHARE}
 use Rattle.frame.specs.Reply.{isHeard}
 use Rattle.desk.specs.declared.Record.{Record}
 use Rattle.desk.specs.Gate.{shareOf}
-use Rattle.whole.specs.Taking.{lentToEach, answersOf}
+use Rattle.whole.specs.Whole.{lentToEach, answersOf}
 use Rattle.dictation.specs.Dictation.{Told, Dictated, dictatedOn}
 use Rattle.isolation.specs.Run.{Returned, On, State, recordAt, ended, received, done}
 use Rattle.pcm.specs.Pcm.{packed}

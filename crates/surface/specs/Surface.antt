@@ -1,6 +1,5 @@
 -- Every call of the C surface that touches the store, by what its contract cites, and what is claimed of all of them. The proofs are in proofs/.
-use Rattle.rules.specs.Common.{ℕ, _*_, _≤_, _<_, true, false, cond, List, [], _∷_, _≡_, eqb, length, Float}
-use Rattle.rules.specs.Tab.{tab}
+use Rattle.rules.specs.Common.{ℕ, _*_, _≤_, _<_, true, false, cond, List, [], _∷_, map, _≡_, eqb, length, Float}
 use Rattle.rules.specs.Refusals.{refusing}
 use Rattle.frame.specs.Written.{firstIn}
 use Rattle.logs.specs.Log10.{logsOf}
@@ -8,13 +7,14 @@ use Rattle.frame.specs.declared.Reply.the-variants.{Refused, Misread}
 use Rattle.frame.specs.declared.Way.{Way}
 use Rattle.frame.specs.Reply.{passed}
 use Rattle.frame.specs.Share.{SHARE}
-use Rattle.pieces.specs.Pieces.{completes}
 use Rattle.desk.specs.declared.Record.{Record}
 use Rattle.desk.specs.Gate.{BENCHES, PIECE, gate}
 use Rattle.desk.specs.Desk.{Ask, opening, firstHalf, secondHalf, piece, resume}
 use Rattle.desk.specs.Surface.{replyNumber, handedBack, hosted}
+use Rattle.dictation.specs.Dictation.{Told, dictated}
 use Rattle.whole.specs.Surface.{hostedFrame, hostedTake}
-use Rattle.whole.specs.Whole.{frameReply, frameBegins, takeReply, takeFrames, takeBegins}
+use Rattle.whole.specs.Laws.{frameBegins}
+use Rattle.whole.specs.Whole.{frameReply, takeReply, lentToEach}
 use Rattle.feed.specs.Feed.{Block, ROOM, sizeOf, samplesOf, feedRows}
 use Rattle.feed.specs.Surface.{hostedFeed}
 use Rattle.isolation.specs.Run.{Kind, On, on, State, received, Made, Expands}
@@ -47,13 +47,16 @@ Anew n =
     → (calls : List (On Call))
     → received surface n s st (on s (ask (opening way model)) ∷ calls) ≡ alone surface s (ask (opening way model) ∷ own s calls)
 
--- ---- mixed sequences: a frame is its two halves, a take its piece and a resume for each frame that it completes, and a feed its take; refused, none is any
+-- ---- mixed sequences: a frame is its two halves, a take its piece and a resume with our logarithms for each frame told, and a feed its take; refused,
+-- none is any
+
+abbrev pub resumeFor : List Float → List ℕ → ℕ → Told → Ask
+resumeFor x m o told = resume x (logsOf (told .0)) m o 22
 
 abbrev pub takeMade : ℕ → ℕ → Record → List Float → List Float → List ℕ → ℕ → ℕ → List Ask
 takeMade n side rec store x m o a =
     cond (passed (takeReply n side rec store x m o a))
-    (piece x o 22 ∷ tab (completes (rec .waiting) (length x)) (λ j.
-    resume x (logsOf (takeFrames j n side x m o (takeBegins n side rec store x o) .sums)) m o 22)) []
+    (piece x o 22 ∷ map (resumeFor x m o) (dictated side rec store x (lentToEach rec x m) .told)) []
 
 abbrev pub madeOf : Made Call
 madeOf n side rec store (ask a) = a ∷ []
