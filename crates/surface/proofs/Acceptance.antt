@@ -41,11 +41,13 @@ use Rattle.pieces.specs.Pieces as pieces
 use Rattle.desk.specs.declared.Record.{Record}
 use Rattle.desk.specs.Gate.{PIECE, RESUME, inRange, isDue, gate, shareOf}
 use Rattle.desk.specs.Desk.{Ask, opening, call1, call2, call2Own, call3, call4, firstHalf, secondHalf, piece, resume, callOf, opened, admitted, onShare, desk}
+use Rattle.desk.specs.declared.Answer.{Answer}
+use Rattle.desk.specs.Laws.{placed}
 use Rattle.desk.proofs.Answered.{done-alike}
 use Rattle.desk.proofs.Ranged.{bounded}
-use Rattle.whole.specs.Whole.{frameReply, frameEnds, takeReply, takeEnds, takenAs}
+use Rattle.whole.specs.Whole.{frameReply, takeReply, takenOn}
 use Rattle.whole.specs.Whole as whole
-use Rattle.whole.proofs.Halves.{two-halves}
+use Rattle.whole.proofs.Halves.{two-halves, refused-is}
 use Rattle.surface.specs.Surface.{frame}
 use Rattle.surface.specs.Acceptance.{inOrder, mayAsk, reads, suits, asks, takeAsks, wants}
 
@@ -344,7 +346,7 @@ module _ (n side : ℕ) (rec : Record) (store : List Float) where
 
   pub frame-asks : (x : List Float) (m : List ℕ) (o : ℕ)
       → passed (whole.frame n side rec store x m o .answer .reply) ≡ (inOrder n side rec (length store) && wants rec (get (shareOf side) store) (frame x m o))
-  unfolding whole.frame frameReply
+  unfolding frameReply
   frame-asks x m o =
       go (passed (frameReply n side rec (length store) x m o)) refl
       ∙ frame-rows (gate n side rec (length store) 1) (eqb (gate n side rec (length store) 1) 0) (eqb (length x) 480) (eqb o 480)
@@ -352,24 +354,25 @@ module _ (n side : ℕ) (rec : Record) (store : List Float) where
       ∙ gated 1 (mayAsk rec 1) _ (gate-opens n side rec (length store) 1)
     where
       go : (t : Bool) → passed (frameReply n side rec (length store) x m o) ≡ t
-          → passed (cond t (frameEnds n side rec store x m o) (refusal (record { reply = frameReply n side rec (length store) x m o; rec = rec }) store) .answer .reply)
-          ≡ passed (frameReply n side rec (length store) x m o)
-      go true p = two-halves n side rec store x m o p .1 ∙ sym p
-      go false p = refl
+          → passed (whole.frame n side rec store x m o .answer .reply) ≡ passed (frameReply n side rec (length store) x m o)
+      go true p =
+          let h = two-halves n side rec store x m o p in
+          ap (λ (e : Effect Answer). passed (e .answer .reply)) (h .2) ∙ h .1 ∙ sym p
+      go false p = ap (λ (e : Effect Answer). passed (e .answer .reply)) (refused-is n side rec store x m o p)
 
   pub take-asks : (x : List Float) (m : List ℕ) (o a : ℕ)
       → passed (whole.take n side rec store x m o a .answer .reply) ≡ (inOrder n side rec (length store) && takeAsks rec (get (shareOf side) store) x m o a)
   unfolding whole.take takeReply
   take-asks x m o a =
-      go (passed (takeReply n side rec store x m o a))
+      go (passed (takeReply n side rec store x m o a)) refl
       ∙ take-rows (gate n side rec (length store) PIECE) (eqb (gate n side rec (length store) PIECE) 0) (pieceFits (rec .waiting) (length x) o 22)
       (leb (3 * completes (rec .waiting) (length x)) a) (checked (counted (rec .hearing)) (readOf m)) (suits rec m)
       (good (waitingIn (rec .waiting) (get (shareOf side) store) ++ x)) refl
       ∙ gated PIECE (mayAsk rec PIECE) _ (gate-opens n side rec (length store) PIECE)
     where
-      go : (t : Bool)
-          → passed (cond t (takenAs (takeReply n side rec store x m o a) (takeEnds n side rec store x m o))
+      go : (t : Bool) → passed (takeReply n side rec store x m o a) ≡ t
+          → passed (cond t (placed side store (takenOn rec (get (shareOf side) store) x m))
           (refusal (record { reply = takeReply n side rec store x m o a; rec = rec }) store) .answer .reply)
           ≡ passed (takeReply n side rec store x m o a)
-      go true = refl
-      go false = refl
+      go true p = sym p
+      go false p = refl

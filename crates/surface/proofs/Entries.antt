@@ -13,7 +13,7 @@ use Rattle.frame.specs.declared.Reply.the-variants.{Heard, Done, Silent, Number
 use Rattle.desk.specs.Gate.{sideOf}
 use Rattle.desk.specs.Surface.{heardOf}
 use Rattle.dictation.specs.Dictation.{Told}
-use Rattle.whole.specs.Taking.{answersOf}
+use Rattle.whole.specs.Whole.{answersOf}
 use Rattle.whole.proofs.Dictations.{answers-length}
 use Rattle.feed.specs.Feed.{entryOf}
 use Rattle.surface.specs.Cutting.{heardIn, EntriesTell}
