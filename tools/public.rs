@@ -204,7 +204,7 @@ fn calls(functions: &[Function]) -> Vec<String> {
     let promised = |function: &Function| {
         let (_, promise) = function.head.split_once("ensures { λ r. ⌜ Worked")?;
         let promise = promise.strip_prefix("Both").unwrap_or(promise).split_whitespace().collect::<Vec<_>>().join(" ");
-        let (name, given) = promise.strip_prefix("(handed (now («record» .entry)) (")?.split_once(' ')?;
+        let (name, given) = promise.strip_prefix("(handed side (now («record» .entry)) (")?.split_once(' ')?;
         let whole = given.starts_with("BENCHES side (now («record» .entry)) (now (store .entry)) ");
         let left = promise.contains(" (r, now («record» .exit)) (now (store .exit)) ");
         (whole && left && served.contains(name)).then_some(())

@@ -111,7 +111,10 @@ fn misquoted(rows: &[Refusal]) -> Vec<String> {
         // the words of 7 are on the line after its number
         let alone = row.number == 7
             && sources.iter().any(|path| path.ends_with("refusal.rs") && read(path).contains(&row.words));
-        if !alone && !all.iter().any(said) {
+        // or the number and the words are given to a function side by side
+        let beside = format!("({}, \"{}\")", row.number, row.words);
+        let beside = sources.iter().any(|path| read(path).contains(&beside));
+        if !alone && !beside && !all.iter().any(said) {
             found.push(format!(
                 "{PAGE}: the box does not say “{}” of {}; see refusal.rs in host/src",
                 row.words, row.number

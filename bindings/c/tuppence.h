@@ -72,6 +72,10 @@ extern "C" {
 #define TUPPENCE_RECORDING_RECORDS 64
 #define TUPPENCE_RECORDING_TRAILER 65
 #define TUPPENCE_RECORDING_LONGER 66
+#define TUPPENCE_NULL 101
+#define TUPPENCE_MISALIGNED 102
+#define TUPPENCE_TOO_LONG 103
+#define TUPPENCE_OVERLAP 104
 
 
 /* ---- bands: correlation and gain in bands, the cosine transform and the window. 5 is a wrong length. */

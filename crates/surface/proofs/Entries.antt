@@ -16,7 +16,7 @@ use Rattle.dictation.specs.Dictation.{Told}
 use Rattle.whole.specs.Whole.{answersOf}
 use Rattle.whole.proofs.Dictations.{answers-length}
 use Rattle.feed.specs.Feed.{entryOf}
-use Rattle.surface.specs.Cutting.{heardIn, EntriesTell}
+use Rattle.surface.specs.Cutting.{framesHeardIn, EntriesTell}
 
 -- three answers of a reply, the first of which is 0 unless the frame was heard
 three : (r : Reply) → length (heardOf r) ≡ 3
@@ -45,7 +45,7 @@ flag (Refused n) = refl
 flag (Misread n l) = refl
 
 flag-at : (told : List Told) (j : ℕ) → j < length told
-    → marked (at (answersOf told) (3 * j)) ≡ mark (getD (heardIn told) j false)
+    → marked (at (answersOf told) (3 * j)) ≡ mark (getD (framesHeardIn told) j false)
 flag-at [] j h = absurd (omega arith)
 flag-at (f ∷ fs) zero h =
     ap marked (List·getD-append (heardOf (f .1)) (answersOf fs) nan 0 (omega (arith, three (f .1)))) ∙ flag (f .1)

@@ -92,13 +92,13 @@ BytesInARow =
     → hasOf n s st calls ≡ hasSaid (recordAt s st) (get (shareOf s) (st .store)) (samplesOf (blockOf bytes format channels channel)) model
 
 -- and entry j of a dictation is the frame's number, counted on from the bench's own, with 2^32 more exactly if the frame's reply says that it was heard
-abbrev pub heardIn : List Told → List Bool
-heardIn told = map (λ (f : Told). isHeard (f .1)) told
+abbrev pub framesHeardIn : List Told → List Bool
+framesHeardIn told = map (λ (f : Told). isHeard (f .1)) told
 
 abbrev pub EntriesTell : Type 0
 EntriesTell =
     (frame : ℕ) (told : List Told) (j : ℕ) → j < length told
-    → getD (entriesOf frame (answersOf told)) j 0 ≡ (frame + j) % 4294967296 + cond (getD (heardIn told) j false) 4294967296 0
+    → getD (entriesOf frame (answersOf told)) j 0 ≡ (frame + j) % 4294967296 + cond (getD (framesHeardIn told) j false) 4294967296 0
 
 -- so two runs in which a bench begins with the same record and share, and is fed streams with the same samples in its channel, each cut in its own way, give it
 -- the same
