@@ -193,7 +193,8 @@ fn interleaved(tally: &mut Tally, rng: &mut Rng, feed: Feed, frames: u64) -> Met
             _ => Case::opened(rng, side as u32, store, shape),
         };
         let channels = 1 + rng.below(8) as u32;
-        let layout = Layout { format: rng.pick(&[16, 24, 32, 33]), channels, channel: rng.below(channels as usize) as u32 };
+        let layout =
+            Layout { format: rng.pick(&[16, 24, 32, 33]), channels, channel: rng.below(channels as usize) as u32 };
         let samples = match rng.below(4) {
             0 => 1 + rng.below(LONGEST),
             1 => rng.pick(&[1, 479, 480, 481, LONGEST]),
@@ -423,7 +424,8 @@ fn cut_in_two_ways(tally: &mut Tally, rng: &mut Rng, feed: Feed, times: u64) {
     for _ in 0..times {
         let bench = Case::opened(rng, SIDE, store.clone(), SHAPE);
         let channels = 1 + rng.below(8) as u32;
-        let layout = Layout { format: rng.pick(&[16, 24, 32, 33]), channels, channel: rng.below(channels as usize) as u32 };
+        let layout =
+            Layout { format: rng.pick(&[16, 24, 32, 33]), channels, channel: rng.below(channels as usize) as u32 };
         let samples = 1 + rng.below(6_000);
         let stream = recorded(rng, layout, samples);
         if desk::broken(&plain::unpack(&stream, layout).expect("they are whole samples")) {
