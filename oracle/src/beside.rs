@@ -228,7 +228,7 @@ impl Damage {
             46 => Damage::Store(share + FINDER_MEM.start, vec![rng.float(), rng.float()]),
             47..=58 => Damage::Record(vec![(WAY, rng.pick(&[2, 3, u32::MAX]))]),
             // a closed side has no way
-            59..=62 => Damage::Record((0..WAY).map(|at| (at, 0)).chain([(WAY, 1)]).collect()),
+            59..=62 => Damage::Record((0..RECORD).map(|at| (at, u32::from(at == WAY))).collect()),
             63..=74 => Damage::Record(vec![(BENCH, another_bench(rng, side))]),
             // a closed side's record belongs to no bench
             75..=77 => Damage::Record((0..BENCH).map(|at| (at, 0)).chain([(BENCH, side as u32 + 1)]).collect()),
