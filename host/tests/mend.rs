@@ -50,7 +50,8 @@ fn what_is_kept() {
         closed(torn, &[], all, &right);
     }
     // what stands behind the sheet is no part of it, and neither is a chunk's length that was not written yet
-    closed(&[&right[..], &sealed(0, &noise(480, 2))].concat(), &[], all, &right);
+    let first = format!("{} Another recording follows in the file: this is the first one.\n", all.trim_end());
+    closed(&[&right[..], &sealed(0, &noise(480, 2))].concat(), &[], &first, &right);
     let mut changed = right.clone();
     changed[records - 25] ^= 1;
     closed(&changed, &[], all, &right);

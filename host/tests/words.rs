@@ -97,7 +97,11 @@ fn errors_name_what_is_wrong() {
         (of(&["--out", "out", "--out", "other"]), 2, "clean: --out stands there twice"),
         (of(&["--out", "out", "--force=yes"]), 2, "clean: --force takes nothing; yes follows it"),
         (of(&["--out", "out", "l.wav"]), 2, "clean: l.wav is one recording too many"),
-        (of(&["--out", "out", "--raw"]), 2, "clean: --raw is for a stream, and - is missing"),
+        (
+            of(&["--out", "out", "--raw"]),
+            2,
+            "clean: --raw is for standard input: add -, or --left - or --right - for one bench",
+        ),
         (of(&["--out", "out", "--both", "l.wav"]), 2, "clean: --both stands for both benches"),
         (of(&["--out", "out", "--name", "a/b"]), 2, "clean: --name a/b: a short name without /"),
         (vec!["clean", "--out", "out"], 2, "clean: no recording is named"),

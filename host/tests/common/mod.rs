@@ -28,7 +28,8 @@ pub fn folder(name: &str) -> PathBuf {
     path
 }
 
-/// The program, to be run in the folder. A lost line ends it, though the tests themselves may run behind `nohup`.
+/// The program, to be run in the folder. Signals end it, though the tests themselves may run behind `nohup`
+/// or in the background, where a shell has them ignored.
 pub fn host(path: &Path, words: &[&str]) -> Command {
     extern "C" {
         fn signal(number: i32, handler: usize) -> usize;
@@ -38,7 +39,9 @@ pub fn host(path: &Path, words: &[&str]) -> Command {
     // SAFETY: `signal` may be called between fork and exec, and the default, 0, needs no handler
     unsafe {
         command.pre_exec(|| {
-            signal(HUP, 0);
+            for number in [HUP, INT, TERM] {
+                signal(number, 0);
+            }
             Ok(())
         })
     };
