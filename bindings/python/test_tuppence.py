@@ -93,5 +93,49 @@ class Benches(unittest.TestCase):
         self.assertEqual(refused.exception.number % 256, 7)
 
 
+class Sides(unittest.TestCase):
+    """Recordings that the library itself writes, and damaged ones."""
+
+    def setUp(self):
+        self.folder = tempfile.TemporaryDirectory()
+        self.addCleanup(self.folder.cleanup)
+        self.path = pathlib.Path(self.folder.name) / "recording.wav"
+
+    def side_of(self, file):
+        self.path.write_bytes(file)
+        return tuppence.side(self.path)
+
+    def test_each_side_is_reported(self):
+        audio = array.array("h", sound(0.02)).tobytes()
+        for number, name in enumerate(("left", "right")):
+            self.assertEqual(self.side_of(tuppence._recording(audio, number, [1, 0, 1])), name)
+
+    def test_no_damaged_file_is_reported(self):
+        file = tuppence._recording(array.array("h", [7] * 100).tobytes(), 1, [1, 1])
+        self.assertEqual(self.side_of(file), "right")
+        damaged = [file[:at] + bytes([file[at] ^ 1 << bit]) + file[at + 1 :] for at in range(len(file)) for bit in range(8)]
+        told = [file for file in damaged if self.is_told(file)]
+        self.assertEqual(told, [])
+        for cut in list(range(0, len(file), 7)) + [len(file) - 1]:
+            self.assertFalse(self.is_told(file[:cut]), cut)
+        self.assertFalse(self.is_told(file + b"x"))
+
+    def is_told(self, file):
+        try:
+            self.side_of(file)
+            return True
+        except tuppence.NotSealed:
+            return False
+
+    def test_the_box_and_python_agree(self):
+        if not BOX.exists():
+            self.skipTest("the box is not built")
+        with tempfile.TemporaryDirectory() as folder:
+            subprocess.run([BOX, "demo", folder + "/out"], check=True, stdout=subprocess.DEVNULL)
+            self.assertEqual(tuppence.side(folder + "/out/left.wav"), "left")
+            self.assertEqual(tuppence.side(folder + "/out/right.wav"), "right")
+            self.assertRaises(tuppence.NotSealed, tuppence.side, folder + "/out/left-before.wav")
+
+
 if __name__ == "__main__":
     unittest.main()

@@ -26,7 +26,7 @@ pub mod recording;
 pub mod sys;
 pub mod telling;
 
-/// Samples of a frame.
-pub const FRAME: usize = 480;
+pub use tuppence::FRAME;
+
 /// Samples of a second.
 pub const RATE: u32 = 48_000;

@@ -85,7 +85,8 @@ fn samples_that_are_written() {
 
 /// A bench by itself, taken in frames: its audio, and the entries of its sheet.
 fn alone(samples: &[f32]) -> (Vec<u8>, Vec<u64>) {
-    let (mut store, mut record, mut audio, mut entries) = (vec![0.0; 98_304], [0; 12], vec![], vec![]);
+    let (mut store, mut record, mut audio, mut entries) =
+        (vec![0.0; tuppence::STORE], [0; tuppence::RECORD], vec![], vec![]);
     assert_eq!(tuppence::open_crate(&mut record, &mut store, 0, HOUSE), 0);
     let silence = vec![0.0; FRAME * (samples.len().div_ceil(FRAME) + 1) - samples.len()];
     for (number, frame) in (0..).zip([samples, &silence].concat().chunks_exact(FRAME)) {

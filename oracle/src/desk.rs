@@ -16,10 +16,8 @@ use nnnoiseless_text::probe::{bands, features, rnn};
 use nnnoiseless_text::{DenoiseFeatures, RnnModel};
 use std::ops::Range;
 
-/// How many benches there are, the store's length, and a side's share of it.
-pub const BENCHES: usize = 16;
-pub const STORE: usize = BENCHES * SHARE;
-pub const SHARE: usize = 6144;
+pub use tuppence::place::{BENCH, COUNTS, DUE, FRAMES, HEARD, INDEX, PROGRESS, UNFINISHED, WAITING, WAY};
+pub use tuppence::{BENCHES, RECORD, SHARE, STORE};
 
 // A share, place by place.
 pub const INPUT_MEM: Range<usize> = 0..1728;
@@ -33,20 +31,6 @@ pub const CEPSTRAL_MEM: Range<usize> = 3216..3392;
 pub const STATES: [usize; 3] = [3392, 3520, 3648];
 pub const FINDER_MEM: Range<usize> = 3776..3778;
 pub const WAIT: Range<usize> = 3778..4257;
-
-// A record: due call, cepstral index, the three GRU counts, frames and heard frames; how many samples wait, the length of an
-// unfinished piece, and how many of its samples are in frames; the way; and the bench, from 1, or 0 in a closed record.
-pub const DUE: usize = 0;
-pub const INDEX: usize = 1;
-pub const COUNTS: Range<usize> = 2..5;
-pub const FRAMES: usize = 5;
-pub const HEARD: usize = 6;
-pub const WAITING: usize = 7;
-pub const UNFINISHED: usize = 8;
-pub const PROGRESS: usize = 9;
-pub const WAY: usize = 10;
-pub const BENCH: usize = 11;
-pub const RECORD: usize = 12;
 
 /// A bench's way, which its opening settles: our own lag and the plain sums, or the text's finder and the fast transforms.
 #[derive(Clone, Copy, Default, PartialEq)]

@@ -5,11 +5,11 @@ use crate::transform::{Transform, SPECTRUM, WINDOW};
 use nnnoiseless_text::probe::pitch::PitchFinder;
 use std::hint::black_box;
 use std::time::{Duration, Instant};
+use tuppence::SHARE;
 use tuppencehop::cleaning::recorder::{Frame, Heard, Side, Way, FRAMES, HEARD, RECORD, STORE};
 use tuppencehop::telling::refusal::{done, Refusal};
 
-/// A side's share of the store, whose first numbers are `input_mem`: what the lag is searched in.
-const SHARE: usize = 6_144;
+/// The first numbers of a share are `input_mem`, in which the lag is searched.
 const INPUT_MEM: usize = 1_728;
 
 /// Where a frame's time goes.

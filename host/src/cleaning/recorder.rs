@@ -5,15 +5,11 @@ use crate::telling::refusal::{done, Refusal};
 use crate::FRAME;
 use std::time::{Duration, Instant};
 
-/// The store's published length, and a record's (docs/STORE.md).
-pub const STORE: usize = 98_304;
-pub const RECORD: usize = 12;
-/// Where in a record the two numbers stand that count frames.
-pub const FRAMES: usize = 5;
-pub const HEARD: usize = 6;
-/// The most samples of a block, and the most frames that it may complete: 479 may wait.
-pub const PIECE: usize = 4_096;
-const COMPLETED: usize = (479 + PIECE) / FRAME;
+pub use tuppence::place::{FRAMES, HEARD};
+pub use tuppence::{PIECE, RECORD, STORE};
+
+/// The most frames that a block may complete.
+const COMPLETED: usize = tuppence::FRAMES;
 /// The bytes of a frame that was cleaned.
 const CLEANED: usize = 2 * FRAME;
 
