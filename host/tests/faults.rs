@@ -217,7 +217,7 @@ fn raw_that_is_none() {
         (&mp3, "an MP3 file"),
     ];
     for (bytes, form) in files {
-        let ended = fed(clean(&path, &["-", "--raw", "--out", "out"]), bytes);
+        let ended = fed(clean(&path, &["-", "--raw", "-q", "--out", "out"]), bytes);
         assert_eq!(ended.status, Some(2));
         assert_eq!(ended.why, format!("box: standard input: this is {form}, and not samples alone as --raw says\n"));
         assert!(!path.join("out").exists());

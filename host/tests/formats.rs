@@ -194,7 +194,7 @@ fn a_stream() {
     let (path, sounds) = (folder("formats-stream"), both(EVEN));
     same("a stream", |lag| [Pcm16, Pcm24, Float].map(|format| streamed(&path, lag, format, false, &sounds)), ONE);
     for (lag, [kept, ..]) in LAGS.into_iter().zip(ONE) {
-        let words = [&["-", "--raw", "--out", "out"], lag].concat();
+        let words = [&["-", "--raw", "-q", "--out", "out"], lag].concat();
         let raw = fed(clean(&path, &words), &Pcm16.stereo(&sounds));
         assert_eq!(after(&path, raw, 0, ""), kept);
     }

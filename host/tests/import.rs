@@ -447,8 +447,8 @@ fn names_model(line: &[u8]) -> bool {
 #[test]
 fn each_form_is_taken_as_a_model() {
     let path = folder("taken");
-    for name in ["L.wav", "R.wav"] {
-        fs::write(path.join(name), wav::write(48_000, &dictation(0).noisy[..48_000])).unwrap();
+    for (bench, name) in ["L.wav", "R.wav"].into_iter().enumerate() {
+        fs::write(path.join(name), wav::write(48_000, &dictation(bench).noisy[..48_000])).unwrap();
     }
     let forms = ["house.rnn", "house.rnnn", "rnn_data.c"];
     for form in forms {

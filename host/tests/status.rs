@@ -49,7 +49,7 @@ fn of_stream(name: &str, meanwhile: impl FnOnce(&Path, &std::process::Child)) ->
 
 fn of_file_that_is_stopped() -> i32 {
     let path = given("stopped");
-    fs::write(path.join("r.wav"), wav::write(48_000, &vec![5.0; 120 * 48_000])).unwrap();
+    fs::write(path.join("r.wav"), wav::write(48_000, &vec![4.0; 120 * 48_000])).unwrap();
     let mut child = host(&path, &[&TWO[..], &["r.wav", "-q", "--out", "out"]].concat()).spawn().unwrap();
     soon("nothing is written", || size(&path.join("out/right.wav.part")) > 20_000);
     signal(&child, INT);

@@ -18,7 +18,7 @@ fn folder(name: &str) -> PathBuf {
 
 fn clean(path: &Path, words: &[&str]) -> Child {
     let mut command = Command::new(env!("CARGO_BIN_EXE_tuppencehop"));
-    command.arg("clean").args(words).args(["--model", "house.rnn"]).current_dir(path);
+    command.arg("clean").args(words).args(["-q", "--csv", "--model", "house.rnn"]).current_dir(path);
     command.stdin(Stdio::piped()).stdout(Stdio::piped()).stderr(Stdio::piped()).spawn().unwrap()
 }
 
@@ -120,7 +120,7 @@ fn peak(child: &Child) -> Option<u64> {
 /// The most memory that so many seconds of noise take.
 #[cfg(target_os = "linux")]
 fn peak_of(path: &Path, seconds: usize) -> u64 {
-    let mut child = clean(path, &["-", "--raw", "-q", "--out", "out"]);
+    let mut child = clean(path, &["-", "--raw", "--out", "out"]);
     let (mut to, mut rng) = (child.stdin.take().unwrap(), Rng(5));
     for _ in 0..seconds {
         let bytes: Vec<u8> = (0..2 * 48_000).flat_map(|_| ((1_000.0 * rng.number()) as i16).to_le_bytes()).collect();

@@ -89,7 +89,7 @@ fn a_file_system_without_locks() {
     let ended = run(failing(clean(&path, &TWO), "flock"));
     assert_eq!(ended.status, Some(0), "{}", ended.why);
     assert!(ended.why.starts_with("out: no second run would be noticed here: "), "{}", ended.why);
-    assert_eq!(names(&path.join("out")), WRITTEN);
+    assert_eq!(names(&path.join("out")), WITH_TABLE);
     // where there are locks nothing is said
     assert_eq!(run(clean(&path, &[&TWO[..4], &["--out", "other"]].concat())).why, "");
 }
@@ -100,7 +100,7 @@ fn a_file_system_without_renameat2() {
     let path = given("rename");
     let done = run(failing(clean(&path, &TWO), "renameat2"));
     assert_eq!((done.status, &*done.why), (Some(0), ""));
-    assert_eq!(names(&path.join("out")), WRITTEN);
+    assert_eq!(names(&path.join("out")), WITH_TABLE);
     // what comes to stand there meanwhile stays
     let mut command = failing(clean(&path, &["-", "--raw", "-q", "--out", "new"]), "renameat2");
     let mut child = command.stdin(Stdio::piped()).spawn().unwrap();

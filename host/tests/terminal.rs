@@ -87,9 +87,11 @@ fn a_stream() {
     drop(to);
     assert_eq!(child.wait().unwrap().code(), Some(0));
     soon("the line stays", || terminal.text().ends_with('\r'));
+    // first it says how it reads samples without a header
     let text = terminal.text();
+    let text = text.split_once("\r\n").unwrap().1;
     assert!(!text.contains('\n') && !text.contains("remaining"), "{text:?}");
-    assert!(times(&text).is_sorted(), "{text:?}");
+    assert!(times(text).is_sorted(), "{text:?}");
     let last = text.trim_end_matches('\r').rsplit('\r').next().unwrap();
     assert!(!last.is_empty() && last.chars().all(|letter| letter == ' '), "{text:?}");
 }

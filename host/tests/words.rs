@@ -81,6 +81,7 @@ fn help_for_the_whole_and_for_each() {
 #[test]
 fn errors_name_what_is_wrong() {
     let path = given("errors");
+    fs::copy(path.join("l.wav"), path.join("n.wav")).unwrap();
     let before = names(&path);
     let two = ["clean", "--left", "l.wav", "--right", "r.wav"];
     let of = |more: &[&'static str]| [&two[..], more].concat();
@@ -105,7 +106,11 @@ fn errors_name_what_is_wrong() {
         (of(&["--out", "out", "--both", "l.wav"]), 2, "clean: --both stands for both benches"),
         (of(&["--out", "out", "--name", "a/b"]), 2, "clean: --name a/b: a short name without /"),
         (vec!["clean", "--out", "out"], 2, "clean: no recording is named"),
-        (vec!["clean", "l.wav", "--out", "out"], 2, "clean: l.wav: its name says neither left nor right; --side left"),
+        (
+            vec!["clean", "n.wav", "--out", "out"],
+            2,
+            "clean: n.wav: its name says neither left nor right; add --side left",
+        ),
         (vec!["claen"], 2, "unknown command claen; did you mean clean?"),
         (vec!["dev", "bench"], 2, "dev is a program of its own, tuppencehop-dev; ./box dev runs it"),
         (vec!["help", "dev"], 2, "dev is a program of its own"),

@@ -157,7 +157,7 @@ pub const GROUPS: &[Group] = &[
 
 /// The groups that there have to be. A group can be lost with a feature or a line, and a comparison that lacks one
 /// shows less than it seems to: so they are listed a second time, here.
-pub const EXPECTED: [&str; 20] = [
+pub const EXPECTED: [&str; 21] = [
     "numbers",
     "bands",
     "pitch",
@@ -171,6 +171,7 @@ pub const EXPECTED: [&str; 20] = [
     "writer",
     "mend",
     "wav",
+    "recording",
     "pcm",
     "network",
     "frame",

@@ -84,7 +84,7 @@ impl fmt::Display for Fault {
             Fault::Format { tag, bits } => {
                 write!(
                     f,
-                    "it has {}; the box reads 16-bit and 24-bit integers and 32-bit floats",
+                    "it has {}; the box reads integers of 16, 24 and 32 bits and 32-bit floats",
                     format_in_words(*tag, *bits)
                 )
             }
@@ -530,7 +530,8 @@ mod tests {
     #[test]
     fn a_sample_that_is_not_finite_is_named() {
         assert_eq!(read(&floats(1, &[0.5, -1.0])).unwrap().channels, [[16_384.0, -32_768.0]]);
-        for broken in [f32::NAN, f32::INFINITY, f32::NEG_INFINITY, f32::MAX] {
+        assert_eq!(read(&floats(1, &[f32::MAX, f32::MIN])).unwrap().channels, [[32_767.0, -32_768.0]]);
+        for broken in [f32::NAN, f32::INFINITY, f32::NEG_INFINITY] {
             let fault = Fault::NotFinite { channel: 1, sample: 2 };
             assert_eq!(read(&floats(2, &[0.0, 0.1, 0.2, 0.3, 0.4, broken, 0.6, broken])), Err(fault));
         }
