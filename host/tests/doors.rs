@@ -241,7 +241,8 @@ fn files_of_other_kinds() {
     let sox = |file: &str| format!("`sox {file} -r 48000 -b 24 NEW.wav` makes a file that the box reads");
     let ffmpeg =
         |file: &str| format!("`ffmpeg -i {file} -ar 48000 -c:a pcm_s24le NEW.wav` makes a file that the box reads");
-    let kinds: [(&str, &[u8], &str, Option<&dyn Fn(&str) -> String>); 11] = [
+    type Hint<'a> = Option<&'a dyn Fn(&str) -> String>;
+    let kinds: [(&str, &[u8], &str, Hint); 11] = [
         ("x.flac", b"fLaC\0\0\0\x22\x10\0\x10\0", "a FLAC file", Some(&sox)),
         ("x.ogg", b"OggS\0\x02\0\0\0\0\0\0", "an Ogg file", Some(&ffmpeg)),
         ("x y.mp3", b"ID3\x04\0\0\0\0\0\x23TSSE", "an MP3 file", Some(&ffmpeg)),

@@ -60,7 +60,7 @@ impl Terminal {
 
 /// The times that the lines of a stream tell, in seconds. A line that has not come whole is left out.
 fn times(text: &str) -> Vec<u64> {
-    let clocks = text.split('\r').filter_map(|line| Some(line.split_once("  left ")?.0.split_once(':')?));
+    let clocks = text.split('\r').filter_map(|line| line.split_once("  left ")?.0.split_once(':'));
     clocks.map(|(minutes, seconds)| 60 * minutes.parse::<u64>().unwrap() + seconds.parse::<u64>().unwrap()).collect()
 }
 

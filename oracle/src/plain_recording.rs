@@ -31,7 +31,7 @@ pub fn frames(first: u32, size: u32) -> u64 {
 
 /// Whether a recording can have so many bytes of audio.
 pub fn is_size(size: u32) -> bool {
-    size > 0 && size % 2 == 0 && size <= MOST
+    size > 0 && size.is_multiple_of(2) && size <= MOST
 }
 
 fn letters(side: u8) -> &'static [u8; 4] {

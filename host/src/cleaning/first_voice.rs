@@ -65,7 +65,7 @@ mod tests {
     #[test]
     fn while_the_network_settles() {
         assert_eq!(begins(|frame| frame < 30), None);
-        assert_eq!(begins(|frame| frame < 30 || frame >= 50), Some(50));
+        assert_eq!(begins(|frame| !(30..50).contains(&frame)), Some(50));
         assert_eq!(begins(|frame| frame >= 10), Some(0));
         assert_eq!(begins(|frame| frame >= 31), Some(31));
     }

@@ -112,7 +112,7 @@ fn explained(file: &mut File, path: &Path, quick: bool) -> Option<Error> {
 /// The sheet of a sealed recording whose name says no other side.
 pub fn sheet_of(path: &Path, quick: bool) -> Result<Sheet> {
     let mut file = open_to_go_back(path)?;
-    let sheet = sealed(&mut file, quick).or_else(|why| Err(explained(&mut file, path, quick).unwrap_or(why)))?;
+    let sheet = sealed(&mut file, quick).map_err(|why| explained(&mut file, path, quick).unwrap_or(why))?;
     match means_another(path, sheet.side) {
         Some(whose) => Err(Error::Misnamed(format!("the {whose} says another side: {sheet}").into())),
         None => Ok(sheet),

@@ -174,7 +174,7 @@ fn voice(rng: &mut Rng, is_made: bool) -> Vec<f64> {
 /// 0.5 to 4 if none are given.
 pub fn recording(seed: u64, lead: Option<f64>) -> Spoken {
     let mut rng = seeded(seed);
-    let voice = voice(&mut rng, seed % 2 == 0);
+    let voice = voice(&mut rng, seed.is_multiple_of(2));
     let lead = (lead.unwrap_or(between(&mut rng, 0.5, 4.0)) * RATE) as usize;
     let below = between(&mut rng, 5.0, 20.0);
     let noise = noise(&mut rng, seed as usize / 2 % 4, lead + voice.len() + 48_000);
