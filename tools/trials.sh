@@ -140,7 +140,7 @@ long_line() {
 # log EDIT ERROR: the first error of an edit's check.
 log() {
     mkdir -p "target/must-fail/checksum/$1"
-    printf '%s\n' "/work/target/must-fail/checksum/$1/$2" >"target/must-fail/checksum/$1/.log"
+    printf '%s\n' "/elsewhere/target/must-fail/checksum/$1/$2" >"target/must-fail/checksum/$1/.log"
 }
 # edit FILE ERROR: an edit that changes this file.
 edit() {
