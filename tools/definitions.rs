@@ -2,8 +2,9 @@
 // contract of a `pub fn` or from a claim; `definitions unstated` lists the laws that a page of docs/ names and that are no claims; `definitions twice`
 // lists the names that are defined in two files. tools/definitions.sh compiles it.
 //
-// A reader's file is any of specs/ but Parts.antt, which is for the code's private functions, and Lib.antt. A claim is a law in proofs/ that
-// docs/PROMISES.md names in backticks and whose statement is a definition of specs/. Names are followed through the `use` lines; a variable of the same
+// A reader's file is any of specs/ but Parts.antt, which is for the code's private functions, and Lib.antt. A claim is a
+// public law in proofs/ that docs/PROMISES.md names in backticks and whose type is a statement of specs/ itself: no
+// premise comes before it, and it is in no module with parameters. Names are followed through the `use` lines; a variable of the same
 // name counts as a citation, so the list may be too short by such a name, and is never too long. Which names may stand twice, and why, is said in
 // tools/definitions.txt.
 
@@ -18,6 +19,8 @@ type Name = (String, String, String);
 struct Block {
     name: String,
     public: bool,
+    /// Whether it is in a module with parameters: these are arguments of it, and may be premises.
+    under_parameters: bool,
     cases: Vec<String>,
     words: BTreeSet<String>,
     of_type: String,
@@ -71,6 +74,7 @@ fn read(path: &Path, comment: &str) -> Source {
         while path.contains('{') && !path.contains('}') {
             path.push_str(lines.next().expect("a use that ends"));
         }
+        assert!(!path.contains(" as ℕ"), "ℕ is the natural numbers: bring {path} under another name");
         note(&path, &mut uses);
         if mark == "pub " {
             note(&path, &mut handed);
@@ -104,20 +108,25 @@ fn defined(line: &str) -> Option<&str> {
 fn blocks(text: &str) -> Vec<Block> {
     let mut blocks: Vec<Block> = Vec::new();
     // what stands in a module, and in a module in it, is indented, as are the fields of a record and the cases of a data type
-    let (mut modules, mut in_type, mut in_data) = (0, true, false);
+    let (mut modules, mut in_type, mut in_data) = (Vec::new(), true, false);
     for line in text.lines().filter(|line| !line.is_empty()) {
         let indent = line.len() - line.trim_start().len();
-        modules = modules.min(indent / 2);
-        let line = &line[2 * modules..];
-        modules += usize::from(line.starts_with("module "));
+        modules.truncate(indent / 2);
+        let line = &line[2 * modules.len()..];
+        let under_parameters = modules.contains(&true);
+        if line.starts_with("module ") {
+            modules.push(line.contains(['(', '{']));
+        }
         if ["unfolding ", "infix", "module ", "pub mod "].iter().any(|word| line.starts_with(word)) {
             continue;
         }
         let begun = (!line.starts_with(' ')).then(|| defined(line)).flatten();
         if let Some(name) = begun {
             let name = name.to_string();
+            assert!(name != "ℕ", "ℕ is the natural numbers: give {line:?} another name");
             let public = line.split(' ').any(|word| word == "pub");
-            blocks.push(Block { name, public, cases: Vec::new(), words: BTreeSet::new(), of_type: String::new() });
+            let (cases, words, of_type) = (Vec::new(), BTreeSet::new(), String::new());
+            blocks.push(Block { name, public, under_parameters, cases, words, of_type });
             (in_type, in_data) = (true, line.starts_with("pub data "));
         }
         let Some(block) = blocks.last_mut() else { continue };
@@ -217,26 +226,29 @@ fn specs(crates: &[PathBuf]) -> Specs {
     specs
 }
 
-/// What is said behind the arguments `(a b : A) {c : C} →` of a type.
-fn behind_arguments(of_type: &str) -> &str {
-    let mut rest = of_type.trim_start();
+/// What a type says after `(n m : ℕ) →` and `{A : Type 0} →`. Numbers and types exist, so these are no premises.
+/// Any other argument may be one, even one that nothing meets, and stays.
+fn after_numbers_and_types(of_type: &str) -> &str {
+    let mut rest = of_type.trim();
     while rest.starts_with(['(', '{']) {
-        let mut open = 0;
-        let end = rest.find(|c| {
-            open += i32::from("({".contains(c)) - i32::from(")}".contains(c));
-            open == 0
-        });
-        rest = rest[end.map_or(rest.len(), |end| end + 1)..].trim_start();
-        rest = rest.strip_prefix('→').unwrap_or(rest).trim_start();
+        let Some((argument, more)) = rest[1..].split_once([')', '}']) else { break };
+        let Some((_, of)) = argument.split_once(" : ") else { break };
+        let Some(more) = more.trim_start().strip_prefix('→') else { break };
+        if !["ℕ", "Type 0"].contains(&of.trim()) {
+            break;
+        }
+        rest = more.trim_start();
     }
     rest
 }
 
-/// Whether a law says no more than the name of a definition of specs/, and what it is of.
+/// Whether the type of a law is a statement of specs/ itself: the name of a definition and what it is of. Nothing may be
+/// assumed before it, neither by an argument of the law nor by a parameter of its module.
 fn is_claim(law: &Block, source: &Source) -> bool {
-    let says = behind_arguments(&law.of_type);
-    let named = words(says).next().filter(|word| word.starts_with(char::is_uppercase)).and_then(|word| source.uses.get(word));
-    named.is_some() && !says.contains(['→', '≡', '×'])
+    let says = after_numbers_and_types(&law.of_type);
+    let named = words(says).next().filter(|word| says.starts_with(word) && word.starts_with(char::is_uppercase));
+    let stated = named.is_some_and(|word| source.uses.contains_key(word));
+    stated && !law.under_parameters && !says.contains(['→', '≡', '×', ':'])
 }
 
 fn in_backticks(text: &str) -> BTreeSet<&str> {
@@ -269,6 +281,41 @@ fn unstated(crates: &[PathBuf]) -> Vec<String> {
     found
 }
 
+/// What an item of a page says after a label, up to the next label or item, if it has that label.
+fn labelled<'a>(item: &'a str, label: &str) -> Option<&'a str> {
+    let (_, said) = item.split_once(&format!("*{label}:*"))?;
+    Some(said.split("\n  - ").next().and_then(|said| said.split("\n\n").next()).unwrap())
+}
+
+/// The proofs that docs/PROMISES.md pairs with a statement, and whose type is none of the statements named there.
+fn unpaired(crates: &[PathBuf]) -> Vec<String> {
+    let mut laws: BTreeMap<String, Vec<(String, String)>> = BTreeMap::new();
+    for path in crates.iter().flat_map(|c| files(&c.join("proofs"), "antt")) {
+        let (krate, _) = name_of(&path, "proofs");
+        for law in blocks(&read(&path, "--").text).into_iter().filter(|law| law.public) {
+            let says = words(after_numbers_and_types(&law.of_type)).next().unwrap_or("").to_string();
+            laws.entry(law.name).or_default().push((krate.clone(), says));
+        }
+    }
+    let promises = page("PROMISES");
+    let mut found = Vec::new();
+    for (title, text) in promises.split("\n## ").filter_map(|section| section.split_once('\n')) {
+        // an item has one statement, or, in the section of the three demands, one for each of its claims
+        for item in text.split("\n- ").flat_map(|item| item.split("*Claim:*")) {
+            let (Some(statement), Some(proof)) = (labelled(item, "Statement"), labelled(item, "Proof")) else { continue };
+            let stated: BTreeSet<&str> = in_backticks(statement).iter().filter_map(|says| words(says).next()).collect();
+            for name in in_backticks(proof) {
+                let here = laws.get(name).into_iter().flatten();
+                let mut here = here.filter(|(krate, _)| krate == title || !Path::new("crates").join(title).exists());
+                if !here.any(|(_, says)| stated.contains(&says[..])) {
+                    found.push(format!("docs/PROMISES.md, {title}: {name} is not a proof of what is stated there"));
+                }
+            }
+        }
+    }
+    found
+}
+
 /// What contracts and claims cite.
 fn signed(crates: &[PathBuf], specs: &Specs) -> BTreeSet<Name> {
     let promises = page("PROMISES");
@@ -281,7 +328,7 @@ fn signed(crates: &[PathBuf], specs: &Specs) -> BTreeSet<Name> {
     }
     for path in crates.iter().flat_map(|c| files(&c.join("proofs"), "antt")) {
         let source = read(&path, "--");
-        for law in blocks(&source.text).iter().filter(|law| named.contains(&law.name[..]) && is_claim(law, &source)) {
+        for law in blocks(&source.text).iter().filter(|law| law.public && named.contains(&law.name[..]) && is_claim(law, &source)) {
             signed.extend(specs.meant(&words(&law.of_type).map(String::from).collect(), &source));
         }
     }
@@ -329,7 +376,10 @@ fn main() {
     let specs = specs(&crates);
     let (list, what) = match std::env::args().nth(1).as_deref() {
         Some("uncited") => (uncited(&crates, &specs), "definitions that no public contract and no claim leads to"),
-        Some("unstated") => (unstated(&crates), "laws that a page names and that are not stated in specs/"),
+        Some("unstated") => {
+            let what = "laws that a page names as claims, and whose type is not the statement itself, from specs/";
+            ([unstated(&crates), unpaired(&crates)].concat(), what)
+        }
         Some("twice") => (twice(&specs, &may_stand_twice()), "names that stand twice in specs/"),
         _ => panic!("definitions uncited | unstated | twice"),
     };

@@ -143,9 +143,12 @@ ghost use Rattle.logs.specs.Tables.{{rowAt}};
 
 // log10(2), 1 / ln(10), and the numbers of the series of log10(1 + r) from r^2 on.
 {named}// A centre near 32 / (32 + i), of 20 binary digits, and the two parts of minus its logarithm.
-pub(crate) struct Row {{
+pub struct Row {{
+    // The centre: what 1 / m is near to.
     pub centre: f64,
+    // The high part of minus its logarithm.
     pub high: f64,
+    // The low part: what the high part lacks.
     pub low: f64,
 }}
 

@@ -35,15 +35,24 @@ impl Wrong {
     }
 }
 
+/// The lengths that a Rust program uses.
+const SIZES: &str = "bindings/rust/src/sizes.rs";
+
 fn main() {
     let mut wrong = Wrong::default();
     let modules: Vec<Module> = modules().iter().map(|name| module(name, &mut wrong)).collect();
     modules.iter().for_each(|module| explained(module, &mut wrong));
     let functions: Vec<Function> = modules.iter().flat_map(|module| module.functions.clone()).collect();
     declared(&functions, &mut wrong);
-    let store = constant("crates/desk/src/lib.rt", "BENCHES", &mut wrong) * constant("crates/frame/src/lib.rt", "SHARE", &mut wrong);
+    let benches = constant("crates/desk/src/lib.rt", "BENCHES", &mut wrong);
+    let share = constant("crates/frame/src/lib.rt", "SHARE", &mut wrong);
     let record = constant("crates/export/src/of_desk.rt", "RECORD", &mut wrong);
-    let text = header(&modules, store, record, &mut wrong);
+    for (name, wanted) in [("BENCHES", benches), ("SHARE", share), ("RECORD", record)] {
+        if constant(SIZES, name, &mut wrong) != wanted {
+            wrong.note(SIZES, format!("{name} is not {wanted}, as in the crates"));
+        }
+    }
+    let text = header(&modules, benches * share, record, &mut wrong);
     if !wrong.0.is_empty() {
         wrong.0.iter().for_each(|what| eprintln!("{what}"));
         exit(1);
@@ -114,7 +123,7 @@ fn kind_of(text: &str) -> Kind {
 /// A constant's number.
 fn constant(file: &str, name: &str, wrong: &mut Wrong) -> usize {
     let text = read(file);
-    let value = text.lines().find_map(|line| line.split_once(&format!("const {name}: usize = "))?.1.trim_end_matches(';').parse().ok());
+    let value = text.lines().find_map(|line| line.split_once(&format!("const {name}: usize = "))?.1.trim_end_matches(';').replace('_', "").parse().ok());
     value.unwrap_or_else(|| {
         wrong.note(file, format!("no number `const {name}: usize = …;`, which the header tells"));
         0
@@ -148,7 +157,7 @@ fn explained(module: &Module, wrong: &mut Wrong) {
 
 /// The declarations of bindings/rust are those of the source: the same functions, parameters and results.
 fn declared(functions: &[Function], wrong: &mut Wrong) {
-    const FILE: &str = "bindings/rust/src/lib.rs";
+    const FILE: &str = "bindings/rust/src/functions.rs";
     let text: String =
         read(FILE).lines().filter(|line| !line.trim_start().starts_with("//")).map(|line| format!("{line}\n")).collect();
     let surfaces = text.split("surface! {").skip(1).filter_map(|part| part.split_once("\n}")).map(|(inside, _)| inside);
@@ -275,6 +284,22 @@ const FOOT: &str = "
 #endif
 ";
 
+/// The constants of docs/REFUSALS.md: the rows of its table that begin with a number, and in the third cell when it is
+/// due.
+fn refusals(wrong: &mut Wrong) -> String {
+    const PAGE: &str = "docs/REFUSALS.md";
+    let page = read(PAGE);
+    let lines = page.lines().filter(|line| line.starts_with("| "));
+    let rows = lines.map(|line| line.split('|').map(str::trim).collect::<Vec<_>>());
+    let rows: Vec<_> = rows.filter(|cells| cells.len() == 6 && cells[1].parse::<u32>().is_ok()).collect();
+    if rows.is_empty() {
+        wrong.note(PAGE, "no row of its table can be read".into());
+    }
+    let lines = rows.iter().map(|cells| format!("#define {} {}\n", cells[2].trim_matches('`'), cells[1]));
+    let what = "What a call returns if it refuses, and 40, which is no refusal; docs/REFUSALS.md says of each exactly when.";
+    format!("\n/* {what} */\n{}", lines.collect::<String>())
+}
+
 fn header(modules: &[Module], store: usize, record: usize, wrong: &mut Wrong) -> String {
     let mut text = String::from(HEAD);
     write!(
@@ -283,6 +308,7 @@ fn header(modules: &[Module], store: usize, record: usize, wrong: &mut Wrong) ->
          #define TUPPENCE_STORE {store}\n#define TUPPENCE_RECORD {record}\n"
     )
     .unwrap();
+    text += &refusals(wrong);
     for module in modules.iter().filter(|module| !module.functions.is_empty()) {
         write!(text, "\n\n/* ---- {} */\n", filled(&module.comment, "   ")).unwrap();
         for function in &module.functions {

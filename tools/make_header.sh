@@ -1,7 +1,7 @@
 #!/bin/sh
 # Makes bindings/c/tuppence.h anew from crates/export/src: each function for C, and what each slice must be, as its
-# comment has it. It tells where such a comment is missing, and which declaration of bindings/rust is not that of the
-# source: then it makes no header, and its exit status is 1.
+# comment has it; and the constants of docs/REFUSALS.md. It tells where such a comment is missing, and which declaration
+# of bindings/rust is not that of the source: then it makes no header, and its exit status is 1.
 # With --check it changes no file, and says whether the header is another than the one it makes. Needs rustc.
 set -eu
 cd "$(dirname "$0")/.."

@@ -146,7 +146,14 @@ def listen(browser, which, must):
         before = browser.value(f'{audio}.currentTime')
         browser.key('ArrowLeft', 37)
         must(browser.value(f'{audio}.currentTime') < before, f'{which}: the arrow does not move {player}')
-    return f'{strips} strips played by presses and keys'
+    # the players' own buttons, one after the other: each stops the one before it
+    players = browser.value("document.querySelectorAll('audio').length")
+    for at in range(players):
+        browser.value(f"document.querySelectorAll('audio')[{at}].play().then(() => 0)")
+        time.sleep(0.2)
+        playing = browser.value("[...document.querySelectorAll('audio')].map(a => !a.paused)")
+        must(playing.count(True) == 1 and playing[at], f'{which}: player {at} was started, and these play: {playing}')
+    return f'{strips} strips played by presses and keys, {players} players one at a time'
 
 
 if __name__ == '__main__':

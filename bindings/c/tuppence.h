@@ -22,7 +22,60 @@ extern "C" {
 
 /* The numbers of the store, which serves all benches, and of a bench's record: zeros before its first opening. */
 #define TUPPENCE_STORE 98304
-#define TUPPENCE_RECORD 11
+#define TUPPENCE_RECORD 12
+
+/* What a call returns if it refuses, and 40, which is no refusal; docs/REFUSALS.md says of each exactly when. */
+#define TUPPENCE_NO_SUCH_SIDE 1
+#define TUPPENCE_OUT_OF_RANGE 2
+#define TUPPENCE_CLOSED 3
+#define TUPPENCE_NOT_DUE 4
+#define TUPPENCE_WRONG_LENGTH 5
+#define TUPPENCE_LAG_TOO_LARGE 6
+#define TUPPENCE_MODEL_REFUSED 7
+#define TUPPENCE_OTHER_COUNTS 8
+#define TUPPENCE_BAD_SAMPLE 9
+#define TUPPENCE_MODEL_NO_HEADER 11
+#define TUPPENCE_MODEL_INPUTS 12
+#define TUPPENCE_MODEL_NEURONS 13
+#define TUPPENCE_MODEL_ACTIVATION 14
+#define TUPPENCE_MODEL_NO_NEURONS 15
+#define TUPPENCE_MODEL_ARRAY 16
+#define TUPPENCE_MODEL_BYTES_LEFT 17
+#define TUPPENCE_MODEL_ENDS 18
+#define TUPPENCE_MODEL_VAD_GRU 19
+#define TUPPENCE_MODEL_NOISE_GRU 20
+#define TUPPENCE_MODEL_DENOISE_GRU 21
+#define TUPPENCE_MODEL_DENOISE_OUTPUT 22
+#define TUPPENCE_MODEL_NO_ROOM 24
+#define TUPPENCE_SHEET_SHORT 31
+#define TUPPENCE_SHEET_DISTANCE 32
+#define TUPPENCE_SHEET_SIDE 33
+#define TUPPENCE_SHEET_RECORD 34
+#define TUPPENCE_SHEET_SUM 35
+#define TUPPENCE_SHEET_NO_ROOM 36
+#define TUPPENCE_MEND_PLACE 37
+#define TUPPENCE_MEND_NOTHING 38
+#define TUPPENCE_WAV_GO_ON 40
+#define TUPPENCE_WAV_NO_RIFF 41
+#define TUPPENCE_WAV_ENDS 42
+#define TUPPENCE_WAV_NO_FORMAT 43
+#define TUPPENCE_WAV_SHORT_FORMAT 44
+#define TUPPENCE_WAV_FORMAT 45
+#define TUPPENCE_WAV_CHANNELS 46
+#define TUPPENCE_WAV_BLOCK 47
+#define TUPPENCE_SEAL_NONE 51
+#define TUPPENCE_SEAL_CHECKSUM 52
+#define TUPPENCE_SEAL_SIDE 53
+#define TUPPENCE_RECORDING_HEAD 61
+#define TUPPENCE_RECORDING_AUDIO 62
+#define TUPPENCE_RECORDING_SEAL 63
+#define TUPPENCE_RECORDING_RECORDS 64
+#define TUPPENCE_RECORDING_TRAILER 65
+#define TUPPENCE_RECORDING_LONGER 66
+#define TUPPENCE_NULL 101
+#define TUPPENCE_MISALIGNED 102
+#define TUPPENCE_TOO_LONG 103
+#define TUPPENCE_OVERLAP 104
 
 
 /* ---- bands: correlation and gain in bands, the cosine transform and the window. 5 is a wrong length. */
@@ -45,16 +98,17 @@ uint32_t tuppence_window_in_place(float *xs, size_t xs_len);
 
 
 /* ---- desk: an opening, the frame calls and pieces of dictation, for a host that has numbers alone.
-   `record` is a side's record as eleven numbers: due call, cepstral index, the three GRU counts,
+   `record` is a side's record as twelve numbers: due call, cepstral index, the three GRU counts,
    frames, heard frames, the samples that wait, the size of an unfinished piece and its progress,
-   and the side's way: 0 for our own lag and the plain sums, 1 for nnnoiseless's lag and the fast
-   transforms. `answer` is call 3's as three: heard or not, voice, energy. Returned is 0 or the
-   refusal. `store` is the one of all benches, of the length that is published, and `model` the
-   bytes of a model file. Refusals, the first that is due: 1 no such side; 2 another length of
-   `store` or `record`, or a record out of range; 3 the side is closed; 4 another call is due; 5
-   another wrong length; 6 a lag above 768; 7 + 256 times its refusal + 65,536 times the layer, a
-   model that does not read; 8 other counts than at the opening; 9 a sample outside of -32,768 to
-   32,767. */
+   the side's way: 0 for our own lag and the plain sums, 1 for nnnoiseless's lag and the fast
+   transforms; and the side plus 1, which an opening notes, so that no other side takes the record.
+   A closed record is all zeros. `answer` is call 3's as three: heard or not, voice, energy.
+   Returned is 0 or the refusal. `store` is the one of all benches, of the length that is published,
+   and `model` the bytes of a model file. Refusals, the first that is due: 1 no such side; 2 another
+   length of `store` or `record`, a record out of range, or another side's; 3 the side is closed; 4
+   another call is due; 5 another wrong length; 6 a lag above 768; 7 + 256 times its refusal +
+   65,536 times the layer, a model that does not read; 8 other counts than at the opening; 9 a
+   sample outside of -32,768 to 32,767. */
 
 /* A bench's side: 0 left for an even one, 1 right for an odd one. */
 uint32_t tuppence_side_of(uint32_t bench);
@@ -122,12 +176,13 @@ uint32_t tuppence_resume(uint32_t *record, size_t record_len, float *store, size
     float *sums, size_t sums_len, float *answer, size_t answer_len);
 
 
-/* ---- feed: a block of recorded bytes in one call. `record` is a side's record as eleven numbers, and
+/* ---- feed: a block of recorded bytes in one call. `record` is a side's record as twelve numbers, and
    `store` 98,304, as in `of_desk`; `model` is a model file's bytes. Returned is 0 or the refusal. */
 
-/* `bytes` are 1 to 4,096 whole samples of all channels, little end first; `format` is 16, 24, or 32
-   for floats; of so many channels by turns one is the bench's. For each frame that its samples
-   complete `out` has 960 bytes, `entries` one number and `answers` three, or more, which stay. */
+/* `bytes` are 1 to 4,096 whole samples of all channels, little end first; `format` is 16, 24, 32
+   for floats, or 33 for 32-bit integers; of so many channels by turns one is the bench's. For each
+   frame that its samples complete `out` has 960 bytes, `entries` one number and `answers` three, or
+   more, which stay. */
 uint32_t tuppence_feed(uint32_t *record, size_t record_len, float *store, size_t store_len,
     uint32_t side, const uint8_t *bytes, size_t bytes_len, uint32_t format, uint32_t channels,
     uint32_t channel, const uint8_t *model, size_t model_len, uint8_t *out, size_t out_len,
@@ -236,8 +291,9 @@ uint32_t tuppence_filter(float *output, size_t output_len, float *memory, size_t
 
 /* ---- pcm: recorded bytes as samples, and samples as bytes. */
 
-/* `format` is 16, 24, or 32 for floats; of so many channels by turns, one is unpacked. `bytes` are
-   whole samples of all channels, little end first, and `out` has a place for each. */
+/* `format` is 16, 24, 32 for floats, or 33 for 32-bit integers; of so many channels by turns, one
+   is unpacked. `bytes` are whole samples of all channels, little end first, and `out` has a place
+   for each. */
 uint32_t tuppence_unpack(float *out, size_t out_len, const uint8_t *bytes, size_t bytes_len,
     uint32_t format, uint32_t channels, uint32_t channel);
 
@@ -273,6 +329,38 @@ uint32_t tuppence_autocorr(float *ac, size_t ac_len, const float *x, size_t x_le
 
 /* Half the rate: `x` has 1,728 numbers, `x_lp` 864. */
 uint32_t tuppence_downsample(float *x_lp, size_t x_lp_len, const float *x, size_t x_len);
+
+
+/* ---- recording: whether a file's bytes are exactly those that the box writes for a side, and what is
+   around its audio. Refusals: 5 a wrong length; 53 no side; 61 the head, or a size that no
+   recording has; 62 it ends within its audio; 63 what is between the audio and the records; 64 the
+   records; 65 their trailer; 66 something follows. */
+
+/* A judge: `numbers` has eleven places, and `held` 76 bytes. What they held is overwritten. */
+uint32_t tuppence_judge_begin(uint64_t *numbers, size_t numbers_len, uint8_t *held, size_t held_len);
+
+/* `numbers` has eleven places and `held` 76 bytes, as they were left. The next `bytes` of the file,
+   as many as there are. */
+uint32_t tuppence_judge_more(uint64_t *numbers, size_t numbers_len, uint8_t *held, size_t held_len,
+    const uint8_t *bytes, size_t bytes_len);
+
+/* The file ends here. `numbers` has eleven places and `held` 76 bytes, as they were left. `out` has
+   five places: the side, when it began, the number of its first frame, how many frames, and how
+   many were heard. Or 61 to 66: the first part that is not as the box writes it. */
+uint32_t tuppence_judge_verdict(uint64_t *out, size_t out_len,
+    const uint64_t *numbers, size_t numbers_len, const uint8_t *held, size_t held_len);
+
+/* `out` has 76 bytes: the head of a recording of a side, 0 for left, 1 for right, which `began` so
+   many seconds after 1970 began, 0 if nobody knows; its `first` frame has this number, and its
+   audio `size` bytes, whole samples, and at most 4,259,471,040; or 4,294,967,295 while it is being
+   made. */
+uint32_t tuppence_recording_head(uint8_t *out, size_t out_len, uint32_t side, uint64_t began,
+    uint32_t first, uint32_t size);
+
+/* `out` has 32 bytes: what is between `size` bytes of audio, which have this `checksum`, and the
+   records. `side` and `first` as in the head. */
+uint32_t tuppence_recording_chunk(uint8_t *out, size_t out_len, uint32_t side, uint32_t first,
+    uint32_t size, uint32_t checksum);
 
 
 /* ---- sheet: written, at once and in parts, read, asked for an entry, and mended. An entry is a frame's
@@ -320,20 +408,30 @@ uint32_t tuppence_inverse(float *samples, size_t samples_len,
     const float *spectrum, size_t spectrum_len);
 
 
-/* ---- checksum and wav: a checksum, a recording's seal, and the head of a WAV file. */
+/* ---- checksum and wav: a checksum, a recording's two seals, and the head of a WAV file. */
 
 /* The checksum of what was handed in `before`, 0 of nothing, and of these `bytes` behind it, as
    many as there are. */
 uint32_t tuppence_checksum(uint32_t before, const uint8_t *bytes, size_t bytes_len);
 
-/* `out` has 24 bytes. The seal of a side, 0 for left, 1 for right, whose audio has `size` bytes
-   with this `checksum`. */
+/* `out` has 24 bytes. The end seal of a recording of a side, 0 for left, 1 for right, whose audio
+   has `size` bytes with this `checksum`. */
 uint32_t tuppence_seal_write(uint8_t *out, size_t out_len, uint32_t side, uint64_t size,
     uint32_t checksum);
 
 /* `numbers` has three places: the side, how many bytes of audio, and their checksum. `file` is what
-   stands where the seal begins, of any length. */
+   is there from the end seal on, of any length. */
 uint32_t tuppence_seal_read(uint64_t *numbers, size_t numbers_len,
+    const uint8_t *file, size_t file_len);
+
+/* `out` has 24 bytes. The front seal of a recording of a side, which `began` so many seconds after
+   1970 began, 0 if nobody knows, and whose `first` frame has this number. */
+uint32_t tuppence_front_write(uint8_t *out, size_t out_len, uint32_t side, uint64_t began,
+    uint32_t first);
+
+/* `numbers` has three places: the side, when it began, and the number of its first frame. `file` is
+   what is there from the front seal on, of any length. */
+uint32_t tuppence_front_read(uint64_t *numbers, size_t numbers_len,
     const uint8_t *file, size_t file_len);
 
 /* `out` has 44 bytes. So many bytes of audio at a rate, and of chunks `behind` it. */

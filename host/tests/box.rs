@@ -58,9 +58,11 @@ fn repository(name: &str) -> PathBuf {
               if [ \"$1\" = staticlib ]; then mkdir -p target/staticlib; cp crates/export/src/lib.rt target/staticlib/libexport.a; fi\n";
     write_script(&path.join("kit/bin/rt"), rt);
     symlink("../kit/bin/rt", path.join("bin/rt")).unwrap();
-    let cargo = "echo \"  Compiling much\"; echo \"  Finished\" >&2; [ ! -e broken ] || exit 101\n\
+    let cargo = "echo \"$*\" >cargo-was-called; echo \"  Compiling much\"; echo \"  Finished\" >&2; [ ! -e broken ] || exit 101\n\
                  mkdir -p target/host/release; cd target/host/release\n\
-                 printf '#!/usr/bin/env bash\\necho \"$PWD: $*\"\\n' >tuppencehop; chmod +x tuppencehop\n";
+                 for name in tuppencehop tuppencehop-dev; do\n\
+                 printf '#!/usr/bin/env bash\\necho \"$PWD: $*\"\\n' >$name; chmod +x $name\n\
+                 done\n";
     write_script(&path.join("bin/cargo"), cargo);
     path
 }
@@ -69,6 +71,27 @@ fn run(path: &Path, words: &[&str]) -> Ended {
     let mut command = Command::new(path.join("box"));
     command.args(words).current_dir(path).env_clear().env("PATH", path.join("bin")).env("HOME", path.join("home"));
     ended(command.output().unwrap())
+}
+
+/// `./box` may be called through links: one to it, and one to that.
+#[test]
+fn through_a_symlink() {
+    let path = repository("symlink");
+    assert_eq!(run(&path, &["side"]).status, Some(0));
+    let elsewhere = path.join("home/bin");
+    fs::create_dir_all(&elsewhere).unwrap();
+    symlink("../../box", elsewhere.join("one")).unwrap();
+    symlink("one", elsewhere.join("box")).unwrap();
+    let mut command = Command::new(elsewhere.join("box"));
+    command
+        .arg("side")
+        .current_dir(&elsewhere)
+        .env_clear()
+        .env("PATH", path.join("bin"))
+        .env("HOME", path.join("home"));
+    let ended = ended(command.output().unwrap());
+    assert_eq!(ended.status, Some(0), "{}", ended.why);
+    assert_eq!(ended.said, format!("{}: side\n", elsewhere.canonicalize().unwrap().display()));
 }
 
 /// How often `rt` was called since the last time.
@@ -170,7 +193,7 @@ fn an_installed_program_runs_alone() {
     // the man page has every command, and reads without a warning where there is a reader
     let page = prefix.join("share/man/man1/box.1");
     let text = fs::read_to_string(&page).unwrap();
-    assert!(["clean", "side", "mend", "dev bench"].iter().all(|name| text.contains(&format!("\n.SS box {name}\n"))));
+    assert!(["clean", "side", "mend", "completion"].iter().all(|name| text.contains(&format!("\n.SS box {name}\n"))));
     if let Ok(groff) = Command::new("groff").args(["-man", "-Tutf8", "-ww", "-z"]).arg(&page).output() {
         assert_eq!(ended(groff).why, "");
     }
@@ -183,9 +206,7 @@ fn an_installed_program_runs_alone() {
         (&["box", "side", "-"], "--quick --json --help"),
         (&["box", "side", "again/l"], "again/left.wav"),
         (&["box", "clean", "--name", ""], ""),
-        (&["box", "dev", "b"], "bench"),
-        (&["box", "dev", "bench", "--j"], "--json"),
-        (&["box", "help", "de"], "demo dev"),
+        (&["box", "help", "de"], "demo"),
     ] {
         assert_eq!(offered(&prefix, words), offer, "{words:?}");
     }
@@ -205,5 +226,64 @@ fn a_package_has_all_that_goes_with_it() {
     let same = |one: &str, other: &str| fs::read(within.join(one)).unwrap() == fs::read(root().join(other)).unwrap();
     assert!(same("lib/libtuppence.a", "target/staticlib/libexport.a"));
     assert!(same("include/tuppence.h", "bindings/c/tuppence.h") && same("NOTICE", "NOTICE"));
+    assert!(same("share/tuppencehop/house.rnn", "host/model/house.rnn"));
+    assert!(within.join("lib/ladspa/tuppence_ladspa.so").is_file());
     assert!(installed(&within, &["--version"]).said.starts_with("box "));
+    example_of(&within);
+}
+
+/// A C user builds the example from the package alone, and runs it with the shared library.
+fn example_of(package: &Path) {
+    let example = package.join("example");
+    let built = Command::new("cc")
+        .current_dir(package)
+        .args(["share/doc/tuppencehop/examples/clean_a_second.c", "-Iinclude", "-Llib", "-ltuppence", "-o", "example"])
+        .status();
+    assert!(built.is_ok_and(|status| status.success()));
+    let run = Command::new(example)
+        .env_clear()
+        .env("LD_LIBRARY_PATH", package.join("lib"))
+        .arg(package.join("share/tuppencehop/house.rnn"))
+        .output()
+        .unwrap();
+    assert!(run.status.success(), "{}", String::from_utf8_lossy(&run.stderr));
+    // 100 frames of 480 floats
+    assert_eq!(run.stdout.len(), 100 * 480 * 4);
+}
+
+#[test]
+fn a_debian_package_has_the_same() {
+    let output = ended(Command::new(root().join("box")).args(["package", "--deb"]).output().unwrap());
+    assert_eq!(output.status, Some(0), "{}", output.why);
+    let path = folder("box-deb");
+    let unpacked = Command::new("dpkg-deb").arg("-x").arg(output.said.trim()).arg(&path).status();
+    assert!(unpacked.is_ok_and(|status| status.success()));
+    assert!(installed(&path.join("usr"), &["--version"]).said.starts_with("box "));
+    example_of(&path.join("usr"));
+}
+
+/// The clerk's program has nothing of the Rust text in it. (host/dev/tests/words.rs sees that its names would be found.)
+#[test]
+fn the_box_has_no_symbol_of_the_text() {
+    let symbols = ended(Command::new("nm").arg(env!("CARGO_BIN_EXE_tuppencehop")).output().unwrap());
+    assert_eq!(symbols.status, Some(0), "{}", symbols.why);
+    assert!(symbols.said.contains("tuppencehop") && symbols.said.contains("tuppence_feed"), "the names are stripped");
+    let of_text: Vec<&str> = symbols.said.lines().filter(|line| line.contains("nnnoiseless")).collect();
+    assert!(of_text.is_empty(), "{of_text:?}");
+}
+
+/// `./box dev` runs the developers' program.
+#[test]
+fn the_developers_program_is_another() {
+    let path = repository("dev");
+    let told = run(&path, &["dev", "bench", "--json"]);
+    assert_eq!(
+        (told.status, &*told.said),
+        (Some(0), &*format!("{}: bench --json\n", path.canonicalize().unwrap().display()))
+    );
+    let built = fs::read_to_string(path.join("cargo-was-called")).unwrap();
+    assert!(built.contains("--package tuppencehop-dev "), "{built}");
+    run(&path, &["side"]);
+    let built = fs::read_to_string(path.join("cargo-was-called")).unwrap();
+    assert!(built.contains("--package tuppencehop "), "{built}");
 }

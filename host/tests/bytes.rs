@@ -6,8 +6,9 @@ mod common;
 use common::*;
 use std::fs;
 use std::path::Path;
-use tuppencehop::demo::{Rng, HOUSE};
-use tuppencehop::{wav, FRAME};
+use tuppencehop::cleaning::demo::{Rng, HOUSE};
+use tuppencehop::reading::wav;
+use tuppencehop::FRAME;
 
 const ENDS: [f32; 2] = [-32_768.0, 32_767.0];
 
@@ -60,7 +61,7 @@ fn alike(tag: u16, bits: u16, audio: &[u8]) {
 fn samples_of_16_and_of_24_bits() {
     alike(1, 16, &(0..=u16::MAX).flat_map(u16::to_le_bytes).collect::<Vec<u8>>());
     // every third, and all beside the ends and zero
-    let beside = |n: u32| [n.wrapping_sub(300)..n.wrapping_add(300)].into_iter().flatten();
+    let beside = |n: u32| n.wrapping_sub(300)..n.wrapping_add(300);
     let ends = [0x7F_FFFF, 0x80_0000, 0xFF_FFFF].into_iter().flat_map(beside);
     let all = (0..0x100_0000).step_by(3).chain(ends).map(|n: u32| [n as u8, (n >> 8) as u8, (n >> 16) as u8]);
     let bytes: Vec<u8> = all.flatten().collect();
@@ -84,7 +85,8 @@ fn samples_that_are_written() {
 
 /// A bench by itself, taken in frames: its audio, and the entries of its sheet.
 fn alone(samples: &[f32]) -> (Vec<u8>, Vec<u64>) {
-    let (mut store, mut record, mut audio, mut entries) = (vec![0.0; 98_304], [0; 11], vec![], vec![]);
+    let (mut store, mut record, mut audio, mut entries) =
+        (vec![0.0; tuppence::STORE], [0; tuppence::RECORD], vec![], vec![]);
     assert_eq!(tuppence::open_crate(&mut record, &mut store, 0, HOUSE), 0);
     let silence = vec![0.0; FRAME * (samples.len().div_ceil(FRAME) + 1) - samples.len()];
     for (number, frame) in (0..).zip([samples, &silence].concat().chunks_exact(FRAME)) {

@@ -3,8 +3,8 @@
 use std::fs;
 use std::path::{Path, PathBuf};
 use std::process::{Command, Output, Stdio};
-use tuppencehop::demo::{dictation, HOUSE};
-use tuppencehop::wav;
+use tuppencehop::cleaning::demo::{dictation, HOUSE};
+use tuppencehop::reading::wav;
 
 /// A folder of its own for each test.
 fn folder(name: &str) -> PathBuf {
@@ -42,7 +42,7 @@ impl Given {
 
     fn clean(&self, left: &str, right: &str, model: &str, out: &str) -> Output {
         let [l, r, m, o] = [left, right, model, out].map(|name| self.at(name));
-        host(&["clean", "--left", &l, "--right", &r, "--model", &m, "--out", &o])
+        host(&["clean", "--left", &l, "--right", &r, "--model", &m, "--out", &o, "--csv"])
     }
 
     /// What was asked could not be done: the run says this, and leaves no folder.
@@ -99,7 +99,7 @@ fn each_recording_carries_its_sheet() {
         let file = fs::read(given.path.join(format!("out/{side}.wav"))).unwrap();
         let rows: Vec<&str> = table.lines().filter(|line| line.starts_with(side)).collect();
         let heard = rows.iter().filter(|row| row.contains(",heard,")).count();
-        let sheet = tuppencehop::side::Sheet::of(&file).unwrap();
+        let sheet = tuppencehop::telling::side::Sheet::of(&file).unwrap();
         assert_eq!((sheet.side.name(), sheet.frames, sheet.heard, sheet.gaps.count), (side, rows.len(), heard, 0));
         assert!(heard > 0);
         // behind the audio and its seal
@@ -132,7 +132,7 @@ fn a_stereo_file_is_both_benches() {
     given.put("l.wav", &wav::write(48_000, &sides[0][..n]));
     given.put("r.wav", &wav::write(48_000, &sides[1][..n]));
     let [b, m, o] = ["both.wav", "house.rnn", "one"].map(|name| given.at(name));
-    assert!(host(&["clean", "--both", &b, "--model", &m, "--out", &o]).status.success());
+    assert!(host(&["clean", "--both", &b, "--model", &m, "--out", &o, "--csv"]).status.success());
     assert!(given.clean("l.wav", "r.wav", "house.rnn", "two").status.success());
     for name in WRITTEN {
         let read = |folder: &str| fs::read(given.path.join(folder).join(name)).unwrap();
@@ -150,7 +150,7 @@ fn a_stereo_file_is_both_benches() {
 #[test]
 fn the_demo_needs_no_files() {
     let out = folder("demo").join("out");
-    let output = host(&["demo", out.to_str().unwrap()]);
+    let output = host(&["demo", out.to_str().unwrap(), "--csv"]);
     assert!(output.status.success());
     for name in WRITTEN.iter().chain(&["left-before.wav", "right-before.wav"]) {
         assert!(out.join(name).exists(), "{name}");

@@ -11,8 +11,9 @@ use std::sync::atomic::{AtomicU64, Ordering};
 use std::sync::OnceLock;
 use std::thread::{scope, sleep, spawn};
 use std::time::{Duration, Instant};
-use tuppencehop::demo::Rng;
-use tuppencehop::{seal, wav};
+use tuppencehop::cleaning::demo::Rng;
+use tuppencehop::reading::wav;
+use tuppencehop::recording::seal;
 
 const SIDES: [&str; 2] = ["left", "right"];
 /// What a power cut may cost.
@@ -108,9 +109,9 @@ fn after_a_power_cut(path: &Path, cut: &Path, rng: &mut Rng) {
         let samples = |bytes: u64| (bytes as usize).saturating_sub(HEADER) / 2;
         let audio = part(cut, side, ".part");
         there[k] = samples(size(&audio));
-        let (seconds, zeros) = (rng.next() % 192_000, rng.next() & 1 == 0);
+        let (seconds, zeros) = (rng.draw() % 192_000, rng.draw() & 1 == 0);
         good[k] = samples(damage(&audio, seconds, zeros));
-        let (records, zeros) = (rng.next() % 1_600, rng.next() & 1 == 0);
+        let (records, zeros) = (rng.draw() % 1_600, rng.draw() & 1 == 0);
         damage(&part(cut, side, ".sheet"), records, zeros);
     }
     // where all is younger than two seconds, there may be nothing to close
@@ -133,8 +134,8 @@ fn killed_at_any_moment() {
         }
         let (path, cut) = (folder(&format!("crash-{kill}")), folder(&format!("crash-{kill}-cut")));
         let mut rng = Rng(0x9e37_79b9_7f4a_7c15 ^ (kill + 1) << 32);
-        (0..10).for_each(|_| _ = rng.next());
-        let older = killed(&path, Duration::from_millis(rng.next() % 3_600));
+        (0..10).for_each(|_| _ = rng.draw());
+        let older = killed(&path, Duration::from_millis(rng.draw() % 3_600));
         if path.join("out").exists() {
             after_a_power_cut(&path, &cut, &mut rng);
             let ended = mend(&path);
@@ -172,7 +173,7 @@ fn what_is_told() {
     for side in SIDES {
         let mut sheet = fs::read(part(&path, side, ".sheet")).unwrap();
         sheet.truncate(seal::LENGTH);
-        assert_eq!(seal::side(&sheet).unwrap().name(), side);
+        assert_eq!(seal::side_under_way(&sheet).unwrap().name(), side);
     }
     // the same folder is refused, whatever it is asked, and all stays as it was
     for words in [&["-", "--raw", "--out", "out"][..], &["-", "--raw", "--out", "out", "--force"]] {
@@ -234,7 +235,7 @@ fn a_side_that_can_not_be_told() {
     bad(&[&good[..4], b"RGHT", &good[8..]].concat(), "it does not begin with a seal");
     // right in the seal, left in the records
     bad(
-        &[&seal::under_way(tuppencehop::recorder::Side::Right), &good[24..]].concat(),
+        &[&seal::under_way(tuppencehop::cleaning::recorder::Side::Right), &good[24..]].concat(),
         "no record in it is of the sound",
     );
     bad(&good[..seal::LENGTH], "no record in it is of the sound");
@@ -329,7 +330,7 @@ fn ten_hours_in_64_mb() {
     fs::write(part(&path, "right", ".part"), head).unwrap();
     let audio = File::options().write(true).open(part(&path, "right", ".part")).unwrap();
     audio.set_len(HEADER as u64 + 2 * samples).unwrap();
-    let sheet = [&seal::under_way(tuppencehop::recorder::Side::Right)[..], &records(1, count)].concat();
+    let sheet = [&seal::under_way(tuppencehop::cleaning::recorder::Side::Right)[..], &records(1, count)].concat();
     fs::write(part(&path, "right", ".sheet"), sheet).unwrap();
     let ended = in_memory(&path, 64, &["mend", "out"]);
     assert_eq!(ended.status, Some(0), "{}", ended.why);
@@ -347,7 +348,7 @@ fn a_long_torn_sheet_in_64_mb() {
     let samples = 480 * 100_000u32;
     let (zeros, torn) = (File::open("/dev/zero").unwrap(), path.join("torn.wav"));
     let (bytes, checksum) = wav::checksum(&mut &zeros, 2 * u64::from(samples)).unwrap();
-    let seal = seal::Seal { side: tuppencehop::recorder::Side::Left, bytes, checksum };
+    let seal = seal::Seal { side: tuppencehop::cleaning::recorder::Side::Left, bytes, checksum };
     fs::write(&torn, wav::header(48_000, 2 * samples, 0)).unwrap();
     let mut file = File::options().append(true).open(&torn).unwrap();
     file.set_len(HEADER as u64 + bytes).unwrap();

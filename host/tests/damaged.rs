@@ -1,11 +1,12 @@
 //! Randomly damaged recordings, sheets and models through the readers: each is read or refused, and none ends in a panic.
 
 use std::io::Cursor;
-use tuppencehop::demo::{Rng, HOUSE};
-use tuppencehop::found::sealed;
-use tuppencehop::recorder::{Recorder, Side};
-use tuppencehop::side::Sheet;
-use tuppencehop::{mend, wav};
+use tuppencehop::cleaning::demo::{Rng, HOUSE};
+use tuppencehop::cleaning::recorder::{Recorder, Side};
+use tuppencehop::reading::wav;
+use tuppencehop::recording::mend;
+use tuppencehop::telling::found::sealed;
+use tuppencehop::telling::side::Sheet;
 
 /// The same in an EXTENSIBLE header, where the samples' form stands in front of fourteen fixed bytes.
 fn extended(file: &[u8]) -> Vec<u8> {
@@ -39,16 +40,16 @@ fn recordings() -> Vec<Vec<u8>> {
 
 /// A byte changed, a few bytes of a number set to an end, the file cut or lengthened; mostly one of these, sometimes several.
 fn damage(rng: &mut Rng, file: &mut Vec<u8>) {
-    for _ in 0..1 + rng.next() % 3 {
-        let at = rng.next() as usize % (file.len() + 1);
-        match rng.next() % 6 {
+    for _ in 0..1 + rng.draw() % 3 {
+        let at = rng.draw() as usize % (file.len() + 1);
+        match rng.draw() % 6 {
             0 => file.truncate(at),
-            1 => file.extend(vec![rng.next() as u8; at % 64]),
+            1 => file.extend(vec![rng.draw() as u8; at % 64]),
             2 => file[at.min(40)..].iter_mut().take(4).for_each(|byte| *byte = 0xFF),
             3 => file[at.min(40)..].iter_mut().take(2).for_each(|byte| *byte = 0),
             _ => {
                 if let Some(byte) = file.get_mut(at) {
-                    *byte = rng.next() as u8;
+                    *byte = rng.draw() as u8;
                 }
             }
         }
@@ -75,7 +76,7 @@ fn read_in_parts(file: &[u8]) -> Result<[u64; 3], u32> {
 
 /// Mends a file. What it becomes is sealed.
 fn is_mended(file: &[u8]) -> bool {
-    let Ok(mended) = mend::of(&mut Cursor::new(file), Some(Side::Right)) else { return false };
+    let Ok(mended) = mend::mended_of(&mut Cursor::new(file), Some(Side::Right)) else { return false };
     let mut out = vec![];
     mended.write(&mut Cursor::new(file), &mut out).unwrap();
     assert_eq!(sealed(&mut Cursor::new(&out), false).ok(), Some(mended.sheet));

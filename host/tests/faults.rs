@@ -6,13 +6,13 @@ mod common;
 use common::*;
 use std::fs;
 use std::path::{Path, PathBuf};
-use tuppencehop::cleaned::Cleaned;
-use tuppencehop::demo::HOUSE;
-use tuppencehop::recorder::{Side, Way};
-use tuppencehop::refusal::Refusal;
-use tuppencehop::run::{run as run_benches, Refused};
-use tuppencehop::source::{Limited, Memory};
-use tuppencehop::wav;
+use tuppencehop::cleaning::cleaned::Cleaned;
+use tuppencehop::cleaning::demo::HOUSE;
+use tuppencehop::cleaning::recorder::{Side, Way};
+use tuppencehop::cleaning::run::{run as run_benches, Refused};
+use tuppencehop::reading::source::{Limited, Memory};
+use tuppencehop::reading::wav;
+use tuppencehop::telling::refusal::Refusal;
 
 /// A recording of so many channels, as 32-bit floats.
 fn floats(channels: u8, samples: &[f32]) -> Vec<u8> {
@@ -51,7 +51,7 @@ fn ends_there(path: &Path, right: &[f32]) {
     fs::write(path.join("short.wav"), floats(1, &right[..BROKEN])).unwrap();
     assert_eq!(two(path, "l.wav", "short.wav", "short").status, Some(0));
     assert!(same(path, "out/right.wav", "short/right.wav"));
-    assert_eq!(names(&path.join("out")), WRITTEN);
+    assert_eq!(names(&path.join("out")), WITH_TABLE);
 }
 
 #[test]
@@ -118,19 +118,19 @@ fn a_recording_that_breaks_off() {
     fs::write(path.join("half.wav"), &whole[..HEADER + 4 * BROKEN + 3]).unwrap();
     let ended = two(&path, "l.wav", "half.wav", "out");
     assert_eq!(ended.status, Some(2));
-    assert_eq!(ended.why, "box: half.wav: ends after 3.1 of 4.0 s, as its header has it\n");
+    assert_eq!(ended.why, "box: half.wav: the file ends after 3.1 s, but its header announces 4.0 s\n");
     ends_there(&path, &right);
     // the last sample alone
     fs::write(path.join("half.wav"), &whole[..whole.len() - 1]).unwrap();
     let ended = two(&path, "l.wav", "half.wav", "last");
     assert_eq!(ended.status, Some(2));
-    assert_eq!(ended.why, "box: half.wav: ends after 3.99998 of 4.00000 s, as its header has it\n");
+    assert_eq!(ended.why, "box: half.wav: the file ends after 3.99998 s, but its header announces 4.00000 s\n");
     // a stream that knows its length
-    let mut stereo = wav::write(48_000, &vec![9.0; 2 * 48_000]);
+    let mut stereo = wav::write(48_000, &[9.0, 8.0].repeat(48_000));
     (stereo[22], stereo[32]) = (2, 4);
     let ended = fed(clean(&path, &["-", "--out", "stream"]), &stereo[..HEADER + 4 * 24_000]);
     assert_eq!(ended.status, Some(2));
-    assert_eq!(ended.why, "box: standard input: ends after 0.5 of 1.0 s, as its header has it\n");
+    assert_eq!(ended.why, "box: standard input: it ends after 0.5 s, but its header announces 1.0 s\n");
     assert_eq!(sound(&path.join("stream/right.wav"), "right").len(), 24_000);
 }
 
@@ -152,7 +152,11 @@ fn a_length_that_is_not_known() {
     long[40..44].copy_from_slice(&0x9000_0000u32.to_le_bytes());
     fs::write(path.join("long.wav"), long).unwrap();
     let ended = two(&path, "l.wav", "long.wav", "out");
-    assert!(ended.status == Some(2) && ended.why.contains("ends after 4.0 of 12582.9 s"), "{}", ended.why);
+    assert!(
+        ended.status == Some(2) && ended.why.contains("ends after 4.0 s, but its header announces 12582.9 s"),
+        "{}",
+        ended.why
+    );
 }
 
 #[test]
@@ -213,7 +217,7 @@ fn raw_that_is_none() {
         (&mp3, "an MP3 file"),
     ];
     for (bytes, form) in files {
-        let ended = fed(clean(&path, &["-", "--raw", "--out", "out"]), bytes);
+        let ended = fed(clean(&path, &["-", "--raw", "-q", "--out", "out"]), bytes);
         assert_eq!(ended.status, Some(2));
         assert_eq!(ended.why, format!("box: standard input: this is {form}, and not samples alone as --raw says\n"));
         assert!(!path.join("out").exists());

@@ -1,9 +1,9 @@
 //! Fixed cases, through the static library and the box.
 
-use tuppencehop::block::Block;
-use tuppencehop::demo::HOUSE;
-use tuppencehop::recorder::{Recorder, Side, Way, RECORD};
-use tuppencehop::refusal::Refusal;
+use tuppencehop::cleaning::demo::HOUSE;
+use tuppencehop::cleaning::recorder::{Recorder, Side, Way, RECORD};
+use tuppencehop::reading::block::Block;
+use tuppencehop::telling::refusal::Refusal;
 use tuppencehop::FRAME;
 
 /// Hidden counts of 1, all weights and biases 0: 392 bytes.
@@ -29,7 +29,7 @@ fn weights_of_0_give_halves() {
 
 #[test]
 fn a_lag_of_768_passes_and_769_gives_6() {
-    let (mut store, mut record) = (vec![1.0; 98_304], [0; RECORD]);
+    let (mut store, mut record) = (vec![1.0; tuppence::STORE], [0; RECORD]);
     let (mut window, mut sums) = ([2.0; 960], [3.0; 22]);
     assert_eq!(tuppence::open(&mut record, &mut store, 1, &smallest()), 0);
     assert_eq!(tuppence::call1(&mut record, &mut store, 1, &[100.0; 480], &mut window), 0);
@@ -37,25 +37,25 @@ fn a_lag_of_768_passes_and_769_gives_6() {
     assert_eq!(tuppence::call2(&mut record, &mut store, 1, &[0.5; 961], 769, &mut window, &mut sums), 6);
     assert!(before == (store.clone(), record, window, sums));
     assert_eq!(tuppence::call2(&mut record, &mut store, 1, &[0.5; 961], 768, &mut window, &mut sums), 0);
-    assert_eq!(record, [3, 0, 1, 1, 1, 0, 0, 0, 0, 0, 0]);
+    assert_eq!(record, [3, 0, 1, 1, 1, 0, 0, 0, 0, 0, 0, 2]);
     // The other fifteen shares were never opened, and are as they were.
-    assert!(store[..6_144].iter().chain(&store[12_288..]).all(|x| *x == 1.0));
+    assert!(store[..tuppence::SHARE].iter().chain(&store[2 * tuppence::SHARE..]).all(|x| *x == 1.0));
 }
 
 #[test]
 fn the_sister_of_call_2_is_call_2_with_the_lag_of_that_sides_own_input() {
     const PERIODS: [usize; 2] = [300, 500];
-    let (mut store, mut records) = (vec![1.0; 98_304], [[0; RECORD]; 2]);
+    let (mut store, mut records) = (vec![1.0; tuppence::STORE], [[0; RECORD]; 2]);
     for (side, period) in PERIODS.into_iter().enumerate() {
         assert_eq!(tuppence::open(&mut records[side], &mut store, side as u32, &smallest()), 0);
         records[side][0] = 2;
-        for (i, x) in store[6_144 * side..][..1_728].iter_mut().enumerate() {
+        for (i, x) in store[tuppence::SHARE * side..][..1_728].iter_mut().enumerate() {
             *x = (i % period) as f32 - 0.5 * period as f32;
         }
     }
     for side in [0, 1] {
         let mut lag = [0];
-        assert_eq!(tuppence::lag(&mut lag, &store[6_144 * side..][..1_728]), 0);
+        assert_eq!(tuppence::lag(&mut lag, &store[tuppence::SHARE * side..][..1_728]), 0);
         assert_eq!(lag[0] as usize, PERIODS[side]);
         let call = |own: bool| {
             let (mut store, mut record, mut window, mut sums) = (store.clone(), records[side], [2.0; 960], [3.0; 22]);
@@ -81,17 +81,17 @@ fn even_benches_are_left_and_odd_ones_right() {
 #[test]
 fn bench_15_is_the_last_and_98_304_numbers_are_the_only_store() {
     let open = |side, len| tuppence::open(&mut [0; RECORD], &mut vec![1.0; len], side, &smallest());
-    assert_eq!((open(15, 98_304), open(16, 98_304)), (0, 1));
+    assert_eq!((open(15, tuppence::STORE), open(16, tuppence::STORE)), (0, 1));
     assert_eq!([12_288, 98_303, 98_305].map(|len| open(0, len)), [2; 3]);
 }
 
-/// The eleventh number of a record is the way of its bench.
+/// The eleventh number of a record is the way of its bench, and the twelfth its bench, counted from 1.
 #[test]
 fn an_opening_settles_the_way() {
     for (way, number) in [(Way::Asked, 0), (Way::Crate, 1)] {
-        let (mut store, mut record) = (vec![1.0; 98_304], [0; RECORD]);
+        let (mut store, mut record) = (vec![1.0; tuppence::STORE], [0; RECORD]);
         assert_eq!(way.open(&mut record, &mut store, 0, &smallest()), Ok(()));
-        assert_eq!(record, [1, 0, 1, 1, 1, 0, 0, 0, 0, 0, number]);
+        assert_eq!(record, [1, 0, 1, 1, 1, 0, 0, 0, 0, 0, number, 1]);
         let mut frame = |record: &mut [u32]| {
             let (mut out, mut answer) = ([0.0; FRAME], [0.0; 3]);
             tuppence::frame(record, &mut store, 0, &[100.0; FRAME], &smallest(), &mut out, &mut answer)

@@ -7,13 +7,13 @@ mod common;
 use common::*;
 use std::fs;
 use std::path::Path;
-use tuppencehop::demo::Rng;
+use tuppencehop::cleaning::demo::Rng;
 
 /// Seeded noise, a buzz over it and silence in turn, in 24 bits. (Of whole numbers alone every machine makes the same.)
 fn sound(seed: u64, length: usize) -> Vec<i32> {
     let (mut rng, period) = (Rng(seed), 150 + seed as usize % 300);
     let each = |i: usize| {
-        let noise = (rng.next() >> 44) as i32 - (1 << 19);
+        let noise = (rng.draw() >> 44) as i32 - (1 << 19);
         let buzz = (6_000_000 / period * (i % period)) as i32 - 3_000_000;
         [noise, noise + buzz, noise / 8 + buzz, 0][i / 5_000 % 4]
     };
@@ -194,7 +194,7 @@ fn a_stream() {
     let (path, sounds) = (folder("formats-stream"), both(EVEN));
     same("a stream", |lag| [Pcm16, Pcm24, Float].map(|format| streamed(&path, lag, format, false, &sounds)), ONE);
     for (lag, [kept, ..]) in LAGS.into_iter().zip(ONE) {
-        let words = [&["-", "--raw", "--out", "out"], lag].concat();
+        let words = [&["-", "--raw", "-q", "--out", "out"], lag].concat();
         let raw = fed(clean(&path, &words), &Pcm16.stereo(&sounds));
         assert_eq!(after(&path, raw, 0, ""), kept);
     }
@@ -301,7 +301,7 @@ fn another_right_channel() {
     let mut audio = Float.stereo(&sounds);
     let mut left = || {
         let ended = fed(clean(&path, &["-", "--out", "out", "--force"]), &wav(Float, 2, false, &audio));
-        audio.chunks_exact_mut(8).for_each(|both| both[4..].copy_from_slice(&(rng.next() as u32).to_le_bytes()));
+        audio.chunks_exact_mut(8).for_each(|both| both[4..].copy_from_slice(&(rng.draw() as u32).to_le_bytes()));
         (ended.status, recorded(&path.join("out/left.wav")))
     };
     let (status, kept) = left();

@@ -72,8 +72,10 @@ fn a_full_disk_for_files() {
     let Some(_disk) = Disk::new(&disk) else {
         return skipped();
     };
-    let recording = tuppencehop::wav::write(48_000, &vec![100.0; 480_000]);
-    ["l.wav", "r.wav"].iter().for_each(|name| fs::write(path.join(name), &recording).unwrap());
+    for (name, sample) in [("l.wav", 100.0), ("r.wav", 200.0)] {
+        let recording = tuppencehop::reading::wav::write(48_000, &vec![sample; 480_000]);
+        fs::write(path.join(name), recording).unwrap();
+    }
     let ended = run(clean(&path, &["--left", "l.wav", "--right", "r.wav", "--out", "disk/out"]));
     assert!(ended.status == Some(1) && ended.why.contains("No space left on device"), "{}", ended.why);
     assert!(!disk.join("out").exists());

@@ -1,9 +1,9 @@
 //! The house model: it reads, and on the demo it takes the noise and leaves the voice. (The gate looks at its checksum
 //! besides.)
 
-use tuppencehop::demo::{cleaned, dictation, effect, HOUSE};
-use tuppencehop::layers::Layers;
-use tuppencehop::recorder::Way;
+use tuppencehop::cleaning::demo::{cleaned, dictation, effect, HOUSE};
+use tuppencehop::cleaning::recorder::Way;
+use tuppencehop::models::layers::Layers;
 
 #[test]
 fn it_has_the_usual_shape() {

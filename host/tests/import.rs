@@ -7,11 +7,11 @@ use models::{any, as_c, c_name, declarations, layers, pick, plain, up_to, HEAD};
 use std::fs;
 use std::path::{Path, PathBuf};
 use std::process::{Command, Output};
-use tuppencehop::demo::{dictation, Rng, HOUSE};
-use tuppencehop::export::rnnn;
-use tuppencehop::import::model;
-use tuppencehop::layers::{first_array, Layers, LAYERS};
-use tuppencehop::wav;
+use tuppencehop::cleaning::demo::{dictation, Rng, HOUSE};
+use tuppencehop::models::export::rnnn;
+use tuppencehop::models::import::model;
+use tuppencehop::models::layers::{first_array, Layers, LAYERS};
+use tuppencehop::reading::wav;
 
 /// The text form, with any white space between its numbers.
 fn as_rnnn(layers: &Layers, rng: &mut Rng) -> String {
@@ -181,7 +181,11 @@ fn with_line(text: &str, line: usize, from: &str, to: &str) -> String {
 }
 
 fn refused(text: &str, why: &str) {
-    assert_eq!(model(text.as_bytes().to_vec()), Err(why.to_string()));
+    let error = model(text.as_bytes().to_vec()).unwrap_err();
+    assert_eq!((error.to_string().as_str(), error.status()), (why, 1));
+    // a refusal's number is kept, and not in the words alone
+    let number = error.refusal().map(|refusal| format!("(refusal {}", refusal.0 / 256 % 256));
+    assert_eq!(number.is_some_and(|number| why.contains(&number)), why.contains("(refusal "), "{why}");
 }
 
 #[test]
@@ -228,7 +232,7 @@ fn each_refusal_of_a_text_of_rnnoise_nu() {
 fn apart(layer: usize, part: usize, count: u32) -> Layers {
     let mut layers = smallest();
     layers.shapes[3 * layer + part] = count;
-    let lengths = tuppencehop::layers::lengths(layer, layers.shapes[3 * layer], layers.shapes[3 * layer + 1]);
+    let lengths = tuppencehop::models::layers::lengths(layer, layers.shapes[3 * layer], layers.shapes[3 * layer + 1]);
     for (array, length) in layers.arrays[first_array(layer)..].iter_mut().zip(lengths) {
         array.resize(length, 0);
     }
@@ -443,8 +447,8 @@ fn names_model(line: &[u8]) -> bool {
 #[test]
 fn each_form_is_taken_as_a_model() {
     let path = folder("taken");
-    for name in ["L.wav", "R.wav"] {
-        fs::write(path.join(name), wav::write(48_000, &dictation(0).noisy[..48_000])).unwrap();
+    for (bench, name) in ["L.wav", "R.wav"].into_iter().enumerate() {
+        fs::write(path.join(name), wav::write(48_000, &dictation(bench).noisy[..48_000])).unwrap();
     }
     let forms = ["house.rnn", "house.rnnn", "rnn_data.c"];
     for form in forms {

@@ -9,9 +9,9 @@ use std::fs;
 use std::io::Cursor;
 use std::path::Path;
 use std::process::Command;
-use tuppencehop::found::sealed as told;
-use tuppencehop::kept::Row;
-use tuppencehop::recorder::Side;
+use tuppencehop::cleaning::recorder::Side;
+use tuppencehop::telling::found::sealed as told;
+use tuppencehop::telling::kept::Row;
 
 fn mend(path: &Path, words: &[&str]) -> Ended {
     run(host(path, &[&["mend"], words].concat()))
@@ -50,7 +50,8 @@ fn what_is_kept() {
         closed(torn, &[], all, &right);
     }
     // what stands behind the sheet is no part of it, and neither is a chunk's length that was not written yet
-    closed(&[&right[..], &sealed(0, &noise(480, 2))].concat(), &[], all, &right);
+    let first = format!("{} Another recording follows in the file: this is the first one.\n", all.trim_end());
+    closed(&[&right[..], &sealed(0, &noise(480, 2))].concat(), &[], &first, &right);
     let mut changed = right.clone();
     changed[records - 25] ^= 1;
     closed(&changed, &[], all, &right);
@@ -79,15 +80,13 @@ fn what_is_refused() {
     refused(&right[..3_000], &[], "the file ends within its audio (refusal 37)");
     refused(&right[..records], &[], "no records follow its seal, from frame 0 on");
     refused(&right[..records + 15], &[], "no records follow its seal, from frame 0 on");
-    refused(b"notes", &[], "not a WAV file: it does not start as one");
+    refused(b"notes", &[], "not a WAV file: it is text");
     let elsewhere = "its seal does not stand where its audio ends";
     refused(&[&right[..500], &[7], &right[500..]].concat(), &[], elsewhere);
     refused(&[&right[..500], &[7], &right[500..]].concat(), &["--as", "right"], elsewhere);
-    refused(
-        &riff(&audio, &[]),
-        &[],
-        "no side sheet: it does not end in a trailer that points back to records (refusal 32)",
-    );
+    let why = "not a sealed recording: another program saved it, or it was never sealed. Ask for the file as the box \
+               wrote it (refusal 32)";
+    refused(&riff(&audio, &[]), &[], why);
     // sheet and seal of two sides
     let two = riff(&audio, &chunk(&seal(0, &audio), &sheet(1, &entries(5))));
     refused(&two, &[], "its records are of the right side");
@@ -127,7 +126,7 @@ fn what_a_person_says() {
 #[test]
 fn a_long_row_in_parts() {
     const PART: usize = 8_192;
-    let entries: Vec<u64> = (0..2 * PART as u64 + 100).map(|n| n | (n % 3) % 2 << 32).collect();
+    let entries: Vec<u64> = (0..2 * PART as u64 + 100).map(|n| n | (((n % 3) % 2) << 32)).collect();
     let whole = sheet(1, &entries);
     let agree = |file: &[u8]| {
         // one byte more, so that it is no sheet of its own
@@ -138,7 +137,9 @@ fn a_long_row_in_parts() {
         assert_eq!(row.side.is_some(), refused == 0);
         assert_eq!(row.frames(), numbers[1]);
         let trailer = &out[8 * numbers[1] as usize..][..16];
-        assert!(row.side.is_none_or(|side| tuppencehop::records::trailer(side, row.tally).unwrap() == trailer));
+        assert!(row
+            .side
+            .is_none_or(|side| tuppencehop::recording::records::trailer(side, row.tally).unwrap() == trailer));
     };
     agree(&whole);
     for record in

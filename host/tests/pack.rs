@@ -4,7 +4,7 @@ use std::collections::BTreeMap;
 use std::fs;
 use std::path::{Path, PathBuf};
 use std::process::{Command, Output};
-use tuppencehop::demo::HOUSE;
+use tuppencehop::cleaning::demo::HOUSE;
 
 /// A folder of its own for each test, with the house model in it and taken apart.
 fn folder(name: &str) -> PathBuf {

@@ -6,12 +6,13 @@ use std::fs;
 use std::io::Write;
 use std::path::{Path, PathBuf};
 use std::process::{Command, Stdio};
-use tuppencehop::about::About;
-use tuppencehop::cleaned::Summary;
-use tuppencehop::colours::{DARK, LIGHT};
-use tuppencehop::demo::{dictation, HOUSE};
-use tuppencehop::recorder::{Frame, Heard, Side};
-use tuppencehop::{page, wav};
+use tuppencehop::cleaning::cleaned::Summary;
+use tuppencehop::cleaning::demo::{dictation, HOUSE};
+use tuppencehop::cleaning::recorder::{Frame, Heard, Side};
+use tuppencehop::page;
+use tuppencehop::page::about::About;
+use tuppencehop::page::colours::{DARK, LIGHT};
+use tuppencehop::reading::wav;
 
 /// A tag, and what stands between it and the next one.
 #[derive(Debug)]
@@ -93,7 +94,7 @@ fn benches() -> [Summary; 2] {
 }
 
 fn the_page() -> String {
-    page::html(&benches(), Some(["left-before.wav", "right-before.wav"]), "")
+    page::html(&benches(), Some(["left-before.wav", "right-before.wav"]), "", true)
 }
 
 fn all<'a>(tags: &'a [Tag], name: &str) -> Vec<&'a Tag> {
@@ -225,7 +226,7 @@ fn what_a_clerk_wants_is_on_top() {
     assert_eq!((row(&page, "right", "gaps"), row(&page, "right", "clipped samples")), (&*bad("1"), &*bad("3")));
     assert_eq!(row(&page, "right", "peak"), "0.0 dB of full scale");
     // without the recordings as they were, the cleaned ones are played
-    let alone = page::html(&benches(), None, "");
+    let alone = page::html(&benches(), None, "", true);
     assert!(!alone.contains("left-before.wav") && alone.matches("<audio").count() == 2);
     assert_eq!(alone.matches("data-player=\"left-after\"").count(), 3);
 }
@@ -244,6 +245,8 @@ fn contrast(one: &str, other: &str) -> f64 {
 
 const TEXT: [&str; 4] = ["ink", "soft", "link", "bad"];
 const GROUND: [&str; 2] = ["card", "paper"];
+/// Each bench's own colour, with its name in the card's colour on it.
+const SIDES: [&str; 2] = ["left", "right"];
 const SEEN: [&str; 8] = ["edge", "peak-before", "rms-before", "peak-after", "rms-after", "voice", "heard", "gap"];
 
 /// Text has 4.5 to 1 on every ground, what must be seen 3 to 1 on its card, and the RMS as much on the peak. A gap's stroke has the card's colour on
@@ -260,11 +263,12 @@ fn contrasts() {
         };
         TEXT.iter().for_each(|text| GROUND.iter().for_each(|ground| at_least(text, ground, 4.5)));
         SEEN.iter().for_each(|seen| at_least(seen, "card", 3.0));
+        SIDES.iter().for_each(|side| at_least(side, "card", 4.5));
         at_least("rms-before", "peak-before", 3.0);
         at_least("rms-after", "peak-after", 3.0);
         // these are the colours of the page
         assert!(colours.iter().all(|(name, colour)| page.contains(&format!("--{name}: {colour};"))));
-        assert!(colours.iter().all(|(name, _)| [&TEXT[..], &GROUND, &SEEN].concat().contains(name)));
+        assert!(colours.iter().all(|(name, _)| [&TEXT[..], &GROUND, &SEEN, &SIDES].concat().contains(name)));
     }
     assert_eq!(page.matches("prefers-color-scheme: dark").count(), 1);
     assert!(page.contains("color-scheme: light dark"));
@@ -286,17 +290,21 @@ fn the_style_sheet() {
     for (property, value) in &rules {
         let names = named(value);
         match *property {
-            "color" => assert!(TEXT.contains(&&*names[0]), "{value}"),
+            // a bench's name has the card's colour, on its own
+            "color" => assert!(TEXT.contains(&&*names[0]) || names[0] == "card", "{value}"),
             "background" if *value != "none" => {
                 // the line where the player stands is text's colour
-                assert!(GROUND.contains(&&*names[0]) || names[0] == "ink", "{value}");
+                let grounds = [&GROUND[..], &SIDES, &["ink"]].concat();
+                assert!(grounds.contains(&&*names[0]), "{value}");
             }
             "fill" | "stroke" if *value != "none" => assert_eq!(names.len(), 1, "{value}"),
             "font-size" => {
                 let rem: f64 = value.strip_suffix("rem").expect("a size by the reader's own").parse().unwrap();
                 assert!(16.0 * rem >= 12.0, "{value}");
             }
-            "border" | "border-left" | "outline" if *value != "0" => assert_eq!(names.len(), 1, "{value}"),
+            "border" | "border-left" | "border-right" | "outline" if *value != "0" => {
+                assert_eq!(names.len(), 1, "{value}")
+            }
             _ => {}
         }
         assert!(property.starts_with("--") || !value.contains('#'), "{property}: {value}");
@@ -304,6 +312,49 @@ fn the_style_sheet() {
     assert!(rules.iter().filter(|(property, _)| *property == "font-size").count() > 3);
     // no text is drawn in the pictures, which are stretched
     assert!(!page.contains("<text"));
+}
+
+/// The rules of the style sheet for these.
+fn rules<'a>(page: &'a str, of: &str) -> Vec<&'a str> {
+    let style = page.split("<style>").nth(1).unwrap().split("</style>").next().unwrap();
+    style
+        .split('}')
+        .filter_map(|rule| rule.split_once('{'))
+        .filter(|(whose, _)| whose.trim() == of)
+        .map(|(_, r)| r)
+        .collect()
+}
+
+/// The two cards differ in position, colour and shape, and not only in a word.
+#[test]
+fn the_cards_differ() {
+    let page = the_page();
+    for (side, other) in [("left", "right"), ("right", "left")] {
+        assert_eq!(page.matches(&format!("<section class=\"bench {side}\"")).count(), 1);
+        let (card, name) =
+            (rules(&page, &format!(".{side}")).join(" "), rules(&page, &format!(".{side} h2")).join(" "));
+        assert!(card.contains(&format!("margin-{other}:")) && !card.contains(&format!("margin-{side}:")), "{card}");
+        assert!(card.contains(&format!("border-{side}: 0.75rem solid var(--{side})")), "{card}");
+        assert!(name.contains(&format!("background: var(--{side})")) && name.contains("clip-path: polygon("), "{name}");
+    }
+    for of in ["", " h2"] {
+        assert_ne!(rules(&page, &format!(".left{of}")), rules(&page, &format!(".right{of}")));
+    }
+}
+
+/// Whatever starts a player stops the others.
+#[test]
+fn one_player_at_a_time() {
+    let page = the_page();
+    let script = page.split("<script>").nth(1).unwrap().split_whitespace().collect::<Vec<_>>().join(" ");
+    assert!(script.contains("const players = [...document.querySelectorAll('audio')];"), "{script}");
+    assert!(
+        script.contains(
+            "for (const audio of players) audio.addEventListener('play', () => \
+             { for (const other of players) if (other !== audio) other.pause(); });"
+        ),
+        "{script}"
+    );
 }
 
 /// However long a recording is, its page is of one size.
@@ -323,7 +374,7 @@ fn a_long_recording_has_as_large_a_page() {
             }
             summary
         });
-        let page = page::html(&benches, None, "");
+        let page = page::html(&benches, None, "", true);
         assert_eq!(page.contains(">10:00</span>"), seconds == 1_300);
         page.len()
     });

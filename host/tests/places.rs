@@ -8,7 +8,7 @@ use std::fs;
 use std::os::unix::fs::symlink;
 use std::path::{Path, PathBuf};
 use std::process::Stdio;
-use tuppencehop::wav;
+use tuppencehop::reading::wav;
 
 /// A folder with two recordings in it.
 fn given(name: &str) -> PathBuf {
@@ -125,7 +125,7 @@ fn no_samples() {
         assert_eq!(ended.status, Some(1), "{}", ended.why);
         assert!(contents(&path.join("out")) == before);
     }
-    let ended = run(clean(&path, &["-", "--raw", "--out", "none"]));
+    let ended = run(clean(&path, &["-", "--raw", "-q", "--out", "none"]));
     assert_eq!((ended.status, &ended.why[..]), (Some(1), "box: no samples came: nothing is written\n"));
     assert!(!path.join("none").exists());
 }
@@ -196,7 +196,7 @@ fn two_runs_in_one_folder() {
         assert_eq!(ended.status, Some(1));
         assert_eq!(ended.why, "box: out: another run is writing into this folder\n");
     };
-    refused(fed(clean(&path, &["-", "--raw", "--out", "out"]), &samples));
+    refused(fed(clean(&path, &["-", "--raw", "-q", "--out", "out"]), &samples));
     refused(two(&path, "out", &["--force"]));
     refused(run(host(&path, &["demo", "out"])));
     refused(run(host(&path, &["mend", "out"])));

@@ -9,9 +9,10 @@ use made::*;
 use std::fs;
 use std::io::{Cursor, Write};
 use std::path::{Path, PathBuf};
-use tuppencehop::demo::{Rng, HOUSE};
-use tuppencehop::found::sealed as told;
-use tuppencehop::{mend, wav};
+use tuppencehop::cleaning::demo::{Rng, HOUSE};
+use tuppencehop::reading::wav;
+use tuppencehop::recording::mend;
+use tuppencehop::telling::found::sealed as told;
 
 /// What the box writes, made by hand of its audio and its table.
 #[test]
@@ -31,9 +32,17 @@ fn one_whole_riff() {
         assert!(file == with_entries(side, audio, &entries), "{name}");
         // RIFF says how long all is, and its three chunks are all of it
         assert_eq!(file[4..8], (file.len() as u32 - 8).to_le_bytes());
-        assert!(wav::are_chunks(Cursor::new(&file), 12).unwrap());
+        assert!(are_chunks(&file[12..]));
         assert_eq!(wav::read(&file).unwrap().channels[0].len(), 62_400);
     }
+}
+
+/// Whether these bytes are chunks and nothing else.
+fn are_chunks(bytes: &[u8]) -> bool {
+    let Some((head, rest)) = bytes.split_first_chunk::<8>() else { return bytes.is_empty() };
+    let size = u32::from_le_bytes([head[4], head[5], head[6], head[7]]) as usize;
+    head[..4].iter().all(|byte| byte.is_ascii_graphic() || *byte == b' ')
+        && rest.get(size + size % 2..).is_some_and(are_chunks)
 }
 
 /// The audio of a WAV file, as its header says.
@@ -56,8 +65,8 @@ impl Known {
     }
 
     fn any<'a>(&'a self, rng: &mut Rng) -> &'a [u8] {
-        let side = &self.0[rng.next() as usize % 2];
-        &side[rng.next() as usize % side.len()]
+        let side = &self.0[rng.draw() as usize % 2];
+        &side[rng.draw() as usize % side.len()]
     }
 
     /// The same recording's other side.
@@ -79,19 +88,19 @@ fn places(file: &[u8]) -> [usize; 2] {
 
 /// A place in a file, mostly where much depends on it.
 fn place(rng: &mut Rng, file: &[u8]) -> usize {
-    let near = rng.next() as usize % 120;
-    match rng.next() % 4 {
+    let near = rng.draw() as usize % 120;
+    match rng.draw() % 4 {
         0 => near.min(file.len()),
         1 => file.len().saturating_sub(near),
-        _ => rng.next() as usize % (file.len() + 1),
+        _ => rng.draw() as usize % (file.len() + 1),
     }
 }
 
 /// Parts of the other side's recording, which is as long, in the place of this one's.
-fn swap(rng: &mut Rng, file: &mut Vec<u8>, other: &[u8]) {
+fn swap(rng: &mut Rng, file: &mut [u8], other: &[u8]) {
     let [seal, records] = places(other);
     let parts = [HEADER..seal - 8, seal..records, records..other.len(), seal..other.len(), records..other.len() - 16];
-    let part = parts[rng.next() as usize % parts.len()].clone();
+    let part = parts[rng.draw() as usize % parts.len()].clone();
     if file.len() == other.len() {
         file[part.clone()].copy_from_slice(&other[part]);
     }
@@ -99,10 +108,10 @@ fn swap(rng: &mut Rng, file: &mut Vec<u8>, other: &[u8]) {
 
 fn damage(rng: &mut Rng, file: &mut Vec<u8>, known: &Known, other: &[u8]) {
     let at = place(rng, file);
-    match rng.next() % 8 {
-        0 | 1 if at < file.len() => file[at] ^= 1 << (rng.next() % 8),
-        2 => _ = file.splice(at..at, (0..1 + rng.next() % 9).map(|_| rng.next() as u8).collect::<Vec<_>>()),
-        3 => _ = file.drain(at..(at + 1 + rng.next() as usize % 9).min(file.len())),
+    match rng.draw() % 8 {
+        0 | 1 if at < file.len() => file[at] ^= 1 << (rng.draw() % 8),
+        2 => _ = file.splice(at..at, (0..1 + rng.draw() % 9).map(|_| rng.draw() as u8).collect::<Vec<_>>()),
+        3 => _ = file.drain(at..(at + 1 + rng.draw() as usize % 9).min(file.len())),
         4 => file[at..].fill(0),
         5 => file.truncate(at),
         6 => file.extend(known.any(rng)),
@@ -120,12 +129,12 @@ fn mutants() {
     for i in 0..many {
         let (side, n) = (i % 2, i / 2 % known.0[0].len());
         let mut file = known.0[side][n].clone();
-        (0..1 + rng.next() % 3).for_each(|_| damage(rng, &mut file, &known, known.other(side, n)));
+        (0..1 + rng.draw() % 3).for_each(|_| damage(rng, &mut file, &known, known.other(side, n)));
         if let Ok(sheet) = told(&mut Cursor::new(&file), false) {
             assert!(known.begins(sheet.side as usize, audio(&file)), "mutant {i}: {sheet}");
             counts[0] += 1;
         }
-        if let Ok(mended) = mend::of(&mut Cursor::new(&file), None) {
+        if let Ok(mended) = mend::mended_of(&mut Cursor::new(&file), None) {
             let mut new = vec![];
             mended.write(&mut Cursor::new(&file), &mut new).unwrap();
             let sheet = told(&mut Cursor::new(&new), false).expect("what is mended is sealed");
@@ -148,12 +157,12 @@ fn two_thousand_power_cuts() {
         let mut file = whole.clone();
         file[cut..].fill(0);
         assert!(told(&mut Cursor::new(&file), false).is_err() || file == whole, "{cut}");
-        match mend::of(&mut Cursor::new(&file), None) {
+        match mend::mended_of(&mut Cursor::new(&file), None) {
             Ok(mended) => {
                 assert_eq!(mended.sheet.side.name(), "right");
                 closed += 1;
             }
-            Err(why) => assert!(!why.contains("left"), "{why}"),
+            Err(why) => assert!(!why.to_string().contains("left"), "{why}"),
         }
     }
     assert!(closed > 10, "{closed}");
@@ -180,11 +189,14 @@ fn the_other_bench() {
     assert_eq!(fs::read(path.join("house.rnn")).unwrap(), HOUSE);
     let refused = |words: &[&str], why: &str| {
         let ended = clean(&path, words, "new");
-        let why = format!("box: {why}; with --anyway it is taken all the same\n");
+        let why = format!("box: {why} regardless\n");
         assert_eq!(ended, Ended { status: Some(2), said: String::new(), why });
         assert!(!path.join("new").exists());
     };
-    let given = |what: &str, is: &str, bench: &str| format!("{what} says {is}, and it is given for the {bench} bench");
+    let given = |what: &str, is: &str, bench: &str| {
+        let given = format!("it is given as the {bench} bench's recording; use --anyway to clean it as {bench}");
+        format!("{what} says {is}, but {given}")
+    };
     let why = given("DIR/right.wav: its seal", "right", "left");
     refused(&["--left", "DIR/right.wav", "--right", "b.wav"], &why);
     let why = given("DIR/left.wav: its seal", "left", "right");
@@ -199,7 +211,8 @@ fn the_other_bench() {
     // one recording for both, by whatever name
     fs::hard_link(path.join("a.wav"), path.join("c.wav")).unwrap();
     for other in ["a.wav", "./a.wav", "c.wav"] {
-        refused(&["--left", "a.wav", "--right", other], "a.wav: one recording can't be both benches'");
+        let why = "a.wav: one recording can't be both benches'; use --anyway to clean it as both";
+        refused(&["--left", "a.wav", "--right", other], why);
     }
     assert_eq!(clean(&path, &["--left", "DIR/left.wav", "--right", "DIR/right.wav"], "again").status, Some(0));
     let anyway = ["--left", "DIR/right.wav", "--anyway", "--right", "DIR/right.wav"];

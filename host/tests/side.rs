@@ -65,12 +65,8 @@ fn no_sheet_and_none_with_frames() {
     untold(&riff(&[noise(960, 2), vec![0; 960]].concat(), &[]), 3, none);
     untold(&riff(&audio, &sheet(1, &[])), 3, none);
     untold(&sealed(1, &[]), 3, none);
-    untold(&[0; 15], 3, "no side sheet: the file is too short for one (refusal 31)");
-    untold(
-        &riff(&audio, &[]),
-        3,
-        "no side sheet: it does not end in a trailer that points back to records (refusal 32)",
-    );
+    untold(&[0; 15], 3, &format!("{NOT_SEALED} (refusal 31)"));
+    untold(&riff(&audio, &[]), 3, &format!("{NOT_SEALED} (refusal 32)"));
     let third = riff(&audio, &sheet(2, &[]));
     untold(&third, 3, "no side sheet: its trailer names neither the left nor the right side (refusal 33)");
     untold(&sealed(0, &audio)[..1_000], 3, "the file ends within its audio (refusal 37)");
@@ -104,11 +100,50 @@ fn not_of_this_audio() {
     untold(&[&left[..24], &[0x81], &left[25..]].concat(), 5, "its header is none that the box writes");
     // two files, one behind the other
     let joined = [left.clone(), sealed(1, &other)].concat();
-    untold(&joined, 5, "its side sheet does not stand where its seal does");
-    untold(&joined[..joined.len() - 1], 5, &format!("its seal is whole, but {}", NO_TRAILER));
+    let why = "another recording was joined to its end; `box mend 1.wav --out NEW.wav` keeps the first";
+    untold(&joined, 5, why);
+    untold(&joined[..joined.len() - 1], 5, why);
+    // and the first of them changed
+    let mut changed = joined.clone();
+    changed[100] ^= 1;
+    untold(&changed, 5, "its side sheet does not stand where its seal does");
 }
 
-const NO_TRAILER: &str = "no side sheet: it does not end in a trailer that points back to records (refusal 32)";
+const NOT_SEALED: &str = "not a sealed recording: another program saved it, or it was never sealed. Ask for the file \
+                          as the box wrote it";
+
+/// A tag at the end of a sealed recording is named, and so is the command that takes it away again.
+#[test]
+fn a_tag_that_was_added() {
+    let path = folder("told-tag");
+    let left = sealed(0, &noise(960, 1));
+    for (name, tag) in [("a b.wav", &b"TAG\0\0"[..]), ("id3.wav", b"id3 \x04\0\0\0abcd"), ("one.wav", b"x")] {
+        fs::write(path.join(name), [&left, tag].concat()).unwrap();
+        let quoted = if name.contains(' ') { format!("'{name}'") } else { name.into() };
+        let bytes = if tag.len() == 1 { "1 byte was".into() } else { format!("{} bytes were", tag.len()) };
+        for quick in [&["side", name][..], &["side", "--quick", name]] {
+            let ended = run(host(&path, quick));
+            let why = format!(
+                "box: {name}: another program changed it: {bytes} added after its end, such as a tag; \
+                 `box mend {quoted} --out NEW.wav` restores it\n"
+            );
+            assert_eq!(ended, Ended { status: Some(5), said: String::new(), why });
+        }
+        let new = format!("new-{name}");
+        let ended = run(host(&path, &["mend", name, "--out", &new]));
+        assert_eq!(ended.status, Some(0), "{}", ended.why);
+        assert!(ended.said.contains(&format!("The {} bytes after its end are left out.", tag.len())), "{}", ended.said);
+        assert!(fs::read(path.join(new)).unwrap() == left);
+    }
+    // where the audio was changed too, nothing is restored
+    let mut changed = [&left[..], b"TAG"].concat();
+    changed[100] ^= 1;
+    untold(
+        &changed,
+        5,
+        "its seal is whole, but no side sheet: it does not end in a trailer that points back to records (refusal 32)",
+    );
+}
 
 #[test]
 fn damaged_seals_and_sheets() {

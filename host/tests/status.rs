@@ -10,15 +10,15 @@ use std::fs::{self, File};
 use std::io::Write;
 use std::path::{Path, PathBuf};
 use std::process::{Command, Stdio};
-use tuppencehop::wav;
+use tuppencehop::reading::wav;
 
 const TWO: [&str; 6] = ["clean", "--model", "house.rnn", "--left", "l.wav", "--right"];
 
 /// A folder with a short recording of each bench.
 fn given(name: &str) -> PathBuf {
     let path = folder(&format!("status-{name}"));
-    for name in ["l.wav", "r.wav"] {
-        fs::write(path.join(name), wav::write(48_000, &[5.0; 480])).unwrap();
+    for (name, sample) in [("l.wav", 5.0), ("r.wav", 4.0)] {
+        fs::write(path.join(name), wav::write(48_000, &[sample; 480])).unwrap();
     }
     path
 }
@@ -49,7 +49,7 @@ fn of_stream(name: &str, meanwhile: impl FnOnce(&Path, &std::process::Child)) ->
 
 fn of_file_that_is_stopped() -> i32 {
     let path = given("stopped");
-    fs::write(path.join("r.wav"), wav::write(48_000, &vec![5.0; 120 * 48_000])).unwrap();
+    fs::write(path.join("r.wav"), wav::write(48_000, &vec![4.0; 120 * 48_000])).unwrap();
     let mut child = host(&path, &[&TWO[..], &["r.wav", "-q", "--out", "out"]].concat()).spawn().unwrap();
     soon("nothing is written", || size(&path.join("out/right.wav.part")) > 20_000);
     signal(&child, INT);
@@ -100,6 +100,8 @@ fn cases() -> Vec<(&'static str, i32)> {
     broken[HEADER + 40..HEADER + 44].fill(0xFF);
     let (audio, left) = (noise(480, 1), sealed(0, &noise(480, 1)));
     let changed = [&left[..60], &[left[60] ^ 1], &left[61..]].concat();
+    let mut more = wav::write(48_000, &[3.0; 4_800]);
+    more[40..44].copy_from_slice(&960u32.to_le_bytes());
     let asked = [&TWO[..], &["r.wav", "--out", "out"]].concat();
     let mut another = 0;
     let mut while_it_runs = |path: &Path, _: &std::process::Child| another = run(host(path, &asked)).status.unwrap();
@@ -141,6 +143,17 @@ fn cases() -> Vec<(&'static str, i32)> {
             of("both", &[&TWO[..], &["./l.wav", "--out", "out"]].concat())
         }),
         ("a recording is given for the other bench than its own, or for both", of_right("other", &left)),
+        ("a name says the other side than the one for which the file is given", {
+            of("name", &["clean", "--left", "r.wav", "--out", "out"])
+        }),
+        ("a name says the other side than the one for which the file is given", {
+            of("--side", &["clean", "l.wav", "--side", "right", "--out", "out"])
+        }),
+        ("the recordings of both benches are identical", of_right("same", &good)),
+        ("two files of a list would be written to one folder", {
+            of("twins", &["clean", "l.wav", "./l.wav", "--out", "out"])
+        }),
+        ("a file holds more audio than its header announces", of_right("more", &more)),
         ("`side` finds no side sheet, or one without frames", of("side", &["side", "l.wav"])),
         ("`side` finds a side sheet without a seal", of_side("1.wav", &riff(&audio, &sheet(0, &entries(2))))),
         ("`side` finds a recording that is not the one that was sealed, or is damaged", of_side("1.wav", &changed)),

@@ -15,7 +15,7 @@ use std::sync::atomic::{AtomicUsize, Ordering};
 use std::sync::Arc;
 use std::thread::{sleep, spawn};
 use std::time::Duration;
-use tuppencehop::wav;
+use tuppencehop::reading::wav;
 
 /// What these samples give, cleaned to their end, in a folder `whole`.
 fn whole(path: &Path, samples: &[u8]) {
@@ -37,8 +37,8 @@ fn a_signal_is_the_end_of_a_stream() {
         let ended = ended(child.wait_with_output().unwrap());
         assert_eq!((ended.status, &ended.why[..]), (Some(0), ""), "{number}");
         // all that had come is there, and nothing else; the stream itself was still open
-        assert_eq!(names(&path.join("out")), WRITTEN);
-        for name in WRITTEN {
+        assert_eq!(names(&path.join("out")), WITH_TABLE);
+        for name in WITH_TABLE {
             let read = |folder: &str| fs::read(path.join(folder).join(name)).unwrap();
             assert!(read("out") == read("whole"), "{number}: {name}");
         }
@@ -97,7 +97,7 @@ fn a_signal_before_a_file_is_read_to_its_end() {
     signal(&child, INT);
     let ended = ended(child.wait_with_output().unwrap());
     assert_eq!(ended.status, Some(2), "{}", ended.why);
-    assert_eq!(names(&path.join("out")), WRITTEN);
+    assert_eq!(names(&path.join("out")), WITH_TABLE);
     let kept = sound(&path.join("out/left.wav"), "left").len();
     assert_eq!(sound(&path.join("out/right.wav"), "right").len(), kept);
     assert!((100_000..5_000_000).contains(&kept));
@@ -164,7 +164,7 @@ fn control_c_at_a_terminal() {
     let (mut keyboard, name) = terminal();
     let words = format!(
         "exec <{name} >{name} 2>&1; trap : INT; \
-         while cat second.raw; do sleep 0.05; done | \"$0\" clean - --raw --model house.rnn --out out; echo $? >status"
+         while cat second.raw; do sleep 0.05; done | \"$0\" clean - --raw --csv --model house.rnn --out out; echo $? >status"
     );
     let mut shell = Command::new("sh");
     shell.args(["-c", &words, env!("CARGO_BIN_EXE_tuppencehop")]).current_dir(&path);
@@ -176,7 +176,7 @@ fn control_c_at_a_terminal() {
     keyboard.write_all(b"\x03").unwrap();
     shell.wait().unwrap();
     assert_eq!(fs::read_to_string(path.join("status")).unwrap(), "0\n");
-    assert_eq!(names(&path.join("out")), WRITTEN);
+    assert_eq!(names(&path.join("out")), WITH_TABLE);
     let kept = sound(&path.join("out/left.wav"), "left").len();
     assert!(kept > 100_000 && sound(&path.join("out/right.wav"), "right").len() == kept);
     // all that stands on the screen; where nobody has the terminal open any more, reading ends in a fault

@@ -4,8 +4,8 @@ use std::fs;
 use std::io::Write;
 use std::path::{Path, PathBuf};
 use std::process::{Child, Command, Output, Stdio};
-use tuppencehop::demo::{dictation, Rng, HOUSE};
-use tuppencehop::wav;
+use tuppencehop::cleaning::demo::{dictation, Rng, HOUSE};
+use tuppencehop::reading::wav;
 
 /// A folder of its own for each test, with the house model in it.
 fn folder(name: &str) -> PathBuf {
@@ -18,7 +18,7 @@ fn folder(name: &str) -> PathBuf {
 
 fn clean(path: &Path, words: &[&str]) -> Child {
     let mut command = Command::new(env!("CARGO_BIN_EXE_tuppencehop"));
-    command.arg("clean").args(words).args(["--model", "house.rnn"]).current_dir(path);
+    command.arg("clean").args(words).args(["-q", "--csv", "--model", "house.rnn"]).current_dir(path);
     command.stdin(Stdio::piped()).stdout(Stdio::piped()).stderr(Stdio::piped()).spawn().unwrap()
 }
 
@@ -26,8 +26,8 @@ fn clean(path: &Path, words: &[&str]) -> Child {
 fn deliver(mut child: Child, bytes: &[u8]) -> (Output, String) {
     let (mut to, mut rng, mut rest) = (child.stdin.take().unwrap(), Rng(12), bytes);
     while !rest.is_empty() {
-        let most = [3, 700, 4_000, 40_000][(rng.next() % 4) as usize];
-        let (part, behind) = rest.split_at(rest.len().min(1 + rng.next() as usize % most));
+        let most = [3, 700, 4_000, 40_000][(rng.draw() % 4) as usize];
+        let (part, behind) = rest.split_at(rest.len().min(1 + rng.draw() as usize % most));
         // a program that has stopped reads no more
         if to.write_all(part).is_err() {
             break;
@@ -120,7 +120,7 @@ fn peak(child: &Child) -> Option<u64> {
 /// The most memory that so many seconds of noise take.
 #[cfg(target_os = "linux")]
 fn peak_of(path: &Path, seconds: usize) -> u64 {
-    let mut child = clean(path, &["-", "--raw", "-q", "--out", "out"]);
+    let mut child = clean(path, &["-", "--raw", "--out", "out"]);
     let (mut to, mut rng) = (child.stdin.take().unwrap(), Rng(5));
     for _ in 0..seconds {
         let bytes: Vec<u8> = (0..2 * 48_000).flat_map(|_| ((1_000.0 * rng.number()) as i16).to_le_bytes()).collect();

@@ -8,7 +8,7 @@ use std::io::{Read, Write};
 use std::os::fd::{AsRawFd, FromRawFd, OwnedFd};
 use std::process::Stdio;
 use std::sync::{Arc, Mutex};
-use tuppencehop::wav;
+use tuppencehop::reading::wav;
 
 extern "C" {
     fn posix_openpt(flags: i32) -> i32;
@@ -58,7 +58,14 @@ impl Terminal {
     }
 }
 
-/// The line of a stream tells time, level and voice of each bench, moves, and is gone at the end.
+/// The times that the lines of a stream tell, in seconds. A line that has not come whole is left out.
+fn times(text: &str) -> Vec<u64> {
+    let clocks = text.split('\r').filter_map(|line| line.split_once("  left ")?.0.split_once(':'));
+    clocks.map(|(minutes, seconds)| 60 * minutes.parse::<u64>().unwrap() + seconds.parse::<u64>().unwrap()).collect()
+}
+
+/// The line of a stream tells time, level and voice of each bench, moves, and is gone at the end. It moves when samples
+/// come, and no more often than every 200 ms: so samples are sent until it was seen, however slow the machine is.
 #[test]
 fn a_stream() {
     let path = folder("terminal-stream");
@@ -67,27 +74,36 @@ fn a_stream() {
     let mut child = child.stdin(Stdio::piped()).stderr(terminal.stderr()).spawn().unwrap();
     let mut to = child.stdin.take().unwrap();
     // the voices begin at 1.5 s
-    let samples = raw(6.0);
-    for second in samples.chunks(4 * 48_000) {
-        to.write_all(second).unwrap();
-        std::thread::sleep(std::time::Duration::from_millis(250));
-    }
-    soon("no line", || terminal.text().contains("0:05  left "));
+    let sound = raw(6.0);
+    let mut pieces = sound.chunks(4 * 4_800).cycle();
+    let seen = |text: &str| {
+        let times = times(text);
+        times.len() > 4 && times.last() >= Some(&5) && text.contains(" dB voice  right ")
+    };
+    soon("no line", || {
+        to.write_all(pieces.next().unwrap()).unwrap();
+        seen(&terminal.text())
+    });
     drop(to);
     assert_eq!(child.wait().unwrap().code(), Some(0));
     soon("the line stays", || terminal.text().ends_with('\r'));
+    // first it says how it reads samples without a header
     let text = terminal.text();
-    assert!(!text.contains('\n') && text.matches('\r').count() > 4, "{text:?}");
-    assert!(text.contains(" dB voice  right ") && !text.contains("remaining"), "{text:?}");
+    let text = text.split_once("\r\n").unwrap().1;
+    assert!(!text.contains('\n') && !text.contains("remaining"), "{text:?}");
+    assert!(times(text).is_sorted(), "{text:?}");
     let last = text.trim_end_matches('\r').rsplit('\r').next().unwrap();
     assert!(!last.is_empty() && last.chars().all(|letter| letter == ' '), "{text:?}");
 }
 
-/// That of a file tells how much of it there is, and what is remaining.
+/// That of a file tells how much of it there is, and what is remaining. The file is long: the program must be at work
+/// still when this test has seen the line.
 #[test]
 fn a_long_file() {
     let path = folder("terminal-file");
-    fs::write(path.join("l.wav"), wav::write(48_000, &dictations()[0].repeat(40))).unwrap();
+    let samples = dictations()[0].repeat(120);
+    let length = samples.len() / 48_000;
+    fs::write(path.join("l.wav"), wav::write(48_000, &samples)).unwrap();
     let terminal = Terminal::new();
     let mut child = clean(&path, &["--left", "l.wav", "--out", "out"]).stderr(terminal.stderr()).spawn().unwrap();
     soon("no line", || terminal.text().contains(" remaining"));
@@ -95,7 +111,8 @@ fn a_long_file() {
     assert_eq!(child.wait().unwrap().code(), Some(2));
     soon("no reason", || terminal.text().contains("stopped after"));
     let text = terminal.text();
-    assert!(text.contains(" %  0:") && text.contains(" of 4:13, 0:"), "{text:?}");
+    let whole = format!(" of {}:{:02}, ", length / 60, length % 60);
+    assert!(text.contains(" %  0:") && text.contains(&whole), "{text:?}");
     assert!(!text.contains(" left"), "{text:?}");
     // what is told behind it begins a line of its own, in colour
     assert!(text.contains("\r\u{1b}[1;31mbox:\u{1b}[0m l.wav: stopped after "), "{text:?}");

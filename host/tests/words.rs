@@ -8,10 +8,10 @@ use std::fs;
 use std::os::unix::fs::symlink;
 use std::path::{Path, PathBuf};
 use std::process::{Command, Stdio};
-use tuppencehop::wav;
+use tuppencehop::reading::wav;
 
-const COMMANDS: [&str; 8] = ["clean", "side", "mend", "demo", "import", "export", "pack", "unpack"];
-const DEV: [&str; 6] = ["bench", "lags", "logs", "text", "man", "completion"];
+const COMMANDS: [&str; 10] =
+    ["clean", "side", "mend", "demo", "import", "export", "pack", "unpack", "man", "completion"];
 
 /// A folder with a short recording of each bench.
 fn given(name: &str) -> PathBuf {
@@ -72,12 +72,6 @@ fn help_for_the_whole_and_for_each() {
     for word in ["--left", "--both", "--side", "--raw", "--out DIR", "--name NAME", "--model", "--lag crate|own"] {
         assert!(good(&path, &["help", "clean"]).contains(&format!("\n  {word}")), "{word}");
     }
-    let dev = good(&path, &["dev", "--help"]);
-    assert_eq!(dev, good(&path, &["help", "dev"]));
-    for command in DEV {
-        assert!(dev.contains(&format!("\n  dev {command} ")) && !whole.contains(&format!("  {command} ")), "{command}");
-        assert!(good(&path, &["dev", command, "--help"]).starts_with(&format!("box dev {command}: ")));
-    }
     assert_eq!(names(&path), before);
     // behind -- it is a file
     assert_eq!(said(&path, &["side", "--", "--help"]).status, Some(1));
@@ -87,6 +81,7 @@ fn help_for_the_whole_and_for_each() {
 #[test]
 fn errors_name_what_is_wrong() {
     let path = given("errors");
+    fs::copy(path.join("l.wav"), path.join("n.wav")).unwrap();
     let before = names(&path);
     let two = ["clean", "--left", "l.wav", "--right", "r.wav"];
     let of = |more: &[&'static str]| [&two[..], more].concat();
@@ -103,15 +98,22 @@ fn errors_name_what_is_wrong() {
         (of(&["--out", "out", "--out", "other"]), 2, "clean: --out stands there twice"),
         (of(&["--out", "out", "--force=yes"]), 2, "clean: --force takes nothing; yes follows it"),
         (of(&["--out", "out", "l.wav"]), 2, "clean: l.wav is one recording too many"),
-        (of(&["--out", "out", "--raw"]), 2, "clean: --raw is for a stream, and - is missing"),
+        (
+            of(&["--out", "out", "--raw"]),
+            2,
+            "clean: --raw is for standard input: add -, or --left - or --right - for one bench",
+        ),
         (of(&["--out", "out", "--both", "l.wav"]), 2, "clean: --both stands for both benches"),
         (of(&["--out", "out", "--name", "a/b"]), 2, "clean: --name a/b: a short name without /"),
         (vec!["clean", "--out", "out"], 2, "clean: no recording is named"),
-        (vec!["clean", "l.wav", "--out", "out"], 2, "clean: l.wav: its name says neither left nor right; --side left"),
+        (
+            vec!["clean", "n.wav", "--out", "out"],
+            2,
+            "clean: n.wav: its name says neither left nor right; add --side left",
+        ),
         (vec!["claen"], 2, "unknown command claen; did you mean clean?"),
-        (vec!["bench"], 2, "unknown command bench; did you mean dev bench?"),
-        (vec!["dev", "bensh"], 2, "dev: unknown command bensh; did you mean bench?"),
-        (vec!["dev"], 2, "dev: which of them?"),
+        (vec!["dev", "bench"], 2, "dev is a program of its own, tuppencehop-dev; ./box dev runs it"),
+        (vec!["help", "dev"], 2, "dev is a program of its own"),
         (vec!["--hepl"], 2, "unknown option --hepl; did you mean --help?"),
         (vec![], 2, "what shall be done?"),
         (vec!["help", "claen"], 2, "unknown command claen; did you mean clean?"),
@@ -194,7 +196,7 @@ fn one_bench_alone() {
         let told = good(&path, &["clean", &format!("--{side}"), file, "--out", side]);
         assert!(told.starts_with(&format!("{side}: 11 frames\nCleaned")), "{told}");
         let recording = format!("{side}.wav");
-        assert_eq!(names(&path.join(side)), ["benches.svg", "frames.csv", "index.html", &recording]);
+        assert_eq!(names(&path.join(side)), ["benches.svg", "index.html", &recording]);
         let read = |folder: &str| fs::read(path.join(folder).join(&recording)).unwrap();
         assert!(read(side) == read("both"));
         let page = fs::read_to_string(path.join(side).join("index.html")).unwrap();
@@ -223,7 +225,10 @@ fn many_recordings() {
     // a name that says nothing, or another side than --side, is refused before anything is written
     for (words, why) in [
         (&["clean", "monday_LEFT.wav", "bright.wav", "--out", "new"][..], "bright.wav: its name says neither"),
-        (&["clean", "monday_LEFT.wav", "--side", "right", "--out", "new"], "monday_LEFT.wav: its name says left, and"),
+        (
+            &["clean", "monday_LEFT.wav", "--side", "right", "--out", "new"],
+            "monday_LEFT.wav: its name says left, but it is given as the right bench's recording",
+        ),
     ] {
         let ended = said(&path, words);
         assert!(ended.status == Some(2) && ended.why.contains(why), "{}", ended.why);
@@ -254,11 +259,11 @@ fn a_name_of_its_own() {
         assert_eq!(names(&path.join("week")).into_iter().filter(|one| one.starts_with(name)).collect::<Vec<_>>(), all);
         let page = fs::read_to_string(path.join(format!("week/{name}-index.html"))).unwrap();
         let name = name.replace(' ', "%20");
-        for file in ["left.wav", "right.wav", "frames.csv", "benches.svg"] {
+        for file in ["left.wav", "right.wav", "benches.svg"] {
             assert!(page.contains(&format!("=\"{name}-{file}\"")), "{file}");
         }
     }
-    assert_eq!(names(&path.join("week")).len(), 10);
+    assert_eq!(names(&path.join("week")).len(), 8);
     let ended = said(&path, &[&words[..], &["monday"]].concat());
     assert!(ended.status == Some(1) && ended.why.contains("week/monday-left.wav: it stands there"), "{}", ended.why);
     good(&path, &[&words[..], &["monday", "--force"]].concat());
@@ -297,7 +302,7 @@ fn answers_as_json() {
         for field in ["first_voice", "gaps\": 0", "clipped\": 0", &format!("peak\": {peak}"), "noise_taken"] {
             assert!(line.contains(&format!("\"{field}")), "{line}");
         }
-        assert!(line.ends_with("\"model\": \"house.rnn\", \"error\": null}"), "{line}");
+        assert!(line.ends_with("\"model\": \"house.rnn\", \"notes\": [], \"status\": 0, \"error\": null}"), "{line}");
     }
     fs::copy(path.join("out/left.wav"), path.join("right.wav")).unwrap();
     let ended = said(&path, &["side", "--json", "out/left.wav", "right.wav", "l.wav", "none.wav"]);
@@ -305,28 +310,27 @@ fn answers_as_json() {
     let sheet = "\"side\": \"left\", \"frames\": 11, \"heard\": 11, \"gaps\": 0";
     let none = "\"side\": null, \"frames\": null, \"heard\": null, \"gaps\": null";
     let lines: Vec<&str> = ended.said.lines().collect();
-    assert_eq!(lines[0], format!("{{\"file\": \"out/left.wav\", {sheet}, \"error\": null}}"));
-    let starts = format!("{{\"file\": \"right.wav\", {none}, \"error\": \"the name says another side: ");
+    assert_eq!(lines[0], format!("{{\"file\": \"out/left.wav\", {sheet}, \"status\": 0, \"error\": null}}"));
+    let starts = format!("{{\"file\": \"right.wav\", {none}, \"status\": 6, \"error\": \"the name says another side: ");
     assert!(lines[1].starts_with(&starts), "{}", lines[1]);
-    assert!(lines[2].starts_with(&format!("{{\"file\": \"l.wav\", {none}, \"error\": \"no side sheet: ")));
-    assert!(lines[3].starts_with(&format!("{{\"file\": \"none.wav\", {none}, \"error\": \"No such file")));
+    assert!(lines[2]
+        .starts_with(&format!("{{\"file\": \"l.wav\", {none}, \"status\": 3, \"error\": \"not a sealed recording: ")));
+    assert!(
+        lines[3].starts_with(&format!("{{\"file\": \"none.wav\", {none}, \"status\": 1, \"error\": \"No such file"))
+    );
     // a torn one, and one that can't be mended
     let whole = fs::read(path.join("out/left.wav")).unwrap();
     fs::write(path.join("torn.wav"), &whole[..whole.len() - 10]).unwrap();
     let told = good(&path, &["mend", "torn.wav", "--out", "new.wav", "--json"]);
-    let fields = "\"recording\": \"torn.wav\", \"lost\": 0, \"whole\": false, \"error\": null}\n";
+    let fields = "\"recording\": \"torn.wav\", \"lost\": 0, \"whole\": false, \"status\": 0, \"error\": null}\n";
     assert_eq!(told, format!("{{\"file\": \"new.wav\", {sheet}, {fields}"));
     let ended = said(&path, &["mend", "l.wav", "--out", "none.wav", "--json"]);
     assert_eq!((ended.status, &*ended.why), (Some(1), ""));
-    assert!(ended.said.contains("\"recording\": \"l.wav\"") && ended.said.contains("no side sheet"), "{}", ended.said);
-}
-
-#[test]
-fn speed_as_json() {
-    let told = good(&given("speed"), &["dev", "bench", "--json"]);
-    let fields: Vec<&str> = told.split('"').skip(1).step_by(2).collect();
-    let wanted = ["pieces", "own", "calls", "rust", "calls_to_rust", "idle"];
-    assert_eq!((&fields[..], told.lines().count()), (&wanted[..], 1), "{told}");
+    assert!(
+        ended.said.contains("\"recording\": \"l.wav\"") && ended.said.contains("not a sealed recording"),
+        "{}",
+        ended.said
+    );
 }
 
 /// What can't be cleaned has an object too, and the status is that without `--json`.
@@ -344,14 +348,19 @@ fn faults_as_json() {
     let ended = said(&path, &words);
     assert_eq!((ended.status, &*ended.why), (Some(2), ""));
     let line = ended.said.lines().nth(1).unwrap();
-    assert!(line.ends_with("\"error\": \"r.wav: ends after 0.0 of 0.1 s, as its header has it\"}"), "{line}");
+    assert!(
+        line.ends_with(
+            "\"status\": 2, \"error\": \"r.wav: the file ends after 0.0 s, but its header announces 0.1 s\"}"
+        ),
+        "{line}"
+    );
     // nothing came of one bench
     fs::write(path.join("r.wav"), &whole[..HEADER]).unwrap();
     let ended = said(&path, &[&words[..], &["--force"]].concat());
     assert_eq!((ended.status, &*ended.why, ended.said.lines().count()), (Some(2), "", 2));
     let line = ended.said.lines().nth(1).unwrap();
     assert!(line.starts_with("{\"file\": \"out\", \"recording\": \"r.wav\", \"side\": null"), "{line}");
-    assert!(line.ends_with("\"error\": \"r.wav: no audio follows its header\"}"), "{line}");
+    assert!(line.ends_with("\"status\": 2, \"error\": \"r.wav: no audio follows its header\"}"), "{line}");
     // many: an object for each
     fs::rename(path.join("l.wav"), path.join("a-left.wav")).unwrap();
     fs::write(path.join("b-left.wav"), b"no sound").unwrap();
@@ -373,7 +382,10 @@ fn a_crash_mended_as_json() {
     let lines: Vec<&str> = told.lines().collect();
     assert_eq!(lines.len(), 2);
     assert!(lines[0].starts_with("{\"file\": \"out/left.wav\", \"side\": \"left\", \"frames\": "), "{told}");
-    assert!(lines[1].contains(", \"gaps\": 0, \"seconds\": 0.") && lines[1].ends_with("\"error\": null}"), "{told}");
+    assert!(
+        lines[1].contains(", \"gaps\": 0, \"seconds\": 0.") && lines[1].ends_with("\"status\": 0, \"error\": null}"),
+        "{told}"
+    );
     // one that can't be closed
     fs::write(path.join("out/left.wav.part"), wav::write(48_000, &[5.0; 480])).unwrap();
     fs::write(path.join("out/left.wav.sheet"), b"").unwrap();
@@ -397,9 +409,9 @@ fn names_that_steer_a_terminal() {
     assert_eq!(good(&path, &["side", name]), format!("{shown}: left side, 11 frames, 11 heard, no gap; sealed\n"));
     fs::write(path.join(name), b"none").unwrap();
     let ended = said(&path, &["side", name]);
-    assert!(ended.why.starts_with(&format!("box: {shown}: no side sheet")), "{}", ended.why);
-    assert!(said(&path, &["clean", &format!("--\u{1b}[2J")]).why.contains("unknown option --\\u{1b}[2J"));
-    let ended = said(&path, &["clean", "--left", &format!("none\u{7}"), "--out", "new"]);
+    assert!(ended.why.starts_with(&format!("box: {shown}: not a sealed recording")), "{}", ended.why);
+    assert!(said(&path, &["clean", "--\u{1b}[2J"]).why.contains("unknown option --\\u{1b}[2J"));
+    let ended = said(&path, &["clean", "--left", "none\u{7}", "--out", "new"]);
     assert_eq!(ended.why, "box: clean: --left none\\u{7}: no such file\n");
     let json = said(&path, &["side", "--json", name]).said;
     assert!(json.starts_with("{\"file\": \"a\\u001b[31m\\n\\u202eleft.wav\", "), "{json}");

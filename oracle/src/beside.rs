@@ -1,7 +1,7 @@
 //! Any desk beside the desk by the text, or beside another: both are asked the same, and all that they answer and leave is compared.
 
 use crate::ask::{Ask, Caller, FRAME, PIECE, RESUME, SECOND_HALF, TAKE};
-use crate::desk::{self, BENCHES, COUNTS, EX, FINDER_MEM, LAG, RECORD, SHARE, STORE, WAIT, WAY, X};
+use crate::desk::{self, BENCH, BENCHES, COUNTS, EX, FINDER_MEM, LAG, RECORD, SHARE, STORE, WAIT, WAY, X};
 use crate::rng::{Mood, Rng};
 use crate::surface::Surface;
 use crate::tally::{floats, kept, signed, By, Given, Tally, Value};
@@ -228,7 +228,10 @@ impl Damage {
             46 => Damage::Store(share + FINDER_MEM.start, vec![rng.float(), rng.float()]),
             47..=58 => Damage::Record(vec![(WAY, rng.pick(&[2, 3, u32::MAX]))]),
             // a closed side has no way
-            59..=62 => Damage::Record((0..WAY).map(|at| (at, 0)).chain([(WAY, 1)]).collect()),
+            59..=62 => Damage::Record((0..RECORD).map(|at| (at, u32::from(at == WAY))).collect()),
+            63..=74 => Damage::Record(vec![(BENCH, another_bench(rng, side))]),
+            // a closed side's record belongs to no bench
+            75..=77 => Damage::Record((0..BENCH).map(|at| (at, 0)).chain([(BENCH, side as u32 + 1)]).collect()),
             _ => Damage::None,
         }
     }
@@ -264,6 +267,12 @@ impl Damage {
             Damage::None | Damage::StoreLength(_) | Damage::Store(..) => {}
         }
     }
+}
+
+/// What the record of an open side must not say of its bench: any other bench's number, none, and numbers that no bench has.
+pub fn another_bench(rng: &mut Rng, side: usize) -> u32 {
+    let other = (side + 1 + rng.below(BENCHES - 1)) % BENCHES;
+    rng.pick(&[other as u32 + 1, other as u32 + 1, 0, BENCHES as u32 + 1, u32::MAX])
 }
 
 /// Lags at the borders of what a second half and a finder read, between whole numbers, and none.

@@ -2,11 +2,13 @@
 //! plain packing and numbering, on a second store. (The package `feed` of this folder is another thing: it hands the text its transforms and logarithms.)
 
 use crate::answers::Answers;
+use crate::beside::another_bench;
 use crate::desk::{
-    self, gate, pass, Due, Way, BENCHES, COUNTS, DUE, FRAMES, INDEX, RECORD, STORE, UNFINISHED, WAIT, WAITING, WAY,
+    self, gate, pass, Due, Way, BENCH, BENCHES, COUNTS, DUE, FRAMES, INDEX, RECORD, STORE, UNFINISHED, WAIT, WAITING,
+    WAY,
 };
 use crate::dictation::{completed, LONGEST};
-use crate::faults::{befallen, closed_with_a_way, unfinished, Fault, SHAPE, SIDE};
+use crate::faults::{befallen, closed_but_for_its_bench, closed_with_a_way, unfinished, Fault, SHAPE, SIDE};
 use crate::models::{self, Shape};
 use crate::pcm::NO_FORMATS;
 use crate::plain_pcm::{self as plain, Layout};
@@ -138,6 +140,7 @@ fn recorded(rng: &mut Rng, Layout { format, channels, channel }: Layout, samples
         let own = match format {
             24 => ((x * 8_388_607.0) as i32).clamp(-8_388_608, 8_388_607).to_le_bytes(),
             32 => x.to_le_bytes(),
+            33 => ((f64::from(x) * 2_147_483_647.0) as i32).to_le_bytes(),
             _ => i32::from((x * 32_767.0) as i16).to_le_bytes(),
         };
         if let Some(to) = bytes.get_mut(place..place + width) {
@@ -190,7 +193,8 @@ fn interleaved(tally: &mut Tally, rng: &mut Rng, feed: Feed, frames: u64) -> Met
             _ => Case::opened(rng, side as u32, store, shape),
         };
         let channels = 1 + rng.below(8) as u32;
-        let layout = Layout { format: rng.pick(&[16, 24, 32]), channels, channel: rng.below(channels as usize) as u32 };
+        let layout =
+            Layout { format: rng.pick(&[16, 24, 32, 33]), channels, channel: rng.below(channels as usize) as u32 };
         let samples = match rng.below(4) {
             0 => 1 + rng.below(LONGEST),
             1 => rng.pick(&[1, 479, 480, 481, LONGEST]),
@@ -209,7 +213,7 @@ fn interleaved(tally: &mut Tally, rng: &mut Rng, feed: Feed, frames: u64) -> Met
 
 /// Now and then something is another; the bench goes on as if nothing had been.
 fn damage(rng: &mut Rng, case: &mut Case) -> bool {
-    match rng.below(24) {
+    match rng.below(25) {
         0 => case.layout.format = rng.pick(&NO_FORMATS),
         1 => case.layout.channels = rng.pick(&[0, 9, 65_536, u32::MAX]),
         2 => case.layout.channel = rng.pick(&[case.layout.channels, 65_535, u32::MAX]),
@@ -223,6 +227,7 @@ fn damage(rng: &mut Rng, case: &mut Case) -> bool {
         10 => case.record.fill(0),
         11 => case.bytes.resize(case.bytes.len() + 12 * LONGEST, 0),
         12 => (case.record[DUE], case.record[WAITING]) = (2, 0),
+        13 => case.record[BENCH] = another_bench(rng, case.side as usize),
         _ => return false,
     }
     true
@@ -251,11 +256,17 @@ const ANY: &[Fault<Case>] = &[
     (2, |c| c.record[WAY] = 2),
     (2, |c| c.record[WAY] = u32::MAX),
     (2, |c| closed_with_a_way(&mut c.record)),
+    (2, |c| (c.record[DUE], c.record[BENCH]) = (1, 0)),
+    (2, |c| c.record[BENCH] = SIDE),
+    (2, |c| c.record[BENCH] = 17),
+    (2, |c| c.record[BENCH] = u32::MAX),
+    (2, |c| closed_but_for_its_bench(&mut c.record)),
+    (2, |c| (c.record[DUE], c.side) = (1, 0)),
     (3, |c| c.record.fill(0)),
     (4, |c| (c.record[DUE], c.record[WAITING]) = (2, 0)),
     (4, |c| unfinished(&mut c.record)),
     (5, |c| c.layout.format = 0),
-    (5, |c| c.layout.format += 1),
+    (5, |c| c.layout.format += 2),
     (5, |c| c.layout.channels = 0),
     (5, |c| c.layout.channels = 65_536),
     (5, |c| c.layout.channel = c.layout.channels),
@@ -297,7 +308,7 @@ const OF_FLOATS: &[Fault<Case>] = &[
 fn every_two_faults(tally: &mut Tally, rng: &mut Rng, feed: Feed) {
     let store = rng.list(STORE);
     for (waiting, samples, format, channels) in
-        [(0, 480, 16, 2), (100, 5, 24, 1), (100, 1_000, 32, 3), (479, 500, 32, 3)]
+        [(0, 480, 16, 2), (100, 5, 24, 1), (100, 1_000, 32, 3), (479, 500, 32, 3), (30, 500, 33, 2)]
     {
         let layout = Layout { format, channels, channel: channels - 1 };
         let bench = Case::opened(rng, SIDE, store.clone(), SHAPE);
@@ -364,20 +375,21 @@ fn beside_any_right(tally: &mut Tally, rng: &mut Rng, feed: Feed, times: u64) {
     let left = Case::opened(rng, 0, store, SHAPE);
     let right = Case::opened(rng, 1, left.store.clone(), SHAPE);
     let benches = [Case { store: right.store.clone(), ..left }, right];
-    for format in [16, 24, 32] {
+    for format in [16, 24, 32, 33] {
         let lefts = [700, 300].map(|samples| {
             let level = 0.9;
             let xs = (0..samples).map(|_| level * rng.of(Mood::Small));
             let bytes = |x: f32| match format {
                 24 => ((x * 8_388_607.0) as i32).to_le_bytes()[..3].to_vec(),
                 32 => x.to_le_bytes().to_vec(),
+                33 => ((f64::from(x) * 2_147_483_647.0) as i32).to_le_bytes().to_vec(),
                 _ => ((x * 32_767.0) as i16).to_le_bytes().to_vec(),
             };
             xs.collect::<Vec<_>>().into_iter().flat_map(bytes).collect::<Vec<u8>>()
         });
         let wanted = received(rng, feed, &lefts, format, false, &benches);
         assert!(wanted.iter().all(|(number, _)| *number == [0]), "the left by itself is refused nothing");
-        for _ in 0..times.div_ceil(3) {
+        for _ in 0..times.div_ceil(4) {
             let ours = received(rng, feed, &lefts, format, true, &benches);
             for ((number, ours), (want, wanted)) in ours.iter().zip(&wanted) {
                 let (left, right) = (ours.left(number, Value::Floats), wanted.left(want, Value::Kept));
@@ -412,7 +424,8 @@ fn cut_in_two_ways(tally: &mut Tally, rng: &mut Rng, feed: Feed, times: u64) {
     for _ in 0..times {
         let bench = Case::opened(rng, SIDE, store.clone(), SHAPE);
         let channels = 1 + rng.below(8) as u32;
-        let layout = Layout { format: rng.pick(&[16, 24, 32]), channels, channel: rng.below(channels as usize) as u32 };
+        let layout =
+            Layout { format: rng.pick(&[16, 24, 32, 33]), channels, channel: rng.below(channels as usize) as u32 };
         let samples = 1 + rng.below(6_000);
         let stream = recorded(rng, layout, samples);
         if desk::broken(&plain::unpack(&stream, layout).expect("they are whole samples")) {

@@ -16,10 +16,8 @@ use nnnoiseless_text::probe::{bands, features, rnn};
 use nnnoiseless_text::{DenoiseFeatures, RnnModel};
 use std::ops::Range;
 
-/// How many benches there are, the store's length, and a side's share of it.
-pub const BENCHES: usize = 16;
-pub const STORE: usize = BENCHES * SHARE;
-pub const SHARE: usize = 6144;
+pub use tuppence::place::{BENCH, COUNTS, DUE, FRAMES, HEARD, INDEX, PROGRESS, UNFINISHED, WAITING, WAY};
+pub use tuppence::{BENCHES, RECORD, SHARE, STORE};
 
 // A share, place by place.
 pub const INPUT_MEM: Range<usize> = 0..1728;
@@ -33,19 +31,6 @@ pub const CEPSTRAL_MEM: Range<usize> = 3216..3392;
 pub const STATES: [usize; 3] = [3392, 3520, 3648];
 pub const FINDER_MEM: Range<usize> = 3776..3778;
 pub const WAIT: Range<usize> = 3778..4257;
-
-// A record: due call, cepstral index, the three GRU counts, frames and heard frames; how many samples wait, the length of an
-// unfinished piece, and how many of its samples are in frames; the way.
-pub const DUE: usize = 0;
-pub const INDEX: usize = 1;
-pub const COUNTS: Range<usize> = 2..5;
-pub const FRAMES: usize = 5;
-pub const HEARD: usize = 6;
-pub const WAITING: usize = 7;
-pub const UNFINISHED: usize = 8;
-pub const PROGRESS: usize = 9;
-pub const WAY: usize = 10;
-pub const RECORD: usize = 11;
 
 /// A bench's way, which its opening settles: our own lag and the plain sums, or the text's finder and the fast transforms.
 #[derive(Clone, Copy, Default, PartialEq)]
@@ -100,10 +85,14 @@ impl Way {
     }
 }
 
-fn in_range(record: &[u32]) -> bool {
-    let [due, index, vad, noise, denoise, _, _, waiting, piece, progress, way] = *record else { return false };
+/// Whether it is a record that this side may hand in.
+fn in_range(record: &[u32], side: u32) -> bool {
+    let [due, index, vad, noise, denoise, _, _, waiting, piece, progress, way, bench] = *record else { return false };
     if due == 0 {
         return record.iter().all(|n| *n == 0);
+    }
+    if bench.checked_sub(1) != Some(side) {
+        return false;
     }
     let counted = [vad, noise, denoise].iter().all(|n| (1..=127).contains(n));
     let frames = due <= 4 && index <= 7 && counted && way <= 1;
@@ -120,7 +109,7 @@ fn in_range(record: &[u32]) -> bool {
 fn entrance(record: &[u32], store: &[f32], side: u32) -> u32 {
     if side as usize >= BENCHES {
         1
-    } else if store.len() != STORE || !in_range(record) {
+    } else if store.len() != STORE || !in_range(record, side) {
         2
     } else {
         0
@@ -258,6 +247,7 @@ fn opened(record: &mut [u32], store: &mut [f32], side: u32, way: Way, model: &[u
     record[DUE] = 1;
     record[COUNTS].copy_from_slice(&counts(&layers));
     record[WAY] = way as u32;
+    record[BENCH] = side + 1;
     0
 }
 

@@ -1,7 +1,9 @@
 //! Whole calls with every fault at its limit, and with every two at once: the lower number answers, and nothing changes.
 
 use crate::ask::{Ask, FRAME, TAKE};
-use crate::desk::{self, Way, COUNTS, DUE, FINDER_MEM, INDEX, PROGRESS, RECORD, STORE, UNFINISHED, WAIT, WAITING, WAY};
+use crate::desk::{
+    self, Way, BENCH, COUNTS, DUE, FINDER_MEM, INDEX, PROGRESS, RECORD, STORE, UNFINISHED, WAIT, WAITING, WAY,
+};
 use crate::dictation::{completed, LONGEST};
 use crate::models::{self, Shape};
 use crate::rng::{Mood, Rng};
@@ -65,6 +67,12 @@ pub fn closed_with_a_way(record: &mut [u32]) {
     record[WAY] = 1;
 }
 
+/// A closed side's record that still says whose it is.
+pub fn closed_but_for_its_bench(record: &mut [u32]) {
+    record.fill(0);
+    record[BENCH] = SIDE + 1;
+}
+
 /// What any whole call is refused by.
 const ANY: &[Fault<Case>] = &[
     (0, |c| c.given()[0] = -32_768.0),
@@ -89,6 +97,13 @@ const ANY: &[Fault<Case>] = &[
     (2, |c| c.record[WAY] = 3),
     (2, |c| c.record[WAY] = u32::MAX),
     (2, |c| closed_with_a_way(&mut c.record)),
+    (2, |c| (c.record[DUE], c.record[BENCH]) = (1, 0)),
+    (2, |c| c.record[BENCH] = SIDE),
+    (2, |c| c.record[BENCH] = 17),
+    (2, |c| c.record[BENCH] = u32::MAX),
+    (2, |c| closed_but_for_its_bench(&mut c.record)),
+    (2, |c| (c.record[DUE], c.ask.side) = (1, 0)),
+    (2, |c| (c.record[DUE], c.ask.side) = (1, SIDE - 1)),
     (3, |c| c.record.fill(0)),
     (4, |c| (c.record[DUE], c.record[WAITING]) = (2, 0)),
     (4, |c| (c.record[DUE], c.record[WAITING]) = (3, 0)),

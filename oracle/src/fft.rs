@@ -145,6 +145,7 @@ pub fn compare(options: &Options) -> Tally {
         plain: [fast_forward, fast_inverse],
         // more would be a wrong step and not its rounding
         most: 16.0,
+        most_steady: 16.0,
     };
     held_against("fft", options, pair)
 }

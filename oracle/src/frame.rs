@@ -53,18 +53,18 @@ pub fn compare_with(options: &Options, desk: &Surface) -> Tally {
 mod tests {
     use super::*;
     use crate::beside::TEXT;
-    use crate::desk::{self, FINDER_MEM, SHARE, WAY};
+    use crate::desk::{self, BENCH, FINDER_MEM, RECORD, SHARE, WAY};
 
     /// The desk by the text against itself: what remains is the comparison of its frames with `process_frame`.
     #[test]
     fn four_calls_are_a_frame() {
-        let options = Options { calls: Some(8_000), seed: 5, all: false };
+        let options = Options { calls: Some(8_000), seed: 5, ..Options::default() };
         let tally = compare_with(&options, &TEXT);
         assert_eq!(tally.differences, 0, "{}", tally.report());
     }
 
-    /// Desks that take a way wrongly, each in one thing.
-    const WRONG: [(&str, Surface); 4] = [
+    /// Desks that take a way or a bench wrongly, each in one thing.
+    const WRONG: [(&str, Surface); 5] = [
         ("an opening that forgets the way", Surface { open_crate: desk::open, ..TEXT }),
         (
             "a way 2 that is taken for 1",
@@ -82,8 +82,25 @@ mod tests {
             "a closed side that has a way",
             Surface {
                 call1: |r, s, side, xs, window| match desk::call1(r, s, side, xs, window) {
-                    2 if r.len() == WAY + 1 && r[..WAY] == [0; WAY] => 3,
+                    2 if r.len() == RECORD && r[..WAY] == [0; WAY] => 3,
                     number => number,
+                },
+                ..TEXT
+            },
+        ),
+        (
+            "a record of another bench that is taken",
+            Surface {
+                call1: |r, s, side, xs, window| {
+                    let saved = r.to_vec();
+                    if let Some(bench @ 1..) = r.get_mut(BENCH) {
+                        *bench = side.wrapping_add(1);
+                    }
+                    let number = desk::call1(r, s, side, xs, window);
+                    if number > 0 {
+                        r.copy_from_slice(&saved);
+                    }
+                    number
                 },
                 ..TEXT
             },
@@ -109,9 +126,9 @@ mod tests {
     ];
 
     #[test]
-    fn wrong_ways_are_noticed() {
+    fn wrong_ways_and_benches_are_noticed() {
         for (what, wrong) in WRONG {
-            let options = Options { calls: Some(4_000), seed: 6, all: false };
+            let options = Options { calls: Some(4_000), seed: 6, ..Options::default() };
             assert!(compare_with(&options, &wrong).differences > 0, "{what} is not noticed");
         }
     }

@@ -7,6 +7,7 @@
 
 pub mod models;
 pub mod plain_pcm;
+pub mod plain_recording;
 pub mod plain_sheet;
 pub mod plain_wav;
 pub mod reader;
@@ -61,6 +62,8 @@ pub mod pcm;
 pub mod pieces;
 #[cfg(feature = "pitch")]
 pub mod pitch;
+#[cfg(feature = "recording")]
+pub mod recording;
 #[cfg(feature = "frame")]
 pub mod shadow;
 #[cfg(feature = "sheet")]
@@ -83,17 +86,23 @@ pub fn bins(numbers: &[f32]) -> Vec<Complex> {
     bins
 }
 
-/// What the command line says: how many calls, from which seed, and whether all there are.
+/// What the command line says.
+#[derive(Default)]
 pub struct Options {
+    /// How many calls; if none is said, as many as the gate makes.
     pub calls: Option<u64>,
+    /// What the inputs are made from.
     pub seed: u64,
+    /// All numbers that there are, of the groups that can.
     pub all: bool,
+    /// A tenth of the calls that the gate makes.
+    pub tenth: bool,
 }
 
 impl Options {
-    /// The number of calls asked for, or the gate's.
+    /// The number of calls asked for, or the gate's, or a tenth of it.
     pub fn calls(&self, gate: u64) -> u64 {
-        self.calls.unwrap_or(gate)
+        self.calls.unwrap_or(if self.tenth { gate / 10 } else { gate })
     }
 }
 
@@ -128,6 +137,8 @@ pub const GROUPS: &[Group] = &[
     ("mend", mend::compare),
     #[cfg(feature = "wav")]
     ("wav", wav::compare),
+    #[cfg(feature = "recording")]
+    ("recording", recording::compare),
     #[cfg(feature = "pcm")]
     ("pcm", pcm::compare),
     #[cfg(feature = "network")]
@@ -143,3 +154,40 @@ pub const GROUPS: &[Group] = &[
     #[cfg(feature = "blocks")]
     ("feed", blocks::compare),
 ];
+
+/// The groups that there have to be. A group can be lost with a feature or a line, and a comparison that lacks one
+/// shows less than it seems to: so they are listed a second time, here.
+pub const EXPECTED: [&str; 21] = [
+    "numbers",
+    "bands",
+    "pitch",
+    "lag",
+    "finder",
+    "transforms",
+    "fft",
+    "logs",
+    "model",
+    "sheet",
+    "writer",
+    "mend",
+    "wav",
+    "recording",
+    "pcm",
+    "network",
+    "frame",
+    "apart",
+    "pieces",
+    "whole",
+    "feed",
+];
+
+/// What is wrong with the groups of this program, if it is not made of exactly the expected ones.
+pub fn wrong_groups() -> Option<String> {
+    let here: Vec<&str> = GROUPS.iter().map(|group| group.0).collect();
+    let missing: Vec<&str> = EXPECTED.into_iter().filter(|name| !here.contains(name)).collect();
+    let unlisted: Vec<&str> = here.into_iter().filter(|name| !EXPECTED.contains(name)).collect();
+    if !missing.is_empty() {
+        return Some(format!("{} would not be compared: see GROUPS and the features of oracle/", missing.join(", ")));
+    }
+    (!unlisted.is_empty()).then(|| format!("{} is not listed in EXPECTED of oracle/src/lib.rs", unlisted.join(", ")))
+}

@@ -44,7 +44,7 @@ impl Fine {
     fn ln(&self, x: f32) -> i128 {
         let bits = (x as f64).to_bits();
         let exponent = (bits >> 52) as i128 - 1023;
-        let digits = (bits & (1 << 52) - 1) as i128 >> 29;
+        let digits = (bits & ((1 << 52) - 1)) as i128 >> 29;
         exponent * self.ln_2 + series(digits, (1 << 24) + digits)
     }
 
@@ -52,9 +52,9 @@ impl Fine {
     fn natural(&self, d: f64) -> i128 {
         let bits = d.abs().to_bits();
         let shift = 1075 - (bits >> 52) as i128;
-        let digits = (bits & (1 << 52) - 1 | 1 << 52) as i128;
-        let [high, low] = [digits >> 28, digits & (1 << 28) - 1];
-        ((self.ln_10 * high >> (shift - 28)) + (self.ln_10 * low >> shift)) * d.signum() as i128
+        let digits = ((bits & ((1 << 52) - 1)) | (1 << 52)) as i128;
+        let [high, low] = [digits >> 28, digits & ((1 << 28) - 1)];
+        (((self.ln_10 * high) >> (shift - 28)) + ((self.ln_10 * low) >> shift)) * d.signum() as i128
     }
 
     /// The nearest f32 to log10(x), of a positive finite x.

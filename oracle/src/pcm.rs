@@ -63,7 +63,7 @@ fn sample(pcm: &mut Pcm, rng: &mut Rng, calls: u64) {
         floats(pcm, &patterns);
     }
     for channels in 1..=8 {
-        for format in [16, 24, 32] {
+        for format in [16, 24, 32, 33] {
             blocks(pcm, rng, format, channels, 2 + calls / 10_000);
         }
     }
@@ -142,7 +142,7 @@ fn every_float(pcm: &mut Pcm) {
 }
 
 /// Numbers that name no format.
-pub const NO_FORMATS: [u32; 9] = [0, 8, 15, 17, 25, 33, 48, 64, u32::MAX];
+pub const NO_FORMATS: [u32; 9] = [0, 8, 15, 17, 25, 34, 48, 64, u32::MAX];
 
 /// Any channel of blocks of 1 to 4,096 samples, the shortest and the longest among them; now and then a number or a length is another.
 fn blocks(pcm: &mut Pcm, rng: &mut Rng, format: u32, channels: u32, calls: u64) {
@@ -194,7 +194,7 @@ impl Block {
 /// What a block is refused for, each by itself. Of two one may undo the other: a sample more in both lists is a block again.
 const FAULTS: [fn(&mut Block); 14] = [
     |b| b.layout.format = 0,
-    |b| b.layout.format += 1,
+    |b| b.layout.format += 2,
     |b| b.layout.format = u32::MAX,
     |b| b.layout.channels = 0,
     |b| b.layout.channels = 65_536,

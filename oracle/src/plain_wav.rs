@@ -1,4 +1,4 @@
-//! In plain Rust: CRC-32 a bit at a time, the seal of a recording, and the head of a WAV file, written and read.
+//! In plain Rust: CRC-32 a bit at a time, the two seals of a recording, and the head of a WAV file, written and read.
 
 /// Of what was handed in before, 0 of nothing, and of these bytes behind it.
 pub fn checksum(before: u32, bytes: &[u8]) -> u32 {
@@ -7,28 +7,32 @@ pub fn checksum(before: u32, bytes: &[u8]) -> u32 {
     })
 }
 
-/// The side, how many bytes of audio, and their checksum.
+/// The word of the front seal, and that of the end seal.
+pub const WORDS: [&[u8; 4]; 2] = [b"TUPB", b"TUPP"];
+
+/// The side, and the numbers of 64 and of 32 bits: when it began and its first frame, or how many bytes of audio and their
+/// checksum.
 #[derive(Clone, Copy, Debug, PartialEq)]
 pub struct Seal {
     pub side: u32,
-    pub size: u64,
-    pub checksum: u32,
+    pub long: u64,
+    pub short: u32,
 }
 
 impl Seal {
-    pub fn bytes(&self) -> Result<Vec<u8>, u32> {
+    pub fn bytes(&self, word: &[u8; 4]) -> Result<Vec<u8>, u32> {
         let name = [b"LEFT", b"RGHT"].get(self.side as usize).ok_or(53u32)?;
-        let mut bytes = [&b"TUPP"[..], &name[..], &self.size.to_le_bytes(), &self.checksum.to_le_bytes()].concat();
+        let mut bytes = [&word[..], &name[..], &self.long.to_le_bytes(), &self.short.to_le_bytes()].concat();
         bytes.extend(checksum(0, &bytes).to_le_bytes());
         Ok(bytes)
     }
 
-    /// The seal in front of some bytes.
-    pub fn read(file: &[u8]) -> Result<Seal, u32> {
+    /// The seal with this word, in front of some bytes.
+    pub fn read(name: &[u8; 4], file: &[u8]) -> Result<Seal, u32> {
         let Some((bytes, own)) = file.first_chunk::<24>().and_then(|seal| seal.split_last_chunk::<4>()) else {
             return Err(51);
         };
-        if &bytes[..4] != b"TUPP" {
+        if &bytes[..4] != name {
             return Err(51);
         }
         if checksum(0, bytes) != u32::from_le_bytes(*own) {
@@ -39,7 +43,7 @@ impl Seal {
             b"RGHT" => 1,
             _ => return Err(53),
         };
-        Ok(Seal { side, size: u64::from_le_bytes(bytes[8..16].try_into().unwrap()), checksum: word(&bytes[16..]) })
+        Ok(Seal { side, long: u64::from_le_bytes(bytes[8..16].try_into().unwrap()), short: word(&bytes[16..]) })
     }
 }
 
@@ -79,6 +83,7 @@ fn format(body: &[u8], size: u32) -> Result<Format, u32> {
     let (bits, bytes) = match (tag, at(14)) {
         (1, 16) => (16, 2),
         (1, 24) => (24, 3),
+        (1, 32) => (33, 4),
         (3, 32) => (32, 4),
         _ => return Err(45),
     };

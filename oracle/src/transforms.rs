@@ -80,8 +80,26 @@ struct Side<'a> {
     ours: Ours,
     plain: Plain,
     wide: &'a dyn Fn(&[f32]) -> Vec<f64>,
+    noise: Error,
+    steady: Error,
+}
+
+/// The largest error against f64 that was met, in units, and the largest that is no difference.
+#[derive(Clone, Copy)]
+struct Error {
     most: f64,
     worst: f64,
+}
+
+/// Numbers whose sums grow in one direction: all the same, and a tone at bin 160. The roundings of a plain sum add up
+/// over them, and cancel over noise.
+fn steady(len: usize) -> Vec<Vec<f32>> {
+    let tone = |size: f64, bin: usize, turn: f64| {
+        let angle = move |i: usize| TAU * ((bin * i % 960) as f64 / 960.0 + turn);
+        (0..len).map(|i| (size * angle(i).cos()) as f32).collect()
+    };
+    let of_size = |size: f64| [tone(size, 0, 0.0), tone(size, 160, 0.0), tone(size, 160, 0.25)];
+    [0.1, 1.0, 1_000.0, 32_767.0].into_iter().flat_map(of_size).collect()
 }
 
 /// Both zeros apart, all NaNs alike.
@@ -98,7 +116,23 @@ impl Side<'_> {
         let mood = rng.pick(&[Mood::Audio, Mood::Small, Mood::Unit, Mood::Whole]);
         let out = rng.list(out);
         let x = if ordinary { rng.list_of(x, mood) } else { rng.list(x) };
-        let (mut ours, mut want) = (out.clone(), out.clone());
+        let ours = self.call(tally, c, out, &x, fits);
+        if fits && ordinary {
+            self.noise = self.hold(tally, &ours, &x, self.noise);
+        }
+    }
+
+    fn compare_steady(&mut self, tally: &mut Tally, c: &[f32; 960]) {
+        let [out, x] = self.lengths;
+        for x in steady(x) {
+            let ours = self.call(tally, c, vec![0.0; out], &x, true);
+            self.steady = self.hold(tally, &ours, &x, self.steady);
+        }
+    }
+
+    /// One call, bit for bit against the same in plain Rust; what it left in `out`.
+    fn call(&self, tally: &mut Tally, c: &[f32; 960], out: Vec<f32>, x: &[f32], fits: bool) -> Vec<f32> {
+        let (mut ours, mut want, x) = (out.clone(), out.clone(), x.to_vec());
         let given = named![out, x];
         let given = Given::new(given);
         let (number, mut due) = ((self.ours)(&mut ours, &x), 5u32);
@@ -108,24 +142,29 @@ impl Side<'_> {
         }
         let [ours_bits, want_bits] = [bits(&ours), bits(&want)];
         tally.judge(self.name, given, values![number, ours_bits], values![due, want_bits]);
-        if fits && ordinary {
-            let off = units(&ours, &(self.wide)(&x));
-            self.worst = self.worst.max(off);
-            if off > self.most {
-                tally.differs(|text| *text += &format!("{}: {off:.1} units from the sums in f64\n", self.name));
-            }
+        ours
+    }
+
+    /// The largest error, with that of one call among them.
+    fn hold(&self, tally: &mut Tally, ours: &[f32], x: &[f32], error: Error) -> Error {
+        let off = units(ours, &(self.wide)(x));
+        if off > error.most {
+            tally.differs(|text| *text += &format!("{}: {off:.1} units from the sums in f64\n", self.name));
         }
+        Error { worst: error.worst.max(off), ..error }
     }
 }
 
 type Ours = fn(&mut [f32], &[f32]) -> u32;
 type Plain = fn(&[f32; 960], &mut [f32], &[f32]);
 
-/// Both transforms of a group, and the most units by which rounding may move their numbers.
+/// Both transforms of a group, and the most units by which rounding may move their numbers, of noise and of steady
+/// signals.
 pub(crate) struct Pair {
     pub ours: [Ours; 2],
     pub plain: [Plain; 2],
     pub most: f64,
+    pub most_steady: f64,
 }
 
 pub(crate) fn held_against(group: &'static str, options: &Options, pair: Pair) -> Tally {
@@ -133,9 +172,10 @@ pub(crate) fn held_against(group: &'static str, options: &Options, pair: Pair) -
     let rng = &mut Rng::new(options.seed);
     let (c, wide) = (cosines(), Wide::new());
     let (forward, inverse) = (|x: &[f32]| wide.forward(x), |x: &[f32]| wide.inverse(x));
-    let Pair { ours, plain, most } = pair;
+    let Pair { ours, plain, most, most_steady } = pair;
+    let [noise, steady] = [most, most_steady].map(|most| Error { most, worst: 0.0 });
     let side =
-        |i: usize, name, lengths, wide| Side { name, lengths, ours: ours[i], plain: plain[i], wide, most, worst: 0.0 };
+        |i: usize, name, lengths, wide| Side { name, lengths, ours: ours[i], plain: plain[i], wide, noise, steady };
     let mut sides = [
         side(0, "forward", [961, 960], &forward as &dyn Fn(&[f32]) -> Vec<f64>),
         side(1, "inverse", [960, 961], &inverse),
@@ -144,12 +184,14 @@ pub(crate) fn held_against(group: &'static str, options: &Options, pair: Pair) -
     for _ in 0..calls {
         sides.iter_mut().for_each(|side| side.compare(&mut tally, rng, &c));
     }
-    for side in &sides {
+    for side in &mut sides {
+        side.compare_steady(&mut tally, &c);
         tally.note(&format!(
-            "{}: largest error against f64 {:.1} f32 units at the largest number, of {} calls",
+            "{}: largest error against f64 {:.1} f32 units at the largest number, of {} calls; of steady signals {:.1}",
             side.name,
-            side.worst,
-            thousands(calls)
+            side.noise.worst,
+            thousands(calls),
+            side.steady.worst
         ));
     }
     tally
@@ -159,8 +201,9 @@ pub fn compare(options: &Options) -> Tally {
     let pair = Pair {
         ours: [tuppence::forward, tuppence::inverse],
         plain: [plain_forward, plain_inverse],
-        // more would be a wrong sum and not its rounding
+        // more would be a wrong sum and not its rounding: half a unit for each of 960 additions is the most there is
         most: 64.0,
+        most_steady: 480.0,
     };
     held_against("transforms", options, pair)
 }

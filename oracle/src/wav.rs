@@ -1,6 +1,6 @@
 //! Checksums, seals and WAV heads, held against plain Rust (`plain_wav`).
 
-use crate::plain_wav::{self as plain, Numbers, Seal};
+use crate::plain_wav::{self as plain, Numbers, Seal, WORDS};
 use crate::rng::Rng;
 use crate::tally::{Given, Tally};
 use crate::{named, values, Options};
@@ -26,7 +26,8 @@ pub fn compare(options: &Options) -> Tally {
 /// Every byte of a head and of a seal changed in turn, and both cut at every byte.
 fn every_byte(t: &mut Tally, rng: &mut Rng) {
     let head = [plain::head(48_000, 4, 0), rng.bytes(4)].concat();
-    let seal = Seal { side: 1, size: 4, checksum: plain::checksum(0, &head[44..]) }.bytes().unwrap();
+    let short = plain::checksum(0, &head[44..]);
+    let seal = Seal { side: 1, long: 4, short }.bytes(WORDS[1]).unwrap();
     for place in 0..head.len() {
         reading(t, rng, &head[..place]);
         for value in [0, 1, 2, 3, 14, 15, 24, 25, 26, 32, 40, 64, 65, 127, 128, 254, 255, head[place] ^ 1] {
@@ -63,7 +64,7 @@ fn chunk(name: &[u8; 4], size: u32, body: &[u8]) -> Vec<u8> {
 fn any_format(rng: &mut Rng) -> Vec<u8> {
     let (tag, bits) = match rng.below(12) {
         0 => (rng.pick(&[0u16, 1, 2, 3, 7, 0xFFFE]), rng.pick(&[0u16, 8, 16, 20, 24, 32, 64])),
-        k => [(1, 16), (1, 24), (3, 32)][k % 3],
+        k => [(1, 16), (1, 24), (1, 32), (3, 32)][k % 4],
     };
     let channels = if rng.once_in(6) { rng.pick(&[0u16, 3, 63, 64, 65, 256, 65_535]) } else { 1 + rng.below(2) as u16 };
     let wanted = channels.wrapping_mul(bits / 8);
@@ -213,25 +214,25 @@ fn heads(t: &mut Tally, rng: &mut Rng) {
     }
 }
 
-/// A seal written; and read, whole and damaged.
+/// A front seal or an end seal written; and read, whole and damaged.
 fn seals(t: &mut Tally, rng: &mut Rng) {
     let side = if rng.once_in(6) { rng.pick(&[2, 3, 256, u32::MAX]) } else { rng.below(2) as u32 };
-    let size = some_of(rng, &[0, 960, u32::MAX.into(), 1 << 32, u64::MAX]);
-    let checksum = rng.bits() as u32;
-    let room = rng.near(24);
+    let long = some_of(rng, &[0, 960, u32::MAX.into(), 1 << 32, u64::MAX]);
+    let (short, which, room) = (rng.bits() as u32, rng.below(2), rng.near(24));
     let out = rng.bytes(room);
     let mut ours = out.clone();
-    let given = named![side, size, checksum, out];
+    let given = named![side, long, short, out];
     let given = Given::new(given);
-    let number = tuppence::seal_write(&mut ours, side, size, checksum);
+    let write = [tuppence::front_write, tuppence::seal_write][which];
+    let number = write(&mut ours, side, long, short);
     let (mut want, mut wanted) = (5, out.clone());
     if room == 24 {
-        match (Seal { side, size, checksum }).bytes() {
+        match (Seal { side, long, short }).bytes(WORDS[which]) {
             Ok(bytes) => (want, wanted) = (0, bytes),
             Err(refused) => want = refused,
         }
     }
-    t.judge("seal_write", given, values![number, ours], values![want, wanted]);
+    t.judge(["front_write", "seal_write"][which], given, values![number, ours], values![want, wanted]);
     opening(t, rng, &ours);
     ours.extend(rng.bytes(3));
     for _ in 0..rng.below(3) {
@@ -248,21 +249,25 @@ fn seals(t: &mut Tally, rng: &mut Rng) {
     opening(t, rng, &ours);
 }
 
+/// Some bytes read as a front seal, and as an end seal.
 fn opening(t: &mut Tally, rng: &mut Rng, seal: &[u8]) {
-    let bytes = seal.to_vec();
-    let numbers: Vec<u64> = (0..rng.near(3)).map(|_| rng.bits()).collect();
-    let mut ours = numbers.clone();
-    let given = named![numbers, bytes];
-    let given = Given::new(given);
-    let number = tuppence::seal_read(&mut ours, &bytes);
-    let (mut want, mut wanted) = (5, numbers.clone());
-    if numbers.len() == 3 {
-        match Seal::read(seal) {
-            Ok(s) => (want, wanted) = (0, vec![s.side.into(), s.size, s.checksum.into()]),
-            Err(refused) => want = refused,
+    for which in 0..2 {
+        let bytes = seal.to_vec();
+        let numbers: Vec<u64> = (0..rng.near(3)).map(|_| rng.bits()).collect();
+        let mut ours = numbers.clone();
+        let given = named![numbers, bytes];
+        let given = Given::new(given);
+        let read = [tuppence::front_read, tuppence::seal_read][which];
+        let number = read(&mut ours, &bytes);
+        let (mut want, mut wanted) = (5, numbers.clone());
+        if numbers.len() == 3 {
+            match Seal::read(WORDS[which], seal) {
+                Ok(s) => (want, wanted) = (0, vec![s.side.into(), s.long, s.short.into()]),
+                Err(refused) => want = refused,
+            }
         }
+        t.judge(["front_read", "seal_read"][which], given, values![number, ours], values![want, wanted]);
     }
-    t.judge("seal_read", given, values![number, ours], values![want, wanted]);
 }
 
 #[cfg(test)]

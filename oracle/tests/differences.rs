@@ -188,9 +188,9 @@ fn smallest() -> Vec<u8> {
 
 #[test]
 fn an_index_above_7() {
-    let (mut store, mut out, mut answer) = (vec![0.0; 98_304], [0.0; 961], [0.0; 3]);
+    let (mut store, mut out, mut answer) = (vec![0.0; tuppence::STORE], [0.0; 961], [0.0; 3]);
     let mut third = |index| {
-        let mut record = [3, index, 1, 1, 1, 0, 0, 0, 0, 0, 0];
+        let mut record = [3, index, 1, 1, 1, 0, 0, 0, 0, 0, 0, 1];
         tuppence::call3(&mut record, &mut store, 0, &[0.0; 961], &[0.0; 22], &smallest(), &mut out, &mut answer)
     };
     assert_eq!((third(8), third(7)), (2, 0));
@@ -200,7 +200,8 @@ fn an_index_above_7() {
 #[test]
 fn a_sample_that_is_none() {
     let first = |sample| {
-        let (mut store, mut record, mut samples) = (vec![0.0; 98_304], [1, 0, 1, 1, 1, 0, 0, 0, 0, 0, 0], [0.0; 480]);
+        let (mut store, mut record, mut samples) =
+            (vec![0.0; tuppence::STORE], [1, 0, 1, 1, 1, 0, 0, 0, 0, 0, 0, 1], [0.0; 480]);
         samples[479] = sample;
         tuppence::call1(&mut record, &mut store, 0, &samples, &mut [0.0; 960])
     };
@@ -212,7 +213,7 @@ fn a_sample_that_is_none() {
 #[test]
 fn a_lag_above_768() {
     let second = |lag| {
-        let (mut store, mut record) = (vec![0.0; 98_304], [2, 0, 1, 1, 1, 0, 0, 0, 0, 0, 0]);
+        let (mut store, mut record) = (vec![0.0; tuppence::STORE], [2, 0, 1, 1, 1, 0, 0, 0, 0, 0, 0, 1]);
         tuppence::call2(&mut record, &mut store, 0, &[0.0; 961], lag, &mut [0.0; 960], &mut [0.0; 22])
     };
     assert_eq!((second(769), second(768)), (6, 0));

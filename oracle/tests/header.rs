@@ -40,7 +40,7 @@ fn sound() -> Vec<f32> {
 
 /// What Rust gets from the same calls.
 fn cleaned(sound: &[f32], model: &[u8]) -> Vec<f32> {
-    let (mut store, mut record) = (vec![0.0; 98_304], [0; 11]);
+    let (mut store, mut record) = (vec![0.0; tuppence::STORE], [0; tuppence::RECORD]);
     assert_eq!(tuppence::open(&mut record, &mut store, 0, model), 0);
     let mut all = vec![];
     for piece in sound.chunks(1_000) {

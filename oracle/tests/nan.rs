@@ -8,7 +8,7 @@ fn model() -> Vec<u8> {
 
 #[test]
 fn a_second_spectrum_of_nan_is_no_voice() {
-    let (model, mut store, mut record) = (model(), vec![0.0; 98_304], [0; 11]);
+    let (model, mut store, mut record) = (model(), vec![0.0; tuppence::STORE], [0; tuppence::RECORD]);
     let (mut window, mut sums, mut out, mut answer) = ([0.0; 960], [0.0; 22], [0.0; 961], [0.0; 3]);
     assert_eq!(tuppence::open(&mut record, &mut store, 0, &model), 0);
     assert_eq!(tuppence::call1(&mut record, &mut store, 0, &[100.0; 480], &mut window), 0);

@@ -40,7 +40,7 @@ fn numbers_made_from_bits_keep_the_sign() {
 
 #[test]
 fn what_is_cleared_is_plus_0() {
-    let (mut store, mut record) = (vec![-0.0; 98_304], [0; 11]);
+    let (mut store, mut record) = (vec![-0.0; tuppence::STORE], [0; tuppence::RECORD]);
     let layers = [(42, 1, 0, 43), (1, 1, 0, 9), (44, 1, 0, 138), (44, 1, 0, 138), (1, 22, 1, 44), (1, 1, 1, 2)];
     let model: Vec<u8> = layers.iter().flat_map(|l| [vec![l.0, l.1, l.2], vec![0; l.3]].concat()).collect();
     assert_eq!(tuppence::open(&mut record, &mut store, 1, &model), 0);

@@ -1,5 +1,6 @@
 -- What is claimed of checksums. The proofs are in proofs/Parts.antt and proofs/Apart.antt.
-use Rattle.rules.specs.Common.{ℕ, _^_, _<_, List, _++_, _≡_}
+use Rattle.rules.specs.Common.{ℕ, _^_, _≤_, _<_, List, _++_, _≡_, length}
+use Rattle.rules.specs.Lists.{Bytes}
 use Rattle.checksum.specs.Checksum.{crc32}
 
 -- a checksum over some bytes and then over more is that over both
@@ -15,3 +16,9 @@ abbrev pub SameEnd : Type 0
 SameEnd =
     (before : ℕ) (xs ys zs : List ℕ) → before < 2 ^ 32 → crc32 before (xs ++ zs) ≡ crc32 before (ys ++ zs)
     → crc32 before xs ≡ crc32 before ys
+
+-- and of bytes that differ in some of at most four neighbours they are never equal
+abbrev pub BurstSeen : Type 0
+BurstSeen =
+    (before : ℕ) (a x y b : List ℕ) → before < 2 ^ 32 → length x ≡ length y → length x ≤ 4 → Bytes x → Bytes y
+    → crc32 before (a ++ (x ++ b)) ≡ crc32 before (a ++ (y ++ b)) → x ≡ y

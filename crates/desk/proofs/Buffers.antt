@@ -1,7 +1,7 @@
 -- A call writes to each answer buffer that it is lent, or is refused and writes to none (`buffers`). Assumes nothing.
 use Rattle.rules.proofs.Common.{ℕ, _-_, _*_, Bool, true, false, cond, List, [], _++_, _≡_, refl, ltb, length, drop, Float}
 use Rattle.rules.specs.Place.{get, put}
-use Rattle.rules.specs.Written.{Written, from, nothing, firstIn}
+use Rattle.frame.specs.Written.{Written, from, nothing, firstIn}
 use Rattle.model.specs.Model.{readOf}
 use Rattle.model.specs.declared.Reading.{Reading}
 use Rattle.model.specs.declared.Reading.the-variants.{Good, Refused as Unread}

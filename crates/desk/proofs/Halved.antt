@@ -4,7 +4,7 @@ use Rattle.rules.proofs.Common.{ℕ, _+_, _*_, _≤_, _<_, true, false, false�
 use native.Mathlib.Omega.{arith}
 use borrow.Author.Tests.{lt-ltb, eq-eqb, ne-eqb, eqb-true, eqb-false, not-false}
 use Rattle.rules.specs.Place.{get, put}
-use Rattle.rules.specs.Written.{firstIn}
+use Rattle.frame.specs.Written.{firstIn}
 use Rattle.rules.proofs.Places.{Within, length-get, length-put, get-put, put-put}
 use Rattle.rules.proofs.Refusals.{clear}
 use Rattle.rules.proofs.Tests.{both}

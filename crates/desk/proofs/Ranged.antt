@@ -1,6 +1,8 @@
 -- The record that a call hands back is in range: a host that hands back what it received is never turned away for it.
 --     range-kept    where a call is done, the record that it was given and the one that it gives back are in range
 --     bounded       what in range says, in numbers
+--     left-open     where a call is done, its side is open
+--     seated        where a call is done, its side is one of the benches
 --     opens         with a record in range an opening is done, where side, store and model are right
 -- Assumes nothing.
 use Rattle.rules.proofs.Common.{ℕ, _+_, _-_, _*_, _≤_, _<_, Bool, true, false, cond, _&&_, false≢true, List, _≡_, refl, sym, eqb, leb, ltb, length}
@@ -25,7 +27,7 @@ use Rattle.desk.specs.Desk.{Ask, opening, call1, call2, call2Own, call3,
 use Rattle.desk.specs.Laws.{RangeKept, Opens}
 use Rattle.desk.proofs.Answered.{let-in, was-let-in, on-share}
 use Rattle.desk.proofs.Pieced.{piece-fitted, resume-fitted}
-use Rattle.desk.proofs.Turned.{none}
+use Rattle.desk.proofs.Turned.{none, through}
 
 either : (x : Bool) (a b : Bool) → (x ≡ true → a ≡ true) → (x ≡ false → b ≡ true) → cond x a b ≡ true
 either true a b f g = f refl
@@ -221,6 +223,43 @@ range-kept n side b store ask p =
     let share = get (shareOf side) store in
     let q = on-share b ask n side store p in
     (r, rw (let-in b ask n side store e, q) (recorded-range b share ask (onShare b share ask .answer) r (clear .1 .1 .1 .0) q))
+
+-- a call that is done is on one of the benches
+pub seated : (n side : ℕ) (b : Record) (store : List Float) (ask : Ask) → passed (desk n side b store ask .answer .reply) ≡ true → side < n
+seated n side b store ask p = through n side b (length store) (callOf ask) (was-let-in b ask n side store p) .0
+
+-- ---- a call that is done leaves its side open
+
+carried-open : (b : Record) (rest size progress : ℕ) → carried b rest size progress .due ≡ 0 → ⊥
+unfolding carried
+carried-open b rest size progress = go (ltb rest 480)
+  where
+    go : (t : Bool) → cond t (holding 1 b rest 0 0) (holding 3 b 0 size progress) .due ≡ 0 → ⊥
+    go true z = absurd (omega arith)
+    go false z = absurd (omega arith)
+
+started-open : (b : Record) (share : List Float) (w : Way) (read : Reading) → passed (opened share read .answer) ≡ true → started b w read .due ≡ 0 → ⊥
+started-open b share w (Good m) p z = absurd (omega arith)
+started-open b share w (Unread n l) p z = absurd (false≢true p)
+
+recorded-open : (b : Record) (share : List Float) (ask : Ask) (reply : Reply) → passed (onShare b share ask .answer) ≡ true → recorded b ask reply .due ≡ 0 → ⊥
+recorded-open b share (opening w m) reply p = started-open b share w (readOf m) p
+recorded-open b share (call1 x w) reply p = stays-open (b .due)
+recorded-open b share (call2 x l w s) reply p = stays-open (b .due)
+recorded-open b share (call2Own x w s) reply p = stays-open (b .due)
+recorded-open b share (call3 x l m k) reply p = stays-open (b .due)
+recorded-open b share (call4 x k) reply p = stays-open (b .due)
+recorded-open b share (firstHalf x s) reply p = stays-open (nextDue (b .due))
+recorded-open b share (secondHalf l m k) reply p = stays-open (nextDue (b .due))
+recorded-open b share (piece x k s) reply p = carried-open b _ _ _
+recorded-open b share (resume x l m k s) reply p = carried-open (numbered (advanced b reply)) _ _ _
+
+pub left-open : (n side : ℕ) (b : Record) (store : List Float) (ask : Ask) → passed (desk n side b store ask .answer .reply) ≡ true
+    → desk n side b store ask .answer .rec .due ≡ 0 → ⊥
+left-open n side b store ask p =
+    let share = get (shareOf side) store in
+    let q = on-share b ask n side store p in
+    rw (let-in b ask n side store (was-let-in b ask n side store p), q) (recorded-open b share ask (onShare b share ask .answer) q)
 
 -- ---- an opening gets through
 

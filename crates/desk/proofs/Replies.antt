@@ -5,7 +5,7 @@
 -- Assumes nothing.
 use Rattle.rules.proofs.Common.{ℕ, _-_, _*_, false, List, [], _++_, _≡_, refl, ap, _∙_, length, drop, Float}
 use Rattle.rules.specs.Place.{get, put}
-use Rattle.rules.specs.Written.{from, nothing, firstIn}
+use Rattle.frame.specs.Written.{from, nothing, firstIn}
 use Rattle.model.specs.Model.{readOf}
 use Rattle.model.specs.declared.Reading.{Reading}
 use Rattle.model.specs.declared.Reading.the-variants.{Good, Refused as Unread}

@@ -11,7 +11,7 @@ use native.Mathlib.Omega.{arith}
 use borrow.Author.Tests.{eq-eqb, ne-eqb, not-true, not-false}
 use Rattle.rules.specs.F32.{f32, zeros}
 use Rattle.rules.specs.Place.{Place, get, put}
-use Rattle.rules.specs.Written.{onto}
+use Rattle.frame.specs.Written.{onto}
 use Rattle.rules.proofs.Places.{put-get, put-in, get-get, length-get}
 use Rattle.model.specs.Model.{readOf}
 use Rattle.model.specs.declared.Reading.{Reading}

@@ -9,7 +9,7 @@ use lib.ListN.{length-replicate, replicate-append-replicate}
 use lib.Seq.{take-at, drop-at}
 use Rattle.rules.specs.F32.{f32, zeros}
 use Rattle.rules.specs.Place.{Place, get, put}
-use Rattle.rules.specs.Written.{Written, from, nothing, firstIn}
+use Rattle.frame.specs.Written.{Written, from, nothing, firstIn}
 use Rattle.rules.proofs.Places.{Within, length-get, get-put, get-put-apart}
 use Rattle.rules.proofs.Tests.{both}
 use Rattle.model.specs.Model.{readOf}

@@ -2,7 +2,7 @@
 use Rattle.rules.specs.Common.{ℕ, _+_, _*_, _≤_, _<_, true, false, cond, List, _≡_, length, drop, Float}
 use mathlib.Core.Logic.{_⊎_}
 use Rattle.rules.specs.Place.{get, put}
-use Rattle.rules.specs.Written.{Written, firstIn}
+use Rattle.frame.specs.Written.{Written, firstIn}
 use Rattle.transforms.specs.Transform.{forwardOf}
 use Rattle.model.specs.Model.{readOf}
 use Rattle.model.specs.declared.Model.{Model}

@@ -1,7 +1,7 @@
 -- The desk for a host that has numbers alone: what the functions of the C surface return and leave.
 use Rattle.rules.specs.Common.{ℕ, _+_, _*_, cond, _&&_, List, [], _∷_, _++_, eqb, leb, length, getD, replicate, Float}
 use Rattle.rules.specs.F32.{f32}
-use Rattle.rules.specs.Written.{Written, all}
+use Rattle.frame.specs.Written.{Written, all}
 use Rattle.frame.specs.Effect.{Effect}
 use Rattle.frame.specs.Reply.{passed}
 use Rattle.frame.specs.declared.Hearing.{Hearing}
@@ -14,14 +14,20 @@ use Rattle.desk.specs.Desk.{Ask, opening, call1, call2, call2Own, call3,
 use Rattle.desk.specs.declared.Record.{Record}
 use Rattle.desk.specs.declared.Answer.{Answer}
 
--- a record is so many numbers, the way last
+-- a host keeps a record as so many numbers; the last one says which bench the record belongs to
 abbrev pub RECORD : ℕ
-RECORD = 11
+RECORD = 12
 
-abbrev pub numbersOf : Record → List ℕ
-numbersOf rec =
+-- that number: the bench's own plus 1 if the record is open, and 0 if it is closed
+abbrev pub benchNumber : ℕ → ℕ → ℕ
+benchNumber side due = cond (eqb due 0) 0 (side + 1)
+
+-- the numbers of a record of this bench
+abbrev pub numbersOf : ℕ → Record → List ℕ
+numbersOf side rec =
     let h = rec .hearing in
-    rec .due ∷ h .index ∷ h .vad ∷ h .noise ∷ h .denoise ∷ rec .frame ∷ rec .heard ∷ rec .waiting ∷ rec .piece ∷ rec .progress ∷ wayNumber (h .way) ∷ []
+    rec .due ∷ h .index ∷ h .vad ∷ h .noise ∷ h .denoise ∷ rec .frame ∷ rec .heard ∷ rec .waiting ∷ rec .piece ∷ rec .progress ∷ wayNumber (h .way)
+    ∷ benchNumber side (rec .due) ∷ []
 
 abbrev pub wayIn : ℕ → Way
 wayIn n = cond (eqb n 0) Asked Crate
@@ -29,10 +35,10 @@ wayIn n = cond (eqb n 0) Asked Crate
 abbrev pub hearingIn : List ℕ → Hearing
 hearingIn ns = record { index = getD ns 1 0; vad = getD ns 2 0; noise = getD ns 3 0; denoise = getD ns 4 0; way = wayIn (getD ns 10 0) }
 
--- a list of another length, or with a number that is no way's, is out of range
-unfoldable pub recordIn : List ℕ → Record
-recordIn ns =
-    cond (eqb (length ns) RECORD && leb (getD ns 10 0) 1)
+-- the record of this bench, from its numbers. A list of another length, one with a number that is no way's, and another bench's are out of range
+unfoldable pub recordIn : ℕ → List ℕ → Record
+recordIn side ns =
+    cond (eqb (length ns) RECORD && (leb (getD ns 10 0) 1 && eqb (getD ns 11 0) (benchNumber side (getD ns 0 0))))
     (holding (getD ns 0 0) (recordOf 0 (hearingIn ns) (getD ns 5 0) (getD ns 6 0)) (getD ns 7 0) (getD ns 8 0) (getD ns 9 0))
     (recordOf 5 noHearing 0 0)
 
@@ -83,13 +89,13 @@ telling o = record { answer = o .answer; kept = o .kept; written = o .written ++
 -- the desk, asked with a record that is numbers
 unfoldable pub hosted : ℕ → ℕ → List ℕ → List Float → Ask → Effect Answer
 hosted benches side ns store ask =
-    let o = desk benches side (recordIn ns) store ask in
+    let o = desk benches side (recordIn side ns) store ask in
     record { answer = o .answer; kept = o .kept; written = o .written ++ besides ask (o .answer .reply) }
 
 -- the record that comes back: a refusal leaves it
-abbrev pub handedBack : Answer → List ℕ → List ℕ
-handedBack answer ns = cond (passed (answer .reply)) (numbersOf (answer .rec)) ns
+abbrev pub handedBack : ℕ → Answer → List ℕ → List ℕ
+handedBack side answer ns = cond (passed (answer .reply)) (numbersOf side (answer .rec)) ns
 
 -- what a host is handed: the number and the record in the place of the answer
-abbrev pub handed : List ℕ → Effect Answer → Effect (ℕ × List ℕ)
-handed ns o = record { answer = (replyNumber (o .answer .reply), handedBack (o .answer) ns); kept = o .kept; written = o .written }
+abbrev pub handed : ℕ → List ℕ → Effect Answer → Effect (ℕ × List ℕ)
+handed side ns o = record { answer = (replyNumber (o .answer .reply), handedBack side (o .answer) ns); kept = o .kept; written = o .written }

@@ -413,7 +413,7 @@ fn told_first(rec: Record, reply: Reply) -> Answer
 }
 
 // The answer to a second half: its reply is call 3's, and call 4's numbers stand in the record.
-fn told_second(rec: Record, reply: Reply) -> Answer
+pub fn told_second(rec: Record, reply: Reply) -> Answer
     ensures { λ r. ⌜ r ≡ toldSecond rec reply ⌝ }
 {
     if !frame::passed(reply) {

@@ -1,14 +1,15 @@
 -- The law of cutting. A piece that is resumed to its end is the dictation of its samples, by induction over its frames; a row of pieces is the
 -- dictation of all samples, by the law that a dictation can be broken off and gone on with. Assumes nothing.
-use Rattle.rules.proofs.Common.{ℕ, _+_, _-_, _*_, _/_, _≤_, _<_, Bool, true, false, cond, List, [], _∷_, _++_, _≡_, refl, sym, ap, ap₂, _∙_, ltb}
+use Rattle.rules.proofs.Common.{ℕ, _+_, _-_, _*_, _/_, _≤_, _<_, Bool, true, false, cond, List, [], _∷_, _++_, _≡_, refl, sym, ap, ap₂, subst, _∙_, ltb}
 use Rattle.rules.proofs.Common.{length, take, drop, length-drop, length-append, Float}
 use native.Mathlib.Omega.{arith}
 use mathlib.Core.List.{append-assoc}
 use borrow.Author.Tests.{ltb-true, ltb-false}
 use lib.Seq.{take-at, drop-drop, drop-append-add}
 use Rattle.rules.specs.Place.{get, put}
-use Rattle.rules.specs.Written.{Written, from, nothing, over, firstIn}
-use Rattle.rules.proofs.Places.{over-none, over-next}
+use Rattle.rules.proofs.Places.{length-put}
+use Rattle.frame.specs.Written.{Written, from, nothing, numbersIn, over, firstIn}
+use Rattle.frame.proofs.Buffers.{over-none, over-next}
 use Rattle.desk.specs.declared.Answer.{Answer}
 use Rattle.frame.specs.Effect.{Effect}
 use Rattle.frame.specs.declared.Reply.{Reply}
@@ -26,7 +27,7 @@ use Rattle.dictation.specs.Cutting.{handedIn, outputOf, sumsIn, Led, end
 use Rattle.dictation.specs.Resuming.{FillsFront}
 use Rattle.desk.proofs.Turned.{through}
 use Rattle.dictation.proofs.Joins.{second, shareAfter, recAfter, toldThere, framed, dictate-more, dictate-none, after-length, share-size, washed, then, again, rejoin}
-use Rattle.dictation.proofs.Taken.{onward, ends, pauses, begins, piece-passed, resume-passed}
+use Rattle.dictation.proofs.Taken.{onward, first-onward, ends, pauses, begins, piece-passed, resume-passed}
 use Rattle.dictation.proofs.Follows.{place, own-back, own-own, following, fits-in, halved, follows}
 
 -- what is resumed to its end was not refused
@@ -56,6 +57,28 @@ moved rec rest size progress = go (ltb rest 480)
     go : (t : Bool) → holding 1 (cond t (holding 1 rec rest 0 0) (holding 3 rec 0 size progress)) 0 0 0 ≡ holding 1 rec 0 0 0
     go true = refl
     go false = refl
+
+-- a dictation of a share, on a side of a store
+abbrev placed : ℕ → List Float → Dictated → Dictated
+placed side store d = record { rec = d .rec; kept = put (shareOf side) store (d .kept); told = d .told; out = d .out }
+
+-- the same resumes with an output of so many places, by what each of them hands out
+pub data Row (n side : ℕ) (samples : List Float) (room : ℕ) : Effect Answer → List Lent → Dictated → Type 0 where
+  rowEnd : {o : Effect Answer} → passed (o .answer .reply) ≡ true
+      → Row n side samples room o [] (record { rec = o .answer .rec; kept = o .kept; told = []; out = [] })
+  rowMore : {o next : Effect Answer} {l : Lent} {more : List Lent} {d : Dictated} → passed (o .answer .reply) ≡ true
+      → next ≡ desk n side (o .answer .rec) (o .kept) (resume samples (l .logs (sumsIn o)) (l .model) room 22) → Row n side samples room next more d
+      → Row n side samples room o (l ∷ more) (record {
+        rec = d .rec;
+        kept = d .kept;
+        told = (sumsIn o, next .answer .reply, holding 1 (next .answer .rec) 0 0 0) ∷ d .told;
+        out = firstIn (next .written) ++ d .out;
+      })
+
+pub row-passes : {n side : ℕ} {samples : List Float} {room : ℕ} {o : Effect Answer} {lent : List Lent} {d : Dictated} → Row n side samples room o lent d
+    → passed (o .answer .reply) ≡ true
+row-passes (rowEnd p) = p
+row-passes (rowMore p e rest) = p
 
 -- ---- the rest of a piece, resumed to its end, is the dictation of the rest
 
@@ -92,11 +115,12 @@ module _ (n side : ℕ) (h : side < n) (store : List Float) (size : length store
       → length share ≡ SHARE → drop progress samples ≡ drop 480 rest → 1 ≤ progress
       → (length lent ≡ length rest / 480) × (length (dictate rec share rest lent .out) ≡ 480 * length lent)
       × (d ≡ from-place (place progress) side store (dictate rec share rest lent) (over w held))
+      × ((room : ℕ) → length (over w held) ≡ room → Row n side samples room o lent (placed side store (dictate rec share rest lent)))
   whole (ended {o = o} {held = held} p z) rec reply share rest progress w e k same begun =
       let little = short n side store samples some o rec reply share rest progress w e z in
       let q = e ∙ ends side store rec reply share rest (length samples) progress w little in
       let none = dictate-none rec share rest in
-      (omega arith, ap (λ (x : Dictated). length (x .out)) none, rw (q, none, over-none (place progress) (over w held)))
+      (omega arith, ap (λ (x : Dictated). length (x .out)) none, rw (q, none, over-none (place progress) (over w held)), λ room r. rw (q, none) (rowEnd (rw q at p)))
   whole (paused {o = o} {next = after} {held = held} {l = l} {more = ms} {d = d} p en led) rec reply share rest progress w e k same begun =
       let enough =
       long n side store samples some o rec reply share rest progress w e (l .logs (sumsIn o)) (l .model) (length (outputOf o held)) (rw en at (passes led)) in
@@ -127,13 +151,22 @@ module _ (n side : ℕ) (h : side < n) (store : List Float) (size : length store
         ap₂ (λ (t : Told) (x : Dictated). framed t [] x) (three (ap sumsIn q) said noted) behind
             ∙ in-front (toldThere rec share rest l) (place progress) side store (firstIn (y .written)) (outputOf o held) out d′ full (omega (arith, ap length written)) written
             ∙ ap (λ (x : Dictated). from-place (place progress) side store x out) (sym more),
+        λ room r.
+            let ys = firstIn (y .written) in
+            let gave : firstIn (after .written) ≡ ys =
+            ap (λ (x : Effect Answer). firstIn (x .written)) nx
+            ∙ ap numbersIn (first-onward side store rec′ (y .answer) share′ (drop 480 rest) (length samples) (progress + 480) (from (place progress) ys)) in
+            let wide : length (over (from (place progress) ys) (outputOf o held)) ≡ room =
+            length-put (record { at = place progress; size = length ys }) (outputOf o held) ys (omega (arith, fit, full, ap length written)) refl ∙ ap length written ∙ r in
+            let asked = en ∙ ap (λ (m : ℕ). desk n side (o .answer .rec) (o .kept) (resume samples (l .logs (sumsIn o)) (l .model) m 22)) (ap length written ∙ r) in
+            subst (Row n side samples room o (l ∷ ms))
+            (ap₂ (λ (t : Told) (x : List Float). record { rec = d′ .rec; kept = put (shareOf side) store (d′ .kept); told = t ∷ d′ .told; out = x ++ d′ .out })
+            (three (ap sumsIn q) said noted) gave
+            ∙ ap (placed side store) (sym more))
+            (rowMore p asked (ih .3 room wide)),
       )
 
 -- ---- a piece, from its beginning
-
--- a dictation of a share, on a side of a store
-abbrev placed : ℕ → List Float → Dictated → Dictated
-placed side store d = record { rec = d .rec; kept = put (shareOf side) store (d .kept); told = d .told; out = d .out }
 
 module _ (n side : ℕ) (rec : Record) (store samples held : List Float) (lent : List Lent) (d : Dictated)
     (led : Led n side samples (handedIn n side rec store samples held) held lent d) where
@@ -161,6 +194,7 @@ module _ (n side : ℕ) (rec : Record) (store samples held : List Float) (lent :
   whole-piece : let e = dictated side rec store samples lent in
       (length lent ≡ completes (rec .waiting) (length samples)) × (length (e .out) ≡ 480 * length lent)
       × (d ≡ record { rec = e .rec; kept = e .kept; told = e .told; out = over (from 0 (e .out)) held })
+      × Row n side samples (length held) (handedIn n side rec store samples held) lent (dictated side rec store samples lent)
   whole-piece =
       let k = took .1 in
       let sum : rec .waiting + (480 - rec .waiting) ≡ 480 = omega (arith, k .waits) in
@@ -171,10 +205,15 @@ module _ (n side : ℕ) (rec : Record) (store samples held : List Float) (lent :
       (omega (arith, k .waits)) in
       let front : place (480 - rec .waiting) ≡ 0 = omega (arith, k .waits) in
       let clean = washed rec share [] all lent (k .size) in
-      (t .0 ∙ ap (λ (m : ℕ). m / 480) all-length, rw clean at (t .1), t .2 ∙ rw (front, clean, over-none 0 held))
+      (t .0 ∙ ap (λ (m : ℕ). m / 480) all-length, rw clean at (t .1), t .2 ∙ rw (front, clean, over-none 0 held), rw clean at (t .3 (length held) (ap length (over-none 0 held))))
 
 pub fills-front : FillsFront
-fills-front n side rec store samples held lent d led = whole-piece n side rec store samples held lent d led
+fills-front n side rec store samples held lent d led = let t = whole-piece n side rec store samples held lent d led in (t .0, t .1, t .2)
+
+pub in-a-row : (n side : ℕ) (rec : Record) (store samples held : List Float) (lent : List Lent) (d : Dictated)
+    → Led n side samples (handedIn n side rec store samples held) held lent d
+    → Row n side samples (length held) (handedIn n side rec store samples held) lent (dictated side rec store samples lent)
+in-a-row n side rec store samples held lent d led = whole-piece n side rec store samples held lent d led .3
 
 -- ---- a row of pieces
 

@@ -6,7 +6,7 @@
 use Rattle.rules.proofs.Common.{ℕ, _+_, _-_, _*_, _≤_, _<_, true, List, _≡_, _∙_, length, drop, Float}
 use native.Mathlib.Omega.{arith}
 use Rattle.rules.specs.Place.{get, put}
-use Rattle.rules.specs.Written.{from, firstIn}
+use Rattle.frame.specs.Written.{from, firstIn}
 use Rattle.rules.proofs.Places.{get-put, put-put}
 use Rattle.desk.specs.declared.Answer.{Answer}
 use Rattle.frame.specs.Effect.{Effect}

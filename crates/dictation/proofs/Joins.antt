@@ -4,7 +4,7 @@ use native.Mathlib.Omega.{arith}
 use mathlib.Core.List.{append-assoc}
 use lib.Seq.{take-append-le, drop-append-le}
 use Rattle.rules.specs.Place.{get, put}
-use Rattle.rules.specs.Written.{firstIn}
+use Rattle.frame.specs.Written.{firstIn}
 use Rattle.frame.specs.declared.Reply.{Reply}
 use Rattle.frame.specs.Effect.{Effect}
 use Rattle.frame.specs.Share.{SHARE, PART}

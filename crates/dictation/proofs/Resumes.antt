@@ -5,8 +5,9 @@ use native.Mathlib.Omega.{arith}
 use borrow.Author.Tests.{eqb-true, eqb-false, leb-true, eq-eqb, ne-eqb, le-leb, lt-ltb, not-false}
 use lib.Seq.{drop-drop, drop-append-add}
 use Rattle.rules.specs.Place.{get, put}
-use Rattle.rules.specs.Written.{Written, from, nothing, over, firstIn}
-use Rattle.rules.proofs.Places.{length-get, length-put, over-none}
+use Rattle.frame.specs.Written.{Written, from, nothing, over, firstIn}
+use Rattle.rules.proofs.Places.{length-get, length-put}
+use Rattle.frame.proofs.Buffers.{over-none}
 use Rattle.rules.proofs.Tests.{both}
 use Rattle.samples.specs.Samples.{good}
 use Rattle.desk.specs.declared.Answer.{Answer}

@@ -2,13 +2,13 @@
 --     let-in             a call that is not refused got through the gate; let-through, what it then gives
 --     piece-passed       a piece, with its samples behind those that wait
 --     resume-passed      a resume, with what is left of its samples
---     ends, pauses       onward, the rest is too short for a frame, or begins one
+--     ends, pauses       onward, the rest is too short for a frame, or begins one; first-onward, what is written first
 -- Assumes nothing.
-use Rattle.rules.proofs.Common.{ℕ, _+_, _-_, _*_, _≤_, _<_, true, false≢true, List, [], _∷_, _++_, _≡_, sym, ap, _∙_, length, take, drop, length-drop}
+use Rattle.rules.proofs.Common.{ℕ, _+_, _-_, _*_, _≤_, _<_, Bool, true, false, cond, false≢true, List, [], _∷_, _++_, _≡_, refl, sym, ap, _∙_, ltb, length, getD, take, drop, length-drop}
 use Rattle.rules.proofs.Common.{length-append, Float}
 use borrow.Author.Tests.{lt-ltb, le-ltb}
 use Rattle.rules.specs.Place.{get, put}
-use Rattle.rules.specs.Written.{Written, all, from, nothing, firstIn}
+use Rattle.frame.specs.Written.{Written, all, from, nothing, firstIn}
 use Rattle.desk.specs.declared.Answer.{Answer}
 use Rattle.frame.specs.Effect.{Effect}
 use Rattle.frame.specs.declared.Reply.{Reply}
@@ -73,6 +73,15 @@ module _ (side : ℕ) (store : List Float) (rec : Record) (reply : Reply) (share
       }
   unfolding further carried
   pauses h = rw (le-ltb (length rest) 480 h)
+
+  -- either way the output is written first
+  pub first-onward : getD (onward side store rec reply share rest size progress w .written) 0 nothing ≡ w
+  unfolding further
+  first-onward = go (ltb (length rest) 480)
+    where
+      go : (t : Bool) → getD (cond t (pieces.atEnd reply share rest w) (pieces.paused reply share (rec .hearing .way) rest w) .written) 0 nothing ≡ w
+      go true = refl
+      go false = refl
 
 -- ---- a piece
 

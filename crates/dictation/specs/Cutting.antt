@@ -1,6 +1,6 @@
 -- The law of cutting, request 12, for any side of any desk: what is claimed. The proofs are in proofs/Cuts.antt.
 use Rattle.rules.specs.Common.{ℕ, _*_, true, List, [], _∷_, _++_, _≡_, length, getD, take, Float}
-use Rattle.rules.specs.Written.{nothing, numbersIn, over}
+use Rattle.frame.specs.Written.{nothing, numbersIn, over}
 use Rattle.frame.specs.Effect.{Effect}
 use Rattle.frame.specs.Reply.{passed}
 use Rattle.desk.specs.declared.Answer.{Answer}

@@ -1,10 +1,12 @@
 -- Dictation by frames, request 12: 480 samples at a time, each with what is lent to a frame, and the rest waits. It knows of no piece.
 use Rattle.rules.specs.Common.{ℕ, List, [], _∷_, _++_, length, take, drop, Float}
 use Rattle.rules.specs.Place.{get, put}
-use Rattle.rules.specs.Written.{firstIn}
+use Rattle.frame.specs.Written.{firstIn}
+use Rattle.frame.specs.Effect.{Effect}
 use Rattle.frame.specs.declared.Reply.{Reply}
 use Rattle.halves.specs.Halves.{firstHalf, secondHalf}
 use Rattle.pieces.specs.Pieces.{framePart, waitingIn, waits}
+use Rattle.desk.specs.declared.Answer.{Answer}
 use Rattle.desk.specs.declared.Record.{Record}
 use Rattle.desk.specs.Gate.{shareOf}
 use Rattle.desk.specs.Desk.{holding, advanced, numbered}
@@ -25,15 +27,25 @@ pub record Dictated : Type 0 where
   pub told : List Told
   pub out : List Float
 
--- over one share, as many frames as are lent to: call 3 is due behind a first half, and a second half moves the record on
+-- one frame over a share: a first half, its sums to what is lent, and a second half. After the first half call 3 is due; the second moves the record on
+abbrev pub sumsOf : Record → List Float → List Float → List Float
+sumsOf rec share xs = firstIn (firstHalf (get framePart share) (rec .hearing .way) xs 22 .written)
+
+abbrev pub frameOn : Record → List Float → List Float → Lent → Effect Answer
+frameOn rec share xs l =
+    let f = firstHalf (get framePart share) (rec .hearing .way) xs 22 in
+    let s = secondHalf (f .kept) (rec .hearing) (l .logs (sumsOf rec share xs)) (l .model) 480 in
+    let after = numbered (advanced (holding 3 rec 0 0 0) (s .answer)) in
+    record { answer = record { reply = s .answer; rec = after }; kept = put framePart share (s .kept); written = s .written }
+
+-- as many frames as are lent to; what is left of the samples waits
 unfoldable pub dictate : Record → List Float → List Float → List Lent → Dictated
 dictate rec share xs [] = record { rec = holding 1 rec (length xs) 0 0; kept = waits share xs; told = []; out = [] }
 dictate rec share xs (l ∷ more) =
-    let f = firstHalf (get framePart share) (rec .hearing .way) (take 480 xs) 22 in
-    let s = secondHalf (f .kept) (rec .hearing) (l .logs (firstIn (f .written))) (l .model) 480 in
-    let after = numbered (advanced (holding 3 rec 0 0 0) (s .answer)) in
-    let d = dictate after (put framePart share (s .kept)) (drop 480 xs) more in
-    record { rec = d .rec; kept = d .kept; told = (firstIn (f .written), s .answer, after) ∷ d .told; out = firstIn (s .written) ++ d .out }
+    let o = frameOn rec share (take 480 xs) l in
+    let d = dictate (o .answer .rec) (o .kept) (drop 480 xs) more in
+    let here : Told = (sumsOf rec share (take 480 xs), o .answer .reply, o .answer .rec) in
+    record { rec = d .rec; kept = d .kept; told = here ∷ d .told; out = firstIn (o .written) ++ d .out }
 
 -- the samples that wait in a share, and these behind them
 abbrev pub dictatedOn : Record → List Float → List Float → List Lent → Dictated

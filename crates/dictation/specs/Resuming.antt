@@ -1,7 +1,7 @@
 -- Laws of a record and of one piece: what is claimed. The proofs are in proofs/Cuts.antt and proofs/Resumes.antt.
 use Rattle.rules.specs.Common.{ℕ, _+_, _*_, _≤_, _<_, true, List, [], _∷_, _≡_, length, Float}
 use Rattle.rules.specs.Place.{get}
-use Rattle.rules.specs.Written.{from, over}
+use Rattle.frame.specs.Written.{from, over}
 use Rattle.samples.specs.Samples.{good}
 use Rattle.model.specs.Model.{readOf}
 use Rattle.frame.specs.declared.Reply.the-variants.{Done}

@@ -3,7 +3,7 @@
 --     Telling                what is known of a call with three numbers besides, by the places of `out` that it is lent
 --     three, told-three      it is lent `out`, or no place of it where `answer` has another length than three
 -- Assumes nothing.
-use Rattle.rules.proofs.Common.{ℕ, suc, _-_, _≤_, Bool, true, false, cond, false≢true, List, [], _∷_, _++_, _≡_, refl, sym, ap, ap₂, _∙_, eqb, length}
+use Rattle.rules.proofs.Common.{ℕ, suc, _-_, _≤_, _<_, Bool, true, false, cond, false≢true, List, [], _∷_, _++_, _≡_, refl, sym, ap, ap₂, _∙_, eqb, length}
 use Rattle.rules.proofs.Common.{drop, Float}
 use native.Mathlib.Omega.{arith}
 use mathlib.Core.List.{append-nil}
@@ -11,13 +11,13 @@ use borrow.Author.Tests.{eqb-true}
 use lib.ListN.{drop-of-length-le}
 use lib.Seq.{take-all}
 use Rattle.rules.specs.Place.{Place, get, put}
-use Rattle.rules.specs.Written.{Written, all, onto}
-use Rattle.rules.proofs.Places.{onto-more, to-none}
+use Rattle.frame.specs.Written.{Written, all, onto}
+use Rattle.frame.proofs.Buffers.{onto-more, to-none}
 use Rattle.frame.specs.Effect.{Effect, Worked}
 use Rattle.frame.specs.Reply.{passed}
 use Rattle.desk.specs.declared.Record.{Record}
 use Rattle.desk.specs.declared.Answer.{Answer}
-use Rattle.desk.specs.Gate.{inRange}
+use Rattle.desk.specs.Gate.{BENCHES, inRange}
 use Rattle.desk.specs.Surface.{RECORD, recordIn, numbersOf, replyNumber, heardOf, outOf, telling, handed}
 use Rattle.desk.proofs.Ranged.{bounded}
 use Rattle.desk.proofs.Replies.{SmallSeven}
@@ -25,29 +25,30 @@ use Rattle.export.specs.Parts.{HandsBack}
 
 -- ---- the answer as numbers
 
--- what is known of an answer to a call with this record
-pub record Sound (b : Record) (a : Answer) : Type 0 where
+-- what is known of an answer to a call on this side, with this record
+pub record Sound (side : ℕ) (b : Record) (a : Answer) : Type 0 where
   pub small : SmallSeven (a .reply)
   pub ranged : passed (a .reply) ≡ true → (inRange b ≡ true) × (inRange (a .rec) ≡ true)
+  pub seated : passed (a .reply) ≡ true → side < BENCHES
 
 -- a record in range has all its places
-all-places : (ns : List ℕ) → inRange (recordIn ns) ≡ true → length ns ≡ RECORD
+all-places : (side : ℕ) (ns : List ℕ) → inRange (recordIn side ns) ≡ true → length ns ≡ RECORD
 unfolding recordIn inRange
-all-places ns e = go (eqb (length ns) RECORD) refl
+all-places side ns e = go (eqb (length ns) RECORD) refl
   where
     go : (t : Bool) → eqb (length ns) RECORD ≡ t → length ns ≡ RECORD
     go true h = eqb-true (length ns) RECORD h
     go false h = absurd (false≢true (rw h at e))
 
-pub hands-back : (ns : List ℕ) (b : Record) {a given : Answer} → b ≡ recordIn ns → Sound b a → given ≡ a → HandsBack ns given
-hands-back ns b {a} {given} read sound e =
+pub hands-back : (side : ℕ) (ns : List ℕ) (b : Record) {a given : Answer} → b ≡ recordIn side ns → Sound side b a → given ≡ a → HandsBack side ns given
+hands-back side ns b {a} {given} read sound e =
     rw e
     (record {
       small = sound .small;
       fits =
           λ p.
           let r = sound .ranged p in
-          (all-places ns (rw read at (r .0)), bounded (a .rec) (r .1));
+          (all-places side ns (rw read at (r .0)), bounded (a .rec) (r .1), sound .seated p);
     })
 
 -- ---- a call with its answer as three numbers besides
@@ -93,7 +94,7 @@ joined false [] held left told t t′ l e f = ap₂ (λ (x : List (List Float)) 
 joined false (w ∷ ws) held left told t t′ l e f = absurd (omega arith)
 
 -- `others` are the buffers between `out` and `answer`
-module _ (ns : List ℕ) (store′ : List Float) (give : ℕ → Effect Answer) (out answer new : List Float) (others others′ : List (List Float)) (given : Answer) (end : ℕ)
+module _ (side : ℕ) (ns : List ℕ) (store′ : List Float) (give : ℕ → Effect Answer) (out answer new : List Float) (others others′ : List (List Float)) (given : Answer) (end : ℕ)
     (known : Telling (suc (length others)) give) (ends : end ≡ outOf (length answer) (length out))
     (served : Worked (give (length (get (upTo end) out))) given store′ (get (upTo end) out ∷ others) (new ∷ others′)) where
   -- of another length, the call is refused
@@ -112,13 +113,13 @@ module _ (ns : List ℕ) (store′ : List Float) (give : ℕ → Effect Answer) 
 
   pub told-three : {number : ℕ} {ns′ : List ℕ} {answer′ : List Float} → length new ≡ length (get (upTo end) out)
       → answer′ ≡ cond (passed (given .reply)) (heardOf (given .reply)) answer
-      → (number ≡ replyNumber (given .reply)) × (ns′ ≡ cond (passed (given .reply)) (numbersOf (given .rec)) ns)
-      → Worked (handed ns (telling (give (outOf (length answer) (length out))))) (number, ns′) store′
+      → (number ≡ replyNumber (given .reply)) × (ns′ ≡ cond (passed (given .reply)) (numbersOf side (given .rec)) ns)
+      → Worked (handed side ns (telling (give (outOf (length answer) (length out))))) (number, ns′) store′
       (out ∷ others ++ (answer ∷ [])) (put (upTo end) out new ∷ others′ ++ (answer′ ∷ []))
   told-three {number} {ns′} {answer′} same told h = go (eqb (length answer) 3) refl
     where
       go : (t : Bool) → eqb (length answer) 3 ≡ t
-          → Worked (handed ns (telling (give (outOf (length answer) (length out))))) (number, ns′) store′
+          → Worked (handed side ns (telling (give (outOf (length answer) (length out))))) (number, ns′) store′
           (out ∷ others ++ (answer ∷ [])) (put (upTo end) out new ∷ others′ ++ (answer′ ∷ []))
       go true e =
           let z : end ≡ length out = rw e at ends in

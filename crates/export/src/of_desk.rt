@@ -1,21 +1,24 @@
-// desk: an opening, the frame calls and pieces of dictation, for a host that has numbers alone. `record` is a side's record as eleven numbers: due
-// call, cepstral index, the three GRU counts, frames, heard frames, the samples that wait, the size of an unfinished piece and its progress, and the
-// side's way: 0 for our own lag and the plain sums, 1 for nnnoiseless's lag and the fast transforms. `answer` is call 3's as three: heard
-// or not, voice, energy. Returned is 0 or the refusal.
+// desk: an opening, the frame calls and pieces of dictation, for a host that has numbers alone. `record` is a side's record as twelve numbers: due
+// call, cepstral index, the three GRU counts, frames, heard frames, the samples that wait, the size of an unfinished piece and its progress, the
+// side's way: 0 for our own lag and the plain sums, 1 for nnnoiseless's lag and the fast transforms; and the side plus 1, which an opening notes, so
+// that no other side takes the record. A closed record is all zeros. `answer` is call 3's as three: heard or not, voice, energy. Returned is 0 or
+// the refusal.
 // `store` is the one of all benches, of the length that is published, and `model` the bytes of a model file. Refusals,
-// the first that is due: 1 no such side; 2 another length of `store` or `record`, or a record out of range; 3 the side is
+// the first that is due: 1 no such side; 2 another length of `store` or `record`, a record out of range, or another side's; 3 the side is
 // closed; 4 another call is due; 5 another wrong length; 6 a lag above 768; 7 + 256 times its refusal + 65,536 times the
 // layer, a model that does not read; 8 other counts than at the opening; 9 a sample outside of -32,768 to 32,767.
 ghost use mathlib.Core.Path.{_≡_};
 ghost use mathlib.Core.Bool.{true, cond};
 ghost use mathlib.Core.List.{[], _∷_};
-ghost use lib.ListN.{length};
+ghost use lib.ListN.{length, getD};
+ghost use Prim.Native.Nat.{_<_};
+ghost use lib.Dec.{eqb};
 ghost use Rattle.frame.specs.Reply.{passed};
 ghost use Rattle.frame.specs.declared.Way.the-variants.{Asked, Crate};
 ghost use Rattle.desk.specs.Gate.{BENCHES, sideOf};
 ghost use Rattle.desk.specs.Desk.{recordOf, noHearing, opening, call1, call2, call2Own, call3, call4, firstHalf, secondHalf, piece, resume};
 ghost use Rattle.frame.specs.Effect.{Worked};
-ghost use Rattle.desk.specs.Surface.{RECORD, numbersOf, wayIn, hearingIn, recordIn, replyNumber, heardOf, outOf, hosted, handed};
+ghost use Rattle.desk.specs.Surface.{RECORD, benchNumber, numbersOf, wayIn, hearingIn, recordIn, replyNumber, heardOf, outOf, hosted, handed};
 ghost use Rattle.desk.proofs.Ranged.{Bounded};
 ghost use Rattle.desk.proofs.Replies.{SmallSeven};
 ghost use Rattle.export.specs.Parts.{HandsBack};
@@ -28,7 +31,7 @@ use frame::Reply;
 use frame::Way;
 
 // How many numbers a record is.
-const RECORD: usize = 11;
+const RECORD: usize = 12;
 
 fn wide(x: u32) -> usize
     ensures { λ r. ⌜ r ≡ x ⌝ }
@@ -74,14 +77,36 @@ fn no_record() -> Record
     desk::record_of(5, hearing, 0, 0)
 }
 
-// A record from its numbers; a list of another length, or with a number that is no way's, is out of range.
-pub(crate) fn record_in(record: &[u32]) -> Record
-    ensures { λ r. ⌜ r ≡ recordIn (now («record» .entry)) ⌝ }
+// The last number of a record: the bench's own plus 1 if the record is open, and 0 if it is closed.
+fn bench_number(side: u32, due: usize) -> usize
+    ensures { λ r. ⌜ r ≡ benchNumber side due ⌝ }
+{
+    if due == 0 {
+        return 0;
+    }
+    side as usize + 1
+}
+
+// Whether the last of a record's numbers is this side's.
+fn belongs(side: u32, record: &[u32]) -> bool
+    requires { ⌜ length (now «record») ≡ RECORD ⌝ }
+    ensures { λ r. ⌜ r ≡ eqb (getD (now («record» .entry)) 11 0) (benchNumber side (getD (now («record» .entry)) 0 0)) ⌝ }
+{
+    let due = wide(record[0]);
+    wide(record[11]) == bench_number(side, due)
+}
+
+// The record of a side from its numbers. A list of another length, one with a number that is no way's, and another bench's are out of range.
+pub(crate) fn record_in(side: u32, record: &[u32]) -> Record
+    ensures { λ r. ⌜ r ≡ recordIn side (now («record» .entry)) ⌝ }
 {
     if record.len() != RECORD {
         return no_record();
     }
     if record[10] > 1 {
+        return no_record();
+    }
+    if !belongs(side, record) {
         return no_record();
     }
     let idle = desk::record_of(0, hearing_in(record), record[5], record[6]);
@@ -94,10 +119,10 @@ pub(crate) fn record_in(record: &[u32]) -> Record
     )
 }
 
-// A record as its numbers.
-fn put_record(record: &mut [u32], rec: Record)
-    requires { ⌜ (length (now «record») ≡ RECORD) × Bounded rec ⌝ }
-    ensures { λ _. ⌜ now («record» .exit) ≡ numbersOf rec ⌝ }
+// A side's record as its numbers.
+fn put_record(side: u32, record: &mut [u32], rec: Record)
+    requires { ⌜ (length (now «record») ≡ RECORD) × Bounded rec × (side < BENCHES) ⌝ }
+    ensures { λ _. ⌜ now («record» .exit) ≡ numbersOf side rec ⌝ }
 {
     record[0] = rec.due as u32;
     record[1] = rec.hearing.index as u32;
@@ -112,6 +137,7 @@ fn put_record(record: &mut [u32], rec: Record)
     let hearing = rec.hearing;
     let way = hearing.way;
     record[10] = desk::way_number(way);
+    record[11] = bench_number(side, rec.due) as u32;
 }
 
 // A reply as a number.
@@ -130,16 +156,16 @@ fn number_of(reply: Reply) -> u32
 }
 
 // The record of a call that is done is handed back, and the number returned.
-pub(crate) fn hand_back(record: &mut [u32], given: Answer) -> u32
-    requires { ⌜ HandsBack (now «record») given ⌝ }
+pub(crate) fn hand_back(side: u32, record: &mut [u32], given: Answer) -> u32
+    requires { ⌜ HandsBack side (now «record») given ⌝ }
     ensures { λ r. ⌜ (r ≡ replyNumber (given .reply))
-        × (now («record» .exit) ≡ cond (passed (given .reply)) (numbersOf (given .rec)) (now («record» .entry))) ⌝ }
+        × (now («record» .exit) ≡ cond (passed (given .reply)) (numbersOf side (given .rec)) (now («record» .entry))) ⌝ }
 {
     let reply = given.reply;
     if !frame::passed(reply) {
         return number_of(reply);
     }
-    put_record(record, given.rec);
+    put_record(side, record, given.rec);
     number_of(reply)
 }
 
@@ -160,18 +186,18 @@ pub extern "C" fn tuppence_open(
     model: &[u8],
 ) -> u32
     ensures { λ r. ⌜ Worked
-        (handed (now («record» .entry))
+        (handed side (now («record» .entry))
         (hosted BENCHES side (now («record» .entry)) (now (store .entry)) (opening Asked (now (model .entry)))))
         (r, now («record» .exit)) (now (store .exit)) [] [] ⌝ }
 {
     let given = desk::open(
         Side(side as usize),
-        record_in(record),
+        record_in(side, record),
         store,
         Way::Asked,
         model,
     );
-    hand_back(record, given)
+    hand_back(side, record, given)
 }
 
 // Opens a side likewise, for nnnoiseless's lag and the fast transforms: its halves and pieces, frames, takes and feeds
@@ -184,18 +210,18 @@ pub extern "C" fn tuppence_open_crate(
     model: &[u8],
 ) -> u32
     ensures { λ r. ⌜ Worked
-        (handed (now («record» .entry))
+        (handed side (now («record» .entry))
         (hosted BENCHES side (now («record» .entry)) (now (store .entry)) (opening Crate (now (model .entry)))))
         (r, now («record» .exit)) (now (store .exit)) [] [] ⌝ }
 {
     let given = desk::open(
         Side(side as usize),
-        record_in(record),
+        record_in(side, record),
         store,
         Way::Crate,
         model,
     );
-    hand_back(record, given)
+    hand_back(side, record, given)
 }
 
 // Call 1: `samples` are a frame's 480, `window` gets 960 windowed numbers, to be transformed.
@@ -208,19 +234,19 @@ pub extern "C" fn tuppence_call1(
     window: &mut [f32],
 ) -> u32
     ensures { λ r. ⌜ Worked
-        (handed (now («record» .entry))
+        (handed side (now («record» .entry))
         (hosted BENCHES side (now («record» .entry)) (now (store .entry))
         (call1 (now (samples .entry)) (length (now (window .entry))))))
         (r, now («record» .exit)) (now (store .exit)) (now (window .entry) ∷ []) (now (window .exit) ∷ []) ⌝ }
 {
     let given = desk::call1(
         Side(side as usize),
-        record_in(record),
+        record_in(side, record),
         store,
         samples,
         window,
     );
-    hand_back(record, given)
+    hand_back(side, record, given)
 }
 
 // Call 2: `spectrum` is the window's, 961 numbers, and `lag` at most 768. `window` gets 960 numbers, to be transformed,
@@ -236,7 +262,7 @@ pub extern "C" fn tuppence_call2(
     sums: &mut [f32],
 ) -> u32
     ensures { λ r. ⌜ Worked
-        (handed (now («record» .entry))
+        (handed side (now («record» .entry))
         (hosted BENCHES side (now («record» .entry)) (now (store .entry))
         (call2 (now (spectrum .entry)) lag (length (now (window .entry))) (length (now (sums .entry))))))
         (r, now («record» .exit)) (now (store .exit))
@@ -244,14 +270,14 @@ pub extern "C" fn tuppence_call2(
 {
     let given = desk::call2(
         Side(side as usize),
-        record_in(record),
+        record_in(side, record),
         store,
         spectrum,
         Lag(lag as usize),
         window,
         sums,
     );
-    hand_back(record, given)
+    hand_back(side, record, given)
 }
 
 // Call 2 with our own lag: `spectrum`, `window` and `sums` as there.
@@ -265,7 +291,7 @@ pub extern "C" fn tuppence_call2_own(
     sums: &mut [f32],
 ) -> u32
     ensures { λ r. ⌜ Worked
-        (handed (now («record» .entry))
+        (handed side (now («record» .entry))
         (hosted BENCHES side (now («record» .entry)) (now (store .entry))
         (call2Own (now (spectrum .entry)) (length (now (window .entry))) (length (now (sums .entry))))))
         (r, now («record» .exit)) (now (store .exit))
@@ -273,13 +299,13 @@ pub extern "C" fn tuppence_call2_own(
 {
     let given = desk::call2_own(
         Side(side as usize),
-        record_in(record),
+        record_in(side, record),
         store,
         spectrum,
         window,
         sums,
     );
-    hand_back(record, given)
+    hand_back(side, record, given)
 }
 
 // What call 3, the second half and a resume answer is written as three numbers, where the call is done.
@@ -320,7 +346,7 @@ pub extern "C" fn tuppence_call3(
     answer: &mut [f32],
 ) -> u32
     ensures { λ r. ⌜ Worked
-        (handed (now («record» .entry))
+        (handed side (now («record» .entry))
         (hosted BENCHES side (now («record» .entry)) (now (store .entry))
         (call3 (now (spectrum .entry)) (now (logs .entry)) (now (model .entry))
         (outOf (length (now (answer .entry))) (length (now (out .entry)))))))
@@ -330,7 +356,7 @@ pub extern "C" fn tuppence_call3(
     let end = places(answer.len(), out.len());
     let given = desk::call3(
         Side(side as usize),
-        record_in(record),
+        record_in(side, record),
         store,
         spectrum,
         logs,
@@ -339,7 +365,7 @@ pub extern "C" fn tuppence_call3(
     );
     let reply = given.reply;
     tell(answer, reply);
-    hand_back(record, given)
+    hand_back(side, record, given)
 }
 
 // Call 4: `inverse` are the 960 numbers of the inverse transform, and `out` gets the frame's 480 samples.
@@ -352,13 +378,19 @@ pub extern "C" fn tuppence_call4(
     out: &mut [f32],
 ) -> u32
     ensures { λ r. ⌜ Worked
-        (handed (now («record» .entry))
+        (handed side (now («record» .entry))
         (hosted BENCHES side (now («record» .entry)) (now (store .entry))
         (call4 (now (inverse .entry)) (length (now (out .entry))))))
         (r, now («record» .exit)) (now (store .exit)) (now (out .entry) ∷ []) (now (out .exit) ∷ []) ⌝ }
 {
-    let given = desk::call4(Side(side as usize), record_in(record), store, inverse, out);
-    hand_back(record, given)
+    let given = desk::call4(
+        Side(side as usize),
+        record_in(side, record),
+        store,
+        inverse,
+        out,
+    );
+    hand_back(side, record, given)
 }
 
 // Calls 1 and 2 with the transforms and the lag of the side's way: `samples` are a frame's 480, `sums` gets 22 numbers.
@@ -371,13 +403,19 @@ pub extern "C" fn tuppence_first_half(
     sums: &mut [f32],
 ) -> u32
     ensures { λ r. ⌜ Worked
-        (handed (now («record» .entry))
+        (handed side (now («record» .entry))
         (hosted BENCHES side (now («record» .entry)) (now (store .entry))
         (firstHalf (now (samples .entry)) (length (now (sums .entry))))))
         (r, now («record» .exit)) (now (store .exit)) (now (sums .entry) ∷ []) (now (sums .exit) ∷ []) ⌝ }
 {
-    let given = desk::first_half(Side(side as usize), record_in(record), store, samples, sums);
-    hand_back(record, given)
+    let given = desk::first_half(
+        Side(side as usize),
+        record_in(side, record),
+        store,
+        samples,
+        sums,
+    );
+    hand_back(side, record, given)
 }
 
 // Calls 3 and 4: `logs` are the 22 logarithms of the sums, `out` gets 480 samples, and `answer` its three.
@@ -392,7 +430,7 @@ pub extern "C" fn tuppence_second_half(
     answer: &mut [f32],
 ) -> u32
     ensures { λ r. ⌜ Worked
-        (handed (now («record» .entry))
+        (handed side (now («record» .entry))
         (hosted BENCHES side (now («record» .entry)) (now (store .entry))
         (secondHalf (now (logs .entry)) (now (model .entry)) (outOf (length (now (answer .entry))) (length (now (out .entry)))))))
         (r, now («record» .exit)) (now (store .exit))
@@ -401,7 +439,7 @@ pub extern "C" fn tuppence_second_half(
     let end = places(answer.len(), out.len());
     let given = desk::second_half(
         Side(side as usize),
-        record_in(record),
+        record_in(side, record),
         store,
         logs,
         model,
@@ -409,7 +447,7 @@ pub extern "C" fn tuppence_second_half(
     );
     let reply = given.reply;
     tell(answer, reply);
-    hand_back(record, given)
+    hand_back(side, record, given)
 }
 
 // A piece of 1 to 4,096 `samples`. `out` has room for 480 for each frame that they complete with those that wait, and
@@ -424,7 +462,7 @@ pub extern "C" fn tuppence_piece(
     sums: &mut [f32],
 ) -> u32
     ensures { λ r. ⌜ Worked
-        (handed (now («record» .entry))
+        (handed side (now («record» .entry))
         (hosted BENCHES side (now («record» .entry)) (now (store .entry))
         (piece (now (samples .entry)) (length (now (out .entry))) (length (now (sums .entry))))))
         (r, now («record» .exit)) (now (store .exit))
@@ -432,13 +470,13 @@ pub extern "C" fn tuppence_piece(
 {
     let given = desk::piece(
         Side(side as usize),
-        record_in(record),
+        record_in(side, record),
         store,
         samples,
         out,
         sums,
     );
-    hand_back(record, given)
+    hand_back(side, record, given)
 }
 
 // Goes on with a piece: the same `samples` and the same `out`, and the 22 `logs` of the sums. `sums` gets those of the
@@ -456,7 +494,7 @@ pub extern "C" fn tuppence_resume(
     answer: &mut [f32],
 ) -> u32
     ensures { λ r. ⌜ Worked
-        (handed (now («record» .entry))
+        (handed side (now («record» .entry))
         (hosted BENCHES side (now («record» .entry)) (now (store .entry))
         (resume (now (samples .entry)) (now (logs .entry)) (now (model .entry))
         (outOf (length (now (answer .entry))) (length (now (out .entry)))) (length (now (sums .entry))))))
@@ -466,7 +504,7 @@ pub extern "C" fn tuppence_resume(
     let end = places(answer.len(), out.len());
     let given = desk::resume(
         Side(side as usize),
-        record_in(record),
+        record_in(side, record),
         store,
         samples,
         logs,
@@ -476,5 +514,5 @@ pub extern "C" fn tuppence_resume(
     );
     let reply = given.reply;
     tell(answer, reply);
-    hand_back(record, given)
+    hand_back(side, record, given)
 }

@@ -1,13 +1,15 @@
-// feed: a block of recorded bytes in one call. `record` is a side's record as eleven numbers, and `store` 98,304, as in
+// feed: a block of recorded bytes in one call. `record` is a side's record as twelve numbers, and `store` 98,304, as in
 // `of_desk`; `model` is a model file's bytes. Returned is 0 or the refusal.
+ghost use mathlib.Core.List.{[], _∷_};
 ghost use lib.ListN.{length};
 ghost use Rattle.desk.specs.Gate.{BENCHES};
-ghost use Rattle.desk.specs.Surface.{recordIn};
-ghost use Rattle.feed.specs.Feed.{blockOf, feed};
-ghost use Rattle.feed.specs.Surface.{HostFed};
+ghost use Rattle.frame.specs.Effect.{WorkedBoth};
+ghost use Rattle.desk.specs.Surface.{handed};
+ghost use Rattle.feed.specs.Feed.{blockOf};
+ghost use Rattle.feed.specs.Surface.{hostedFeed};
 use desk::Side;
 
-// `bytes` are 1 to 4,096 whole samples of all channels, little end first; `format` is 16, 24, or 32 for floats; of so many
+// `bytes` are 1 to 4,096 whole samples of all channels, little end first; `format` is 16, 24, 32 for floats, or 33 for 32-bit integers; of so many
 // channels by turns one is the bench's. For each frame that its samples complete `out` has 960 bytes, `entries` one number
 // and `answers` three, or more, which stay.
 #[no_mangle]
@@ -24,15 +26,16 @@ pub extern "C" fn tuppence_feed(
     entries: &mut [u64],
     answers: &mut [f32],
 ) -> u32
-    ensures { λ r. ⌜ HostFed
-        (feed BENCHES side (recordIn (now («record» .entry))) (now (store .entry)) (blockOf (now (bytes .entry)) format channels channel)
-        (now (model .entry)) (length (now (out .entry))) (length (now (entries .entry))) (length (now (answers .entry))))
-        r (now («record» .entry)) (now («record» .exit)) (now (store .exit)) (now (out .entry)) (now (out .exit))
-        (now (entries .entry)) (now (entries .exit)) (now (answers .entry)) (now (answers .exit)) ⌝ }
+    ensures { λ r. ⌜ WorkedBoth
+        (handed side (now («record» .entry))
+        (hostedFeed BENCHES side (now («record» .entry)) (now (store .entry)) (blockOf (now (bytes .entry)) format channels channel)
+        (now (model .entry)) (length (now (out .entry))) (length (now (entries .entry))) (length (now (answers .entry)))))
+        (r, now («record» .exit)) (now (store .exit)) (now (answers .entry) ∷ []) (now (answers .exit) ∷ [])
+        (now (out .entry) ∷ now (entries .entry) ∷ []) (now (out .exit) ∷ now (entries .exit) ∷ []) ⌝ }
 {
     let given = feed::feed(
         Side(side as usize),
-        crate::of_desk::record_in(record),
+        crate::of_desk::record_in(side, record),
         store,
         bytes,
         format,
@@ -43,5 +46,5 @@ pub extern "C" fn tuppence_feed(
         entries,
         answers,
     );
-    crate::of_desk::hand_back(record, given)
+    crate::of_desk::hand_back(side, record, given)
 }

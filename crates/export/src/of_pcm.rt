@@ -3,7 +3,7 @@ ghost use lib.ListN.{length};
 ghost use Rattle.rules.specs.Leaf.{Leaf, _leaving_};
 ghost use Rattle.pcm.specs.Pcm.{UnpackFits, unpacked, PackFits, packed};
 
-// `format` is 16, 24, or 32 for floats; of so many channels by turns, one is unpacked. `bytes` are whole samples of all
+// `format` is 16, 24, 32 for floats, or 33 for 32-bit integers; of so many channels by turns, one is unpacked. `bytes` are whole samples of all
 // channels, little end first, and `out` has a place for each.
 #[no_mangle]
 pub extern "C" fn tuppence_unpack(

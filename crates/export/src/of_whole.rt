@@ -20,7 +20,7 @@ pub extern "C" fn tuppence_frame(
     answer: &mut [f32],
 ) -> u32
     ensures { λ r. ⌜ Worked
-        (handed (now («record» .entry))
+        (handed side (now («record» .entry))
         (hostedFrame BENCHES side (now («record» .entry)) (now (store .entry)) (now (samples .entry)) (now (model .entry))
         (outOf (length (now (answer .entry))) (length (now (out .entry))))))
         (r, now («record» .exit)) (now (store .exit))
@@ -29,7 +29,7 @@ pub extern "C" fn tuppence_frame(
     let end = crate::of_desk::places(answer.len(), out.len());
     let given = whole::frame(
         Side(side as usize),
-        crate::of_desk::record_in(record),
+        crate::of_desk::record_in(side, record),
         store,
         samples,
         model,
@@ -37,7 +37,7 @@ pub extern "C" fn tuppence_frame(
     );
     let reply = given.reply;
     crate::of_desk::tell(answer, reply);
-    crate::of_desk::hand_back(record, given)
+    crate::of_desk::hand_back(side, record, given)
 }
 
 // `piece` is 1 to 4,096 samples. `out` has room for 480, and `answers` for three numbers, for each frame that the piece
@@ -53,7 +53,7 @@ pub extern "C" fn tuppence_take(
     answers: &mut [f32],
 ) -> u32
     ensures { λ r. ⌜ Worked
-        (handed (now («record» .entry))
+        (handed side (now («record» .entry))
         (hostedTake BENCHES side (now («record» .entry)) (now (store .entry)) (now (piece .entry)) (now (model .entry))
         (length (now (out .entry))) (length (now (answers .entry)))))
         (r, now («record» .exit)) (now (store .exit))
@@ -61,12 +61,12 @@ pub extern "C" fn tuppence_take(
 {
     let given = whole::take(
         Side(side as usize),
-        crate::of_desk::record_in(record),
+        crate::of_desk::record_in(side, record),
         store,
         piece,
         model,
         out,
         answers,
     );
-    crate::of_desk::hand_back(record, given)
+    crate::of_desk::hand_back(side, record, given)
 }

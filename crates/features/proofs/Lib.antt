@@ -1,3 +1,4 @@
+pub mod InPaper
 pub mod Lengths
 pub mod Order
 pub mod Places

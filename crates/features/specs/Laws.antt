@@ -1,7 +1,12 @@
--- What is claimed of remembered gains. The proofs are in proofs/Remembered and proofs/Order.
-use Rattle.rules.specs.Common.{ℕ, _<_, true, false, List, _≡_, Float, le, isNan}
+-- What is claimed of the test for silence and of remembered gains. The proofs are in proofs/InPaper, proofs/Remembered and proofs/Order.
+use Rattle.rules.specs.Common.{ℕ, _<_, true, false, cond, List, [], _∷_, _≡_, Float, le, isNan}
 use Rattle.rules.specs.F32.{at}
+use Rattle.features.specs.Silence.{isSilent, soundNumber, soundValues, soundOf}
 use Rattle.features.specs.Gains.{sixTenths, gained}
+
+-- In document 01's terms: a frame that is listened to has the number 0. A heard one comes with its energy sum, a silent one with no value.
+abbrev pub SoundInPaper : Type 0
+SoundInPaper = (e : Float) → (soundNumber (soundOf e) ≡ 0) × (soundValues (soundOf e) ≡ cond (isSilent e) [] (e ∷ []))
 
 -- for any gains g, NaN among them: a remembered gain that is a number stays one, and falls to no less than 0.6 of what it was
 abbrev pub Remembered : Type 0

@@ -1,5 +1,5 @@
 -- The test for silence, from `compute_frame_features` of features.rs.
-use Rattle.rules.specs.Common.{ℕ, Bool, cond, List, Float, lt}
+use Rattle.rules.specs.Common.{ℕ, Bool, cond, List, [], _∷_, Float, lt}
 use Rattle.rules.specs.Loop.{loop}
 use Rattle.rules.specs.F32.{_⊕_, at, f32}
 use Rattle.features.specs.declared.Sound.{Sound}
@@ -14,6 +14,17 @@ energy ex = loop 22 (energyStep ex) (f32 0)
 -- e < 0.04
 abbrev pub isSilent : Float → Bool
 isSilent e = lt e (f32 0x3D23D70A)
+
+-- What document 01 says of an answer: its number, 0 or the refusal, and its values, a heard frame's energy sum.
+abbrev pub soundNumber : Sound → ℕ
+soundNumber Sound.Silent = 0
+soundNumber (Sound.Heard e) = 0
+soundNumber (Sound.Refused n) = n
+
+abbrev pub soundValues : Sound → List Float
+soundValues Sound.Silent = []
+soundValues (Sound.Heard e) = e ∷ []
+soundValues (Sound.Refused n) = []
 
 unfoldable pub soundOf : Float → Sound
 soundOf e = cond (isSilent e) Sound.Silent (Sound.Heard e)

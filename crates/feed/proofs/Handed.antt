@@ -4,32 +4,33 @@
 --     turned, shut, fed           a feed that the gate turns away, one that a row refuses, and one that is neither
 -- Assumes nothing.
 use Rattle.rules.proofs.Common.{ℕ, _-_, _*_, _/_, _≤_, _<_, Bool, true, false, cond, not, _&&_, true≢false, false≢true, List, [], _∷_, _≡_, refl, sym}
-use Rattle.rules.proofs.Common.{ap, _∙_, leb, length, getD, drop, length-take, Float, nan}
+use Rattle.rules.proofs.Common.{ap, ap₂, _∙_, leb, length, getD, drop, length-take, Float, nan}
 use native.Mathlib.Nat.{sub-zero}
 use native.Mathlib.Omega.{arith}
 use borrow.Author.Tests.{ne-eqb, leb-true}
 use lib.ListN.{List·getD-append, take as list-take}
 use lib.Seq.{take-at}
 use Rattle.rules.specs.F32.{at, part}
-use Rattle.rules.specs.Place.{put}
+use Rattle.rules.specs.Place.{get, put}
 use Rattle.rules.specs.Refusals.{_when_, refusing}
 use Rattle.rules.specs.Tab.{tab}
-use Rattle.rules.specs.Written.{from, over}
+use Rattle.frame.specs.Written.{from, over, atFront}
 use Rattle.rules.proofs.Lists.{tab-same}
 use Rattle.rules.proofs.Tests.{answered-no, answered-yes, both}
-use Rattle.frame.specs.Effect.{Worked}
+use Rattle.frame.specs.Effect.{Effect, refusal, Worked, WorkedBoth}
 use Rattle.frame.specs.declared.Reply.the-variants.{Refused}
 use Rattle.frame.specs.Reply.{passed}
 use Rattle.pieces.specs.Pieces.{completes, pieceFits}
 use Rattle.desk.specs.declared.Answer.{Answer}
 use Rattle.desk.specs.declared.Record.{Record}
-use Rattle.desk.specs.Gate.{PIECE, gate}
-use Rattle.whole.specs.Whole.{takeEnds, take}
+use Rattle.desk.specs.Gate.{PIECE, gate, shareOf}
+use Rattle.whole.specs.Whole.{lentToEach, answersOf, take}
+use Rattle.dictation.specs.Dictation.{dictatedOn}
 use Rattle.whole.proofs.Accepted.{fits-sizes}
 use Rattle.whole.proofs.Dictations.{take-fills}
 use Rattle.whole.proofs.Ranged.{take-by}
 use Rattle.pcm.specs.Pcm.{unpacked, UnpackFits, packed}
-use Rattle.feed.specs.Feed.{Block, ROOM, sizeOf, samplesOf, Fed, unfed, entryOf, entriesOf, fedBy, feed, atFront, FedTo}
+use Rattle.feed.specs.Feed.{Block, ROOM, sizeOf, samplesOf, entryOf, entriesOf, fedBy, feed}
 use Rattle.feed.specs.Parts.{fitting, Ready}
 use Rattle.feed.proofs.Blocks.{block-fits}
 
@@ -47,40 +48,38 @@ module _ (k frame : ℕ) (xs held : List Float) {held′ : List Float} (o : held
       tab-same k _ _ (λ j h. ap (entryOf frame j) (ap (λ (x : List Float). at x (3 * j)) o ∙ List·getD-append xs (drop (length xs) held) nan (3 * j) (omega arith)))
       ∙ ap (λ (c : ℕ). tab c (λ j. entryOf frame j (at xs (3 * j)))) (omega arith)
 
-  front-answers : held′ ≡ atFront xs held
-  unfolding put
-  front-answers = o
-
 module _ (n side : ℕ) (rec : Record) (store samples : List Float) (model : List ℕ) {a : Answer} {s out out′ told told′ : List Float} {b : Bool} where
   module _ (w : Worked (take n side rec store samples model (length out) (length told)) a s (out ∷ told ∷ []) (out′ ∷ told′ ∷ [])) (e : b ≡ passed (a .reply)) where
     pub handed : b ≡ true → (k : ℕ) → k ≡ completes (rec .waiting) (length samples) → {cleaned cleaned′ entries entries′ : List ℕ}
         → (cleaned′ ≡ atFront (packed (part 0 (480 * k) out′)) cleaned) × (entries′ ≡ atFront (tab k (λ j. entryOf (rec .frame) j (at told′ (3 * j)))) entries)
-        → FedTo (fedBy (rec .frame) (take n side rec store samples model (length out) (length told))) a s cleaned cleaned′ entries entries′ told told′
+        → WorkedBoth (fedBy (rec .frame) (take n side rec store samples model (length out) (length told))) a s (told ∷ []) (told′ ∷ [])
+        (cleaned ∷ entries ∷ []) (cleaned′ ∷ entries′ ∷ [])
     handed p k count {cleaned} {cleaned′} {entries} {entries′} h =
         take-by n side samples model rec store (length out) (length told)
-        (λ o. Worked o a s (out ∷ told ∷ []) (out′ ∷ told′ ∷ []) → FedTo (fedBy (rec .frame) o) a s cleaned cleaned′ entries entries′ told told′)
+        (λ o. Worked o a s (out ∷ told ∷ []) (out′ ∷ told′ ∷ [])
+        → WorkedBoth (fedBy (rec .frame) o) a s (told ∷ []) (told′ ∷ []) (cleaned ∷ entries ∷ []) (cleaned′ ∷ entries′ ∷ []))
         (λ q v.
-        let t = takeEnds n side rec store samples model (length out) in
+        let d = dictatedOn rec (get (shareOf side) store) samples (lentToEach rec samples model) in
         let f = take-fills n side rec store samples model (length out) (length told) q in
-        let o : out′ ≡ over (from 0 (t .out)) out = ap (λ (xs : List (List Float)). getD xs 0 []) (v .writes) in
-        let l : told′ ≡ over (from 0 (t .answers)) told = ap (λ (xs : List (List Float)). getD xs 1 []) (v .writes) in
+        let o : out′ ≡ over (from 0 (d .out)) out = ap (λ (xs : List (List Float)). getD xs 0 []) (v .writes) in
+        let l : told′ ≡ over (from 0 (answersOf (d .told))) told = ap (λ (xs : List (List Float)). getD xs 1 []) (v .writes) in
+        let cleans = h .0 ∙ ap (λ (x : List ℕ). atFront x cleaned) (front-bytes k (rec .frame) (d .out) out o (f .0 ∙ ap (λ (m : ℕ). 480 * m) (sym count))) in
+        let notes = h .1 ∙ ap (λ (x : List ℕ). atFront x entries) (front-entries k (rec .frame) (answersOf (d .told)) told l (f .1 ∙ ap (λ (m : ℕ). 3 * m) (sym count))) in
         record {
-          answered = v .answers;
-          stores = v .keeps;
-          cleans = h .0 ∙ ap (λ (x : List ℕ). atFront x cleaned) (front-bytes k (rec .frame) (t .out) out o (f .0 ∙ ap (λ (m : ℕ). 480 * m) (sym count)));
-          notes = h .1 ∙ ap (λ (x : List ℕ). atFront x entries) (front-entries k (rec .frame) (t .answers) told l (f .1 ∙ ap (λ (m : ℕ). 3 * m) (sym count)));
-          tells = front-answers k (rec .frame) (t .answers) told l;
+          floats = record { answers = v .answers; keeps = v .keeps; writes = ap (λ (x : List Float). x ∷ []) l };
+          notes = ap₂ (λ (x y : List ℕ). x ∷ y ∷ []) cleans notes;
         })
         (λ q v. absurd (true≢false (sym p ∙ e ∙ ap (λ (x : Answer). passed (x .reply)) (v .answers) ∙ q)))
         w
 
-    pub unhanded : b ≡ false → {cleaned entries : List ℕ} → FedTo (fedBy (rec .frame) (take n side rec store samples model (length out) (length told))) a s cleaned cleaned entries entries told told′
-    unfolding packed tab
+    pub unhanded : b ≡ false → {cleaned entries : List ℕ}
+        → WorkedBoth (fedBy (rec .frame) (take n side rec store samples model (length out) (length told))) a s (told ∷ []) (told′ ∷ []) (cleaned ∷ entries ∷ []) (cleaned ∷ entries ∷ [])
     unhanded p {cleaned} {entries} =
         take-by n side samples model rec store (length out) (length told)
-        (λ o. Worked o a s (out ∷ told ∷ []) (out′ ∷ told′ ∷ []) → FedTo (fedBy (rec .frame) o) a s cleaned cleaned entries entries told told′)
-        (λ q v. absurd (false≢true (sym p ∙ e ∙ ap (λ (x : Answer). passed (x .reply)) (v .answers) ∙ q)))
-        (λ q v. record { answered = v .answers; stores = v .keeps; cleans = refl; notes = refl; tells = ap (λ (xs : List (List Float)). getD xs 1 []) (v .writes) })
+        (λ o. Worked o a s (out ∷ told ∷ []) (out′ ∷ told′ ∷ [])
+        → WorkedBoth (fedBy (rec .frame) o) a s (told ∷ []) (told′ ∷ []) (cleaned ∷ entries ∷ []) (cleaned ∷ entries ∷ []))
+        (λ _ v. absurd (false≢true (sym p ∙ e ∙ ap (λ (x : Answer). passed (x .reply)) (v .answers))))
+        (λ q v. record { floats = record { answers = v .answers; keeps = v .keeps; writes = ap (drop 1) (v .writes) }; notes = refl })
         w
 
 -- ---- the numbers
@@ -115,15 +114,19 @@ four true false r s t f right e = rw (← e)
 four false q r s t f right e = rw (← e)
 
 module _ (n side : ℕ) (rec : Record) (store : List Float) (b : Block) (model cleaned entries : List ℕ) (answers : List Float) where
-  abbrev given : Fed
+  abbrev given : Effect Answer
   given = feed n side rec store b model (length cleaned) (length entries) (length answers)
 
   -- a refusal leaves the three buffers
-  abbrev Refuses : Fed → ℕ → Type 0
-  Refuses o r = FedTo o (record { reply = Refused r; rec = rec }) store cleaned cleaned entries entries answers answers
+  abbrev Refuses : Effect Answer → ℕ → Type 0
+  Refuses o r =
+      WorkedBoth o (record { reply = Refused r; rec = rec }) store (answers ∷ []) (answers ∷ []) (cleaned ∷ entries ∷ []) (cleaned ∷ entries ∷ [])
 
-  refuses : (r : ℕ) → Refuses (unfed rec store (Refused r)) r
-  refuses r = record { answered = refl; stores = refl; cleans = refl; notes = refl; tells = refl }
+  abbrev unfed : ℕ → Effect Answer
+  unfed r = refusal (record { reply = Refused r; rec = rec }) store
+
+  refuses : (r : ℕ) → Refuses (unfed r) r
+  refuses r = record { floats = record { answers = refl; keeps = refl; writes = refl }; notes = refl }
 
   pub turned : {g : ℕ} → g ≡ gate n side rec (length store) PIECE → (g ≡ 0 → ⊥) → Refuses given g
   unfolding feed
@@ -131,13 +134,13 @@ module _ (n side : ℕ) (rec : Record) (store : List Float) (b : Block) (model c
 
   module _ (entered : gate n side rec (length store) PIECE ≡ 0) where
     behind : (t : Bool) → fitting (rec .waiting) (sizeOf b) (length cleaned) (length entries) (length answers) ≡ t
-        → given ≡ cond t (fedBy (rec .frame) (take n side rec store (samplesOf b) model ROOM (length answers))) (unfed rec store (Refused 5))
+        → given ≡ cond t (fedBy (rec .frame) (take n side rec store (samplesOf b) model ROOM (length answers))) (unfed 5)
     unfolding feed
     behind t e =
         let frames = completes (rec .waiting) (sizeOf b) in
         rw entered
         (four (pieceFits (rec .waiting) (sizeOf b) ROOM 22) (leb (960 * frames) (length cleaned)) (leb frames (length entries)) (leb (3 * frames) (length answers)) t
-        (λ r. unfed rec store (Refused r)) _ e)
+        unfed _ e)
 
     -- by what the code asked, where it has k for the samples of the block
     module _ {k : ℕ} {r : Bool} (e : k ≡ sizeOf b) (asked : r ≡ fitting (rec .waiting) k (length cleaned) (length entries) (length answers)) where
@@ -152,8 +155,8 @@ module _ (n side : ℕ) (rec : Record) (store : List Float) (b : Block) (model c
       pub fed : not r ≡ false → {size : ℕ} → size ≡ k → {xs : List Float}
           → (UnpackFits size (length (b .bytes)) (b .format) (b .channels) (b .channel) → xs ≡ unpacked size (b .bytes) (b .format) (b .channels) (b .channel))
           → {a : Answer} {s : List Float} {c d : List ℕ} {t : List Float}
-          → FedTo (fedBy (rec .frame) (take n side rec store xs model ROOM (length answers))) a s cleaned c entries d answers t
-          → FedTo given a s cleaned c entries d answers t
+          → WorkedBoth (fedBy (rec .frame) (take n side rec store xs model ROOM (length answers))) a s (answers ∷ []) (t ∷ []) (cleaned ∷ entries ∷ []) (c ∷ d ∷ [])
+          → WorkedBoth given a s (answers ∷ []) (t ∷ []) (cleaned ∷ entries ∷ []) (c ∷ d ∷ [])
       fed h {size} same reads w =
           let yes = answered-yes asked h in
           let some : 0 < sizeOf b = omega (arith, e, sized (rec .waiting) k (length cleaned) (length entries) (length answers) yes .1) in

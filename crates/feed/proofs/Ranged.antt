@@ -1,32 +1,31 @@
 -- What a feed gives a host that hands its record back as numbers.
 --     feed-small, feed-range    a refused model's number and layer are small; where it is done, both records are in range
---     feed-leaves, entry-small  what specs/Laws.antt claims
---     feed-settled              a contract is met by one outcome alone
+--     feed-leaves, entry-small  refused, it changes nothing; what specs/Laws.antt claims
 -- Assumes nothing.
-use Rattle.rules.proofs.Common.{ℕ, _+_, _%_, _<_, Bool, true, false, cond, true≢false, false≢true, List, _≡_, refl, sym, _∙_, length, Float}
+use Rattle.rules.proofs.Common.{ℕ, _+_, _%_, _<_, Bool, true, false, cond, true≢false, false≢true, List, _≡_, refl, length, Float}
 use native.Mathlib.Omega.{arith}
 use lib.Ieee.{eq}
 use Rattle.rules.specs.F32.{f32}
-use Rattle.rules.specs.Tab.{tab}
 use Rattle.rules.proofs.Refusals.{by-rows}
+use Rattle.frame.specs.Effect.{Effect, refusal}
 use Rattle.frame.specs.declared.Reply.the-variants.{Refused}
+use Rattle.desk.specs.declared.Answer.{Answer}
 use Rattle.frame.specs.Reply.{passed}
 use Rattle.desk.specs.declared.Record.{Record}
 use Rattle.desk.specs.Gate.{PIECE, inRange, gate}
 use Rattle.desk.proofs.Replies.{SmallSeven}
 use Rattle.whole.specs.Whole.{take}
-use Rattle.whole.proofs.Ranged.{take-small, take-range, take-by}
-use Rattle.pcm.specs.Pcm.{packed}
-use Rattle.feed.specs.Feed.{Block, ROOM, sizeOf, samplesOf, feedRows, Fed, unfed, fedBy, feed}
-use Rattle.feed.specs.Laws.{FeedLeaves, EntrySmall, FeedSettled}
+use Rattle.whole.proofs.Ranged.{take-small, take-range, take-seated, take-by}
+use Rattle.feed.specs.Feed.{Block, ROOM, sizeOf, samplesOf, feedRows, fedBy, feed}
+use Rattle.feed.specs.Laws.{EntrySmall}
 
 module _ (n side : ℕ) (rec : Record) (store : List Float) (b : Block) (model : List ℕ) (cleaned entries answers : ℕ) where
   -- what holds of a refusal, and of what comes of the take, holds of a feed
-  feed-by : (P : Fed → Type 0) → ((r : ℕ) → P (unfed rec store (Refused r))) → P (fedBy (rec .frame) (take n side rec store (samplesOf b) model ROOM answers))
+  pub feed-by : (P : Effect Answer → Type 0) → ((r : ℕ) → P (refusal (record { reply = Refused r; rec = rec }) store)) → P (fedBy (rec .frame) (take n side rec store (samplesOf b) model ROOM answers))
       → P (feed n side rec store b model cleaned entries answers)
   unfolding feed
   feed-by P bad good =
-      by-rows (λ r. unfed rec store (Refused r)) _ P (feedRows (gate n side rec (length store) PIECE) (rec .waiting) (sizeOf b) cleaned entries answers) bad (λ _. good)
+      by-rows (λ r. refusal (record { reply = Refused r; rec = rec }) store) _ P (feedRows (gate n side rec (length store) PIECE) (rec .waiting) (sizeOf b) cleaned entries answers) bad (λ _. good)
 
   pub feed-small : SmallSeven (feed n side rec store b model cleaned entries answers .answer .reply)
   feed-small = feed-by (λ o. SmallSeven (o .answer .reply)) (λ _. tt) (take-small n side (samplesOf b) model rec store ROOM answers)
@@ -37,13 +36,19 @@ module _ (n side : ℕ) (rec : Record) (store : List Float) (b : Block) (model :
       feed-by (λ o. passed (o .answer .reply) ≡ true → (inRange rec ≡ true) × (inRange (o .answer .rec) ≡ true)) (λ _ q. absurd (false≢true q))
       (take-range n side (samplesOf b) model rec store ROOM answers)
 
-pub feed-leaves : FeedLeaves
-unfolding packed tab
+  pub feed-seated : passed (feed n side rec store b model cleaned entries answers .answer .reply) ≡ true → side < n
+  feed-seated =
+      feed-by (λ o. passed (o .answer .reply) ≡ true → side < n) (λ _ q. absurd (false≢true q))
+      (take-seated n side (samplesOf b) model rec store ROOM answers)
+
+pub feed-leaves : (n side : ℕ) (rec : Record) (store : List Float) (b : Block) (model : List ℕ) (cleaned entries answers : ℕ)
+    → let o = feed n side rec store b model cleaned entries answers in passed (o .answer .reply) ≡ false → o ≡ refusal (record { reply = o .answer .reply; rec = rec }) store
 feed-leaves n side rec store b model cleaned entries answers =
-    feed-by n side rec store b model cleaned entries answers (λ o. passed (o .answer .reply) ≡ false → o ≡ unfed rec store (o .answer .reply)) (λ _ _. refl)
+    feed-by n side rec store b model cleaned entries answers
+    (λ o. passed (o .answer .reply) ≡ false → o ≡ refusal (record { reply = o .answer .reply; rec = rec }) store) (λ _ _. refl)
     (take-by n side (samplesOf b) model rec store ROOM answers
-    (λ t. passed (t .answer .reply) ≡ false → fedBy (rec .frame) t ≡ unfed rec store (t .answer .reply))
-    (λ p e. absurd (true≢false (sym p ∙ e)))
+    (λ t. passed (t .answer .reply) ≡ false → fedBy (rec .frame) t ≡ refusal (record { reply = t .answer .reply; rec = rec }) store)
+    (λ _ e. absurd (true≢false e))
     (λ _ _. refl))
 
 pub entry-small : EntrySmall
@@ -52,7 +57,3 @@ entry-small frame j heard = go (eq heard (f32 0))
     go : (t : Bool) → (frame + j) % 4294967296 + cond t 0 4294967296 < 8589934592
     go true = omega arith
     go false = omega arith
-
-pub feed-settled : FeedSettled
-feed-settled o answer answer′ store store′ cleaned cleaned₁ cleaned₂ entries entries₁ entries₂ answers answers₁ answers₂ f g =
-    (f .answered ∙ sym (g .answered), f .stores ∙ sym (g .stores), f .cleans ∙ sym (g .cleans), f .notes ∙ sym (g .notes), f .tells ∙ sym (g .tells))

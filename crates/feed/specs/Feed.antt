@@ -1,18 +1,17 @@
 -- A block of recorded bytes in one call: a bench's own channel of it is unpacked, taken, and packed again, with an entry of the side sheet for each frame. By
 -- definition these one after the other; what may refuse them is tested before anything changes, the lowest number first.
-use Rattle.rules.specs.Common.{ℕ, _+_, _*_, _/_, _%_, Bool, cond, not, _&&_, List, [], _∷_, _++_, _≡_, eqb, leb, ltb, length, getD, drop, Float}
+use Rattle.rules.specs.Common.{ℕ, _+_, _*_, _/_, _%_, Bool, cond, not, _&&_, List, [], _∷_, eqb, leb, ltb, length, Float}
 use lib.Ieee.{eq}
 use Rattle.rules.specs.F32.{f32, at}
 use Rattle.rules.specs.Refusals.{Row, _when_, refusing}
 use Rattle.rules.specs.Tab.{tab}
-use Rattle.rules.specs.Written.{nothing, numbersIn, firstIn}
-use Rattle.frame.specs.declared.Reply.{Reply}
+use Rattle.frame.specs.Written.{Written, from, front, numbersIn, firstIn}
 use Rattle.frame.specs.declared.Reply.the-variants.{Refused}
 use Rattle.pieces.specs.Pieces.{completes, pieceFits}
 use Rattle.desk.specs.declared.Answer.{Answer}
 use Rattle.desk.specs.declared.Record.{Record}
 use Rattle.desk.specs.Gate.{PIECE, gate}
-use Rattle.frame.specs.Effect.{Effect}
+use Rattle.frame.specs.Effect.{Effect, refusal}
 use Rattle.whole.specs.Whole.{take}
 use Rattle.pcm.specs.Pcm.{width, unpacked, packed}
 
@@ -63,17 +62,6 @@ feedRows number waiting size cleaned entries answers =
 
 -- ---- what it gives
 
--- the answer and the store; and what is written to the front of its three buffers, nothing by a refusal
-pub record Fed : Type 0 where
-  pub answer : Answer
-  pub store : List Float
-  pub cleaned : List ℕ
-  pub entries : List ℕ
-  pub answers : List Float
-
-abbrev pub unfed : Record → List Float → Reply → Fed
-unfed rec store reply = record { answer = record { reply = reply; rec = rec }; store = store; cleaned = []; entries = []; answers = [] }
-
 -- a frame's entry in the side sheet: its number, from 0 at the opening, and 2^32 more where it was heard
 abbrev pub entryOf : ℕ → ℕ → Float → ℕ
 entryOf frame j heard = (frame + j) % 4294967296 + cond (eq heard (f32 0)) 0 4294967296
@@ -82,33 +70,16 @@ entryOf frame j heard = (frame + j) % 4294967296 + cond (eq heard (f32 0)) 0 429
 abbrev pub entriesOf : ℕ → List Float → List ℕ
 entriesOf frame answers = tab (length answers / 3) (λ j. entryOf frame j (at answers (3 * j)))
 
--- what comes of a take: its samples packed, an entry for each frame, and its answers
-abbrev pub fedBy : ℕ → Effect Answer → Fed
-fedBy frame t =
-    let answers = numbersIn (getD (t .written) 1 nothing) in
-    record {
-      answer = t .answer;
-      store = t .kept;
-      cleaned = packed (firstIn (t .written));
-      entries = entriesOf frame answers;
-      answers = answers;
-    }
+-- of what a take writes, samples and answers: the answers, the samples packed, and an entry for each frame; of nothing, nothing
+abbrev pub fedOf : ℕ → List Written → List Written
+fedOf frame [] = []
+fedOf frame (out ∷ told) = from 0 (firstIn told) ∷ front (packed (numbersIn out)) ∷ front (entriesOf frame (firstIn told)) ∷ []
 
-unfoldable pub feed : ℕ → ℕ → Record → List Float → Block → List ℕ → ℕ → ℕ → ℕ → Fed
+abbrev pub fedBy : ℕ → Effect Answer → Effect Answer
+fedBy frame t = record { answer = t .answer; kept = t .kept; written = fedOf frame (t .written) }
+
+unfoldable pub feed : ℕ → ℕ → Record → List Float → Block → List ℕ → ℕ → ℕ → ℕ → Effect Answer
 feed n side rec store b model cleaned entries answers =
-    refusing (feedRows (gate n side rec (length store) PIECE) (rec .waiting) (sizeOf b) cleaned entries answers) (λ r. unfed rec store (Refused r))
+    refusing (feedRows (gate n side rec (length store) PIECE) (rec .waiting) (sizeOf b) cleaned entries answers)
+    (λ r. refusal (record { reply = Refused r; rec = rec }) store)
     (fedBy (rec .frame) (take n side rec store (samplesOf b) model ROOM answers))
-
--- ---- what a contract says of it
-
--- a buffer that held these, with those written to its front
-abbrev pub atFront : {A : Type 0} → List A → List A → List A
-atFront new held = new ++ drop (length new) held
-
--- the answer and the store; and each buffer, by what it held
-pub record FedTo (o : Fed) (answer : Answer) (store : List Float) (cleaned cleaned′ entries entries′ : List ℕ) (answers answers′ : List Float) : Type 0 where
-  pub answered : answer ≡ o .answer
-  pub stores : store ≡ o .store
-  pub cleans : cleaned′ ≡ atFront (o .cleaned) cleaned
-  pub notes : entries′ ≡ atFront (o .entries) entries
-  pub tells : answers′ ≡ atFront (o .answers) answers

@@ -1,13 +1,9 @@
 -- A feed for a host that has numbers alone: what the function of the C surface returns and leaves.
-use Rattle.rules.specs.Common.{ℕ, List, _≡_, Float}
-use Rattle.desk.specs.Surface.{replyNumber, handedBack}
-use Rattle.feed.specs.Feed.{Fed, atFront}
+use Rattle.rules.specs.Common.{ℕ, List, Float}
+use Rattle.frame.specs.Effect.{Effect}
+use Rattle.desk.specs.declared.Answer.{Answer}
+use Rattle.desk.specs.Surface.{recordIn}
+use Rattle.feed.specs.Feed.{Block, feed}
 
--- the number, the record, which a refusal leaves, and the store; and each buffer, by what it held
-pub record HostFed (o : Fed) (number : ℕ) (ns ns′ : List ℕ) (store : List Float) (cleaned cleaned′ entries entries′ : List ℕ) (answers answers′ : List Float) : Type 0 where
-  pub numbers : number ≡ replyNumber (o .answer .reply)
-  pub records : ns′ ≡ handedBack (o .answer) ns
-  pub stores : store ≡ o .store
-  pub cleans : cleaned′ ≡ atFront (o .cleaned) cleaned
-  pub notes : entries′ ≡ atFront (o .entries) entries
-  pub tells : answers′ ≡ atFront (o .answers) answers
+unfoldable pub hostedFeed : ℕ → ℕ → List ℕ → List Float → Block → List ℕ → ℕ → ℕ → ℕ → Effect Answer
+hostedFeed benches side ns store b model cleaned entries answers = feed benches side (recordIn side ns) store b model cleaned entries answers

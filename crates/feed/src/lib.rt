@@ -1,9 +1,11 @@
 // A block of recorded bytes in one call: a bench's own channel of it is unpacked, taken, and packed again, with an entry of the side sheet for each
 // frame. What may refuse it is tested before anything changes.
+ghost use mathlib.Core.List.{[], _∷_};
 ghost use lib.ListN.{length};
 ghost use Rattle.desk.specs.Gate.{BENCHES};
+ghost use Rattle.frame.specs.Effect.{WorkedBoth};
 ghost use Rattle.whole.specs.Whole.{take};
-ghost use Rattle.feed.specs.Feed.{ROOM, blockOf, fedBy, feed, FedTo};
+ghost use Rattle.feed.specs.Feed.{ROOM, blockOf, fedBy, feed};
 ghost use Rattle.feed.specs.Parts.{Ready};
 use desk::Answer;
 use desk::Record;
@@ -25,11 +27,11 @@ fn clean(
     answers: &mut [f32],
 ) -> Answer
     requires { ⌜ Ready (rec .waiting) (length (now samples)) (length (now cleaned)) (length (now entries)) (length (now answers)) ⌝ }
-    ensures { λ r. ⌜ FedTo
+    ensures { λ r. ⌜ WorkedBoth
         (fedBy (rec .frame)
         (take BENCHES (side .0) rec (now (store .entry)) (now (samples .entry)) (now (model .entry)) ROOM (length (now (answers .entry)))))
-        r (now (store .exit)) (now (cleaned .entry)) (now (cleaned .exit)) (now (entries .entry)) (now (entries .exit))
-        (now (answers .entry)) (now (answers .exit)) ⌝ }
+        r (now (store .exit)) (now (answers .entry) ∷ []) (now (answers .exit) ∷ [])
+        (now (cleaned .entry) ∷ now (entries .entry) ∷ []) (now (cleaned .exit) ∷ now (entries .exit) ∷ []) ⌝ }
 {
     let frames = (rec.waiting + samples.len()) / 480;
     let mut out = [0.0f32; 4320];
@@ -55,11 +57,11 @@ pub fn feed(
     entries: &mut [u64],
     answers: &mut [f32],
 ) -> Answer
-    ensures { λ r. ⌜ FedTo
+    ensures { λ r. ⌜ WorkedBoth
         (feed BENCHES (side .0) rec (now (store .entry)) (blockOf (now (block .entry)) format channels channel) (now (model .entry))
         (length (now (cleaned .entry))) (length (now (entries .entry))) (length (now (answers .entry))))
-        r (now (store .exit)) (now (cleaned .entry)) (now (cleaned .exit)) (now (entries .entry)) (now (entries .exit))
-        (now (answers .entry)) (now (answers .exit)) ⌝ }
+        r (now (store .exit)) (now (answers .entry) ∷ []) (now (answers .exit) ∷ [])
+        (now (cleaned .entry) ∷ now (entries .entry) ∷ []) (now (cleaned .exit) ∷ now (entries .exit) ∷ []) ⌝ }
 {
     let number = desk::gate(side, rec, store.len(), desk::PIECE);
     if number != 0 {

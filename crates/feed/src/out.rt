@@ -5,7 +5,8 @@ ghost use lib.ListN.{length};
 ghost use Rattle.rules.specs.F32.{at, part};
 ghost use Rattle.rules.specs.Tab.{tab};
 ghost use Rattle.pcm.specs.Pcm.{packed};
-ghost use Rattle.feed.specs.Feed.{entryOf, atFront};
+ghost use Rattle.frame.specs.Written.{atFront};
+ghost use Rattle.feed.specs.Feed.{entryOf};
 
 fn entry_of(frame: u32, j: usize, heard: f32) -> u64
     requires { ⌜ j ≤ 9 ⌝ }

@@ -12,20 +12,29 @@ const SECOND_CHECK: [usize; 16] = [0, 0, 3, 2, 3, 2, 5, 2, 3, 2, 3, 2, 5, 2, 3, 
 
 // What each shorter period is held against: the period found, half of the last one, the last gain, the energy, and the gain at the
 // period found.
-struct Asked {
-    t0: usize,
-    prev: usize,
-    last: f32,
-    xx: f32,
-    g0: f32,
+pub struct Asked {
+    // The period that the search found, halved: `t0` of the text.
+    pub t0: usize,
+    // Half of the last frame's period: `prev_period`.
+    pub prev: usize,
+    // The last frame's gain: `self.last_gain`.
+    pub last: f32,
+    // The energy of the last 480 numbers: `xx`.
+    pub xx: f32,
+    // The gain at `t0`: `g0`.
+    pub g0: f32,
 }
 
 // The best so far: its correlation and energy, its period and its gain.
-struct Chosen {
-    xy: f32,
-    yy: f32,
-    t: usize,
-    g: f32,
+pub struct Chosen {
+    // Its correlation: `best_xy`.
+    pub xy: f32,
+    // Its energy: `best_yy`.
+    pub yy: f32,
+    // Its period, halved: `t`.
+    pub t: usize,
+    // Its gain: `g`.
+    pub g: f32,
 }
 
 // `pitch_gain` of pitch.rs.

@@ -8,7 +8,7 @@ ghost use lib.ListN.{length};
 ghost use Rattle.rules.specs.Leaf.{Leaf};
 ghost use Rattle.finder.specs.Finder.{process, find, foundNumber, periodIn, gainIn};
 
-mod doubling;
+pub mod doubling;
 pub mod kept;
 mod search;
 

@@ -6,7 +6,7 @@ use Rattle.rules.specs.Place.{Place}
 use Rattle.frame.specs.declared.Hearing.{Hearing}
 use Rattle.frame.specs.declared.Reply.{Reply}
 use Rattle.frame.specs.declared.Reply.the-variants.{Silent, Refused, Misread}
-use Rattle.rules.specs.Written.{Written}
+use Rattle.frame.specs.Written.{Written}
 use Rattle.frame.specs.Effect.{Effect}
 use Rattle.frame.specs.Reply.{passed}
 use Rattle.frame.specs.Share.{PART}

@@ -1,6 +1,6 @@
 -- What a call gives, and what a contract says of it.
-use Rattle.rules.specs.Common.{cond, List, [], _≡_, Float}
-use Rattle.rules.specs.Written.{Written, onto}
+use Rattle.rules.specs.Common.{ℕ, cond, List, [], _≡_, length, drop, Float}
+use Rattle.frame.specs.Written.{Written, onto, fronts}
 use Rattle.frame.specs.Reply.{passed, firstRefusal}
 use Rattle.frame.specs.declared.Reply.{Reply}
 
@@ -24,9 +24,20 @@ pub record Worked {A : Type 0} (f : Effect A) (answer : A) (kept : List Float) (
   pub keeps : kept ≡ f .kept
   pub writes : out ≡ onto (f .written) held
 
+-- and of one that is lent buffers of whole numbers too: they stand behind those of floats
+pub record WorkedBoth {A : Type 0} (f : Effect A) (answer : A) (kept : List Float) (held out : List (List Float)) (wholes wholes′ : List (List ℕ)) : Type 0 where
+  pub floats : Worked f answer kept held out
+  pub notes : wholes′ ≡ fronts (drop (length held) (f .written)) wholes
+
 -- no second outcome meets a contract
 abbrev pub Settled : Type 0 → Type 0
 Settled A =
     (f : Effect A) (answer answer′ : A) (kept kept′ : List Float) (held out out′ : List (List Float))
     → Worked f answer kept held out → Worked f answer′ kept′ held out′
     → (answer ≡ answer′) × (kept ≡ kept′) × (out ≡ out′)
+
+abbrev pub SettledBoth : Type 0 → Type 0
+SettledBoth A =
+    (f : Effect A) (answer answer′ : A) (kept kept′ : List Float) (held out out′ : List (List Float)) (wholes noted noted′ : List (List ℕ))
+    → WorkedBoth f answer kept held out wholes noted → WorkedBoth f answer′ kept′ held out′ wholes noted′
+    → (answer ≡ answer′) × (kept ≡ kept′) × (out ≡ out′) × (noted ≡ noted′)

@@ -4,7 +4,7 @@ use Rattle.rules.specs.F32.{_⊕_, _⊘_, at, f32}
 use Rattle.rules.specs.Place.{Place, get, put}
 pub use Rattle.rules.specs.Refusals.{wrong}
 use Rattle.rules.specs.Tab.{tab}
-use Rattle.rules.specs.Written.{all}
+use Rattle.frame.specs.Written.{all}
 use Rattle.samples.specs.Samples.{good}
 use Rattle.numbers.specs.Filter.{highPass, memoryOf, memoryList, memoryAfter, outputs}
 use Rattle.bands.specs.Windowed.{windowed}

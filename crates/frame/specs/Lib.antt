@@ -1,3 +1,4 @@
+pub mod Written
 pub mod Effect
 pub mod Reply
 pub mod Share

@@ -3,7 +3,7 @@ use Rattle.rules.proofs.Common.{ℕ, _≤_, List, [], _∷_, _≡_, refl, sym, 
 use native.Mathlib.Omega.{arith}
 use mathlib.Core.Logic.{inl}
 use Rattle.rules.specs.Place.{get}
-use Rattle.rules.specs.Written.{firstIn}
+use Rattle.frame.specs.Written.{firstIn}
 use Rattle.model.specs.Model.{readOf}
 use Rattle.model.specs.declared.Model.{Model}
 use Rattle.model.specs.declared.Reading.the-variants.{Good, Refused as Unread}

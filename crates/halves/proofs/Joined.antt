@@ -2,7 +2,7 @@
 -- Assumes nothing.
 use Rattle.rules.proofs.Common.{ℕ, Bool, true, false, cond, false≢true, List, [], _∷_, _≡_, refl, sym, ap, _∙_, ltb, length, drop, Float}
 use Rattle.rules.specs.Refusals.{wrong}
-use Rattle.rules.specs.Written.{firstIn}
+use Rattle.frame.specs.Written.{firstIn}
 use Rattle.rules.proofs.Refusals.{Right, right}
 use Rattle.transforms.specs.Transform.{forwardOf, inverseOf}
 use Rattle.frame.specs.declared.Hearing.{Hearing}

@@ -10,7 +10,7 @@ use Rattle.frame.specs.declared.Reply.the-variants.{Silent, Heard, Refused, Mis
 use Rattle.frame.specs.declared.Way.{Way}
 use Rattle.frame.specs.Share.{PART, inputMem, synthesisMem, keptX, keptEx, keptLag, memHpX, finderMem}
 use Rattle.frame.specs.Heard.{spoken}
-use Rattle.rules.specs.Written.{firstIn}
+use Rattle.frame.specs.Written.{firstIn}
 use Rattle.frame.specs.Effect.{refusal}
 use Rattle.frame.specs.Frame.{done1}
 use Rattle.frame.proofs.Beside.{Beside, AllApart, then, done1-beside, done2-beside, done3-beside, done4-beside}

@@ -6,7 +6,7 @@ use borrow.Author.Tests.{ltb-false}
 use Rattle.rules.specs.F32.{at}
 use Rattle.rules.specs.Place.{get, put}
 use Rattle.rules.specs.Refusals.{wrong}
-use Rattle.rules.specs.Written.{firstIn}
+use Rattle.frame.specs.Written.{firstIn}
 use Rattle.rules.proofs.Refusals.{right}
 use Rattle.rules.proofs.Places.{get-put, length-put}
 use Rattle.rules.proofs.Lists.{length-tab}

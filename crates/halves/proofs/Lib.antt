@@ -5,3 +5,4 @@ pub mod Kept
 pub mod Lagged
 pub mod Onward
 pub mod Sister
+pub mod Tested

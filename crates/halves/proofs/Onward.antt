@@ -5,7 +5,7 @@ use Rattle.frame.specs.declared.Hearing.{Hearing}
 use Rattle.frame.specs.declared.Reply.{Reply}
 use Rattle.frame.specs.declared.Reply.the-variants.{Refused, Misread}
 use Rattle.frame.specs.declared.Way.{Way}
-use Rattle.rules.specs.Written.{Written, firstIn, onto}
+use Rattle.frame.specs.Written.{Written, firstIn, onto}
 use Rattle.frame.specs.Effect.{Effect, Worked, refusal}
 use Rattle.frame.specs.Reply.{passed}
 use Rattle.frame.specs.Share.{PART}

@@ -4,7 +4,7 @@ use Rattle.rules.specs.Common.{ℕ, cond, List, [], _∷_, ltb, length, drop, F
 use Rattle.rules.specs.F32.{at}
 use Rattle.rules.specs.Place.{get}
 use Rattle.rules.specs.Refusals.{wrong}
-use Rattle.rules.specs.Written.{firstIn}
+use Rattle.frame.specs.Written.{firstIn}
 use Rattle.bands.specs.Windowed.{windowed}
 use Rattle.finder.specs.Kept.{wholeLag}
 use Rattle.frame.specs.Share.{PART, inputMem, keptLag}

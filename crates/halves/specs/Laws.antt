@@ -1,18 +1,20 @@
--- What is claimed of the calls that are made of others, over one share. The proofs are in proofs/Sister, proofs/Lagged and proofs/Joined.
-use Rattle.rules.specs.Common.{ℕ, true, List, [], _∷_, _≡_, length, drop, Float}
+-- What is claimed of the calls that are made of others, over one share. The proofs are in proofs/Sister, proofs/Lagged, proofs/Joined and proofs/Tested.
+use Rattle.rules.specs.Common.{ℕ, true, false, not, List, [], _∷_, _≡_, ltb, length, drop, Float}
 use Rattle.rules.specs.Place.{get}
 use Rattle.rules.specs.Refusals.{wrong}
-use Rattle.rules.specs.Written.{Written, firstIn}
+use Rattle.frame.specs.Written.{Written, firstIn}
+use Rattle.samples.specs.Samples.{good}
+use Rattle.model.specs.Model.{readOf}
 use Rattle.lag.specs.Lag.{ownLag}
 use Rattle.transforms.specs.Transform.{forwardOf, inverseOf}
 use Rattle.frame.specs.declared.Hearing.{Hearing}
 use Rattle.frame.specs.declared.Reply.{Reply}
 use Rattle.frame.specs.declared.Way.{Way}
 use Rattle.frame.specs.declared.Way.the-variants.{Asked}
-use Rattle.frame.specs.Effect.{Effect, unless}
-use Rattle.frame.specs.Reply.{passed, _when_}
+use Rattle.frame.specs.Effect.{Effect, refusal, unless}
+use Rattle.frame.specs.Reply.{passed, _when_, firstRefusal}
 use Rattle.frame.specs.Share.{PART, inputMem}
-use Rattle.frame.specs.Frame.{call1, done2, call2, call3, call4}
+use Rattle.frame.specs.Frame.{call1, done2, call2, counted, checked, call3, call4}
 use Rattle.halves.specs.Own.{call2Own}
 use Rattle.halves.specs.Ways.{lagBy, remembered, forwardBy, inverseBy}
 use Rattle.halves.specs.Halves.{firstHalf, lookedBack, secondHalf}
@@ -24,6 +26,28 @@ SisterByFive =
     → call2Own share spectrum window sums
     ≡ unless (5 when wrong ((length share, PART) ∷ (length spectrum, 961) ∷ (window, 960) ∷ (sums, 22) ∷ []) ∷ []) share
     (done2 share spectrum (ownLag (get inputMem share)))
+
+-- A half tests all refusals of its two calls before it does anything, in the order of a table (request 08). If a row refuses, the half is that
+-- refusal and keeps the share. If none does, the half is done.
+pub record Tests (rows : List Reply) (share : List Float) (half : Effect Reply) : Type 0 where
+  pub refuses : passed (firstRefusal rows) ≡ false → half ≡ refusal (firstRefusal rows) share
+  pub does : passed (firstRefusal rows) ≡ true → passed (half .answer) ≡ true
+
+-- The first half: 5 for a wrong length, then 9 for a bad sample. 6 is never due, because the half finds its lag itself.
+abbrev pub FirstTests : Type 0
+FirstTests =
+    (share : List Float) (way : Way) (samples : List Float) (sums : ℕ)
+    → Tests (5 when wrong ((length share, PART) ∷ (length samples, 480) ∷ (sums, 22) ∷ []) ∷ 9 when not (good samples) ∷ []) share
+    (firstHalf share way samples sums)
+
+-- The second half: 5 for a wrong length or a cepstral index above 7, then 7 for a model that does not read, then 8 for one with other GRU
+-- counts than those that the opening noted.
+abbrev pub SecondTests : Type 0
+SecondTests =
+    (share : List Float) (hearing : Hearing) (logs : List Float) (model : List ℕ) (out : ℕ)
+    → Tests
+    (5 when wrong ((length share, PART) ∷ (length logs, 22) ∷ (out, 480) ∷ []) ∷ 5 when ltb 7 (hearing .index) ∷ checked (counted hearing) (readOf model) ∷ [])
+    share (secondHalf share hearing logs model out)
 
 -- behind a call 2, whoever made it, the second half looks at that call's window (request 08)
 abbrev pub SameWindow : Type 0

@@ -2,103 +2,121 @@
 --     beside         a call leaves every other share
 --     in-any-run     in any run, what a side receives is what its own record, share and calls alone give
 --     closed-same    from closed, what the share held is never received
---     isolated, undisturbed     what specs/Isolation.antt claims
+--     named          on a desk of one bench it is the same, but for the bench's number in its record
+--     isolated, undisturbed     the two laws, of a kind of calls that is owned
+--     owned-is-apart            what specs/Isolation.antt claims
 -- Assumes nothing.
-use Rattle.rules.proofs.Common.{ℕ, _*_, _<_, Bool, true, false, cond, List, [], _∷_, map, _≡_, refl, sym, ap, ap₂, _∙_, eqb, ltb, length, Float}
+use Rattle.rules.proofs.Common.{ℕ, _+_, _*_, _<_, Bool, true, false, cond, List, [], _∷_, map, _≡_, refl, sym, ap, ap₂, _∙_, eqb, ltb, length, Float}
 use native.Mathlib.Omega.{arith}
 use mathlib.Core.Logic.{_⊎_, inl, inr, ⊎-elim}
 use borrow.Author.Tests.{eqb-true, eqb-false, ltb-true, ltb-false}
 use Rattle.rules.specs.F32.{zeros}
-use Rattle.rules.specs.Place.{get, put}
+use Rattle.rules.specs.Place.{get}
 use Rattle.rules.proofs.Places.{length-get, length-put, get-put, get-put-apart, get-whole}
+use Rattle.frame.specs.Effect.{Effect}
 use Rattle.frame.specs.Reply.{passed}
 use Rattle.frame.specs.Share.{SHARE}
+use Rattle.frame.specs.declared.Hearing.{Hearing}
+use Rattle.desk.specs.declared.Answer.{Answer}
 use Rattle.desk.specs.declared.Record.{Record}
-use Rattle.desk.specs.Gate.{shareOf}
+use Rattle.desk.specs.Gate.{shareOf, wayNumber}
 use Rattle.desk.specs.Desk.{closed}
-use Rattle.desk.specs.Surface.{numbersOf, recordIn}
+use Rattle.desk.specs.Surface.{numbersOf, recordIn, replyNumber, handedBack}
+use Rattle.desk.specs.Laws.{placed}
 use Rattle.desk.proofs.Apart.{apart}
-use Rattle.isolation.specs.Plan.{Came, perform}
-use Rattle.isolation.specs.Run.{Returned, Gives, Kind, On, on, State, given, after, received}
-use Rattle.isolation.specs.Isolation.{givenBy, allZeros, own, alone, Isolated, Undisturbed, Planned}
+use Rattle.isolation.specs.Local.{performed}
+use Rattle.isolation.specs.Run.{Returned, returned, Kind, On, on, State, recordAt, given, gets, after, received}
+use Rattle.isolation.specs.Isolation.{ofBench, asBench, allZeros, own, alone, Isolated, Undisturbed, Owned, OwnedIsApart}
 use Rattle.isolation.proofs.Performed.{sized, its-own, no-side, unseen}
 use Rattle.isolation.proofs.Runs.{reads}
 
--- in the store that a share is a part of
-abbrev inStore : {O : Type 0} → ℕ → List Float → Gives O → Gives O
-inStore side store o = record { returned = o .returned; store = put (shareOf side) store (o .store) }
+-- the numbers of a record on a desk of one bench, as bench s has them
+of-bench : (s : ℕ) (rec : Record) → ofBench s (numbersOf 0 rec) ≡ numbersOf s rec
+of-bench s rec = go (eqb (rec .due) 0)
+  where
+    h : Hearing
+    h = rec .hearing
 
-module _ {C O : Type 0} (serve : Kind C O) (planned : Planned serve) where
+    -- with this as the last number
+    ending : ℕ → List ℕ
+    ending k = rec .due ∷ h .index ∷ h .vad ∷ h .noise ∷ h .denoise ∷ rec .frame ∷ rec .heard ∷ rec .waiting ∷ rec .piece ∷ rec .progress ∷ wayNumber (h .way) ∷ k ∷ []
+
+    go : (t : Bool) → ending (cond (eqb (cond t 0 1) 0) 0 (s + 1)) ≡ ending (cond t 0 (s + 1))
+    go true = refl
+    go false = refl
+
+module _ {C : Type 0} (serve : Kind C) (owned : Owned serve) where
   -- ---- one call
 
-  abbrev came : List ℕ → List Float → C → Came O
-  came ns xs c = perform 1 0 (recordIn ns) xs (planned .plan c)
+  -- what a bench's call makes of its own record and share
+  abbrev pub alone-does : Record → List Float → C → Effect Answer
+  alone-does rec xs c = performed 1 0 rec xs (owned .local c)
 
   mine : (n s : ℕ) (ns : List ℕ) (store : List Float) (c : C) → s < n → length store ≡ n * SHARE
-      → serve n s ns store c ≡ inStore s store (serve 1 0 ns (get (shareOf s) store) c)
-  mine n s ns store c h l =
-      planned .does n s ns store c
-      ∙ ap (givenBy ns) (its-own n s store h l (planned .plan c) (recordIn ns))
-      ∙ ap (inStore s store) (sym (planned .does 1 0 ns (get (shareOf s) store) c))
+      → serve n s ns store c ≡ placed s store (alone-does (recordIn s ns) (get (shareOf s) store) c)
+  mine n s ns store c h l = owned .does n s ns store c ∙ its-own (owned .local c) n s store h l (recordIn s ns)
 
-  kept : (ns : List ℕ) (xs : List Float) (c : C) → length xs ≡ SHARE → length (serve 1 0 ns xs c .store) ≡ SHARE
-  kept ns xs c l = rw (planned .does 1 0 ns xs c) (sized (planned .plan c) (recordIn ns) xs l)
+  kept : (rec : Record) (xs : List Float) (c : C) → length xs ≡ SHARE → length (alone-does rec xs c .kept) ≡ SHARE
+  kept rec xs c l = sized (owned .local c) rec xs l
 
   -- every other share stays, and the length of the store
   pub beside : (n side : ℕ) (ns : List ℕ) (store : List Float) (c : C) → length store ≡ n * SHARE
-      → (length (serve n side ns store c .store) ≡ n * SHARE)
-      × ((s : ℕ) → (side ≡ s → ⊥) → get (shareOf s) (serve n side ns store c .store) ≡ get (shareOf s) store)
+      → (length (serve n side ns store c .kept) ≡ n * SHARE)
+      × ((s : ℕ) → (side ≡ s → ⊥) → get (shareOf s) (serve n side ns store c .kept) ≡ get (shareOf s) store)
   beside n side ns store c l = go (ltb side n) refl
     where
       go : (t : Bool) → ltb side n ≡ t
-          → (length (serve n side ns store c .store) ≡ n * SHARE)
-          × ((s : ℕ) → (side ≡ s → ⊥) → get (shareOf s) (serve n side ns store c .store) ≡ get (shareOf s) store)
+          → (length (serve n side ns store c .kept) ≡ n * SHARE)
+          × ((s : ℕ) → (side ≡ s → ⊥) → get (shareOf s) (serve n side ns store c .kept) ≡ get (shareOf s) store)
       go true e =
           let h = ltb-true side n e in
-          let k = kept ns (get (shareOf side) store) c (length-get (shareOf side) store (omega arith)) in
+          let xs = get (shareOf side) store in
+          let left = alone-does (recordIn side ns) xs c .kept in
+          let k = kept (recordIn side ns) xs c (length-get (shareOf side) store (omega arith)) in
           rw (mine n side ns store c h l) (
-            length-put (shareOf side) store (serve 1 0 ns (get (shareOf side) store) c .store) (omega arith) k ∙ l,
-            λ s ne. get-put-apart (shareOf side) (shareOf s) store (serve 1 0 ns (get (shareOf side) store) c .store) (omega arith) k (apart side s ne),
+            length-put (shareOf side) store left (omega arith) k ∙ l,
+            λ s ne. get-put-apart (shareOf side) (shareOf s) store left (omega arith) k (apart side s ne),
           )
       go false e =
-          let h = ltb-false side n e in
-          let o : serve n side ns store c .store ≡ store =
-          ap (λ (g : Gives O). g .store) (planned .does n side ns store c) ∙ no-side n side h (planned .plan c) (recordIn ns) store l in
+          let o : serve n side ns store c .kept ≡ store =
+          ap (λ (g : Effect Answer). g .kept) (owned .does n side ns store c) ∙ no-side (owned .local c) n side (ltb-false side n e) (recordIn side ns) store in
           rw o (l, λ s ne. refl)
 
   -- what the share of a closed side held is not told
-  record Alike (o u : Gives O) : Type 0 where
-    returned : o .returned ≡ u .returned
-    store : (o .store ≡ u .store) ⊎ (recordIn (o .returned .numbers) .due ≡ 0)
+  record Alike (s : ℕ) (ns : List ℕ) (o u : Effect Answer) : Type 0 where
+    back : returned s ns o ≡ returned s ns u
+    store : (o .kept ≡ u .kept) ⊎ (recordIn s (returned s ns o .numbers) .due ≡ 0)
 
-  untold : (ns : List ℕ) (xs ys : List Float) (c : C) → length xs ≡ SHARE → length ys ≡ SHARE → recordIn ns .due ≡ 0
-      → Alike (serve 1 0 ns xs c) (serve 1 0 ns ys c)
-  untold ns xs ys c l k z =
-      let a = unseen (planned .plan c) (recordIn ns) xs ys l k z in
-      rw (planned .does 1 0 ns xs c, planned .does 1 0 ns ys c)
-      (record {
-        returned = cc;
-        store = ⊎-elim (λ e. inl e) (λ d. inr (shut (passed (came ns xs c .reply)) d)) (a .store);
-      })
+  untold : (s : ℕ) (ns : List ℕ) (xs ys : List Float) (c : C) → length xs ≡ SHARE → length ys ≡ SHARE → recordIn s ns .due ≡ 0
+      → Alike s ns (alone-does (recordIn s ns) xs c) (alone-does (recordIn s ns) ys c)
+  untold s ns xs ys c l k z =
+      let a = unseen (owned .local c) (recordIn s ns) xs ys l k z in
+      record {
+        back = rw (a .answer, a .written);
+        store = ⊎-elim (λ e. inl e) (λ d. inr (shut (passed (o .answer .reply)) d)) (a .store);
+      }
     where
-      shut : (t : Bool) → came ns xs c .rec .due ≡ 0 → recordIn (cond t (numbersOf (came ns xs c .rec)) ns) .due ≡ 0
-      shut true d = rw (reads (came ns xs c .rec)) d
+      o : Effect Answer
+      o = alone-does (recordIn s ns) xs c
+
+      shut : (t : Bool) → o .answer .rec .due ≡ 0 → recordIn s (cond t (numbersOf s (o .answer .rec)) ns) .due ≡ 0
+      shut true d = rw (reads s (o .answer .rec)) d
       shut false d = z
 
   -- ---- any run
 
-  -- what one bench receives, from its record and share
-  unfoldable pub lone : List ℕ → List Float → List C → List (Returned O)
-  lone ns xs [] = []
-  lone ns xs (c ∷ more) = let o = serve 1 0 ns xs c in o .returned ∷ lone (o .returned .numbers) (o .store) more
+  -- what bench s receives, from its record and share
+  unfoldable pub lone : ℕ → List ℕ → List Float → List C → List Returned
+  lone s ns xs [] = []
+  lone s ns xs (c ∷ more) = let o = alone-does (recordIn s ns) xs c in let r = returned s ns o in r ∷ lone s (r .numbers) (o .kept) more
 
   -- and what comes after a call
-  abbrev pub next : List C → Gives O → List (Returned O)
-  next more o = o .returned ∷ lone (o .returned .numbers) (o .store) more
+  abbrev pub next : ℕ → List C → List ℕ → Effect Answer → List Returned
+  next s more ns o = let r = returned s ns o in r ∷ lone s (r .numbers) (o .kept) more
 
   module _ (n s : ℕ) (h : s < n) where
     pub in-any-run : (cs : List (On C)) (st : State) → length (st .store) ≡ n * SHARE
-        → received serve n s st cs ≡ lone (st .numbers s) (get (shareOf s) (st .store)) (own s cs)
+        → received serve n s st cs ≡ lone s (st .numbers s) (get (shareOf s) (st .store)) (own s cs)
     unfolding received own lone
     in-any-run [] st l = refl
     in-any-run (c ∷ cs) st l =
@@ -107,49 +125,91 @@ module _ {C O : Type 0} (serve : Kind C O) (planned : Planned serve) where
       where
         go : (t : Bool) → eqb (c .side) s ≡ t
             → ((c .side ≡ s → ⊥) → get (shareOf s) (after serve n st c .store) ≡ get (shareOf s) (st .store))
-            → received serve n s (after serve n st c) cs ≡ lone (after serve n st c .numbers s) (get (shareOf s) (after serve n st c .store)) (own s cs)
-            → received serve n s st (c ∷ cs) ≡ lone (st .numbers s) (get (shareOf s) (st .store)) (own s (c ∷ cs))
+            → received serve n s (after serve n st c) cs ≡ lone s (after serve n st c .numbers s) (get (shareOf s) (after serve n st c .store)) (own s cs)
+            → received serve n s st (c ∷ cs) ≡ lone s (st .numbers s) (get (shareOf s) (st .store)) (own s (c ∷ cs))
         go true e others rest =
             let same = eqb-true (c .side) s e in
             let xs = get (shareOf s) (st .store) in
-            let k = kept (st .numbers s) xs (c .call) (length-get (shareOf s) (st .store) (omega arith)) in
-            let here : given serve n st c ≡ inStore s (st .store) (serve 1 0 (st .numbers s) xs (c .call)) = rw same (mine n s (st .numbers s) (st .store) (c .call) h l) in
-            let share : get (shareOf s) (given serve n st c .store) ≡ serve 1 0 (st .numbers s) xs (c .call) .store =
-            ap (λ (g : Gives O). get (shareOf s) (g .store)) here ∙ get-put (shareOf s) (st .store) (serve 1 0 (st .numbers s) xs (c .call) .store) (omega arith) k in
-            let told : given serve n st c .returned ≡ serve 1 0 (st .numbers s) xs (c .call) .returned = ap (λ (g : Gives O). g .returned) here in
+            let k = kept (recordAt s st) xs (c .call) (length-get (shareOf s) (st .store) (omega arith)) in
+            let one = alone-does (recordAt s st) xs (c .call) in
+            let here : given serve n st c ≡ placed s (st .store) one = rw same (mine n s (st .numbers s) (st .store) (c .call) h l) in
+            let share : get (shareOf s) (given serve n st c .kept) ≡ one .kept =
+            ap (λ (g : Effect Answer). get (shareOf s) (g .kept)) here ∙ get-put (shareOf s) (st .store) (one .kept) (omega arith) k in
+            let told : gets serve n st c ≡ returned s (st .numbers s) one =
+            ap (λ (k : ℕ). returned k (st .numbers k) (given serve n st c)) same ∙ ap (returned s (st .numbers s)) here in
             rw e
-            (ap₂ {C = List (Returned O)} (λ (x : Returned O) (more : List (Returned O)). x ∷ more) told
-            ((rw e at rest) ∙ ap₂ (λ (r : Returned O) (x : List Float). lone (r .numbers) x (own s cs)) told share))
+            (ap₂ {C = List Returned} (λ (x : Returned) (more : List Returned). x ∷ more) told
+            ((rw e at rest) ∙ ap₂ (λ (r : Returned) (x : List Float). lone s (r .numbers) x (own s cs)) told share))
         go false e others rest =
-            rw e ((rw e at rest) ∙ ap (λ (x : List Float). lone (st .numbers s) x (own s cs)) (others (eqb-false (c .side) s e)))
+            rw e ((rw e at rest) ∙ ap (λ (x : List Float). lone s (st .numbers s) x (own s cs)) (others (eqb-false (c .side) s e)))
 
   -- ---- from closed
 
-  closed-same : (cs : List C) (ns : List ℕ) (xs ys : List Float) → length xs ≡ SHARE → length ys ≡ SHARE → recordIn ns .due ≡ 0 → lone ns xs cs ≡ lone ns ys cs
+  closed-same : (cs : List C) (s : ℕ) (ns : List ℕ) (xs ys : List Float) → length xs ≡ SHARE → length ys ≡ SHARE → recordIn s ns .due ≡ 0
+      → lone s ns xs cs ≡ lone s ns ys cs
   unfolding lone
-  closed-same [] ns xs ys l k z = refl
-  closed-same (c ∷ more) ns xs ys l k z =
-      let o = serve 1 0 ns xs c in
-      let u = serve 1 0 ns ys c in
-      let like = untold ns xs ys c l k z in
-      ap₂ {C = List (Returned O)} (λ (x : Returned O) (rest : List (Returned O)). x ∷ rest) (like .returned)
+  closed-same [] s ns xs ys l k z = refl
+  closed-same (c ∷ more) s ns xs ys l k z =
+      let o = alone-does (recordIn s ns) xs c in
+      let u = alone-does (recordIn s ns) ys c in
+      let like = untold s ns xs ys c l k z in
+      ap₂ {C = List Returned} (λ (x : Returned) (rest : List Returned). x ∷ rest) (like .back)
       (⊎-elim
-      (λ e. ap₂ (λ (r : Returned O) (x : List Float). lone (r .numbers) x more) (like .returned) e)
+      (λ e. ap₂ (λ (r : Returned) (x : List Float). lone s (r .numbers) x more) (like .back) e)
       (λ d.
-      closed-same more (o .returned .numbers) (o .store) (u .store) (kept ns xs c l) (kept ns ys c k) d
-      ∙ ap (λ (r : Returned O). lone (r .numbers) (u .store) more) (like .returned))
+      closed-same more s (returned s ns o .numbers) (o .kept) (u .kept) (kept (recordIn s ns) xs c l) (kept (recordIn s ns) ys c k) d
+      ∙ ap (λ (r : Returned). lone s (r .numbers) (u .kept) more) (like .back))
       (like .store))
+
+  -- ---- on a desk of one bench
+
+  -- the record that comes back, as bench s has it and as the only bench has it
+  module _ (rec : Record) (xs : List Float) (c : C) where
+    abbrev gives : Effect Answer
+    gives = alone-does rec xs c
+
+    abbrev then : Record
+    then = cond (passed (gives .answer .reply)) (gives .answer .rec) rec
+
+    back : (k : ℕ) → handedBack k (gives .answer) (numbersOf k rec) ≡ numbersOf k then
+    back k = go (passed (gives .answer .reply))
+      where
+        go : (t : Bool) → cond t (numbersOf k (gives .answer .rec)) (numbersOf k rec) ≡ numbersOf k (cond t (gives .answer .rec) rec)
+        go true = refl
+        go false = refl
+
+    gives-back : (k : ℕ)
+        → returned k (numbersOf k rec) (alone-does (recordIn k (numbersOf k rec)) xs c)
+        ≡ record { number = replyNumber (gives .answer .reply); numbers = numbersOf k then; written = gives .written }
+    gives-back k = rw (reads k rec) (rw (back k))
+
+  pub named : (cs : List C) (s : ℕ) (rec : Record) (xs : List Float) → lone s (numbersOf s rec) xs cs ≡ map (asBench s) (lone 0 (numbersOf 0 rec) xs cs)
+  unfolding lone
+  named [] s rec xs = refl
+  named (c ∷ more) s rec xs =
+      let o = gives rec xs c in
+      let r = then rec xs c in
+      let told : ℕ → Returned = λ k. record { number = replyNumber (o .answer .reply); numbers = numbersOf k r; written = o .written } in
+      let from : (k : ℕ) → lone k (numbersOf k rec) xs (c ∷ more) ≡ told k ∷ lone k (numbersOf k r) (o .kept) more =
+      λ k. ap₂ {C = List Returned} (λ (x : Returned) (left : List Float). x ∷ lone k (x .numbers) left more) (gives-back rec xs c k) (ap (λ (b : Record). alone-does b xs c .kept) (reads k rec)) in
+      from s
+      ∙ ap₂ {C = List Returned} (λ (x : Returned) (rest : List Returned). x ∷ rest)
+      (ap (λ (ns : List ℕ). record { number = replyNumber (o .answer .reply); numbers = ns; written = o .written }) (sym (of-bench s r)))
+      (named more s r (o .kept))
+      ∙ ap (map (asBench s)) (sym (from 0))
 
   own-lonely : (cs : List C) → own 0 (map (on 0) cs) ≡ cs
   unfolding own
   own-lonely [] = refl
   own-lonely (c ∷ more) = ap (λ (xs : List C). c ∷ xs) (own-lonely more)
 
-  pub alone-lone : (cs : List C) → alone serve cs ≡ lone (numbersOf closed) (zeros SHARE) cs
+  pub alone-lone : (s : ℕ) (cs : List C) → alone serve s cs ≡ lone s (numbersOf s closed) (zeros SHARE) cs
   unfolding alone
-  alone-lone cs =
-      in-any-run 1 0 (omega arith) (map (on 0) cs) (allZeros (zeros SHARE)) refl
-      ∙ ap₂ (lone (numbersOf closed)) (get-whole (zeros SHARE) SHARE refl) (own-lonely cs)
+  alone-lone s cs =
+      ap (map (asBench s))
+      (in-any-run 1 0 (omega arith) (map (on 0) cs) (allZeros (zeros SHARE)) refl
+      ∙ ap₂ (lone 0 (numbersOf 0 closed)) (get-whole (zeros SHARE) SHARE refl) (own-lonely cs))
+      ∙ sym (named cs s closed (zeros SHARE))
 
   -- ---- what is claimed
 
@@ -157,9 +217,12 @@ module _ {C O : Type 0} (serve : Kind C O) (planned : Planned serve) where
   unfolding recordIn
   isolated n s h store l calls =
       in-any-run n s h calls (allZeros store) l
-      ∙ closed-same (own s calls) (numbersOf closed) (get (shareOf s) store) (zeros SHARE) (length-get (shareOf s) store (omega arith)) refl refl
-      ∙ sym (alone-lone (own s calls))
+      ∙ closed-same (own s calls) s (numbersOf s closed) (get (shareOf s) store) (zeros SHARE) (length-get (shareOf s) store (omega arith)) refl refl
+      ∙ sym (alone-lone s (own s calls))
 
   pub undisturbed : (n : ℕ) → Undisturbed serve n
   undisturbed n s h store store′ l l′ calls calls′ e =
-      isolated n s h store l calls ∙ ap (alone serve) e ∙ sym (isolated n s h store′ l′ calls′)
+      isolated n s h store l calls ∙ ap (alone serve s) e ∙ sym (isolated n s h store′ l′ calls′)
+
+pub owned-is-apart : OwnedIsApart
+owned-is-apart C serve owned n = (isolated serve owned n, undisturbed serve owned n)

@@ -18,7 +18,7 @@ use Rattle.memory.proofs.Calls.{Remembers, remembers, either}
 use Rattle.memory.proofs.Gains.{held-gains}
 use Rattle.isolation.specs.Run.{Kind, On, State, recordAt, after, ended, desks, Made, expand, Expands}
 use Rattle.isolation.specs.Numbering.{replied, callsIn}
-use Rattle.isolation.specs.Memory.{recalled, SilentLeaves, MadeOfHeard, Since, Faded, NeverNan, HeardHolds, Counts, itself, DeskCounts}
+use Rattle.isolation.specs.Memory.{recalled, SilentLeaves, MadeOfHeard, Since, Faded, NeverNan, HeardHolds, Counts, itself, DeskCounts, ExpandedCounts}
 use Rattle.isolation.proofs.Runs.{expanding}
 use Rattle.isolation.proofs.Moved.{share, Whole, fits, kept-whole, lone, replies, kept-then, keptAt, calls, own-calls, own-moves, other-moves, run, fresh}
 use Rattle.isolation.proofs.Numberings.{numbering}
@@ -66,7 +66,7 @@ module _ (n s : ℕ) (inside : s < n) where
   numbers-run [] st l numbers = (numbers, l)
   numbers-run (c ∷ cs) st l numbers = numbers-run cs (after desks n st c) (kept-whole n s inside st l c) (numbers-after st l c numbers)
 
-  since : {C O : Type 0} (serve : Kind C O) (asksOf : Made C) → Expands serve asksOf n → (st : State) → Since serve asksOf n s st → Numbers st × Whole n s inside st
+  since : {C : Type 0} (serve : Kind C) (asksOf : Made C) → Expands serve asksOf n → (st : State) → Since serve asksOf n s st → Numbers st × Whole n s inside st
   since serve asksOf expanded st h =
       let f = fresh n s inside (h .start) (h .opened) in
       rw (← h .led, expanded (h .start) (h .calls))
@@ -98,7 +98,7 @@ silent-leaves n s inside st l c e ne u =
     recalled-behind n s inside st (calls n s inside st c) (own-moves n s inside st l c e r)
     ∙ none-heard (recalled s st) _ (count n s inside st l c e r ∙ rw (not-heard (replied n st c) u))
 
-module _ {C O : Type 0} (serve : Kind C O) (asksOf : Made C) (n : ℕ) (expanded : Expands serve asksOf n) where
+module _ {C : Type 0} (serve : Kind C) (asksOf : Made C) (n : ℕ) (expanded : Expands serve asksOf n) where
   pub made-of-heard : MadeOfHeard serve asksOf n
   made-of-heard s inside st o calls u =
       let asks = expand serve asksOf n st calls in
@@ -141,3 +141,6 @@ module _ {C O : Type 0} (serve : Kind C O) (asksOf : Made C) (n : ℕ) (expanded
 pub desk-counts : (n : ℕ) → DeskCounts n
 unfolding ended
 desk-counts n = counts desks itself n (expanding desks itself n (λ st side a. refl))
+
+pub expanded-counts : ExpandedCounts
+expanded-counts C serve asksOf n expanded = counts serve asksOf n expanded

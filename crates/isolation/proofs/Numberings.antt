@@ -39,7 +39,7 @@ kept-heard k n (three true x logs m ∷ cs) a e = kept-heard _ n cs (a + 1) (nex
 kept-heard k n (three false x logs m ∷ cs) a e = kept-heard k n cs a e
 kept-heard k n (four ∷ cs) a e = kept-heard _ n cs a e
 
-pub numbering : {C O : Type 0} (serve : Kind C O) (asksOf : Made C) (n : ℕ) (expanded : Expands serve asksOf n) → Numbering serve asksOf n
+pub numbering : {C : Type 0} (serve : Kind C) (asksOf : Made C) (n : ℕ) (expanded : Expands serve asksOf n) → Numbering serve asksOf n
 numbering serve asksOf n expanded s inside st o calls u =
     let asks = expand serve asksOf n st calls in
     let cs = callsIn n s st asks in

@@ -13,7 +13,7 @@ use Rattle.desk.specs.Gate.{shareOf}
 use Rattle.desk.specs.Desk.{Ask, callOf}
 use Rattle.memory.specs.Hear.{Recalled, blank, heardAll, faded}
 use Rattle.memory.specs.Brought.{recalledIn}
-use Rattle.isolation.specs.Run.{Kind, On, State, recordAt, after, ended, desks, Made, expand}
+use Rattle.isolation.specs.Run.{Kind, On, State, recordAt, after, ended, desks, Made, expand, Expands}
 use Rattle.isolation.specs.Numbering.{replied, framesHeard, Unopened, Opened, Numbering}
 
 -- what side s remembers, in its share and in its record
@@ -30,7 +30,7 @@ SilentLeaves n =
     → recalled s (after desks n st c) ≡ recalled s st
 
 -- over calls of any kind that is made of the desk's, with n benches
-module _ {C O : Type 0} (serve : Kind C O) (asksOf : Made C) (n : ℕ) where
+module _ {C : Type 0} (serve : Kind C) (asksOf : Made C) (n : ℕ) where
   -- since an opening, until the next
   abbrev pub MadeOfHeard : Type 0
   MadeOfHeard =
@@ -84,3 +84,7 @@ itself n side rec store a = a ∷ []
 
 abbrev pub DeskCounts : ℕ → Type 0
 DeskCounts n = Counts desks itself n
+
+-- numbers and memory, of every kind of calls that is made of the desk's, for any number of benches
+abbrev pub ExpandedCounts : Type 1
+ExpandedCounts = (C : Type 0) (serve : Kind C) (asksOf : Made C) (n : ℕ) → Expands serve asksOf n → Counts serve asksOf n

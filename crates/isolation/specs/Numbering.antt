@@ -57,7 +57,7 @@ pub record Opened (n s : ℕ) (st : State) : Type 0 where
   pub now : after desks n before (openingOf s way model) ≡ st
 
 -- over calls of any kind that is made of the desk's, with n benches
-module _ {C O : Type 0} (serve : Kind C O) (asksOf : Made C) (n : ℕ) where
+module _ {C : Type 0} (serve : Kind C) (asksOf : Made C) (n : ℕ) where
   abbrev pub Numbering : Type 0
   Numbering =
       (s : ℕ) → s < n

@@ -6,7 +6,7 @@ use Rattle.pitch.specs.Xcorr.{pitchXcorr}
 use Rattle.pitch.specs.Downsample.{downsampled}
 use Rattle.pitch_search.proofs.Firsts.{first-below, first-none}
 use Rattle.lag.specs.Lag.{correlations, firstPitch, ownLag}
-use Rattle.lag.specs.Laws.{InRange, OfNone}
+use Rattle.lag.specs.Laws.{InRange, LagIsEven, OfNone}
 
 pub length-correlations : (low : List Float) → length (correlations low) ≡ 294
 unfolding correlations pitchXcorr
@@ -18,6 +18,10 @@ pitch-small low = rw length-correlations at (first-below (correlations low) low 
 pub in-range : InRange
 unfolding ownLag
 in-range mem = (omega (arith, pitch-small (downsampled mem)), omega arith)
+
+pub is-even : LagIsEven
+unfolding ownLag
+is-even mem = omega (arith, pitch-small (downsampled mem))
 
 pub none-positive : OfNone
 unfolding ownLag

@@ -7,7 +7,7 @@ ghost use Rattle.rules.specs.Leaf.{Leaf, _leaving_};
 ghost use Rattle.rules.specs.F64.{_-₆₄_};
 ghost use Rattle.logs.specs.Log10.{series, lostOf, nudged, summed, logOfBits, log10Of, logsOf, LogsFits};
 
-mod table;
+pub mod table;
 
 // Patterns of an f64: the weight of the exponent's field, and 1.0.
 const LEAD: u64 = 0x10_0000_0000_0000;

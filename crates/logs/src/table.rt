@@ -25,9 +25,12 @@ pub(crate) const SERIES_6: f64 = -0.07238241365054197;
 pub(crate) const SERIES_7: f64 = 0.06204206884332169;
 
 // A centre near 32 / (32 + i), of 20 binary digits, and the two parts of minus its logarithm.
-pub(crate) struct Row {
+pub struct Row {
+    // The centre: what 1 / m is near to.
     pub centre: f64,
+    // The high part of minus its logarithm.
     pub high: f64,
+    // The low part: what the high part lacks.
     pub low: f64,
 }
 

@@ -14,7 +14,7 @@ use mathlib.Core.Logic.{_⊎_, inl, inr, ⊎-elim}
 use borrow.Author.Tests.{ltb-false}
 use Rattle.rules.specs.F32.{at, f32}
 use Rattle.rules.specs.Place.{Place, get, put}
-use Rattle.rules.specs.Written.{Written, from, nothing, firstIn}
+use Rattle.frame.specs.Written.{Written, from, nothing, firstIn}
 use Rattle.rules.proofs.Places.{length-put, get-get, get-put, get-put-apart}
 use Rattle.rules.proofs.Lists.{length-tab}
 use Rattle.bands.proofs.Results.{length-corr}

@@ -1,7 +1,7 @@
 -- The four calls of a frame, and which of them a call of the desk is made of: a half of two, a piece and a resume of halves.
 use Rattle.rules.specs.Common.{ℕ, Bool, cond, List, [], _∷_, _++_, ltb, length, take, drop, Float}
 use Rattle.rules.specs.Place.{get}
-use Rattle.rules.specs.Written.{firstIn}
+use Rattle.frame.specs.Written.{firstIn}
 use Rattle.lag.specs.Lag.{ownLag}
 use Rattle.frame.specs.Share.{inputMem}
 use Rattle.frame.specs.Reply.{passed, isHeard}

@@ -2,6 +2,7 @@
 use Rattle.rules.specs.Common.{ℕ, _+_, _≤_, _<_, List, [], _∷_, _++_, _≡_, length, getD, take, drop}
 use Rattle.rules.specs.Leaf.{_leaving_}
 use Rattle.rules.specs.Place.{get}
+use Rattle.rules.specs.Refusals.{refusing}
 use Rattle.model.specs.declared.Activation.the-variants.{Tanh}
 use Rattle.model.specs.declared.Header.{Header}
 use Rattle.model.specs.declared.Kind.{Kind}
@@ -9,7 +10,7 @@ use Rattle.model.specs.declared.Kind.the-variants.{Dense, Gru}
 use Rattle.model.specs.declared.Model.{Model}
 use Rattle.model.specs.declared.Reading.the-variants.{Good, Refused}
 use Rattle.model.specs.Array.{foundIn, arrayIn}
-use Rattle.model.specs.Layer.{sizeOf, activationNumber, Layer}
+use Rattle.model.specs.Layer.{sizeOf, activationNumber, Layer, bytesOf, layerOf, faultsOf, stepNumber, stepValues, stepAt}
 use Rattle.model.specs.Model.{kinds, readLayers, headersAt, modelOf, readOf}
 use Rattle.model.specs.Writer.{layersGiven, fileOf, writeModel}
 
@@ -47,6 +48,17 @@ NoneShared =
     → fileOf (layersGiven kinds shapes arrays) ≡ fileOf (layersGiven kinds shapes′ arrays′) → (shapes ≡ shapes′) × (arrays ≡ arrays′)
 
 -- ---- what reads
+
+-- In document 01's terms: a step has the number of the layer's first refusal, or 0. A layer that is read comes with its counts, its
+-- activation, where its arrays start and where the next layer does.
+abbrev pub StepInPaper : Type 0
+StepInPaper =
+    (k : Kind) (s : List ℕ) (at : ℕ)
+    → let l = layerOf k (drop at s) in
+    let rows = faultsOf k (drop at s) in
+    (stepNumber (stepAt k s at) ≡ refusing rows (λ n. n) 0)
+    × (stepValues (stepAt k s at)
+    ≡ refusing rows (λ n. []) (l .inputs ∷ l .neurons ∷ activationNumber (l .activation) ∷ (at + 3) ∷ (at + length (bytesOf l)) ∷ []))
 
 -- layer j of some layers; past their end, one without arrays
 abbrev pub layerIn : List Layer → ℕ → Layer

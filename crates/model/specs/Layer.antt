@@ -79,6 +79,16 @@ restOf k s = drop (length (bytesOf (layerOf k s))) s
 abbrev pub headerAt : ℕ → Layer → Header
 headerAt at l = record { inputs = l .inputs; neurons = l .neurons; activation = l .activation; start = at + 3 }
 
+-- What document 01 says of a step: its number, 0 or the refusal, and its values: inputs, neurons and activation of the layer, where its
+-- arrays start, and the next reading place.
+abbrev pub stepNumber : Step → ℕ
+stepNumber (step.Layer h c) = 0
+stepNumber (step.Refused n) = n
+
+abbrev pub stepValues : Step → List ℕ
+stepValues (step.Layer h c) = h .inputs ∷ h .neurons ∷ activationNumber (h .activation) ∷ h .start ∷ c .at ∷ []
+stepValues (step.Refused n) = []
+
 -- what reading a layer at a place gives
 unfoldable pub stepAt : Kind → List ℕ → ℕ → Step
 stepAt k s at =

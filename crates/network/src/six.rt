@@ -1,4 +1,4 @@
-// The six layers of a model that reads. A header says where a layer's arrays lie in the model's bytes.
+// The six layers of a model that reads. `model::place_in` says where a layer's arrays are in the model's bytes.
 ghost use mathlib.Core.Path.{_≡_};
 ghost use mathlib.Core.List.{_++_};
 ghost use Prim.Native.Nat.{_+_, _≤_};
@@ -12,6 +12,7 @@ ghost use Rattle.network.specs.Compute.{denseAt, gruAt, layeredOn, layer
 ghost use Rattle.network.specs.Parts.{stateAt, LayerFits, VoiceFits, DenoiseFits};
 use crate::layers;
 use model::Header;
+use model::Kind;
 use model::Model;
 
 // Puts src at this place: what stands before it stays.
@@ -41,15 +42,18 @@ fn dense(output: &mut [f32], table: &[f32; 201], bytes: &[u8], h: Header, input:
     requires { ⌜ (now table ≡ tansig) × LayerFits Dense h (length (now bytes)) (length (now output)) (length (now input)) ⌝ }
     ensures { λ _. ⌜ now (output .exit) ≡ denseAt (now (bytes .entry)) h (now (input .entry)) ⌝ }
 {
-    let start = h.start;
-    let bias = start + h.inputs * h.neurons;
-    let end = bias + h.neurons;
+    let weights = model::place_in(bytes.len(), Kind::Dense, h, 0);
+    let bias = model::place_in(bytes.len(), Kind::Dense, h, 2);
+    let w = weights.at;
+    let w_end = w + weights.size;
+    let b = bias.at;
+    let b_end = b + bias.size;
     let activation = h.activation;
     layers::dense(
         output,
         table,
-        &bytes[start..bias],
-        &bytes[bias..end],
+        &bytes[w..w_end],
+        &bytes[b..b_end],
         activation,
         input,
     );
@@ -79,18 +83,23 @@ fn gru(states: &mut [f32], at: usize, table: &[f32; 201], bytes: &[u8], h: Heade
     ensures { λ _. ⌜ now (states .exit) ≡ put (stateAt at h) (now (states .entry))
         (gruAt (now (bytes .entry)) h (now (input .entry)) (get (stateAt at h) (now (states .entry)))) ⌝ }
 {
-    let start = h.start;
-    let recurrent = start + 3 * h.inputs * h.neurons;
-    let bias = recurrent + 3 * h.neurons * h.neurons;
-    let end = bias + 3 * h.neurons;
+    let weights = model::place_in(bytes.len(), Kind::Gru, h, 0);
+    let recurrent = model::place_in(bytes.len(), Kind::Gru, h, 1);
+    let bias = model::place_in(bytes.len(), Kind::Gru, h, 2);
+    let w = weights.at;
+    let w_end = w + weights.size;
+    let r = recurrent.at;
+    let r_end = r + recurrent.size;
+    let b = bias.at;
+    let b_end = b + bias.size;
     let last = at + h.neurons;
     let activation = h.activation;
     layers::gru_alone(
         &mut states[at..last],
         table,
-        &bytes[start..recurrent],
-        &bytes[recurrent..bias],
-        &bytes[bias..end],
+        &bytes[w..w_end],
+        &bytes[r..r_end],
+        &bytes[b..b_end],
         activation,
         input,
     );

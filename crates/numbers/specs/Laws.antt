@@ -23,9 +23,12 @@ pub record IsMaximum : Type 0 where
       × (larger (fin false zero e) (fin true zero d) ≡ fin false zero e)
   pub either-order : (x y : Float) → isNan x ≡ false → isNan y ≡ false → eq (larger x y) (larger y x) ≡ true
 
--- the smaller as Rust's `min` has it
+-- The smaller of two as Rust's `min` gives it: the other one if one is a NaN, the one below the other, and the left one if they compare
+-- equal.
 pub record IsMinimum : Type 0 where
   pub of-nan : (x : Float) → (smaller nan x ≡ x) × (smaller x nan ≡ x)
+  pub of-less : (x y : Float) → lt x y ≡ true → smaller x y ≡ x
+  pub of-more : (x y : Float) → lt y x ≡ true → smaller x y ≡ y
   pub of-equal : (x y : Float) → eq x y ≡ true → smaller x y ≡ x
 
 -- ---- rounding

@@ -1,8 +1,8 @@
 -- Recorded bytes as samples, and samples as bytes, as a WAV file has them: the little end first, and the channels by turns. A sample is a number from -32768
--- to 32767. A format is named by its bits: 16 and 24 are whole numbers, 32 is a float.
+-- to 32767. A format is named by its bits: 16 and 24 are whole numbers, 32 is a float, and 33 is a whole number of 32 bits.
 use Rattle.rules.specs.Common.{ℕ, _+_, _-_, _*_, _/_, _%_, min, _≤_, _<_, Bool, cond, _&&_, List, _≡_, eqb, ltb, length, pos, Float, binary32, nan}
 use Rattle.rules.specs.Common.{inf, fin, ofInt, le, neg, up, down, ofBits}
-use Rattle.rules.specs.F32.{_⊗_, _⊘_, f32, at, natAt}
+use Rattle.rules.specs.F32.{_⊕_, _⊗_, _⊘_, f32, at, natAt}
 use Rattle.rules.specs.Tab.{tab}
 use Rattle.numbers.specs.Larger.{clamped}
 
@@ -10,7 +10,7 @@ use Rattle.numbers.specs.Larger.{clamped}
 
 -- the bytes of a sample; 0 for no format
 abbrev pub width : ℕ → ℕ
-width format = cond (eqb format 16) 2 (cond (eqb format 24) 3 (cond (eqb format 32) 4 0))
+width format = cond (eqb format 16) 2 (cond (eqb format 24) 3 (cond (eqb format 33) 4 (cond (eqb format 32) 4 0)))
 
 -- two, three and four bytes from a place on, the little end first
 abbrev pub two : List ℕ → ℕ → ℕ
@@ -30,16 +30,27 @@ signed half n = cond (ltb n half) (ofInt binary32 (pos n)) (neg (ofInt binary32 
 abbrev pub finite : Float → Bool
 finite y = le (neg (f32 0x7F7FFFFF)) y && le y (f32 0x7F7FFFFF)
 
--- what is beyond a sample's ends is taken for the nearer of the two. A NaN and an infinity stay, and refusal 9 finds them
-unfoldable pub clipped : Float → Float
-clipped y = cond (finite y) (clamped y (neg (f32 0x47000000)) (f32 0x46FFFE00)) y
+-- what is beyond the ends is taken for the nearer of the two. A NaN and an infinity stay, and refusal 9 finds them
+unfoldable pub clipped : Float → Float → Float → Float
+clipped low high y = cond (finite y) (clamped y low high) y
 
--- the sample from a place on. Of 24 bits the lowest byte is a fraction, and a float's full scale is 1
+-- to -32768 and 32767
+abbrev pub asSample : Float → Float
+asSample y = clipped (neg (f32 0x47000000)) (f32 0x46FFFE00) y
+
+-- 32 bits: the upper two bytes are whole, the lower two a fraction. Each is exact, and so their sum is rounded once
+unfoldable pub halves : List ℕ → ℕ → Float
+unfolding signed
+halves bytes a = signed 32768 (two bytes (a + 2)) ⊕ ofInt binary32 (pos (two bytes a)) ⊘ f32 0x47800000
+
+-- the sample from a place on. Of 24 bits the lowest byte is a fraction. A float's full scale is 1: it is clipped to -1 and 32767 / 32768 before it is scaled
 unfoldable pub numberAt : ℕ → List ℕ → ℕ → Float
-unfolding signed clipped
+unfolding signed clipped halves
 numberAt format bytes a =
     cond (eqb format 16) (signed 32768 (two bytes a))
-    (cond (eqb format 24) (clipped (signed 8388608 (three bytes a) ⊘ f32 0x43800000)) (clipped (f32 0x47000000 ⊗ ofBits binary32 (four bytes a))))
+    (cond (eqb format 24) (asSample (signed 8388608 (three bytes a) ⊘ f32 0x43800000))
+    (cond (eqb format 33) (asSample (halves bytes a))
+    (f32 0x47000000 ⊗ clipped (neg (f32 0x3F800000)) (f32 0x3F7FFE00) (ofBits binary32 (four bytes a)))))
 
 -- where sample i of a channel stands, of so many channels by turns
 abbrev pub placeOf : ℕ → ℕ → ℕ → ℕ → ℕ

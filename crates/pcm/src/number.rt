@@ -3,7 +3,7 @@ ghost use mathlib.Core.Path.{_≡_};
 ghost use Prim.Native.Nat.{_+_, _*_, _<_, _≤_};
 ghost use lib.ListN.{length};
 ghost use lib.Ieee.{binary32, ofBits};
-ghost use Rattle.pcm.specs.Pcm.{width, two, three, four, signed, clipped, numberAt};
+ghost use Rattle.pcm.specs.Pcm.{width, two, three, four, signed, clipped, halves, numberAt};
 
 // The bytes of a sample; 0 for no format.
 pub fn width_of(format: u32) -> usize
@@ -14,6 +14,9 @@ pub fn width_of(format: u32) -> usize
     }
     if format == 24 {
         return 3;
+    }
+    if format == 33 {
+        return 4;
     }
     if format == 32 { 4 } else { 0 }
 }
@@ -68,9 +71,9 @@ fn float_of(bits: u32) -> f32
 
 const LARGEST: f32 = 340282350000000000000000000000000000000.0;
 
-// Within a sample's ends. A NaN and an infinity stay.
-fn clipped(y: f32) -> f32
-    ensures { λ r. ⌜ r ≡ clipped y ⌝ }
+// Within the two ends. A NaN and an infinity stay.
+fn clipped(y: f32, low: f32, high: f32) -> f32
+    ensures { λ r. ⌜ r ≡ clipped low high y ⌝ }
 {
     if !(-LARGEST <= y) {
         return y;
@@ -78,7 +81,17 @@ fn clipped(y: f32) -> f32
     if !(y <= LARGEST) {
         return y;
     }
-    numbers::clamp(y, -32768.0, 32767.0)
+    numbers::clamp(y, low, high)
+}
+
+// A whole number of 32 bits over 65,536: the upper two bytes are whole, the lower two a fraction.
+fn halves(bytes: &[u8], a: usize) -> f32
+    requires { ⌜ a + 4 ≤ length (now bytes) ⌝ }
+    ensures { λ r. ⌜ r ≡ halves (now (bytes .entry)) a ⌝ }
+{
+    let whole = signed(32768, two(bytes, a + 2));
+    let fraction = two(bytes, a) as f32 / 65536.0;
+    whole + fraction
 }
 
 // The sample from a place on.
@@ -90,7 +103,10 @@ pub(crate) fn number_at(format: u32, bytes: &[u8], a: usize) -> f32
         return signed(32768, two(bytes, a));
     }
     if format == 24 {
-        return clipped(signed(8388608, three(bytes, a)) / 256.0);
+        return clipped(signed(8388608, three(bytes, a)) / 256.0, -32768.0, 32767.0);
     }
-    clipped(32768.0 * float_of(four(bytes, a)))
+    if format == 33 {
+        return clipped(halves(bytes, a), -32768.0, 32767.0);
+    }
+    32768.0 * clipped(float_of(four(bytes, a)), -1.0, 0.999969482421875)
 }

@@ -4,7 +4,7 @@
 -- Assumes nothing.
 use Rattle.rules.proofs.Common.{ℕ, _≤_, Bool, true, false, cond, false≢true, List, [], _∷_, _≡_, refl, sym, ap, _∙_, length, Float}
 use Rattle.rules.specs.Place.{get}
-use Rattle.rules.specs.Written.{all, firstIn}
+use Rattle.frame.specs.Written.{all, firstIn}
 use Rattle.rules.proofs.Lists.{length-tab}
 use Rattle.samples.specs.Samples.{good}
 use Rattle.model.specs.Model.{readOf}

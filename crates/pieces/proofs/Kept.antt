@@ -1,7 +1,7 @@
 -- What a call keeps, whatever it is given: a share's length; and, refused, the share and the answer buffers. Assumes nothing.
 use Rattle.rules.proofs.Common.{ℕ, Bool, true, false, cond, true≢false, List, [], _≡_, refl, sym, ap, _∙_, ltb, length, take, drop, Float}
 use Rattle.rules.specs.Place.{get, put}
-use Rattle.rules.specs.Written.{Written, nothing}
+use Rattle.frame.specs.Written.{Written, nothing}
 use Rattle.frame.specs.declared.Hearing.{Hearing}
 use Rattle.frame.specs.declared.Reply.{Reply}
 use Rattle.frame.specs.declared.Reply.the-variants.{Done, Refused, Misread}

@@ -10,8 +10,9 @@ use native.Mathlib.Nat.{add-sub-cancel-left}
 use native.Mathlib.Omega.{arith}
 use borrow.Author.Tests.{lt-ltb, le-ltb}
 use Rattle.rules.specs.Place.{Place, get, put}
-use Rattle.rules.specs.Written.{Written, from, nothing, over, onto, firstIn}
-use Rattle.rules.proofs.Places.{length-get, over-none, lent-over}
+use Rattle.frame.specs.Written.{Written, from, nothing, over, onto, firstIn}
+use Rattle.rules.proofs.Places.{length-get}
+use Rattle.frame.proofs.Buffers.{over-none, lent-over}
 use Rattle.samples.specs.Samples.{good}
 use Rattle.model.specs.Model.{readOf}
 use Rattle.frame.specs.declared.Hearing.{Hearing}

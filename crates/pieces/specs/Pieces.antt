@@ -4,7 +4,7 @@ use Rattle.rules.specs.Common.{ℕ, _+_, _-_, _*_, _/_, Bool, cond, not, _&&_, 
 use Rattle.rules.specs.F32.{f32}
 use Rattle.rules.specs.Place.{Place, get, put}
 use Rattle.rules.specs.Tab.{tab}
-use Rattle.rules.specs.Written.{Written, all, from, nothing, firstIn}
+use Rattle.frame.specs.Written.{Written, all, from, nothing, firstIn}
 use Rattle.samples.specs.Samples.{good}
 use Rattle.model.specs.Model.{readOf}
 use Rattle.frame.specs.Share.{SHARE, PART}

@@ -4,7 +4,7 @@ ghost use mathlib.Core.Path.{_≡_};
 ghost use mathlib.Core.List.{[], _∷_};
 ghost use Prim.Native.Nat.{_≤_};
 ghost use lib.ListN.{length, drop};
-ghost use Rattle.rules.specs.Written.{nothing};
+ghost use Rattle.frame.specs.Written.{nothing};
 ghost use Rattle.samples.specs.Samples.{good};
 ghost use Rattle.model.specs.Model.{readOf};
 ghost use Rattle.frame.specs.declared.Reply.the-variants.{Done};

@@ -4,7 +4,7 @@ ghost use mathlib.Core.Path.{_≡_};
 ghost use Prim.Native.Nat.{_+_, _≤_};
 ghost use lib.ListN.{length};
 ghost use Rattle.rules.specs.Place.{get, put};
-ghost use Rattle.rules.specs.Written.{from, over, firstIn};
+ghost use Rattle.frame.specs.Written.{from, over, firstIn};
 ghost use Rattle.samples.specs.Samples.{good};
 ghost use Rattle.model.specs.Model.{readOf};
 ghost use Rattle.frame.specs.Reply.{passed};

@@ -9,3 +9,4 @@ pub use begin::piece;
 pub use begin::piece_fits;
 pub use finish::last_tests;
 pub use finish::resume;
+pub use waiting::join;

@@ -27,8 +27,8 @@ fn pick(front: &[f32], rest: &[f32], i: usize) -> f32
     0.0
 }
 
-// out becomes the front, and behind it the rest, as far as it goes, and zeros.
-fn join(out: &mut [f32], front: &[f32], rest: &[f32])
+// `out` becomes the front and after it the rest, as far as they go, and zeros.
+pub fn join(out: &mut [f32], front: &[f32], rest: &[f32])
     ensures { λ _. ⌜ now (out .exit) ≡ paddedTo (length (now (out .entry))) (now (front .entry) ++ now (rest .entry)) ⌝ }
 {
     for i in 0..out.len() {

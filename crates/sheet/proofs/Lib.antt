@@ -9,4 +9,6 @@ pub mod Back
 pub mod Written
 pub mod Kept
 pub mod Mending
+pub mod Succeeds
+pub mod Reported
 pub mod Examples

@@ -1,13 +1,15 @@
--- What is claimed of a sheet: of its writer and its reader, each the other's inverse (document 02, request 02; proofs/Written), of mending (request 14; proofs/Mending),
--- and of a sheet in parts (proofs/InRow).
-use Rattle.rules.specs.Common.{ℕ, _+_, _*_, _≤_, true, false, List, [], _∷_, _++_, _≡_, length, getD, take, drop}
+-- What is claimed of a sheet: of its writer and its reader, each the other's inverse (document 02, request 02; proofs/Written), of mending (request 14; proofs/Mending
+-- and proofs/Succeeds), of a sheet in parts (proofs/InRow), and of what the functions that a host calls report of what they wrote (proofs/Reported).
+use mathlib.Core.Logic.{_⊎_}
+use Rattle.rules.specs.Common.{ℕ, _+_, _*_, _≤_, _<_, true, false, List, [], _∷_, _++_, _≡_, length, getD, take, drop}
 use Rattle.rules.specs.Leaf.{_leaving_}
 use Rattle.rules.specs.Lists.{Bytes}
 use Rattle.sheet.specs.Sheet.{Sheet, recordsOf, trailerOf, bytesOf, sizeOf}
-use Rattle.sheet.specs.End.{run, sheet, endOf, readOf}
+use Rattle.sheet.specs.End.{good, run, sheet, endOf, readOf}
+use Rattle.sheet.specs.Asked.{summaryOf, entryAt}
 use Rattle.sheet.specs.Written.{writtenOf}
-use Rattle.sheet.specs.Mended.{readsAt, recordsIn, mendOf}
-use Rattle.sheet.specs.Rows.{Tally, withRecords}
+use Rattle.sheet.specs.Mended.{kept, readsAt, recordsIn, mendOf}
+use Rattle.sheet.specs.Rows.{Tally, withRecords, recordsLaid, trailerLaid}
 
 -- ---- the writer and the reader
 
@@ -44,6 +46,17 @@ Mends =
     (s : List ℕ) (place : ℕ) (numbers out told after : List ℕ) → Bytes s → (0 leaving told leaving after) ≡ mendOf s place numbers out
     → let size = getD told 0 0 in MendedTo s place (getD told 1 0) (take size after) × (drop size after ≡ drop size out)
 
+-- whole good records follow the audio: at least one, and no more than a sheet holds
+abbrev pub RecordsFollow : List ℕ → Type 0
+RecordsFollow rest = (side : ℕ) × (side ≤ 1) × (8 ≤ length rest) × (good side rest ≡ true) × (kept rest ≤ 536870911)
+
+-- it is not refused where it can be done: the place is inside the file, the file reads there or records follow, and there is room
+abbrev pub MendSucceeds : Type 0
+MendSucceeds =
+    (s : List ℕ) (place : ℕ) (numbers out : List ℕ) → length numbers ≡ 2 → place ≤ length s
+    → (readsAt place (readOf s) ≡ true) ⊎ RecordsFollow (drop place s) → length s + 16 ≤ length out
+    → mendOf s place numbers out .0 ≡ 0
+
 -- ---- a sheet in parts
 
 -- the records of some parts in a row, and the trailer of what they came to
@@ -58,3 +71,32 @@ together (es ∷ parts) = es ++ together parts
 -- they are the sheet of all their entries, as it is written at once
 abbrev pub PartsAreWhole : Type 0
 PartsAreWhole = (side : ℕ) (parts : List (List ℕ)) → inRow side (record { count = 0; total = 0 }) parts ≡ bytesOf (record { side = side; entries = together parts })
+
+-- ---- what a host is told of what it wrote
+
+-- a file that reports a sheet after so many bytes: the reader returns 0, and leaves where the records start, how many there are, and the side; and each entry is
+-- given back
+pub record Reports (file : List ℕ) (start side : ℕ) (entries : List ℕ) : Type 0 where
+  pub summary : (numbers : List ℕ) → length numbers ≡ 3 → summaryOf file numbers ≡ (0 leaving start ∷ length entries ∷ side ∷ [])
+  pub each : (i : ℕ) (entry : List ℕ) → length entry ≡ 1 → i < length entries → entryAt file i entry ≡ (0 leaving getD entries i 0 ∷ [])
+
+-- what `write` wrote is reported, after any bytes
+abbrev pub WrittenIsReported : Type 0
+WrittenIsReported =
+    (sh : Sheet) (before out after : List ℕ) → (0 leaving after) ≡ writtenOf sh out
+    → Reports (before ++ take (sizeOf (length (sh .entries))) after) (length before) (sh .side) (sh .entries)
+
+-- calls of `records`, each with the numbers that the one before left, and a call of `trailer` with the numbers that the last of them left: none was refused, these
+-- were their entries, and these are the bytes that they wrote, one after the other
+pub data InParts (side : ℕ) : List ℕ → List (List ℕ) → List ℕ → Type 0 where
+  closing : (numbers out after : List ℕ) → (0 leaving after) ≡ trailerLaid side (getD numbers 0 0) (getD numbers 1 0) out
+      → InParts side numbers [] (take 16 after)
+  adding : (numbers numbers′ entries out after : List ℕ) {parts : List (List ℕ)} {rest : List ℕ}
+      → (0 leaving numbers′ leaving after) ≡ recordsLaid side entries numbers out → InParts side numbers′ parts rest
+      → InParts side numbers (entries ∷ parts) (take (8 * length entries) after ++ rest)
+
+-- all of it is reported, after any bytes
+abbrev pub PartsAreReported : Type 0
+PartsAreReported =
+    (side : ℕ) (parts : List (List ℕ)) (before bytes : List ℕ) → InParts side (0 ∷ 0 ∷ []) parts bytes
+    → Reports (before ++ bytes) (length before) side (together parts)

@@ -12,7 +12,7 @@ use borrow.Author.Tests.{eqb-true, eqb-false, not-false}
 use lib.ListN.{length-map}
 use lib.Seq.{drop-drop, drop-append-add}
 use Rattle.rules.specs.Place.{get, put}
-use Rattle.rules.specs.Written.{Written, from, nothing, numbersIn, firstIn}
+use Rattle.frame.specs.Written.{Written, from, nothing, numbersIn, firstIn}
 use Rattle.rules.proofs.Places.{length-get, get-whole, put-whole}
 use Rattle.rules.proofs.Tests.{both}
 use Rattle.desk.specs.declared.Answer.{Answer}
@@ -36,9 +36,9 @@ use Rattle.dictation.proofs.Joins.{first, second, shareAfter, recAfter, dictate
 use Rattle.dictation.proofs.Taken.{onward, ends, pauses, piece-passed}
 use Rattle.dictation.proofs.Follows.{place, following, follows}
 use Rattle.dictation.proofs.Cuts.{short, long}
-use Rattle.whole.specs.Taking.{answersOf}
+use Rattle.whole.specs.Whole.{answersOf}
 use Rattle.whole.proofs.Dictations.{answers-both}
-use Rattle.isolation.specs.Run.{On, State, recordAt, given, after, ended, done, desks, expand}
+use Rattle.isolation.specs.Run.{On, State, recordAt, given, gets, after, ended, done, desks, expand}
 use Rattle.isolation.proofs.Runs.{record-after, store-after}
 use Rattle.surface.specs.Surface.{ask, surface, madeOf}
 use Rattle.surface.specs.Between.{asGiven, resumes, InARow, lastPiece, morePieces, inBuffer, sumsTold, Between}
@@ -104,7 +104,7 @@ module _ (n s : ℕ) (h : s < n) where
   unfolding done inBuffer ended hosted left AllDone written
   lone-run [] st b xs l e f = record { all = tt; rec = e; share = f; writes = λ k. refl }
   lone-run (c ∷ cs) st b xs l e f =
-      go (eqb (c .side) s) refl (eqb (given desks n st c .returned .number) 0) refl (λ b′ xs′ e′ f′. lone-run cs (after desks n st c) b′ xs′ sized e′ f′)
+      go (eqb (c .side) s) refl (eqb (gets desks n st c .number) 0) refl (λ b′ xs′ e′ f′. lone-run cs (after desks n st c) b′ xs′ sized e′ f′)
     where
       next : State
       next = after desks n st c
@@ -125,20 +125,20 @@ module _ (n s : ℕ) (h : s < n) where
       back same = rw (store-after n st c, same, own-share n s (recordAt s st) (st .store) (c .call) l h, e, f)
 
       -- it passed where 0 is returned
-      is-done : passed (was .answer .reply) ≡ eqb (given desks n st c .returned .number) 0
+      is-done : passed (was .answer .reply) ≡ eqb (gets desks n st c .number) 0
       is-done = zero-is-done n (c .side) (st .numbers (c .side)) (st .store) (ask (c .call)) .0
 
-      told : (k : ℕ) → numbersIn (getD (given desks n st c .returned .told) k nothing) ≡ wrote k (c .call) was
+      told : (k : ℕ) → numbersIn (getD (given desks n st c .written) k nothing) ≡ wrote k (c .call) was
       told k = refl
 
       noted : (t : Bool) → eqb (c .side) s ≡ t → recordAt s next ≡ cond t (was .answer .rec) (recordAt s st)
       noted t q = record-after n s st c ∙ ap (λ (u : Bool). cond u (was .answer .rec) (recordAt s st)) q
 
-      go : (t : Bool) → eqb (c .side) s ≡ t → (u : Bool) → eqb (given desks n st c .returned .number) 0 ≡ u
+      go : (t : Bool) → eqb (c .side) s ≡ t → (u : Bool) → eqb (gets desks n st c .number) 0 ≡ u
           → ((b′ : Record) (xs′ : List Float) → recordAt s next ≡ b′ → get (shareOf s) (next .store) ≡ xs′
           → Comes s b′ xs′ (done desks n s next cs) (ended desks n next cs) (λ k. column k n s next cs))
           → Comes s b xs (cond (t && u) (c .call ∷ done desks n s next cs) (done desks n s next cs)) (ended desks n next cs)
-          (λ k. cond t (numbersIn (getD (given desks n st c .returned .told) k nothing)) [] ++ column k n s next cs)
+          (λ k. cond t (numbersIn (getD (given desks n st c .written) k nothing)) [] ++ column k n s next cs)
       go true t true p ih =
           let k = here (eqb-true (c .side) s t) in
           let r = ih (o .answer .rec) (o .kept) (noted true t ∙ ap (λ (g : Effect Answer). g .answer .rec) k) (back (eqb-true (c .side) s t)) in
@@ -160,7 +160,7 @@ module _ (n s : ℕ) (h : s < n) where
             writes = λ i. ap (λ (ws : List Written). numbersIn (getD ws i nothing) ++ column i n s next cs) none ∙ r .writes i;
           }
         where
-          unwritten : passed (was .answer .reply) ≡ false → given desks n st c .returned .told ≡ []
+          unwritten : passed (was .answer .reply) ≡ false → given desks n st c .written ≡ []
           unwritten q = refused-leaves n (c .side) (st .numbers (c .side)) (st .store) (ask (c .call)) q .2
       go false t u p ih =
           ih b xs (noted false t ∙ e)
@@ -342,7 +342,7 @@ between n s h st l calls samples lent r z =
     let d = rows r b share (length-get (shareOf s) (st .store) (omega arith)) (c .all) rest in (
       ap (recordAt s) x ∙ c .rec ∙ d .rec,
       ap (λ (t : State). get (shareOf s) (t .store)) x ∙ c .share ∙ d .share,
-      outputs-are n s calls st (row-hands r) ∙ c .writes 0 ∙ d .out,
+      λ unfed. outputs-are n s calls st unfed (row-hands r) ∙ c .writes 0 ∙ d .out,
       answers-are n s calls st (row-hands r) ∙ c .writes 2 ∙ d .heard,
       c .writes 1 ∙ d .sums,
       λ mine e. sums-are n s calls st mine e ∙ c .writes 1 ∙ d .sums,

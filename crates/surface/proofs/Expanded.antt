@@ -1,34 +1,43 @@
 -- Runs of the surface's calls as runs of the desk's.
 --     again, begun, unmoved     a further call on a side, the first, and none
---     frame-runs, take-runs, one-call     each of the calls
+--     frame-runs, take-runs, one-call     each of the calls; row-runs, the resumes of a take
 --     expands, our-calls        any run of them, and what is claimed over it
 -- Assumes nothing.
-use Rattle.rules.proofs.Common.{ℕ, zero, suc, Bool, true, false, cond, List, [], _∷_, _++_, map, _≡_, refl, sym, ap, _∙_, eqb, length, Float}
+use Rattle.rules.proofs.Common.{ℕ, zero, suc, Bool, true, false, cond, List, [], _∷_, map, _≡_, refl, sym, ap, _∙_, eqb, length, replicate, Float}
 use mathlib.Core.Path.{fun-ext}
 use borrow.Author.Tests.{eqb-true, eq-eqb}
-use Rattle.rules.specs.Loop.{loop}
-use Rattle.rules.specs.Tab.{tab}
-use Rattle.rules.specs.Written.{firstIn}
+use Rattle.rules.specs.Place.{get}
+use Rattle.rules.proofs.Refusals.{along}
+use Rattle.frame.specs.Written.{firstIn}
 use Rattle.logs.specs.Log10.{logsOf}
 use Rattle.frame.specs.Effect.{Effect, refusal}
 use Rattle.frame.specs.declared.Reply.{Reply}
+use Rattle.frame.specs.declared.Reply.the-variants.{Refused}
 use Rattle.frame.specs.Reply.{passed}
 use Rattle.pieces.specs.Pieces.{completes}
 use Rattle.desk.specs.declared.Answer.{Answer}
 use Rattle.desk.specs.declared.Record.{Record}
-use Rattle.desk.specs.Gate.{BENCHES}
+use Rattle.desk.specs.Gate.{BENCHES, PIECE, gate, shareOf}
 use Rattle.desk.specs.Desk.{Ask, firstHalf, secondHalf, piece, resume, desk}
+use Rattle.desk.specs.Laws.{placed}
 use Rattle.desk.specs.Surface.{numbersOf, recordIn, handedBack, hosted}
 use Rattle.desk.proofs.Kept.{refused-keeps}
-use Rattle.whole.specs.Whole.{frameReply, frameBegins, frameEnds, takeReply, Taking, takeFrames, takeBegins, takeEnds, takenAs}
+use Rattle.dictation.specs.Cutting.{sumsIn}
+use Rattle.dictation.specs.Dictation.{Dictated, dictated}
+use Rattle.dictation.proofs.Cuts.{Row, rowEnd, rowMore, row-passes}
+use Rattle.whole.specs.Laws.{frameBegins, frameEnds}
+use Rattle.whole.specs.Whole.{ourLent, frameReply, takeReply, lentToEach, takenOn}
 use Rattle.whole.specs.Whole as whole
 use Rattle.whole.specs.Surface.{hostedFrame, hostedTake}
-use Rattle.whole.proofs.Dictations.{take-done}
+use Rattle.whole.proofs.Dictations.{take-row}
 use Rattle.whole.proofs.Halves.{two-halves, refused-is}
-use Rattle.isolation.specs.Run.{On, on, State, recordAt, after, ended, desks, Expands}
+use Rattle.feed.specs.Feed.{Block, ROOM, sizeOf, samplesOf, feedRows, fedBy}
+use Rattle.feed.specs.Feed as feeding
+use Rattle.feed.specs.Surface.{hostedFeed}
+use Rattle.isolation.specs.Run.{on, State, recordAt, after, ended, desks, Expands}
 use Rattle.isolation.proofs.Memories.{counts}
-use Rattle.isolation.proofs.Runs.{reads, joined, expanding}
-use Rattle.surface.specs.Surface.{Request, ask, frame, take, surface, madeOf, OurCalls}
+use Rattle.isolation.proofs.Runs.{reads, expanding}
+use Rattle.surface.specs.Surface.{Call, ask, frame, take, feed, surface, resumeFor, madeOf, OurCalls}
 
 -- ---- the records and the store
 
@@ -52,53 +61,49 @@ own side s numbers = go (eqb side s) refl
     go false e = refl
 
 -- the record that a call of the desk hands back, of one that is done and of any behind it
-back : (a : Answer) (ns : List ℕ) → passed (a .reply) ≡ true → handedBack a ns ≡ numbersOf (a .rec)
-back a ns p = rw p
+back : (side : ℕ) (a : Answer) (ns : List ℕ) → passed (a .reply) ≡ true → handedBack side a ns ≡ numbersOf side (a .rec)
+back side a ns p = rw p
 
 handed : (n side : ℕ) (rec : Record) (store : List Float) (a : Ask)
-    → let o = desk n side rec store a in handedBack (o .answer) (numbersOf rec) ≡ numbersOf (o .answer .rec)
+    → let o = desk n side rec store a in handedBack side (o .answer) (numbersOf side rec) ≡ numbersOf side (o .answer .rec)
 handed n side rec store a = go (passed (o .answer .reply)) refl
   where
     o : Effect Answer
     o = desk n side rec store a
 
-    go : (t : Bool) → passed (o .answer .reply) ≡ t → cond t (numbersOf (o .answer .rec)) (numbersOf rec) ≡ numbersOf (o .answer .rec)
+    go : (t : Bool) → passed (o .answer .reply) ≡ t → cond t (numbersOf side (o .answer .rec)) (numbersOf side rec) ≡ numbersOf side (o .answer .rec)
     go true p = refl
-    go false p = ap numbersOf (sym (refused-keeps n side rec store a p .0))
+    go false p = ap (numbersOf side) (sym (refused-keeps n side rec store a p .0))
 
 module _ (n side : ℕ) (st : State) where
-  again : (rec : Record) (store : List Float) (a : Ask)
+  pub again : (rec : Record) (store : List Float) (a : Ask)
       → let o = desk n side rec store a in
-      after desks n (leaving st side (numbersOf rec) store) (on side a) ≡ leaving st side (numbersOf (o .answer .rec)) (o .kept)
+      after desks n (leaving st side (numbersOf side rec) store) (on side a) ≡ leaving st side (numbersOf side (o .answer .rec)) (o .kept)
   unfolding hosted recordIn
   again rec store a =
-      let mine : cond (eqb side side) (numbersOf rec) (st .numbers side) ≡ numbersOf rec = rw (eq-eqb side side refl) in
+      let mine : cond (eqb side side) (numbersOf side rec) (st .numbers side) ≡ numbersOf side rec = rw (eq-eqb side side refl) in
       let o = desk n side rec store a in
-      let first = leaving st side (numbersOf rec) store in
-      ap (λ (ns : List ℕ). let g = desk n side (recordIn ns) store a in leaving first side (handedBack (g .answer) ns) (g .kept)) mine
-      ∙ ap (λ (r : Record). let g = desk n side r store a in leaving first side (handedBack (g .answer) (numbersOf rec)) (g .kept)) (reads rec)
+      let first = leaving st side (numbersOf side rec) store in
+      ap (λ (ns : List ℕ). let g = desk n side (recordIn side ns) store a in leaving first side (handedBack side (g .answer) ns) (g .kept)) mine
+      ∙ ap (λ (r : Record). let g = desk n side r store a in leaving first side (handedBack side (g .answer) (numbersOf side rec)) (g .kept)) (reads side rec)
       ∙ ap (λ (ns : List ℕ). leaving first side ns (o .kept)) (handed n side rec store a)
-      ∙ ap (λ (f : ℕ → List ℕ). record { numbers = f; store = o .kept }) (fun-ext (λ s. over side s (numbersOf (o .answer .rec)) (numbersOf rec) (st .numbers s)))
+      ∙ ap (λ (f : ℕ → List ℕ). record { numbers = f; store = o .kept }) (fun-ext (λ s. over side s (numbersOf side (o .answer .rec)) (numbersOf side rec) (st .numbers s)))
 
-  begun : (a : Ask) → let o = desk n side (recordAt side st) (st .store) a in
-      passed (o .answer .reply) ≡ true → leaving st side (numbersOf (o .answer .rec)) (o .kept) ≡ after desks n st (on side a)
+  pub begun : (a : Ask) → let o = desk n side (recordAt side st) (st .store) a in
+      passed (o .answer .reply) ≡ true → leaving st side (numbersOf side (o .answer .rec)) (o .kept) ≡ after desks n st (on side a)
   unfolding hosted
   begun a p =
       let o = desk n side (recordAt side st) (st .store) a in
-      ap (λ (ns : List ℕ). leaving st side ns (o .kept)) (sym (back (o .answer) (st .numbers side) p))
+      ap (λ (ns : List ℕ). leaving st side ns (o .kept)) (sym (back side (o .answer) (st .numbers side) p))
 
   pub unmoved : leaving st side (st .numbers side) (st .store) ≡ st
   unmoved = ap (λ (f : ℕ → List ℕ). record { numbers = f; store = st .store }) (fun-ext (λ s. own side s (st .numbers)))
-
-pub map-more : (f : Ask → On Ask) (xs : List Ask) (x : Ask) → map f (xs ++ (x ∷ [])) ≡ map f xs ++ (f x ∷ [])
-map-more f [] x = refl
-map-more f (y ∷ xs) x = ap (λ (cs : List (On Ask)). f y ∷ cs) (map-more f xs x)
 
 -- ---- each of the calls, on a side with its record
 
 -- so many calls of the desk lead to what was given
 abbrev Leads : ℕ → ℕ → State → List Ask → Effect Answer → Type 0
-Leads n side st asks o = leaving st side (handedBack (o .answer) (st .numbers side)) (o .kept) ≡ ended desks n st (map (on side) asks)
+Leads n side st asks o = leaving st side (handedBack side (o .answer) (st .numbers side)) (o .kept) ≡ ended desks n st (map (on side) asks)
 
 module _ (n side : ℕ) (st : State) where
   abbrev ns : List ℕ
@@ -110,7 +115,7 @@ module _ (n side : ℕ) (st : State) where
   -- a call that is refused is made of none
   none-runs : (reply : Reply) → passed reply ≡ false → Leads n side st [] (refusal (record { reply = reply; rec = recordAt side st }) (st .store))
   unfolding ended
-  none-runs reply p = ap (λ (t : Bool). leaving st side (cond t (numbersOf rec) ns) (st .store)) p ∙ unmoved n side st
+  none-runs reply p = ap (λ (t : Bool). leaving st side (cond t (numbersOf side rec) ns) (st .store)) p ∙ unmoved n side st
 
   frame-runs : (x : List Float) (m : List ℕ) (o : ℕ)
       → Leads n side st (madeOf n side (recordAt side st) (st .store) (frame x m o)) (whole.frame n side (recordAt side st) (st .store) x m o)
@@ -132,58 +137,66 @@ module _ (n side : ℕ) (st : State) where
       go : (t : Bool) → passed reply ≡ t → Leads n side st (cond t (firstHalf x 22 ∷ second ∷ []) []) (whole.frame n side rec (st .store) x m o)
       go true p =
           let h = two-halves n side rec (st .store) x m o p in
-          ap (λ (g : Effect Answer). leaving st side (handedBack (g .answer) ns) (g .kept)) (h .2)
-          ∙ ap (λ (r : List ℕ). leaving st side r (two .kept)) (back (two .answer) ns (h .1))
+          ap (λ (g : Effect Answer). leaving st side (handedBack side (g .answer) ns) (g .kept)) (h .2)
+          ∙ ap (λ (r : List ℕ). leaving st side r (two .kept)) (back side (two .answer) ns (h .1))
           ∙ sym (again n side st (one .answer .rec) (one .kept) second)
           ∙ ap (λ (s : State). after desks n s (on side second)) (begun n side st (firstHalf x 22) (h .0))
       go false p =
-          ap (λ (g : Effect Answer). leaving st side (handedBack (g .answer) ns) (g .kept)) (refused-is n side rec (st .store) x m o p)
+          ap (λ (g : Effect Answer). leaving st side (handedBack side (g .answer) ns) (g .kept)) (refused-is n side rec (st .store) x m o p)
           ∙ none-runs reply p
 
-  module _ (x : List Float) (m : List ℕ) (o : ℕ) where
-    abbrev pub stands : ℕ → Taking
-    stands j = takeFrames j n side x m o (takeBegins n side (recordAt side st) (st .store) x o)
+  -- along the resumes of a piece
+  row-runs : (x : List Float) (m : List ℕ) (o k : ℕ) {e : Effect Answer} {d : Dictated} → Row n side x o e (replicate k (ourLent m)) d
+      → leaving st side (numbersOf side (d .rec)) (d .kept)
+      ≡ ended desks n (leaving st side (numbersOf side (e .answer .rec)) (e .kept)) (map (on side) (map (resumeFor x m o) (d .told)))
+  unfolding ended
+  row-runs x m o zero (rowEnd p) = refl
+  row-runs x m o (suc k) (rowMore {o = e} {next = next} {d = d} p q more) =
+      row-runs x m o k more
+      ∙ ap (λ (s : State). ended desks n s (map (on side) (map (resumeFor x m o) (d .told))))
+      (ap (λ (g : Effect Answer). leaving st side (numbersOf side (g .answer .rec)) (g .kept)) q
+      ∙ sym (again n side st (e .answer .rec) (e .kept) (resume x (logsOf (sumsIn e)) m o 22)))
 
-    abbrev pub resumed : ℕ → Ask
-    resumed j = resume x (logsOf (stands j .sums)) m o 22
+  take-runs : (x : List Float) (m : List ℕ) (o a : ℕ)
+      → Leads n side st (madeOf n side (recordAt side st) (st .store) (take x m o a)) (whole.take n side (recordAt side st) (st .store) x m o a)
+  unfolding whole.take ended
+  take-runs x m o a = go (passed reply) refl
+    where
+      reply : Reply
+      reply = takeReply n side rec (st .store) x m o a
 
-    pub steps : passed (desk n side (recordAt side st) (st .store) (piece x o 22) .answer .reply) ≡ true
-        → (j : ℕ) → leaving st side (numbersOf (stands j .rec)) (stands j .store) ≡ ended desks n st (map (on side) (piece x o 22 ∷ tab j resumed))
-    unfolding takeFrames loop tab ended
-    steps p zero = begun n side st (piece x o 22) p
-    steps p (suc j) =
-        sym (again n side st (stands j .rec) (stands j .store) (resumed j))
-        ∙ ap (λ (s : State). after desks n s (on side (resumed j))) (steps p j)
-        ∙ sym (joined desks n (map (on side) (piece x o 22 ∷ tab j resumed)) (on side (resumed j) ∷ []) st)
-        ∙ ap (ended desks n st) (sym (map-more (on side) (piece x o 22 ∷ tab j resumed) (resumed j)))
+      d : Dictated
+      d = dictated side rec (st .store) x (lentToEach rec x m)
 
-    take-runs : (a : ℕ)
-        → Leads n side st (madeOf n side (recordAt side st) (st .store) (take x m o a)) (whole.take n side (recordAt side st) (st .store) x m o a)
-    unfolding whole.take
-    take-runs a = go (passed reply) refl
-      where
-        reply : Reply
-        reply = takeReply n side rec (st .store) x m o a
+      go : (t : Bool) → passed reply ≡ t
+          → Leads n side st (cond t (piece x o 22 ∷ map (resumeFor x m o) (d .told)) [])
+          (cond t (placed side (st .store) (takenOn rec (get (shareOf side) (st .store)) x m)) (refusal (record { reply = reply; rec = rec }) (st .store)))
+      go true p =
+          let row = take-row n side rec (st .store) x m o a p in
+          row-runs x m o (completes (rec .waiting) (length x)) row
+          ∙ ap (λ (s : State). ended desks n s (map (on side) (map (resumeFor x m o) (d .told)))) (begun n side st (piece x o 22) (row-passes row))
+      go false p = none-runs reply p
 
-        k : ℕ
-        k = completes (rec .waiting) (length x)
+  feed-runs : (b : Block) (m : List ℕ) (cleaned entries answers : ℕ)
+      → Leads n side st (madeOf n side (recordAt side st) (st .store) (feed b m cleaned entries answers))
+      (feeding.feed n side (recordAt side st) (st .store) b m cleaned entries answers)
+  unfolding feeding.feed ended
+  feed-runs b m cleaned entries answers =
+      let rows = feedRows (gate n side rec (length (st .store)) PIECE) (rec .waiting) (sizeOf b) cleaned entries answers in
+      let asks = madeOf n side rec (st .store) (take (samplesOf b) m ROOM answers) in
+      let run : List Ask → State = λ xs. ended desks n st (map (on side) xs) in
+      along (λ (o : Effect Answer). leaving st side (handedBack side (o .answer) ns) (o .kept)) (λ r. refusal (record { reply = Refused r; rec = rec }) (st .store))
+      (fedBy (rec .frame) (whole.take n side rec (st .store) (samplesOf b) m ROOM answers)) (λ _. st) (run asks) rows
+      (λ _. unmoved n side st) (λ _. take-runs (samplesOf b) m ROOM answers)
+      ∙ sym (along run (λ _. []) asks (λ _. st) (run asks) rows (λ _. refl) (λ _. refl))
 
-        end : Taking
-        end = takeEnds n side rec (st .store) x m o
-
-        go : (t : Bool) → passed reply ≡ t
-            → Leads n side st (cond t (piece x o 22 ∷ tab k resumed) []) (cond t (takenAs reply end) (refusal (record { reply = reply; rec = rec }) (st .store)))
-        go true p =
-            ap (λ (t : Bool). leaving st side (cond t (numbersOf (end .rec)) ns) (end .store)) p
-            ∙ steps (take-done n side rec (st .store) x m o a p .0) k
-        go false p = none-runs reply p
-
-pub one-call : (n : ℕ) (st : State) (side : ℕ) (c : Request)
+pub one-call : (n : ℕ) (st : State) (side : ℕ) (c : Call)
     → after surface n st (on side c) ≡ ended desks n st (map (on side) (madeOf n side (recordAt side st) (st .store) c))
-unfolding hosted hostedFrame hostedTake ended
+unfolding hosted hostedFrame hostedTake hostedFeed ended
 one-call n st side (ask a) = refl
 one-call n st side (frame x m o) = frame-runs n side st x m o
 one-call n st side (take x m o a) = take-runs n side st x m o a
+one-call n st side (feed b m c e a) = feed-runs n side st b m c e a
 
 pub expands : (n : ℕ) → Expands surface madeOf n
 expands n = expanding surface madeOf n (one-call n)

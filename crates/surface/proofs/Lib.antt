@@ -1,6 +1,14 @@
+pub mod Refusing
 pub mod Surfaced
 pub mod Expanded
-pub mod Refusing
 pub mod Numbers
 pub mod Outputs
 pub mod Between
+pub mod Rows
+pub mod Bytes
+pub mod Fed
+pub mod Entries
+pub mod Cuts
+pub mod Owner
+pub mod Acceptance
+pub mod Accepted

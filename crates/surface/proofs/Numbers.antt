@@ -4,8 +4,8 @@ use Rattle.rules.proofs.Common.{length, drop, Float}
 use native.Mathlib.Omega.{arith}
 use borrow.Author.Tests.{ne-eqb}
 use Rattle.rules.specs.Place.{get, put}
-use Rattle.rules.specs.Refusals.{wrong}
-use Rattle.rules.specs.Written.{from, nothing, firstIn}
+use Rattle.rules.specs.Refusals.{wrong, refusing}
+use Rattle.frame.specs.Written.{from, nothing, firstIn}
 use Rattle.rules.proofs.Refusals as gates
 use Rattle.samples.specs.Samples.{good}
 use Rattle.logs.specs.Log10.{logsOf}
@@ -21,27 +21,33 @@ use Rattle.frame.specs.declared.Reply.{Reply}
 use Rattle.frame.specs.declared.Reply.the-variants.{Done, Silent, Heard, Numbered, Refused, Misread}
 use Rattle.frame.specs.declared.Way.{Way}
 use Rattle.frame.specs.declared.Hearing.{Hearing}
-use Rattle.frame.specs.Reply.{passed, _when_, firstRefusal}
+use Rattle.frame.specs.Reply.{passed, _when_}
 use Rattle.frame.specs.Share.{SHARE, PART, inputMem, keptEx}
 use Rattle.frame.specs.Heard.{spoken}
 use Rattle.frame.specs.Frame.{done3, counted, checked, modelled}
 use Rattle.frame.specs.Frame as frames
-use Rattle.frame.proofs.Tables.{by-rows, by-each}
+use Rattle.frame.proofs.Tables.{Each, by-rows, by-each}
 use Rattle.halves.specs.Own as own
 use Rattle.halves.specs.Ways.{lagBy, remembered, forwardBy}
 use Rattle.halves.specs.Halves as halves
 use Rattle.pieces.specs.Pieces.{framePart, waitingIn, waits, frameAt}
 use Rattle.pieces.specs.Pieces as pieces
 use Rattle.pieces.proofs.Kept.{further-reply}
+use Rattle.desk.specs.declared.Answer.{Answer}
 use Rattle.desk.specs.declared.Record.{Record}
 use Rattle.desk.specs.Gate.{PIECE, refusals, gate, shareOf}
 use Rattle.desk.specs.Desk.{Ask, opening, call1, call2, call2Own, call3, call4, firstHalf, secondHalf, piece, resume, callOf, opened, onShare, admitted, desk}
+use Rattle.desk.specs.Laws.{placed}
 use Rattle.desk.specs.Surface.{recordIn, replyNumber, hosted}
 use Rattle.desk.proofs.Answered.{replied-by}
-use Rattle.whole.specs.Whole.{frameRows, frameReply, frameBegins, frameEnds, takeRows, takeReply, takeEnds, takenAs}
+use Rattle.dictation.specs.Dictation.{frameOn}
+use Rattle.whole.specs.Whole.{ourLent, replyOf, unlessRefused, frameRows, frameReply, takeRows, takeReply, takenOn}
 use Rattle.whole.specs.Whole as whole
 use Rattle.whole.specs.Surface.{hostedFrame, hostedTake}
-use Rattle.surface.specs.Surface.{Request, ask, frame, take, called, ZeroIsDone}
+use Rattle.feed.specs.Feed.{Block, ROOM, sizeOf, samplesOf, feedRows, fedBy}
+use Rattle.feed.specs.Feed as feeding
+use Rattle.feed.specs.Surface.{hostedFeed}
+use Rattle.surface.specs.Surface.{Call, ask, frame, take, feed, surface, ZeroIsDone}
 
 -- ---- the table's numbers
 
@@ -248,51 +254,60 @@ of-desk n side b store a = replied-by b a (admitted b share a number .answer) Kn
 
 -- ---- a frame and a take
 
-of-frame : (n side : ℕ) (b : Record) (store x : List Float) (model : List ℕ) (out : ℕ) → Known (whole.frame n side b store x model out .answer .reply)
-unfolding whole.frame frameReply
-of-frame n side b store x model out = go (passed reply)
+-- the gate's row, and these
+known-by : (n side : ℕ) (b : Record) (store : List Float) (call : ℕ) (rows : List Reply) (o : Effect Answer) → Each Known rows → Known (o .answer .reply)
+    → Known (unlessRefused (replyOf (gate n side b (length store) call) rows) side b store o .answer .reply)
+known-by n side b store call rows o each done = go (passed reply)
   where
-    rows : List Reply
-    rows = frameRows n side b (length store) x model out
+    number : ℕ
+    number = gate n side b (length store) call
 
     reply : Reply
-    reply = firstRefusal rows
+    reply = replyOf number rows
 
-    go : (t : Bool) → Known (cond t (frameEnds n side b store x model out) (refusal (record { reply = reply; rec = b }) store) .answer .reply)
-    go true =
-        let a = frameBegins n side b store x in of-desk n side (a .answer .rec) (a .kept) (secondHalf (logsOf (firstIn (a .written))) model out)
-    go false =
-        by-each Known rows (
-          (λ _. gated n side b (length store) 1),
-          (row 5 five (wrong ((length x, 480) ∷ (out, 480) ∷ [])), ((λ _. checks (counted (b .hearing)) model), (row 9 nine (not (good x)), tt))),
-        )
-        (λ _. tt)
+    go : (t : Bool) → Known (cond t (placed side store o) (refusal (record { reply = reply; rec = b }) store) .answer .reply)
+    go true = done
+    go false = by-each Known (number when not (eqb number 0) ∷ rows) ((λ _. gated n side b (length store) call), each) (λ _. tt)
+
+of-frame : (n side : ℕ) (b : Record) (store x : List Float) (model : List ℕ) (out : ℕ) → Known (whole.frame n side b store x model out .answer .reply)
+unfolding whole.frame frameReply
+of-frame n side b store x model out =
+    let share = get (shareOf side) store in
+    let half = halves.firstHalf (get framePart share) (b .hearing .way) x 22 in
+    known-by n side b store 1 (frameRows b x model out) (frameOn b share x (ourLent model))
+    (row 5 five (wrong ((length x, 480) ∷ (out, 480) ∷ [])), ((λ _. checks (counted (b .hearing)) model), (row 9 nine (not (good x)), tt)))
+    (of-second (half .kept) (b .hearing) (logsOf (firstIn (half .written))) model 480)
 
 of-take : (n side : ℕ) (b : Record) (store x : List Float) (model : List ℕ) (out answers : ℕ)
     → Known (whole.take n side b store x model out answers .answer .reply)
 unfolding whole.take takeReply
-of-take n side b store x model out answers = go (passed reply)
+of-take n side b store x model out answers =
+    let share = get (shareOf side) store in
+    let fits = pieces.pieceFits (b .waiting) (length x) out 22 in
+    let room = leb (3 * pieces.completes (b .waiting) (length x)) answers in
+    known-by n side b store PIECE (takeRows b share x model out answers) (takenOn b share x model)
+    (row 5 five (not fits), (row 5 five (not room), ((λ _. checks (counted (b .hearing)) model), (row 9 nine (not (good (waitingIn (b .waiting) share ++ x))), tt)))) tt
+
+of-feed : (n side : ℕ) (b : Record) (store : List Float) (block : Block) (model : List ℕ) (cleaned entries answers : ℕ)
+    → Known (feeding.feed n side b store block model cleaned entries answers .answer .reply)
+unfolding feeding.feed
+of-feed n side b store block model cleaned entries answers = go (eqb number 0) refl
   where
-    rows : List Reply
-    rows = takeRows n side b store x model out answers
+    number : ℕ
+    number = gate n side b (length store) PIECE
 
-    reply : Reply
-    reply = firstRefusal rows
+    unfed : ℕ → Effect Answer
+    unfed r = refusal (record { reply = Refused r; rec = b }) store
 
-    known : Known reply
-    known =
-        let fits = pieces.pieceFits (b .waiting) (length x) out 22 in
-        let room = leb (3 * pieces.completes (b .waiting) (length x)) answers in
-        let all = waitingIn (b .waiting) (get (shareOf side) store) ++ x in
-        by-each Known rows (
-          (λ _. gated n side b (length store) PIECE),
-          (row 5 five (not fits), (row 5 five (not room), ((λ _. checks (counted (b .hearing)) model), (row 9 nine (not (good all)), tt)))),
-        )
-        (λ _. tt)
+    right : Effect Answer
+    right = fedBy (b .frame) (whole.take n side b store (samplesOf block) model ROOM answers)
 
-    go : (t : Bool) → Known (cond t (takenAs reply (takeEnds n side b store x model out)) (refusal (record { reply = reply; rec = b }) store) .answer .reply)
-    go true = known
-    go false = known
+    go : (t : Bool) → eqb number 0 ≡ t
+        → Known (cond (not t) (unfed number) (refusing (drop 1 (feedRows number (b .waiting) (sizeOf block) cleaned entries answers)) unfed right) .answer .reply)
+    go true e =
+        gates.by-each unfed right (λ (o : Effect Answer). Known (o .answer .reply)) (drop 1 (feedRows number (b .waiting) (sizeOf block) cleaned entries answers))
+        (five, (five, (five, (five, tt)))) (of-take n side b store (samplesOf block) model ROOM answers)
+    go false e = of-gate n side b (length store) PIECE e
 
 -- ---- 0 is done
 
@@ -304,13 +319,14 @@ zero-is-passed (Numbered f h) k = refl
 zero-is-passed (Refused n) k = sym (ne-eqb n 0 (λ e. omega (arith, k .0)))
 zero-is-passed (Misread n l) k = sym (ne-eqb (replyNumber (Misread n l)) 0 (λ e. omega arith))
 
-known : (n side : ℕ) (ns : List ℕ) (store : List Float) (c : Request) → Known (called n side ns store c .answer .reply)
-unfolding hosted hostedFrame hostedTake
-known n side ns store (ask a) = of-desk n side (recordIn ns) store a
-known n side ns store (frame x m out) = of-frame n side (recordIn ns) store x m out
-known n side ns store (take x m out answers) = of-take n side (recordIn ns) store x m out answers
+known : (n side : ℕ) (ns : List ℕ) (store : List Float) (c : Call) → Known (surface n side ns store c .answer .reply)
+unfolding hosted hostedFrame hostedTake hostedFeed
+known n side ns store (ask a) = of-desk n side (recordIn side ns) store a
+known n side ns store (frame x m out) = of-frame n side (recordIn side ns) store x m out
+known n side ns store (take x m out answers) = of-take n side (recordIn side ns) store x m out answers
+known n side ns store (feed b m c e a) = of-feed n side (recordIn side ns) store b m c e a
 
 pub zero-is-done : ZeroIsDone
 zero-is-done n side ns store c =
     let k = known n side ns store c in
-    (zero-is-passed (called n side ns store c .answer .reply) k, λ m e. subst Known e k, λ m l e. subst Known e k)
+    (zero-is-passed (surface n side ns store c .answer .reply) k, λ m e. subst Known e k, λ m l e. subst Known e k)

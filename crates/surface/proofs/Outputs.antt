@@ -4,15 +4,14 @@
 --     told-is, received-is         one call, where what it is made of are pieces and resumes, and any run
 --     own-asks                     any run in which a side makes no whole calls
 -- Assumes nothing.
-use Rattle.rules.proofs.Common.{ℕ, zero, suc, _-_, _≤_, _<_, Bool, true, false, cond, _&&_, false≢true, List, [], _∷_, _++_, map, _≡_, refl, sym, ap}
-use Rattle.rules.proofs.Common.{ap₂, subst, _∙_, eqb, ltb, length, getD, drop, Float}
+use Rattle.rules.proofs.Common.{ℕ, zero, suc, _-_, Bool, true, false, cond, _&&_, false≢true, List, [], _∷_, _++_, map, _≡_, refl, sym, ap}
+use Rattle.rules.proofs.Common.{ap₂, subst, _∙_, eqb, ltb, length, getD, drop, replicate, Float}
 use native.Mathlib.Omega.{arith}
 use mathlib.Core.List.{append-assoc, append-nil}
 use borrow.Author.Tests.{eq-eqb}
-use Rattle.rules.specs.Loop.{loop}
 use Rattle.rules.specs.Place.{get}
-use Rattle.rules.specs.Tab.{tab}
-use Rattle.rules.specs.Written.{Written, all, from, nothing, numbersIn, firstIn}
+use Rattle.rules.proofs.Refusals as by-gates
+use Rattle.frame.specs.Written.{Written, all, from, nothing, numbersIn, firstIn}
 use Rattle.logs.specs.Log10.{logsOf}
 use Rattle.desk.specs.declared.Answer.{Answer}
 use Rattle.frame.specs.Effect.{Effect, refusal}
@@ -22,23 +21,30 @@ use Rattle.frame.specs.Reply.{passed}
 use Rattle.pieces.specs.Pieces.{waitingIn, waits, completes, further}
 use Rattle.pieces.specs.Pieces as pieces
 use Rattle.desk.specs.declared.Record.{Record}
-use Rattle.desk.specs.Gate.{shareOf}
+use Rattle.desk.specs.Gate.{PIECE, gate, shareOf}
 use Rattle.desk.specs.Desk.{Ask, opening, call1, call2, call2Own, call3, call4, firstHalf, secondHalf, piece, resume, desk}
+use Rattle.desk.specs.Laws.{placed}
 use Rattle.desk.specs.Surface.{numbersOf, recordIn, replyNumber, heardOf, besides, telling, hosted}
 use Rattle.desk.proofs.Buffers.{buffers}
-use Rattle.dictation.specs.Dictation.{Lent}
+use Rattle.dictation.specs.Dictation.{Lent, Dictated, dictated}
 use Rattle.dictation.proofs.Taken.{onward, piece-passed}
-use Rattle.whole.specs.Whole.{frameReply, frameBegins, takeReply, Taking, takeFrames, takeEnds, takenAs}
+use Rattle.dictation.specs.Cutting.{sumsIn}
+use Rattle.dictation.proofs.Cuts.{Row, rowEnd, rowMore, row-passes}
+use Rattle.whole.specs.Laws.{frameBegins}
+use Rattle.whole.specs.Whole.{ourLent, frameReply, takeReply, lentToEach, answersOf, takenOn}
 use Rattle.whole.specs.Whole as whole
 use Rattle.whole.specs.Surface.{hostedFrame, hostedTake}
-use Rattle.whole.proofs.Dictations.{take-done}
+use Rattle.whole.proofs.Dictations.{take-row}
 use Rattle.whole.proofs.Halves.{two-halves, refused-is}
+use Rattle.feed.specs.Feed.{Block, ROOM, sizeOf, samplesOf, feedRows, fedOf, fedBy}
+use Rattle.feed.specs.Feed as feeding
+use Rattle.feed.specs.Surface.{hostedFeed}
 use Rattle.isolation.specs.Isolation.{own}
-use Rattle.isolation.specs.Run.{On, on, State, recordAt, given, after, ended, done, desks, expand}
+use Rattle.isolation.specs.Run.{On, on, State, recordAt, given, gets, after, ended, done, desks, expand}
 use Rattle.isolation.proofs.Runs.{reads}
-use Rattle.surface.specs.Surface.{Request, ask, frame, take, called, surface, madeOf}
-use Rattle.surface.specs.Between.{resumes, InARow, lastPiece, morePieces, inBuffer, answersAt}
-use Rattle.surface.proofs.Expanded.{leaving, map-more, stands, resumed, steps, one-call}
+use Rattle.surface.specs.Surface.{Call, ask, frame, take, feed, surface, resumeFor, madeOf}
+use Rattle.surface.specs.Between.{resumes, InARow, lastPiece, morePieces, inBuffer, answersAt, NoFeed, All}
+use Rattle.surface.proofs.Expanded.{leaving, again, begun, one-call}
 
 abbrev pub column : ℕ → ℕ → ℕ → State → List (On Ask) → List Float
 column k n s st cs = inBuffer desks (λ _. k) n s st cs
@@ -88,7 +94,7 @@ done-more : (n s : ℕ) (first rest : List (On Ask)) (st : State)
 unfolding done ended
 done-more n s [] rest st = refl
 done-more n s (c ∷ first) rest st =
-    go (eqb (c .side) s && eqb (given desks n st c .returned .number) 0) (done-more n s first rest (after desks n st c))
+    go (eqb (c .side) s && eqb (gets desks n st c .number) 0) (done-more n s first rest (after desks n st c))
   where
     next : State
     next = after desks n st c
@@ -105,7 +111,7 @@ unfolding inBuffer ended
 column-more k n s [] rest st = refl
 column-more k n s (c ∷ first) rest st =
     let next = after desks n st c in
-    let here = cond (eqb (c .side) s) (numbersIn (getD (given desks n st c .returned .told) k nothing)) [] in
+    let here = cond (eqb (c .side) s) (numbersIn (getD (given desks n st c .written) k nothing)) [] in
     ap (λ (x : List Float). here ++ x) (column-more k n s first rest next)
     ∙ sym (append-assoc here (column k n s next first) (column k n s (ended desks n next first) rest))
 
@@ -174,61 +180,68 @@ module _ (n s side : ℕ) where
 
 -- ---- a take
 
-module _ (n s side : ℕ) (mine : eqb side s ≡ true) (st : State) (x : List Float) (m : List ℕ) (o a : ℕ)
-    (p : passed (takeReply n side (recordAt side st) (st .store) x m o a) ≡ true) where
-  abbrev b : Record
-  b = recordAt side st
+module _ (n s side : ℕ) (mine : eqb side s ≡ true) (st : State) where
+  -- a call of the desk, and those after it
+  next-column : (k : ℕ) (b : Record) (store : List Float) (a : Ask) (rest : List (On Ask))
+      → let o = desk n side b store a in
+      column k n s (leaving st side (numbersOf side b) store) (on side a ∷ rest) ≡ wrote k a o ++ column k n s (leaving st side (numbersOf side (o .answer .rec)) (o .kept)) rest
+  unfolding ended
+  next-column k b store a rest =
+      let there = leaving st side (numbersOf side b) store in
+      let own : there .numbers side ≡ numbersOf side b = rw (eq-eqb side side refl) in
+      column-more k n s (on side a ∷ []) rest there
+      ∙ ap₂ (λ (u v : List Float). u ++ v)
+      (one-out n s side k mine a there ∙ ap (λ (ns : List ℕ). wrote k a (desk n side (recordIn side ns) store a)) own
+      ∙ ap (λ (r : Record). wrote k a (desk n side r store a)) (reads side b))
+      (ap (λ (t : State). column k n s t rest) (again n side st b store a))
 
-  abbrev at : ℕ → Taking
-  at j = stands n side st x m o j
+  -- the resumes of a piece, by what each of them hands out
+  module _ (x : List Float) (m : List ℕ) (o : ℕ) where
+    abbrev row : Dictated → List (On Ask)
+    row d = map (on side) (map (resumeFor x m o) (d .told))
 
-  abbrev next : ℕ → Ask
-  next j = resumed n side st x m o j
+    row-columns : (k : ℕ) {e : Effect Answer} {d : Dictated} → Row n side x o e (replicate k (ourLent m)) d
+        → let there = leaving st side (numbersOf side (e .answer .rec)) (e .kept) in
+        (column 0 n s there (row d) ≡ d .out) × (column 2 n s there (row d) ≡ answersOf (d .told))
+    unfolding inBuffer
+    row-columns zero (rowEnd p) = (refl, refl)
+    row-columns (suc k) (rowMore {o = e} {next = next} {d = d} p q more) =
+        let b = e .answer .rec in
+        let logs = logsOf (sumsIn e) in
+        let a = resume x logs m o 22 in
+        let ih = row-columns k more in
+        let passes : passed (desk n side b (e .kept) a .answer .reply) ≡ true = rw q at (row-passes more) in
+        let to : (c : ℕ) → column c n s (leaving st side (numbersOf side b) (e .kept)) (on side a ∷ row d)
+        ≡ wrote c a next ++ column c n s (leaving st side (numbersOf side (next .answer .rec)) (next .kept)) (row d) = λ c. rw q (next-column c b (e .kept) a (row d)) in (
+          to 0 ∙ ap₂ (λ (u v : List Float). u ++ v) (subst (λ (g : Effect Answer). wrote 0 a g ≡ firstIn (g .written)) (sym q) (resume-first n side b (e .kept) x o logs m passes)) (ih .0),
+          to 2 ∙ ap₂ (λ (u v : List Float). u ++ v) (subst (λ (g : Effect Answer). wrote 2 a g ≡ heardOf (g .answer .reply)) (sym q) (resume-heard n side b (e .kept) x o logs m passes)) (ih .1),
+        )
 
-  abbrev so-far : ℕ → List (On Ask)
-  so-far j = map (on side) (piece x o 22 ∷ tab j (resumed n side st x m o))
+    module _ (a : ℕ) (p : passed (takeReply n side (recordAt side st) (st .store) x m o a) ≡ true) where
+      abbrev d : Dictated
+      d = dictated side (recordAt side st) (st .store) x (lentToEach (recordAt side st) x m)
 
-  began : passed (desk n side (recordAt side st) (st .store) (piece x o 22) .answer .reply) ≡ true
-  began = take-done n side b (st .store) x m o a p .0
+      -- where the piece writes nothing to it
+      from-piece : (k : ℕ) {ys : List Float} → let e = desk n side (recordAt side st) (st .store) (piece x o 22) in
+          wrote k (piece x o 22) e ≡ [] → column k n s (leaving st side (numbersOf side (e .answer .rec)) (e .kept)) (row d) ≡ ys
+          → ys ≡ column k n s st (map (on side) (piece x o 22 ∷ map (resumeFor x m o) (d .told)))
+      unfolding ended
+      from-piece k none more =
+          let done = row-passes (take-row n side (recordAt side st) (st .store) x m o a p) in
+          sym
+          (column-more k n s (on side (piece x o 22) ∷ []) (row d) st
+          ∙ ap₂ (λ (u v : List Float). u ++ v) (one-out n s side k mine (piece x o 22) st ∙ none)
+          (ap (λ (t : State). column k n s t (row d)) (sym (begun n side st (piece x o 22) done)) ∙ more))
 
-  -- the resume of frame j
-  one-more : (k j : ℕ) → column k n s (ended desks n st (so-far j)) (on side (next j) ∷ []) ≡ wrote k (next j) (desk n side (at j .rec) (at j .store) (next j))
-  one-more k j =
-      let there = leaving st side (numbersOf (at j .rec)) (at j .store) in
-      let own : there .numbers side ≡ numbersOf (at j .rec) = rw (eq-eqb side side refl) in
-      ap (λ (t : State). column k n s t (on side (next j) ∷ [])) (sym (steps n side st x m o began j))
-      ∙ one-out n s side k mine (next j) there
-      ∙ ap (λ (ns : List ℕ). wrote k (next j) (desk n side (recordIn ns) (at j .store) (next j))) own
-      ∙ ap (λ (r : Record). wrote k (next j) (desk n side r (at j .store) (next j))) (reads (at j .rec))
+      take-outputs : d .out ≡ column 0 n s st (map (on side) (piece x o 22 ∷ map (resumeFor x m o) (d .told)))
+      take-outputs =
+          let r = take-row n side (recordAt side st) (st .store) x m o a p in
+          from-piece 0 (piece-none n side (recordAt side st) (st .store) x o (row-passes r)) (row-columns (completes (recordAt side st .waiting) (length x)) r .0)
 
-  -- what is handed out frame by frame
-  along : (k : ℕ) (f : Taking → List Float) → f (at 0) ≡ wrote k (piece x o 22) (desk n side (recordAt side st) (st .store) (piece x o 22))
-      → ((j : ℕ) → j < completes (recordAt side st .waiting) (length x) → f (at (suc j)) ≡ f (at j) ++ wrote k (next j) (desk n side (at j .rec) (at j .store) (next j)))
-      → (j : ℕ) → j ≤ completes (recordAt side st .waiting) (length x) → f (at j) ≡ column k n s st (so-far j)
-  unfolding tab
-  along k f start step zero few = start ∙ sym (one-out n s side k mine (piece x o 22) st)
-  along k f start step (suc j) few =
-      step j few
-      ∙ ap₂ (λ (u v : List Float). u ++ v) (along k f start step j (omega arith)) (sym (one-more k j))
-      ∙ sym (column-more k n s (so-far j) (on side (next j) ∷ []) st)
-      ∙ ap (column k n s st) (sym (map-more (on side) (piece x o 22 ∷ tab j (resumed n side st x m o)) (next j)))
-
-  abbrev count : ℕ
-  count = completes (recordAt side st .waiting) (length x)
-
-  take-outputs : at count .out ≡ column 0 n s st (so-far count)
-  unfolding takeFrames loop
-  take-outputs =
-      along 0 (λ t. t .out) (sym (piece-none n side b (st .store) x o began))
-      (λ j few. ap (λ (v : List Float). at j .out ++ v) (sym (resume-first n side (at j .rec) (at j .store) x o (logsOf (at j .sums)) m (take-done n side b (st .store) x m o a p .1 j few))))
-      count (omega arith)
-
-  take-answers : at count .answers ≡ column 2 n s st (so-far count)
-  unfolding takeFrames loop
-  take-answers =
-      along 2 (λ t. t .answers) (sym (piece-unheard n side b (st .store) x o began))
-      (λ j few. ap (λ (v : List Float). at j .answers ++ v) (sym (resume-heard n side (at j .rec) (at j .store) x o (logsOf (at j .sums)) m (take-done n side b (st .store) x m o a p .1 j few))))
-      count (omega arith)
+      take-answers : answersOf (d .told) ≡ column 2 n s st (map (on side) (piece x o 22 ∷ map (resumeFor x m o) (d .told)))
+      take-answers =
+          let r = take-row n side (recordAt side st) (st .store) x m o a p in
+          from-piece 2 (piece-unheard n side (recordAt side st) (st .store) x o (row-passes r)) (row-columns (completes (recordAt side st .waiting) (length x)) r .1)
 
 -- ---- one call of the surface
 
@@ -240,13 +253,24 @@ zero-back (Numbered f h) p = refl
 zero-back (Refused k) p = absurd (false≢true p)
 zero-back (Misread k l) p = absurd (false≢true p)
 
--- where this buffer of a take is column k of the desk's calls
-module _ (which : Request → ℕ) (k : ℕ) (asked : (a : Ask) → which (ask a) ≡ k) (n s : ℕ)
+-- a feed's answers are its take's
+fed-answers : (number : ℕ) (ws : List Written) → numbersIn (getD (fedOf number ws) 0 nothing) ≡ numbersIn (getD ws 1 nothing)
+fed-answers number [] = refl
+fed-answers number (w ∷ ws) = refl
+
+split-own : (P : Call → Type 0) (t : Bool) (c : Call) (cs : List Call) → All P (cond t (c ∷ cs) cs) → All P cs × (t ≡ true → P c)
+split-own P true c cs k = (k .1, λ _. k .0)
+split-own P false c cs k = (k, λ e. absurd (false≢true e))
+
+-- where this buffer of a take is column k of the desk's calls, and of a feed of which P holds it is its take's
+module _ (P : Call → Type 0) (which : Call → ℕ) (k : ℕ) (asked : (a : Ask) → which (ask a) ≡ k) (n s : ℕ)
     (takes : (side : ℕ) → eqb side s ≡ true → (st : State) (x : List Float) (m : List ℕ) (o a : ℕ)
     → passed (takeReply n side (recordAt side st) (st .store) x m o a) ≡ true
-    → let t = takeEnds n side (recordAt side st) (st .store) x m o in
-    numbersIn (getD (from 0 (t .out) ∷ from 0 (t .answers) ∷ []) (which (take x m o a)) nothing)
-    ≡ column k n s st (map (on side) (piece x o 22 ∷ tab (completes (recordAt side st .waiting) (length x)) (resumed n side st x m o)))) where
+    → let d = dictated side (recordAt side st) (st .store) x (lentToEach (recordAt side st) x m) in
+    numbersIn (getD (from 0 (d .out) ∷ from 0 (answersOf (d .told)) ∷ []) (which (take x m o a)) nothing)
+    ≡ column k n s st (map (on side) (piece x o 22 ∷ map (resumeFor x m o) (d .told))))
+    (feeds : (b : Block) (m : List ℕ) (c e a : ℕ) → P (feed b m c e a) → (number : ℕ) (ws : List Written)
+    → numbersIn (getD (fedOf number ws) (which (feed b m c e a)) nothing) ≡ numbersIn (getD ws (which (take (samplesOf b) m ROOM a)) nothing)) where
   module _ (side : ℕ) (mine : eqb side s ≡ true) (st : State) where
     abbrev ns : List ℕ
     ns = st .numbers side
@@ -254,12 +278,30 @@ module _ (which : Request → ℕ) (k : ℕ) (asked : (a : Ask) → which (ask a
     abbrev rec : Record
     rec = recordAt side st
 
-    told-is : (c : Request) → AllHands (done desks n s st (map (on side) (madeOf n side (recordAt side st) (st .store) c)))
-        → numbersIn (getD (called n side (st .numbers side) (st .store) c .written) (which c) nothing)
+    taken : (x : List Float) (m : List ℕ) (o a : ℕ)
+        → numbersIn (getD (whole.take n side (recordAt side st) (st .store) x m o a .written) (which (take x m o a)) nothing)
+        ≡ column k n s st (map (on side) (madeOf n side (recordAt side st) (st .store) (take x m o a)))
+    unfolding inBuffer whole.take
+    taken x m o a = go (passed reply) refl
+      where
+        reply : Reply
+        reply = takeReply n side rec (st .store) x m o a
+
+        d : Dictated
+        d = dictated side rec (st .store) x (lentToEach rec x m)
+
+        go : (t : Bool) → passed reply ≡ t
+            → numbersIn (getD (cond t (placed side (st .store) (takenOn rec (get (shareOf side) (st .store)) x m)) (refusal (record { reply = reply; rec = rec }) (st .store)) .written) (which (take x m o a)) nothing)
+            ≡ column k n s st (map (on side) (cond t (piece x o 22 ∷ map (resumeFor x m o) (d .told)) []))
+        go true p = takes side mine st x m o a p
+        go false p = refl
+
+    told-is : (c : Call) → P c → AllHands (done desks n s st (map (on side) (madeOf n side (recordAt side st) (st .store) c)))
+        → numbersIn (getD (surface n side (st .numbers side) (st .store) c .written) (which c) nothing)
         ≡ column k n s st (map (on side) (madeOf n side (recordAt side st) (st .store) c))
-    unfolding done inBuffer hosted hostedFrame hostedTake whole.take
-    told-is (ask a) h = rw (asked a) (sym (one-out n s side k mine a st))
-    told-is (frame x m o) h = go (passed reply) refl h
+    unfolding done inBuffer hosted hostedFrame hostedTake hostedFeed feeding.feed
+    told-is (ask a) q h = rw (asked a) (sym (one-out n s side k mine a st))
+    told-is (frame x m o) q h = go (passed reply) refl h
       where
         reply : Reply
         reply = frameReply n side rec (length (st .store)) x m o
@@ -274,26 +316,27 @@ module _ (which : Request → ℕ) (k : ℕ) (asked : (a : Ask) → which (ask a
         go false p h =
             ap (λ (g : Effect Answer). numbersIn (getD (telling g .written) (which (frame x m o)) nothing)) (refused-is n side rec (st .store) x m o p)
             ∙ rw p
-    told-is (take x m o a) h = go (passed reply) refl
-      where
-        reply : Reply
-        reply = takeReply n side rec (st .store) x m o a
+    told-is (take x m o a) q h = taken x m o a
+    told-is (feed b m c e a) q h =
+        let rows = feedRows (gate n side rec (length (st .store)) PIECE) (rec .waiting) (sizeOf b) c e a in
+        let asks = madeOf n side rec (st .store) (take (samplesOf b) m ROOM a) in
+        let t = whole.take n side rec (st .store) (samplesOf b) m ROOM a in
+        let col : List Ask → List Float = λ xs. column k n s st (map (on side) xs) in
+        by-gates.along (λ (o : Effect Answer). numbersIn (getD (o .written) (which (feed b m c e a)) nothing))
+        (λ r. refusal (record { reply = Refused r; rec = rec }) (st .store)) (fedBy (rec .frame) t) (λ _. []) (col asks) rows (λ _. refl)
+        (λ _. feeds b m c e a q (rec .frame) (t .written) ∙ taken (samplesOf b) m ROOM a)
+        ∙ sym (by-gates.along col (λ _. []) asks (λ _. []) (col asks) rows (λ _. refl) (λ _. refl))
 
-        go : (t : Bool) → passed reply ≡ t
-            → numbersIn (getD (cond t (takenAs reply (takeEnds n side rec (st .store) x m o)) (refusal (record { reply = reply; rec = rec }) (st .store)) .written) (which (take x m o a)) nothing)
-            ≡ column k n s st (map (on side) (cond t (piece x o 22 ∷ tab (completes (rec .waiting) (length x)) (resumed n side st x m o)) []))
-        go true p = takes side mine st x m o a p
-        go false p = refl
-
-  received-is : (calls : List (On Request)) (st : State) → AllHands (done desks n s st (expand surface madeOf n st calls))
+  received-is : (calls : List (On Call)) (st : State) → All P (own s calls) → AllHands (done desks n s st (expand surface madeOf n st calls))
       → inBuffer surface which n s st calls ≡ column k n s st (expand surface madeOf n st calls)
-  unfolding inBuffer expand
-  received-is [] st h = refl
-  received-is (c ∷ calls) st h =
+  unfolding inBuffer expand own
+  received-is [] st q h = refl
+  received-is (c ∷ calls) st q h =
       let split = hands-split (done desks n s st made) (done desks n s (ended desks n st made) rest) (rw (done-more n s made rest st) at h) in
       let to = one-call n st (c .side) (c .call) in
-      let ih = received-is calls (after surface n st c) (subst (λ (t : State). AllHands (done desks n s t rest)) (sym to) (split .1)) in
-      ap₂ (λ (u v : List Float). u ++ v) (go (eqb (c .side) s) refl (split .0)) (ih ∙ ap (λ (t : State). column k n s t rest) to)
+      let holds = split-own P (eqb (c .side) s) (c .call) (own s calls) q in
+      let ih = received-is calls (after surface n st c) (holds .0) (subst (λ (t : State). AllHands (done desks n s t rest)) (sym to) (split .1)) in
+      ap₂ (λ (u v : List Float). u ++ v) (go (eqb (c .side) s) refl (holds .1) (split .0)) (ih ∙ ap (λ (t : State). column k n s t rest) to)
       ∙ sym (column-more k n s made rest st)
     where
       made : List (On Ask)
@@ -302,14 +345,14 @@ module _ (which : Request → ℕ) (k : ℕ) (asked : (a : Ask) → which (ask a
       rest : List (On Ask)
       rest = expand surface madeOf n (after surface n st c) calls
 
-      go : (t : Bool) → eqb (c .side) s ≡ t → AllHands (done desks n s st made)
-          → cond t (numbersIn (getD (called n (c .side) (st .numbers (c .side)) (st .store) (c .call) .written) (which (c .call)) nothing)) [] ≡ column k n s st made
-      go true t h = told-is (c .side) t st (c .call) h
-      go false t h = sym (none-out n s (c .side) k t (madeOf n (c .side) (recordAt (c .side) st) (st .store) (c .call)) st)
+      go : (t : Bool) → eqb (c .side) s ≡ t → (t ≡ true → P (c .call)) → AllHands (done desks n s st made)
+          → cond t (numbersIn (getD (surface n (c .side) (st .numbers (c .side)) (st .store) (c .call) .written) (which (c .call)) nothing)) [] ≡ column k n s st made
+      go true t q h = told-is (c .side) t st (c .call) (q refl) h
+      go false t q h = sym (none-out n s (c .side) k t (madeOf n (c .side) (recordAt (c .side) st) (st .store) (c .call)) st)
 
 -- a side that makes no whole calls receives what its calls of the desk write
 module _ (k n s : ℕ) where
-  own-asks : (calls : List (On Request)) (st : State) (mine : List Ask) → own s calls ≡ map ask mine
+  own-asks : (calls : List (On Call)) (st : State) (mine : List Ask) → own s calls ≡ map ask mine
       → inBuffer surface (λ _. k) n s st calls ≡ column k n s st (expand surface madeOf n st calls)
   unfolding inBuffer expand own hosted
   own-asks [] st mine e = refl
@@ -327,27 +370,34 @@ module _ (k n s : ℕ) where
 
       go : (t : Bool) → eqb (c .side) s ≡ t → (mine : List Ask) → cond t (c .call ∷ own s calls) (own s calls) ≡ map ask mine
           → ((more : List Ask) × (own s calls ≡ map ask more))
-          × (cond t (numbersIn (getD (called n (c .side) (st .numbers (c .side)) (st .store) (c .call) .written) k nothing)) [] ≡ column k n s st made)
+          × (cond t (numbersIn (getD (surface n (c .side) (st .numbers (c .side)) (st .store) (c .call) .written) k nothing)) [] ≡ column k n s st made)
       go true t [] e = let none : suc (length (own s calls)) ≡ 0 = ap length e in absurd (omega arith)
       go true t (a ∷ more) e =
-          let same : c .call ≡ ask a = ap (λ (xs : List Request). getD xs 0 (c .call)) e in (
+          let same : c .call ≡ ask a = ap (λ (xs : List Call). getD xs 0 (c .call)) e in (
             (more, ap (drop 1) e),
             subst
-                (λ (r : Request).
-                numbersIn (getD (called n (c .side) (st .numbers (c .side)) (st .store) r .written) k nothing)
+                (λ (r : Call).
+                numbersIn (getD (surface n (c .side) (st .numbers (c .side)) (st .store) r .written) k nothing)
                 ≡ column k n s st (map (on (c .side)) (madeOf n (c .side) (recordAt (c .side) st) (st .store) r)))
                 (sym same) (sym (one-out n s (c .side) k t a st)),
           )
       go false t mine e = ((mine, e), sym (none-out n s (c .side) k t (madeOf n (c .side) (recordAt (c .side) st) (st .store) (c .call)) st))
 
-pub sums-are : (n s : ℕ) (calls : List (On Request)) (st : State) (mine : List Ask) → own s calls ≡ map ask mine
+pub sums-are : (n s : ℕ) (calls : List (On Call)) (st : State) (mine : List Ask) → own s calls ≡ map ask mine
     → inBuffer surface (λ _. 1) n s st calls ≡ column 1 n s st (expand surface madeOf n st calls)
 sums-are n s = own-asks 1 n s
 
-pub outputs-are : (n s : ℕ) (calls : List (On Request)) (st : State) → AllHands (done desks n s st (expand surface madeOf n st calls))
+pub outputs-are : (n s : ℕ) (calls : List (On Call)) (st : State) → All NoFeed (own s calls) → AllHands (done desks n s st (expand surface madeOf n st calls))
     → inBuffer surface (λ _. 0) n s st calls ≡ column 0 n s st (expand surface madeOf n st calls)
-outputs-are n s = received-is (λ _. 0) 0 (λ a. refl) n s (λ side mine st x m o a p. take-outputs n s side mine st x m o a p)
+outputs-are n s =
+    received-is NoFeed (λ _. 0) 0 (λ a. refl) n s (λ side mine st x m o a p. take-outputs n s side mine st x m o a p) (λ b m c e a no number ws. absurd no)
 
-pub answers-are : (n s : ℕ) (calls : List (On Request)) (st : State) → AllHands (done desks n s st (expand surface madeOf n st calls))
+any-call : (cs : List Call) → All (λ _. Unit) cs
+any-call [] = tt
+any-call (c ∷ cs) = (tt, any-call cs)
+
+pub answers-are : (n s : ℕ) (calls : List (On Call)) (st : State) → AllHands (done desks n s st (expand surface madeOf n st calls))
     → inBuffer surface answersAt n s st calls ≡ column 2 n s st (expand surface madeOf n st calls)
-answers-are n s = received-is answersAt 2 (λ a. refl) n s (λ side mine st x m o a p. take-answers n s side mine st x m o a p)
+answers-are n s calls st =
+    received-is (λ _. Unit) answersAt 2 (λ a. refl) n s (λ side mine st x m o a p. take-answers n s side mine st x m o a p)
+    (λ b m c e a _ number ws. fed-answers number ws) calls st (any-call (own s calls))

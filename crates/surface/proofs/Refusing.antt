@@ -1,7 +1,7 @@
 -- A refusal changes nothing, whichever call it is. Assumes nothing.
 use Rattle.rules.proofs.Common.{ℕ, Bool, false, cond, List, [], _++_, _≡_, refl, ap, _∙_}
-use Rattle.rules.specs.Written.{Written}
-use Rattle.rules.proofs.Places.{to-none}
+use Rattle.frame.specs.Written.{Written}
+use Rattle.frame.proofs.Buffers.{to-none}
 use Rattle.frame.specs.Effect.{Effect}
 use Rattle.frame.specs.declared.Reply.{Reply}
 use Rattle.frame.specs.Reply.{passed}
@@ -13,17 +13,20 @@ use Rattle.desk.proofs.Kept.{refused-keeps}
 use Rattle.whole.specs.Whole as whole
 use Rattle.whole.specs.Surface.{hostedFrame, hostedTake}
 use Rattle.whole.proofs.Halves.{frame-leaves, take-leaves}
-use Rattle.surface.specs.Surface.{ask, frame, take, RefusedLeaves}
+use Rattle.feed.specs.Feed as feeding
+use Rattle.feed.specs.Surface.{hostedFeed}
+use Rattle.feed.proofs.Ranged.{feed-leaves}
+use Rattle.surface.specs.Surface.{ask, frame, take, feed, RefusedLeaves}
 
 -- the record that is handed back is the one that came
-handed : (a : Answer) (ns : List ℕ) → passed (a .reply) ≡ false → handedBack a ns ≡ ns
-handed a ns e = ap (λ (t : Bool). cond t (numbersOf (a .rec)) ns) e
+handed : (side : ℕ) (a : Answer) (ns : List ℕ) → passed (a .reply) ≡ false → handedBack side a ns ≡ ns
+handed side a ns e = ap (λ (t : Bool). cond t (numbersOf side (a .rec)) ns) e
 
 -- nothing is told besides
 untold : (r : Reply) → passed r ≡ false → toldBesides r ≡ []
 untold r e = rw e
 
-nor-besides : (a : Ask) (r : Reply) → passed r ≡ false → besides a r ≡ []
+pub nor-besides : (a : Ask) (r : Reply) → passed r ≡ false → besides a r ≡ []
 nor-besides (opening w m) r e = refl
 nor-besides (call1 x w) r e = refl
 nor-besides (call2 x l w s) r e = refl
@@ -39,16 +42,20 @@ neither : {ws vs : List Written} → ws ≡ [] → vs ≡ [] → ws ++ vs ≡ []
 neither e d = rw (e, d)
 
 pub refused-leaves : RefusedLeaves
-unfolding hosted hostedFrame hostedTake
+unfolding hosted hostedFrame hostedTake hostedFeed
 refused-leaves n side ns store (ask a) e =
-    let o = desk n side (recordIn ns) store a in
-    let unwritten : o .written ≡ [] = to-none (o .written) (buffers n side (recordIn ns) store a ∙ ap (λ (t : Bool). cond t (buffersOf a) 0) e) in
-    (handed (o .answer) ns e, refused-keeps n side (recordIn ns) store a e .1, neither unwritten (nor-besides a (o .answer .reply) e))
+    let o = desk n side (recordIn side ns) store a in
+    let unwritten : o .written ≡ [] = to-none (o .written) (buffers n side (recordIn side ns) store a ∙ ap (λ (t : Bool). cond t (buffersOf a) 0) e) in
+    (handed side (o .answer) ns e, refused-keeps n side (recordIn side ns) store a e .1, neither unwritten (nor-besides a (o .answer .reply) e))
 refused-leaves n side ns store (frame x m out) e =
-    let o = whole.frame n side (recordIn ns) store x m out in
-    let same = frame-leaves n side (recordIn ns) store x m out e in
-    (handed (o .answer) ns e, ap (λ (g : Effect Answer). g .kept) same, neither (ap (λ (g : Effect Answer). g .written) same) (untold (o .answer .reply) e))
+    let o = whole.frame n side (recordIn side ns) store x m out in
+    let same = frame-leaves n side (recordIn side ns) store x m out e in
+    (handed side (o .answer) ns e, ap (λ (g : Effect Answer). g .kept) same, neither (ap (λ (g : Effect Answer). g .written) same) (untold (o .answer .reply) e))
 refused-leaves n side ns store (take x m out answers) e =
-    let o = whole.take n side (recordIn ns) store x m out answers in
-    let same = take-leaves n side (recordIn ns) store x m out answers e in
-    (handed (o .answer) ns e, ap (λ (g : Effect Answer). g .kept) same, ap (λ (g : Effect Answer). g .written) same)
+    let o = whole.take n side (recordIn side ns) store x m out answers in
+    let same = take-leaves n side (recordIn side ns) store x m out answers e in
+    (handed side (o .answer) ns e, ap (λ (g : Effect Answer). g .kept) same, ap (λ (g : Effect Answer). g .written) same)
+refused-leaves n side ns store (feed b m cleaned entries answers) e =
+    let o = feeding.feed n side (recordIn side ns) store b m cleaned entries answers in
+    let same = feed-leaves n side (recordIn side ns) store b m cleaned entries answers e in
+    (handed side (o .answer) ns e, ap (λ (g : Effect Answer). g .kept) same, ap (λ (g : Effect Answer). g .written) same)

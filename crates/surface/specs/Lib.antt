@@ -1,2 +1,6 @@
 pub mod Surface
 pub mod Between
+pub mod Bytes
+pub mod Cutting
+pub mod Owner
+pub mod Acceptance

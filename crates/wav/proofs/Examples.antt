@@ -5,26 +5,28 @@ use Rattle.rules.specs.Tab.{tab}
 use Rattle.checksum.specs.Checksum.{table, crc, crc32}
 use Rattle.sheet.specs.Sheet.{four}
 use Rattle.sheet.specs.End.{fromFour}
-use Rattle.wav.specs.Seal.{said, sealOf, sealFaults, sealIn, sealRead}
+use Rattle.wav.specs.Seal.{said, sealOf, sealFaults, sealRead}
 use Rattle.wav.specs.Chunks.{fromTwo, frontOf, tagIn, formatOf, formatFaults, formatted, chunkOf, stepOf, unread}
 use Rattle.wav.specs.Head.{headOf}
 use Rattle.wav.specs.Laws.{follow}
+use Rattle.sides.specs.declared.Side.the-variants.{Right}
+use Rattle.wav.specs.declared.seal.Word.the-variants.{Begins, Ends}
 use Rattle.wav.specs.declared.seal.Seal.{Seal}
 use Rattle.wav.specs.declared.seal.Reading.the-variants as reading
 use Rattle.wav.specs.declared.chunks.Step.the-variants.{Audio, On, Refused}
 
 -- the right side, 960 bytes of audio
 abbrev right : Seal
-right = record { side = 1; size = 960; checksum = 0xCBF43926 }
+right = record { side = Right; long = 960; short = 0xCBF43926 }
 
-contents : sealOf right ≡ 84 ∷ 85 ∷ 80 ∷ 80 ∷ 82 ∷ 71 ∷ 72 ∷ 84 ∷ 192 ∷ 3 ∷ 0 ∷ 0 ∷ 0 ∷ 0 ∷ 0 ∷ 0 ∷ 38 ∷ 57 ∷ 244 ∷ 203 ∷ 163 ∷ 115 ∷ 236 ∷ 148 ∷ []
+contents : sealOf Ends right ≡ 84 ∷ 85 ∷ 80 ∷ 80 ∷ 82 ∷ 71 ∷ 72 ∷ 84 ∷ 192 ∷ 3 ∷ 0 ∷ 0 ∷ 0 ∷ 0 ∷ 0 ∷ 0 ∷ 38 ∷ 57 ∷ 244 ∷ 203 ∷ 163 ∷ 115 ∷ 236 ∷ 148 ∷ []
 unfolding sealOf said four crc32 crc table tab loop
 contents = refl
 
 -- the seal; without its last byte; with another letter, another length and another checksum
-seals : map sealRead (sealOf right ∷ take 23 (sealOf right) ∷ set (sealOf right) 0 83 ∷ set (sealOf right) 4 76 ∷ set (sealOf right) 8 0 ∷ set (sealOf right) 23 0 ∷ [])
+seals : map (sealRead Ends) (sealOf Ends right ∷ take 23 (sealOf Ends right) ∷ set (sealOf Ends right) 0 83 ∷ set (sealOf Ends right) 4 76 ∷ set (sealOf Ends right) 8 0 ∷ set (sealOf Ends right) 23 0 ∷ [])
     ≡ reading.Whole right ∷ reading.Refused 51 ∷ reading.Refused 51 ∷ reading.Refused 52 ∷ reading.Refused 52 ∷ reading.Refused 52 ∷ []
-unfolding sealRead sealFaults sealIn fromFour sealOf said four crc32 crc table tab loop
+unfolding sealRead sealFaults fromFour sealOf said four crc32 crc table tab loop
 seals = refl
 
 -- the head of three bytes of audio at 48 kHz, with 56 bytes of chunks behind them

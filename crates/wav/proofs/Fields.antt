@@ -10,5 +10,5 @@ unfolding fromTwo
 two-at s at = simp (getD-drop, add-zero)
 
 -- the bytes of a sample of all channels
-pub block-fits : (channels format : ℕ) → channels ≤ 64 → format ≤ 32 → channels * (format / 8) < 2 ^ 64
+pub block-fits : (channels format : ℕ) → channels ≤ 64 → format ≤ 33 → channels * (format / 8) < 2 ^ 64
 block-fits channels format few known = omega (arith, mul-le-mul-right (format / 8) few)

@@ -1,30 +1,38 @@
--- What is written reads back as the seal that it was, and with the other side's name in its place as none. Assumes nothing.
-use Rattle.rules.proofs.Common.{ℕ, zero, suc, _+_, _-_, _*_, _/_, _%_, _^_, _≤_, _<_, Bool, true, false, cond, List, [], _∷_, _++_, _≡_, refl, sym}
+-- What is written reads back as the seal that it was, and with the other side's letters in their place as none. Assumes nothing.
+use Rattle.rules.proofs.Common.{ℕ, _+_, _*_, _/_, _%_, _^_, _≤_, _<_, Bool, true, false, cond, List, [], _∷_, _++_, _≡_, refl, sym}
 use Rattle.rules.proofs.Common.{ap, _∙_, eqb, ltb, length, take, drop, length-append}
-use mathlib.Core.Logic.{⊎-elim}
 use mathlib.Core.List.{append-assoc}
-use native.Mathlib.Nat.{eq-or-lt-of-le}
 use native.Mathlib.Omega.{arith}
-use borrow.Author.Tests.{le-ltb, eq-eqb, ne-eqb}
+use borrow.Author.Tests.{le-ltb, eq-eqb, ne-eqb, eqb-true}
 use lib.Seq.{take-at, drop-at}
+use Rattle.rules.specs.Leaf.{_leaving_}
 use Rattle.rules.specs.Loop.{loop}
 use Rattle.rules.specs.Tab.{tab}
 use Rattle.checksum.specs.Checksum.{table, crc, crc32}
 use Rattle.checksum.proofs.Apart.{small, same-end}
+use Rattle.sides.specs.Sides.{LEFT, RGHT, numberOf, lettersOf, ofNumber, ofLetters}
+use Rattle.sides.proofs.Back.{letters-back, number-only}
+use Rattle.sides.specs.declared.Side.{Side}
+use Rattle.sides.specs.declared.Side.the-variants.{Left, Right}
+use Rattle.sides.specs.declared.Meant.{Meant}
+use Rattle.sides.specs.declared.Meant.the-variants.{Means, Nothing}
 use Rattle.sheet.specs.Sheet.{four}
 use Rattle.sheet.specs.End.{fromFour}
 use Rattle.sheet.proofs.Digits.{digits, four-read}
-use Rattle.wav.specs.Seal.{TUPP, LEFT, RGHT, nameOf, said, sealOf, name, sealFaults, sealIn, sealRead}
-use Rattle.wav.specs.Laws.{Holds, SealBack, OneSeal, renamed, OtherName}
+use Rattle.wav.specs.Seal.{TUPB, TUPP, wordOf, said, sealOf, name, long, sealFaults, laidFor, sealWritten, sealRead, sealSummary}
+use Rattle.wav.specs.Laws.{Holds, SealBack, OneSeal, otherSide, renamed, OtherName, SealCalls, otherWord, OtherWord}
+use Rattle.wav.specs.declared.seal.Word.{Word}
+use Rattle.wav.specs.declared.seal.Word.the-variants.{Begins, Ends}
 use Rattle.wav.specs.declared.seal.Seal.{Seal}
+use Rattle.wav.specs.declared.seal.Reading.{Reading}
 use Rattle.wav.specs.declared.seal.Reading.the-variants.{Whole, Refused}
-use Rattle.wav.proofs.Seals.{at-52, at-left, at-right, length-said}
+use Rattle.wav.proofs.Seals.{at-51′, at-52, at-whole, length-said}
 
 -- a number of 32 bits by its four bytes
 pub whole : (n : ℕ) (rest : List ℕ) → n < 2 ^ 32 → fromFour (four n ++ rest) ≡ n
 whole n rest h = four-read n rest ∙ omega arith
 
--- ---- any 20 bytes and a checksum, and what stands behind them
+-- ---- any 20 bytes and a checksum, and what follows them
 
 module _ (front : List ℕ) (own : ℕ) (rest : List ℕ) (size : length front ≡ 20) (room : own < 2 ^ 32) where
   abbrev file : List ℕ
@@ -39,152 +47,161 @@ module _ (front : List ℕ) (own : ℕ) (rest : List ℕ) (size : length front �
   last : fromFour (drop 20 file) ≡ own
   last = rw (split, drop-at front (four own ++ rest) 20 size) (whole own rest room)
 
-  long : 24 ≤ length file
+  enough : 24 ≤ length file
   unfolding four
-  long = simp length-append (omega arith)
+  enough = simp length-append (omega arith)
 
--- ---- the sides' names
+-- ---- words and letters
 
-name-left : {side : ℕ} → side ≡ 0 → nameOf side ≡ LEFT
-name-left {side} e = rw (eq-eqb side 0 e)
+word-small : (w : Word) → wordOf w < 2 ^ 32
+word-small Begins = omega arith
+word-small Ends = omega arith
 
-name-right : {side : ℕ} → side ≡ 1 → nameOf side ≡ RGHT
-name-right {side} e = rw (ne-eqb side 0 (omega arith))
+letters-small : (side : Side) → lettersOf side < 2 ^ 32
+letters-small Left = omega arith
+letters-small Right = omega arith
 
-name-small : (side : ℕ) → nameOf side < 2 ^ 32
-name-small side = of (eqb side 0)
-  where
-    of : (t : Bool) → cond t LEFT RGHT < 2 ^ 32
-    of true = omega arith
-    of false = omega arith
+-- ---- what is said reads back, with any checksum
 
--- ---- what is said reads back, behind it whatever checksum
-
-module _ (x : Seal) (own : ℕ) (rest : List ℕ) (long : x .size < 2 ^ 64) (sum : x .checksum < 2 ^ 32) where
+module _ (w : Word) (x : Seal) (own : ℕ) (rest : List ℕ) where
   abbrev sealed : List ℕ
-  sealed = (said x ++ four own) ++ rest
+  sealed = (said w x ++ four own) ++ rest
 
-  named : fromFour sealed ≡ TUPP
-  unfolding said four fromFour
-  named = refl
-
-  name-read : name sealed ≡ nameOf (x .side)
+  word-read : fromFour sealed ≡ wordOf w
   unfolding said four
-  name-read = whole (nameOf (x .side)) (drop 8 sealed) (name-small (x .side))
+  word-read = whole (wordOf w) (drop 4 sealed) (word-small w)
 
-  size-read : fromFour (drop 8 sealed) + 4294967296 * fromFour (drop 12 sealed) ≡ x .size
+  name-read : name sealed ≡ lettersOf (x .side)
   unfolding said four
-  size-read = omega (arith, four-read (x .size) (drop 12 sealed), four-read (x .size / 4294967296) (drop 16 sealed))
+  name-read = whole (lettersOf (x .side)) (drop 8 sealed) (letters-small (x .side))
 
-  sum-read : fromFour (drop 16 sealed) ≡ x .checksum
-  unfolding said four
-  sum-read = whole (x .checksum) (drop 20 sealed) sum
+  module _ (holds : Holds x) where
+    long-read : long sealed ≡ x .long
+    unfolding said four
+    long-read = omega (arith, holds .long, four-read (x .long) (drop 12 sealed), four-read (x .long / 4294967296) (drop 16 sealed))
+
+    short-read : fromFour (drop 16 sealed) ≡ x .short
+    unfolding said four
+    short-read = whole (x .short) (drop 20 sealed) (holds .short)
 
 -- ---- what is written reads back
 
-module _ (x : Seal) (rest : List ℕ) (holds : Holds x) where
-  own : ℕ
-  own = crc32 0 (said x)
-
-  abbrev written : List ℕ
-  written = sealed x own rest (holds .long) (holds .sum)
+module _ (w : Word) (x : Seal) (rest : List ℕ) where
+  abbrev own : ℕ
+  own = crc32 0 (said w x)
 
   room : own < 2 ^ 32
-  unfolding own
-  room = small 0 (said x) (omega arith)
+  room = small 0 (said w x) (omega arith)
 
-  enough : 24 ≤ length written
-  enough = long (said x) own rest (length-said x) room
+  abbrev written : List ℕ
+  written = sealed w x own rest
 
   noted : fromFour (drop 20 written) ≡ crc32 0 (take 20 written)
-  unfolding own
-  noted = last (said x) own rest (length-said x) room ∙ ap (crc32 0) (sym (first (said x) own rest (length-said x) room))
+  noted = last (said w x) own rest (length-said w x) room ∙ ap (crc32 0) (sym (first (said w x) own rest (length-said w x) room))
 
-  read-left : x .side ≡ 0 → sealRead written ≡ Whole x
-  read-left e =
-      sym (at-left written enough refl (named x own rest (holds .long) (holds .sum)) refl refl noted refl refl refl refl
-      (name-read x own rest (holds .long) (holds .sum) ∙ name-left e))
-      ∙ rw (size-read x own rest (holds .long) (holds .sum), sum-read x own rest (holds .long) (holds .sum), ← e)
-
-  read-right : x .side ≡ 1 → sealRead written ≡ Whole x
-  read-right e =
-      let right = name-read x own rest (holds .long) (holds .sum) ∙ name-right e in
-      sym (at-right written enough refl (named x own rest (holds .long) (holds .sum)) refl refl noted refl refl refl refl
-      (λ l. absurd (let z : _≡_ {A = ℕ} LEFT RGHT = sym l ∙ right in omega arith)) right)
-      ∙ rw (size-read x own rest (holds .long) (holds .sum), sum-read x own rest (holds .long) (holds .sum), ← e)
+  read-back : Holds x → sealRead w written ≡ Whole x
+  read-back holds =
+      sym (at-whole w written (enough (said w x) own rest (length-said w x) room) refl refl (word-read w x own rest) refl refl noted refl refl refl refl refl
+      (sym (ap ofLetters (name-read w x own rest) ∙ letters-back (x .side))))
+      ∙ rw (long-read w x own rest holds, short-read w x own rest holds)
 
 pub seal-back : SealBack
-unfolding sealOf own
-seal-back x rest holds =
-    ⊎-elim (λ e. read-right x rest holds e) (λ l. read-left x rest holds (omega arith)) (eq-or-lt-of-le (holds .known))
+unfolding sealOf
+seal-back w x rest holds = read-back w x rest holds
 
 pub one-seal : OneSeal
-one-seal x y rest rest′ hx hy e =
-    let same : Whole x ≡ Whole y = sym (seal-back x rest hx) ∙ ap sealRead e ∙ seal-back y rest′ hy in
+one-seal w x y rest rest′ hx hy e =
+    let same : Whole x ≡ Whole y = sym (seal-back w x rest hx) ∙ ap (sealRead w) e ∙ seal-back w y rest′ hy in
     cc
 
--- ---- the other side's name
+pub other-word : OtherWord
+unfolding sealOf
+other-word Begins x rest =
+    sym (at-51′ Ends (written Begins x rest) (enough (said Begins x) (own Begins x rest) rest (length-said Begins x) (room Begins x rest)) refl refl
+    (λ e. absurd (let z : _≡_ {A = ℕ} TUPB TUPP = sym (word-read Begins x (own Begins x rest) rest) ∙ e in omega arith)))
+other-word Ends x rest =
+    sym (at-51′ Begins (written Ends x rest) (enough (said Ends x) (own Ends x rest) rest (length-said Ends x) (room Ends x rest)) refl refl
+    (λ e. absurd (let z : _≡_ {A = ℕ} TUPP TUPB = sym (word-read Ends x (own Ends x rest) rest) ∙ e in omega arith)))
 
--- their checksums, of "TUPPLEFT" and of "TUPPRGHT"
-left-sum : crc32 0 (four TUPP ++ four LEFT) ≡ 0x9C88F6B9
+-- ---- a host's calls
+
+module _ (w : Word) (side l s : ℕ) (out after rest numbers : List ℕ) (hl : l < 2 ^ 64) (hs : s < 2 ^ 32) (three : length numbers ≡ 3) where
+  by-side : (m : Meant) → ofNumber side ≡ m → (0 leaving after) ≡ laidFor w m l s out → sealSummary w (after ++ rest) numbers ≡ (0 leaving side ∷ l ∷ s ∷ [])
+  unfolding sealSummary
+  by-side (Means known) e a =
+      let x : Seal = record { side = known; long = l; short = s } in
+      let bytes : after ≡ sealOf w x = ap (λ (p : ℕ × List ℕ). p .1) a in
+      let back : sealRead w (after ++ rest) ≡ Whole x = ap (λ (b : List ℕ). sealRead w (b ++ rest)) bytes ∙ seal-back w x rest (record { long = hl; short = hs }) in
+      rw (eq-eqb (length numbers) 3 three, back, number-only side known e)
+  by-side Nothing e a = absurd (let z : _≡_ {A = ℕ} 0 53 = ap (λ (p : ℕ × List ℕ). p .0) a in omega arith)
+
+pub seal-calls : SealCalls
+unfolding sealWritten
+seal-calls w side l s out after rest numbers hl hs three e = by-room (eqb (length out) 24) refl
+  where
+    by-room : (t : Bool) → eqb (length out) 24 ≡ t → sealSummary w (after ++ rest) numbers ≡ (0 leaving side ∷ l ∷ s ∷ [])
+    by-room true t = by-side w side l s out after rest numbers hl hs three (ofNumber side) refl (rw t at e)
+    by-room false t = absurd (let z : _≡_ {A = ℕ} 0 5 = ap (λ (p : ℕ × List ℕ). p .0) (rw t at e) in omega arith)
+
+-- ---- the other side's letters
+
+-- the checksums of a word and a side's letters
+abbrev sums : Word → Side → ℕ
+sums Begins Left = 0x86A8325B
+sums Begins Right = 0xAB69EB17
+sums Ends Left = 0x9C88F6B9
+sums Ends Right = 0xB1492FF5
+
+sum-is : (w : Word) (side : Side) → crc32 0 (four (wordOf w) ++ four (lettersOf side)) ≡ sums w side
 unfolding crc32 crc table tab loop four
-left-sum = refl
+sum-is Begins Left = refl
+sum-is Begins Right = refl
+sum-is Ends Left = refl
+sum-is Ends Right = refl
 
-right-sum : crc32 0 (four TUPP ++ four RGHT) ≡ 0xB1492FF5
-unfolding crc32 crc table tab loop four
-right-sum = refl
+unlike-sums : (w : Word) (side : Side) → sums w side ≡ sums w (otherSide side) → ⊥
+unlike-sums Begins Left e = absurd (omega arith)
+unlike-sums Begins Right e = absurd (omega arith)
+unlike-sums Ends Left e = absurd (omega arith)
+unlike-sums Ends Right e = absurd (omega arith)
 
-apart : (tail : List ℕ) → crc32 0 ((four TUPP ++ four LEFT) ++ tail) ≡ crc32 0 ((four TUPP ++ four RGHT) ++ tail) → ⊥
-apart tail e =
-    let same : _≡_ {A = ℕ} 0x9C88F6B9 0xB1492FF5 = sym left-sum ∙ same-end 0 (four TUPP ++ four LEFT) (four TUPP ++ four RGHT) tail (omega arith) e ∙ right-sum in
-    omega arith
-
--- what is said behind the side's name
-abbrev tail : Seal → List ℕ
-tail x = four (x .size) ++ (four (x .size / 4294967296) ++ four (x .checksum))
-
-module _ (x : Seal) where
+module _ (w : Word) (x : Seal) where
   -- the same of the other side
   abbrev other : Seal
-  other = record { side = 1 - x .side; size = x .size; checksum = x .checksum }
+  other = record { side = otherSide (x .side); long = x .long; short = x .short }
 
-  parted : (side : ℕ) → said (record { side = side; size = x .size; checksum = x .checksum }) ≡ (four TUPP ++ four (nameOf side)) ++ tail x
+  -- what is said after the side's letters
+  abbrev tail : List ℕ
+  tail = four (x .long) ++ (four (x .long / 4294967296) ++ four (x .short))
+
+  parted : (side : Side) → said w (record { side = side; long = x .long; short = x .short }) ≡ (four (wordOf w) ++ four (lettersOf side)) ++ tail
   unfolding said four
   parted side = refl
 
-  unlike : x .side ≤ 1 → crc32 0 (said x) ≡ crc32 0 (said other) → ⊥
-  unlike known e =
-      let split : crc32 0 ((four TUPP ++ four (nameOf (x .side))) ++ tail x) ≡ crc32 0 ((four TUPP ++ four (nameOf (1 - x .side))) ++ tail x) =
-      ap (crc32 0) (sym (parted (x .side))) ∙ e ∙ ap (crc32 0) (parted (1 - x .side)) in
-      ⊎-elim (λ r. apart (tail x) (sym (rw (name-right r, name-left (at-zero r)) at split)))
-      (λ l. apart (tail x) (rw (name-left (first-of l), name-right (at-one l)) at split)) (eq-or-lt-of-le known)
-    where
-      at-zero : x .side ≡ 1 → 1 - x .side ≡ 0
-      at-zero r = omega arith
+  unlike : crc32 0 (said w x) ≡ crc32 0 (said w other) → ⊥
+  unlike e =
+      let split : crc32 0 ((four (wordOf w) ++ four (lettersOf (x .side))) ++ tail) ≡ crc32 0 ((four (wordOf w) ++ four (lettersOf (otherSide (x .side)))) ++ tail) =
+      ap (crc32 0) (sym (parted (x .side))) ∙ e ∙ ap (crc32 0) (parted (otherSide (x .side))) in
+      unlike-sums w (x .side) (sym (sum-is w (x .side))
+      ∙ same-end 0 (four (wordOf w) ++ four (lettersOf (x .side))) (four (wordOf w) ++ four (lettersOf (otherSide (x .side)))) tail (omega arith) split
+      ∙ sum-is w (otherSide (x .side)))
 
-      first-of : x .side < 1 → x .side ≡ 0
-      first-of l = omega arith
-
-      at-one : x .side < 1 → 1 - x .side ≡ 1
-      at-one l = omega arith
-
-module _ (x : Seal) (rest : List ℕ) (holds : Holds x) where
+module _ (w : Word) (x : Seal) (rest : List ℕ) where
   abbrev exchanged : List ℕ
-  exchanged = sealed (other x) (own x rest holds) rest (holds .long) (holds .sum)
+  exchanged = sealed w (other w x) (own w x rest) rest
 
-  is-exchanged : renamed x (sealOf x ++ rest) ≡ exchanged
-  unfolding sealOf own said four
+  is-exchanged : renamed x (sealOf w x ++ rest) ≡ exchanged
+  unfolding sealOf said four
   is-exchanged = refl
 
   not-noted : fromFour (drop 20 exchanged) ≡ crc32 0 (take 20 exchanged) → ⊥
-  unfolding own
   not-noted e =
-      unlike x (holds .known)
-      (sym (last (said (other x)) (own x rest holds) rest (length-said (other x)) (room x rest holds)) ∙ e ∙ ap (crc32 0) (first (said (other x)) (own x rest holds) rest (length-said (other x)) (room x rest holds)))
+      unlike w x
+      (sym (last (said w (other w x)) (own w x rest) rest (length-said w (other w x)) (room w x rest)) ∙ e ∙ ap (crc32 0) (first (said w (other w x)) (own w x rest) rest (length-said w (other w x)) (room w x rest)))
 
-  refused : sealRead exchanged ≡ Refused 52
+  refused : sealRead w exchanged ≡ Refused 52
   refused =
-      sym (at-52 exchanged (long (said (other x)) (own x rest holds) rest (length-said (other x)) (room x rest holds)) refl (named (other x) (own x rest holds) rest (holds .long) (holds .sum)) refl refl not-noted)
+      sym (at-52 w exchanged (enough (said w (other w x)) (own w x rest) rest (length-said w (other w x)) (room w x rest)) refl refl (word-read w (other w x) (own w x rest) rest) refl refl not-noted)
 
 pub other-name : OtherName
-other-name x rest holds = ap sealRead (is-exchanged x rest holds) ∙ refused x rest holds
+other-name w x rest holds = ap (sealRead w) (is-exchanged w x rest) ∙ refused w x rest

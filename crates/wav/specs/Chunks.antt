@@ -43,9 +43,9 @@ pastChunk size h = record { place = h .place + 8 + size + size % 2; format = h .
 unfoldable pub tagIn : ℕ → List ℕ → ℕ
 tagIn size s = let tag = fromTwo (drop 8 s) in cond (eqb tag 65534) (cond (ltb size 26) 0 (fromTwo (drop 32 s))) tag
 
--- whole numbers of 16 or 24 bits (tag 1), floats of 32 (tag 3), or none of these
+-- whole numbers of 16, 24 or 32 bits (tag 1), floats of 32 (tag 3), or none of these. A whole number of 32 bits is format 33, since 32 is the float
 unfoldable pub formatOf : ℕ → ℕ → ℕ
-formatOf tag bits = cond (eqb tag 1) (cond (eqb bits 16) 16 (cond (eqb bits 24) 24 0)) (cond (eqb tag 3) (cond (eqb bits 32) 32 0) 0)
+formatOf tag bits = cond (eqb tag 1) (cond (eqb bits 16) 16 (cond (eqb bits 24) 24 (cond (eqb bits 32) 33 0))) (cond (eqb tag 3) (cond (eqb bits 32) 32 0) 0)
 
 abbrev pub formatIn : ℕ → List ℕ → ℕ
 formatIn size s = formatOf (tagIn size s) (fromTwo (drop 22 s))

@@ -1,9 +1,15 @@
 -- What is claimed of seals and of heads. The proofs are in proofs/: Sealed, Onward, Enough, Back.
-use Rattle.rules.specs.Common.{ℕ, zero, suc, _+_, _-_, _^_, _≤_, _<_, List, _++_, _≡_, take, drop}
+use Rattle.rules.specs.Common.{ℕ, zero, suc, _+_, _^_, _≤_, _<_, List, [], _∷_, _++_, _≡_, length, take, drop}
+use Rattle.rules.specs.Leaf.{_leaving_}
+use Rattle.sides.specs.Sides.{lettersOf}
+use Rattle.sides.specs.declared.Side.{Side}
+use Rattle.sides.specs.declared.Side.the-variants.{Left, Right}
 use Rattle.sheet.specs.Sheet.{four}
-use Rattle.wav.specs.Seal.{nameOf, sealOf, sealRead}
+use Rattle.wav.specs.Seal.{sealOf, sealWritten, sealRead, sealSummary}
 use Rattle.wav.specs.Chunks.{unread, stepOf}
 use Rattle.wav.specs.Head.{headOf}
+use Rattle.wav.specs.declared.seal.Word.{Word}
+use Rattle.wav.specs.declared.seal.Word.the-variants.{Begins, Ends}
 use Rattle.wav.specs.declared.seal.Seal.{Seal}
 use Rattle.wav.specs.declared.seal.Reading.the-variants as reading
 use Rattle.wav.specs.declared.chunks.Head.{Head}
@@ -12,26 +18,44 @@ use Rattle.wav.specs.declared.chunks.Step.the-variants.{Audio, On, Refus
 
 -- ---- seals
 
--- a seal that 24 bytes can hold
+-- what 24 bytes can hold
 pub record Holds (x : Seal) : Type 0 where
-  pub known : x .side ≤ 1
-  pub long : x .size < 2 ^ 64
-  pub sum : x .checksum < 2 ^ 32
+  pub long : x .long < 2 ^ 64
+  pub short : x .short < 2 ^ 32
 
--- what is written reads back, whatever stands behind it
+-- what is written reads back, whatever follows it
 abbrev pub SealBack : Type 0
-SealBack = (x : Seal) (rest : List ℕ) → Holds x → sealRead (sealOf x ++ rest) ≡ reading.Whole x
+SealBack = (w : Word) (x : Seal) (rest : List ℕ) → Holds x → sealRead w (sealOf w x ++ rest) ≡ reading.Whole x
 
--- so a seal is none of another side, of other audio
+-- so a seal is none of another side or of other numbers
 abbrev pub OneSeal : Type 0
-OneSeal = (x y : Seal) (rest rest′ : List ℕ) → Holds x → Holds y → sealOf x ++ rest ≡ sealOf y ++ rest′ → x ≡ y
+OneSeal = (w : Word) (x y : Seal) (rest rest′ : List ℕ) → Holds x → Holds y → sealOf w x ++ rest ≡ sealOf w y ++ rest′ → x ≡ y
 
--- and with the other side's name in its place it is none at all
+-- and with the other side's letters in their place it is none at all
+abbrev pub otherSide : Side → Side
+otherSide Left = Right
+otherSide Right = Left
+
 abbrev pub renamed : Seal → List ℕ → List ℕ
-renamed x s = take 4 s ++ (four (nameOf (1 - x .side)) ++ drop 8 s)
+renamed x s = take 4 s ++ (four (lettersOf (otherSide (x .side))) ++ drop 8 s)
 
 abbrev pub OtherName : Type 0
-OtherName = (x : Seal) (rest : List ℕ) → Holds x → sealRead (renamed x (sealOf x ++ rest)) ≡ reading.Refused 52
+OtherName = (w : Word) (x : Seal) (rest : List ℕ) → Holds x → sealRead w (renamed x (sealOf w x ++ rest)) ≡ reading.Refused 52
+
+-- what a host has written it reads: the same side and the same two numbers
+abbrev pub SealCalls : Type 0
+SealCalls =
+    (w : Word) (side long short : ℕ) (out after rest numbers : List ℕ) → long < 2 ^ 64 → short < 2 ^ 32 → length numbers ≡ 3
+    → (0 leaving after) ≡ sealWritten w side long short out
+    → sealSummary w (after ++ rest) numbers ≡ (0 leaving side ∷ long ∷ short ∷ [])
+
+-- and it is none of the other word
+abbrev pub otherWord : Word → Word
+otherWord Begins = Ends
+otherWord Ends = Begins
+
+abbrev pub OtherWord : Type 0
+OtherWord = (w : Word) (x : Seal) (rest : List ℕ) → sealRead (otherWord w) (sealOf w x ++ rest) ≡ reading.Refused 51
 
 -- ---- heads
 

@@ -1,66 +1,79 @@
--- The seal of a recording: as data, as its 24 bytes, and as they are read. Four letters are a number, little end first.
-use Rattle.rules.specs.Common.{ℕ, _+_, _*_, _/_, Bool, cond, not, _&&_, _||_, List, [], _∷_, _++_, eqb, ltb, length, take, drop}
+-- The two seals of a recording: as data, as 24 bytes, and as they are read. Four letters are a number, little end first.
+use Rattle.rules.specs.Common.{ℕ, _+_, _*_, _/_, Bool, not, _||_, List, [], _∷_, _++_, eqb, ltb, length, take, drop}
 use Rattle.rules.specs.Leaf.{_leaving_}
 use Rattle.rules.specs.Refusals.{Row, _when_, refusing}
 use Rattle.checksum.specs.Checksum.{crc32}
+use Rattle.sides.specs.Sides.{numberOf, lettersOf, ofNumber, ofLetters}
+use Rattle.sides.specs.declared.Meant.{Meant}
+use Rattle.sides.specs.declared.Meant.the-variants.{Means, Nothing}
 use Rattle.sheet.specs.Sheet.{four}
 use Rattle.sheet.specs.End.{fromFour}
+use Rattle.wav.specs.declared.seal.Word.{Word}
+use Rattle.wav.specs.declared.seal.Word.the-variants.{Begins, Ends}
 use Rattle.wav.specs.declared.seal.Seal.{Seal}
 use Rattle.wav.specs.declared.seal.Reading.{Reading}
 use Rattle.wav.specs.declared.seal.Reading.the-variants.{Whole, Refused}
 
--- "TUPP", "LEFT" and "RGHT"
+-- "TUPB" and "TUPP"
+abbrev pub TUPB : ℕ
+TUPB = 0x42505554
+
 abbrev pub TUPP : ℕ
 TUPP = 0x50505554
 
-abbrev pub LEFT : ℕ
-LEFT = 0x5446454C
+abbrev pub wordOf : Word → ℕ
+wordOf Begins = TUPB
+wordOf Ends = TUPP
 
-abbrev pub RGHT : ℕ
-RGHT = 0x54484752
+-- the seal without its own checksum: the word, the side's letters, a number of 64 bits, and one of 32 bits
+abbrev pub twentyOf : ℕ → ℕ → ℕ → ℕ → List ℕ
+twentyOf letters name long short = four letters ++ (four name ++ (four long ++ (four (long / 4294967296) ++ four short)))
 
-abbrev pub nameOf : ℕ → ℕ
-nameOf side = cond (eqb side 0) LEFT RGHT
+unfoldable pub said : Word → Seal → List ℕ
+said w s = twentyOf (wordOf w) (lettersOf (s .side)) (s .long) (s .short)
 
--- all but its own checksum: the name, the side's name, the audio's bytes, 64 bits, and their checksum
-unfoldable pub said : Seal → List ℕ
-said s = four TUPP ++ (four (nameOf (s .side)) ++ (four (s .size) ++ (four (s .size / 4294967296) ++ four (s .checksum))))
+unfoldable pub sealOf : Word → Seal → List ℕ
+sealOf w s = said w s ++ four (crc32 0 (said w s))
 
-unfoldable pub sealOf : Seal → List ℕ
-sealOf s = said s ++ four (crc32 0 (said s))
+-- ---- written for a host, of a side by its number: what is returned, and what the buffer then holds
 
--- ---- written: what is returned, and what the buffer then holds
+abbrev pub laidFor : Word → Meant → ℕ → ℕ → List ℕ → ℕ × List ℕ
+laidFor w (Means side) long short out = 0 leaving sealOf w (record { side = side; long = long; short = short })
+laidFor w Nothing long short out = 53 leaving out
 
-unfoldable pub sealWritten : Seal → List ℕ → ℕ × List ℕ
-sealWritten s out = refusing (5 when not (eqb (length out) 24) ∷ 53 when ltb 1 (s .side) ∷ []) (λ n. n leaving out) (0 leaving sealOf s)
+unfoldable pub sealWritten : Word → ℕ → ℕ → ℕ → List ℕ → ℕ × List ℕ
+sealWritten w side long short out =
+    refusing (5 when not (eqb (length out) 24) ∷ []) (λ n. n leaving out) (laidFor w (ofNumber side) long short out)
 
--- ---- read, in front of some bytes
+-- ---- read, at the front of some bytes
 
 abbrev pub name : List ℕ → ℕ
 name s = fromFour (drop 4 s)
 
--- the refusals, in order
-unfoldable pub sealFaults : List ℕ → List Row
-sealFaults s =
-    51 when (ltb (length s) 24 || not (eqb (fromFour s) TUPP))
+abbrev pub long : List ℕ → ℕ
+long s = fromFour (drop 8 s) + 4294967296 * fromFour (drop 12 s)
+
+abbrev pub short : List ℕ → ℕ
+short s = fromFour (drop 16 s)
+
+-- the first refusals, in order
+unfoldable pub sealFaults : Word → List ℕ → List Row
+sealFaults w s =
+    51 when (ltb (length s) 24 || not (eqb (fromFour s) (wordOf w)))
     ∷ 52 when not (eqb (fromFour (drop 20 s)) (crc32 0 (take 20 s)))
-    ∷ 53 when (not (eqb (name s) LEFT) && not (eqb (name s) RGHT))
     ∷ []
 
-unfoldable pub sealIn : List ℕ → Seal
-sealIn s = record {
-  side = cond (eqb (name s) LEFT) 0 1;
-  size = fromFour (drop 8 s) + 4294967296 * fromFour (drop 12 s);
-  checksum = fromFour (drop 16 s);
-}
+abbrev pub sealFor : Meant → ℕ → ℕ → Reading
+sealFor (Means side) long short = Whole (record { side = side; long = long; short = short })
+sealFor Nothing long short = Refused 53
 
-unfoldable pub sealRead : List ℕ → Reading
-sealRead s = refusing (sealFaults s) Refused (Whole (sealIn s))
+unfoldable pub sealRead : Word → List ℕ → Reading
+sealRead w s = refusing (sealFaults w s) Refused (sealFor (ofLetters (name s)) (long s) (short s))
 
--- what a host is told: the side, how many bytes of audio, and their checksum
+-- what a host is told: the side's number, and the two numbers
 abbrev pub sealTold : Reading → List ℕ → ℕ × List ℕ
-sealTold (Whole s) out = 0 leaving s .side ∷ s .size ∷ s .checksum ∷ []
+sealTold (Whole s) out = 0 leaving numberOf (s .side) ∷ s .long ∷ s .short ∷ []
 sealTold (Refused n) out = n leaving out
 
-unfoldable pub sealSummary : List ℕ → List ℕ → ℕ × List ℕ
-sealSummary s out = refusing (5 when not (eqb (length out) 3) ∷ []) (λ n. n leaving out) (sealTold (sealRead s) out)
+unfoldable pub sealSummary : Word → List ℕ → List ℕ → ℕ × List ℕ
+sealSummary w s out = refusing (5 when not (eqb (length out) 3) ∷ []) (λ n. n leaving out) (sealTold (sealRead w s) out)

@@ -69,9 +69,9 @@ fn tag_in(file: &[u8], size: u64) -> u64
     bytes::two_at(file, 32)
 }
 
-// 16 or 24 bits, or 32 of a float; 0 of no format that is taken.
+// 16 or 24 bits, 32 of a float, and 33 for 32 bits of a whole number; 0 of no format that is taken.
 fn format_of(tag: u64, bits: u64) -> u64
-    ensures { λ r. ⌜ (r ≡ formatOf tag bits) × (r ≤ 32) ⌝ }
+    ensures { λ r. ⌜ (r ≡ formatOf tag bits) × (r ≤ 33) ⌝ }
 {
     if tag == 1 {
         if bits == 16 {
@@ -79,6 +79,9 @@ fn format_of(tag: u64, bits: u64) -> u64
         }
         if bits == 24 {
             return 24;
+        }
+        if bits == 32 {
+            return 33;
         }
         return 0;
     }

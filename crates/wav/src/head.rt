@@ -14,7 +14,7 @@ fn riff_size(size: u32, behind: u32) -> u64
     )
 }
 
-fn head_of(rate: u32, size: u32, behind: u32) -> [u8; 44]
+pub fn head_of(rate: u32, size: u32, behind: u32) -> [u8; 44]
     ensures { λ r. ⌜ r ≡ headOf rate size behind ⌝ }
 {
     let riff = riff_size(size, behind);

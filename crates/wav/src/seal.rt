@@ -1,22 +1,28 @@
-// The seal of a recording: 24 bytes in front of its side sheet.
+// The two seals of a recording, 24 bytes each, in one layout: a word, the side, a number of 64 bits, one of 32 bits, and
+// the checksum of these 20 bytes. The word says which seal it is.
 ghost use mathlib.Core.Path.{_≡_};
-ghost use Prim.Native.Nat.{_≤_};
+ghost use lib.ListN.{length};
 ghost use Rattle.rules.specs.Leaf.{_leaving_};
-ghost use Rattle.wav.specs.Seal.{nameOf, said, sealWritten, sealRead, sealSummary};
+ghost use Rattle.wav.specs.Seal.{wordOf, twentyOf, said, sealOf, sealWritten, sealRead, sealSummary};
 use crate::bytes;
+use sides::Meant;
+use sides::Side;
 
-// Four letters each, little end first.
-const TUPP: u64 = 0x5050_5554;
+// Which seal it is.
+pub enum Word {
+    // "TUPB", before the audio: when the recording began, and the number of its first frame.
+    Begins,
+    // "TUPP", after the audio: how many bytes of audio there are, and their checksum.
+    Ends,
+}
 
-const LEFT: u64 = 0x5446_454c;
-
-const RGHT: u64 = 0x5448_4752;
-
-// Which side a recording is, how many bytes of audio it has, and their checksum.
+// What a seal says besides its word.
 pub struct Seal {
-    pub side: u32,
-    pub size: u64,
-    pub checksum: u32,
+    pub side: Side,
+    // The number of 64 bits.
+    pub long: u64,
+    // The number of 32 bits.
+    pub short: u32,
 }
 
 // A whole seal, or the number of a refusal.
@@ -25,105 +31,136 @@ pub enum Reading {
     Refused(u32),
 }
 
-fn name_of(side: u32) -> u64
-    ensures { λ r. ⌜ r ≡ nameOf side ⌝ }
+// Four letters, little end first.
+fn word_of(word: Word) -> u64
+    ensures { λ r. ⌜ r ≡ wordOf word ⌝ }
 {
-    if side == 0 { LEFT } else { RGHT }
+    match word {
+        Word::Begins => 0x4250_5554,
+        Word::Ends => 0x5050_5554,
+    }
 }
 
-// All but the seal's own checksum.
-fn said_by(seal: Seal) -> [u8; 20]
-    ensures { λ r. ⌜ r ≡ said seal ⌝ }
+// The 20 bytes of four numbers, the third of 64 bits.
+fn twenty(letters: u64, name: u64, long: u64, short: u64) -> [u8; 20]
+    ensures { λ r. ⌜ r ≡ twentyOf letters name long short ⌝ }
 {
-    let name = name_of(seal.side);
-    let size = seal.size;
-    let checksum = seal.checksum as u64;
     [
-        84,
-        85,
-        80,
-        80,
+        sheet::low(letters),
+        sheet::low(letters / 256),
+        sheet::low(letters / 65536),
+        sheet::low(letters / 16777216),
         sheet::low(name),
         sheet::low(name / 256),
         sheet::low(name / 65536),
         sheet::low(name / 16777216),
-        sheet::low(size),
-        sheet::low(size / 256),
-        sheet::low(size / 65536),
-        sheet::low(size / 16777216),
-        sheet::low(size / 4294967296),
-        sheet::low(size / 4294967296 / 256),
-        sheet::low(size / 4294967296 / 65536),
-        sheet::low(size / 4294967296 / 16777216),
-        sheet::low(checksum),
-        sheet::low(checksum / 256),
-        sheet::low(checksum / 65536),
-        sheet::low(checksum / 16777216),
+        sheet::low(long),
+        sheet::low(long / 256),
+        sheet::low(long / 65536),
+        sheet::low(long / 16777216),
+        sheet::low(long / 4294967296),
+        sheet::low(long / 4294967296 / 256),
+        sheet::low(long / 4294967296 / 65536),
+        sheet::low(long / 4294967296 / 16777216),
+        sheet::low(short),
+        sheet::low(short / 256),
+        sheet::low(short / 65536),
+        sheet::low(short / 16777216),
     ]
 }
 
-// Another length than 24 is refused with 5, and a side above 1 with 53.
-pub fn write(out: &mut [u8], seal: Seal) -> u32
-    ensures { λ r. ⌜ (r leaving now (out .exit)) ≡ sealWritten seal (now (out .entry)) ⌝ }
+// The seal without its own checksum.
+fn said_by(word: Word, seal: Seal) -> [u8; 20]
+    ensures { λ r. ⌜ r ≡ said word seal ⌝ }
+{
+    let side = seal.side;
+    twenty(
+        word_of(word),
+        sides::letters(side) as u64,
+        seal.long,
+        seal.short as u64,
+    )
+}
+
+fn lay(out: &mut [u8], word: Word, seal: Seal)
+    requires { ⌜ length (now out) ≡ 24 ⌝ }
+    ensures { λ _. ⌜ now (out .exit) ≡ sealOf word seal ⌝ }
+{
+    let front = said_by(word, seal);
+    let own = bytes::four_of(checksum::crc32(0, &front) as u64);
+    bytes::copy(&mut out[..20], &front);
+    bytes::copy(&mut out[20..], &own);
+}
+
+// A seal as its 24 bytes.
+pub fn of(word: Word, seal: Seal) -> [u8; 24]
+    ensures { λ r. ⌜ r ≡ sealOf word seal ⌝ }
+{
+    let mut bytes = [0u8; 24];
+    lay(&mut bytes, word, seal);
+    bytes
+}
+
+// For a host: a seal, of a side by its number. Another length than 24 is refused with 5, and a number that means no side
+// with 53.
+pub fn write(out: &mut [u8], word: Word, side: u32, long: u64, short: u32) -> u32
+    ensures { λ r. ⌜ (r leaving now (out .exit)) ≡ sealWritten word side long short (now (out .entry)) ⌝ }
 {
     if out.len() != 24 {
         return 5;
     }
-    if 1 < seal.side {
-        return 53;
+    match sides::of_number(side) {
+        Meant::Means(known) => {
+            lay(
+                out,
+                word,
+                Seal {
+                    side: known,
+                    long,
+                    short,
+                },
+            );
+            0
+        }
+        Meant::Nothing => 53,
     }
-    let front = said_by(seal);
-    let own = bytes::four_of(checksum::crc32(0, &front) as u64);
-    bytes::copy(&mut out[..20], &front);
-    bytes::copy(&mut out[20..], &own);
-    0
 }
 
-// The seal in front of some bytes.
-pub fn read(file: &[u8]) -> Reading
-    ensures { λ r. ⌜ r ≡ sealRead (now (file .entry)) ⌝ }
+// The seal with this word, at the front of some bytes.
+pub fn read(word: Word, file: &[u8]) -> Reading
+    ensures { λ r. ⌜ r ≡ sealRead word (now (file .entry)) ⌝ }
 {
     if file.len() < 24 {
         return Reading::Refused(51);
     }
-    if bytes::four_at(file, 0) != TUPP {
+    if bytes::four_at(file, 0) != word_of(word) {
         return Reading::Refused(51);
     }
     if bytes::four_at(file, 20) != checksum::crc32(0, &file[..20]) as u64 {
         return Reading::Refused(52);
     }
-    let name = bytes::four_at(file, 4);
-    let size = bytes::four_at(file, 8) + 4294967296 * bytes::four_at(file, 12);
-    let checksum = bytes::four_at(file, 16) as u32;
-    if name == LEFT {
-        return Reading::Whole(Seal {
-            side: 0,
-            size,
-            checksum,
-        });
+    let name = bytes::four_at(file, 4) as u32;
+    let long = bytes::four_at(file, 8) + 4294967296 * bytes::four_at(file, 12);
+    let short = bytes::four_at(file, 16) as u32;
+    match sides::of_letters(name) {
+        Meant::Means(side) => Reading::Whole(Seal { side, long, short }),
+        Meant::Nothing => Reading::Refused(53),
     }
-    if name == RGHT {
-        return Reading::Whole(Seal {
-            side: 1,
-            size,
-            checksum,
-        });
-    }
-    Reading::Refused(53)
 }
 
-// For a host: the side, how many bytes of audio, and their checksum. Another length than three is refused with 5.
-pub fn summary(numbers: &mut [u64], file: &[u8]) -> u32
-    ensures { λ r. ⌜ (r leaving now (numbers .exit)) ≡ sealSummary (now (file .entry)) (now (numbers .entry)) ⌝ }
+// For a host: the side's number, the long number and the short one. Another length than three is refused with 5.
+pub fn summary(numbers: &mut [u64], word: Word, file: &[u8]) -> u32
+    ensures { λ r. ⌜ (r leaving now (numbers .exit)) ≡ sealSummary word (now (file .entry)) (now (numbers .entry)) ⌝ }
 {
     if numbers.len() != 3 {
         return 5;
     }
-    match read(file) {
+    match read(word, file) {
         Reading::Whole(seal) => {
-            numbers[0] = seal.side as u64;
-            numbers[1] = seal.size;
-            numbers[2] = seal.checksum as u64;
+            let side = seal.side;
+            numbers[0] = sides::number(side) as u64;
+            numbers[1] = seal.long;
+            numbers[2] = seal.short as u64;
             0
         }
         Reading::Refused(number) => number,

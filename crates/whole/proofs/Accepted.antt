@@ -1,9 +1,9 @@
 -- What is known of a call that none of the tests refused.
---     Frame, frame-accepted            a frame
+--     Frame, frame-accepted, frame-known  a frame
 --     Take, take-accepted, take-known  a take; fits-sizes, its numbers
 --     good-bad, good-rest, good-both   samples behind others: whether all are good; logs-length, of our logarithms
 -- Assumes nothing.
-use Rattle.rules.proofs.Common.{ℕ, _*_, _≤_, Bool, true, false, _&&_, true≢false, false≢true, List, [], _∷_, _++_, _≡_, refl, sym, ap, _∙_, leb}
+use Rattle.rules.proofs.Common.{ℕ, _*_, _≤_, Bool, true, false, not, _&&_, true≢false, false≢true, List, [], _∷_, _++_, _≡_, refl, sym, ap, _∙_, eqb, leb}
 use Rattle.rules.proofs.Common.{length, Float}
 use borrow.Author.Tests.{eqb-true, leb-true}
 use Rattle.rules.specs.Place.{get}
@@ -14,7 +14,7 @@ use Rattle.samples.specs.Samples.{goodSample, good}
 use Rattle.logs.specs.Log10.{logsOf}
 use Rattle.model.specs.Model.{readOf}
 use Rattle.frame.specs.declared.Reply.{Reply}
-use Rattle.frame.specs.Reply.{passed}
+use Rattle.frame.specs.Reply.{passed, _when_}
 use Rattle.frame.specs.Frame.{counted, checked}
 use Rattle.frame.proofs.Tables.{cleared, not-when}
 use Rattle.pieces.specs.Pieces.{waitingIn, completes, pieceFits}
@@ -64,9 +64,13 @@ module _ (n side : ℕ) (rec : Record) (store samples : List Float) (model : Lis
   pub frame-accepted : passed (frameReply n side rec (length store) samples model out) ≡ true → Frame n side rec store samples model out
   unfolding frameReply
   frame-accepted p =
-      let c = cleared (frameRows n side rec (length store) samples model out) p in
+      let number = gate n side rec (length store) 1 in
+      let c = cleared (number when not (eqb number 0) ∷ frameRows rec samples model out) p in
       let l = right ((length samples, 480) ∷ (out, 480) ∷ []) (not-when 5 _ (c .1 .0)) in
       record { gated = eqb-true _ 0 (not-not _ _ (c .0)); size = l .0; room = l .1 .0; right = c .1 .1 .0; fine = not-not 9 _ (c .1 .1 .1 .0) }
+
+  pub frame-known : {r : Reply} → r ≡ frameReply n side rec (length store) samples model out → passed r ≡ true → Frame n side rec store samples model out
+  frame-known e p = frame-accepted (ap passed (sym e) ∙ p)
 
 -- ---- a take
 
@@ -81,7 +85,8 @@ module _ (n side : ℕ) (rec : Record) (store samples : List Float) (model : Lis
   pub take-accepted : passed (takeReply n side rec store samples model out answers) ≡ true → Take n side rec store samples model out answers
   unfolding takeReply
   take-accepted p =
-      let c = cleared (takeRows n side rec store samples model out answers) p in
+      let number = gate n side rec (length store) PIECE in
+      let c = cleared (number when not (eqb number 0) ∷ takeRows rec (get (shareOf side) store) samples model out answers) p in
       record {
         gated = eqb-true _ 0 (not-not _ _ (c .0));
         fits = not-not 5 _ (c .1 .0);

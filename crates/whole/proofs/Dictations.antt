@@ -1,61 +1,103 @@
--- A take that is accepted is the dictation of its samples, by the law of cutting (`dictates`, `as-dictated`); how much it hands out (`take-fills`), and
--- that every call of it is done (`take-done`); and the answers of frames in a row (`answers-length`, `answers-both`). Assumes nothing.
-use Rattle.rules.proofs.Common.{ℕ, _*_, _<_, true, List, [], _∷_, _++_, _≡_, refl, sym, ap, _∙_, length, take, length-append, Float}
+-- A take and the desk's own calls.
+--     dictates, take-row            a piece that is resumed to its end with our logarithms
+--     take-fills                    how much it hands out
+--     answers-length, answers-both  the answers of frames in a row
+-- Assumes nothing.
+use Rattle.rules.proofs.Common.{ℕ, zero, suc, _*_, Bool, true, false, cond, false≢true, List, [], _∷_, _++_, _≡_, refl, sym, ap, _∙_, length, replicate}
+use Rattle.rules.proofs.Common.{length-append, Float}
 use native.Mathlib.Omega.{arith}
 use mathlib.Core.List.{append-assoc}
+use borrow.Author.Tests.{eqb-true, not-false}
 use lib.ListN.{length-replicate}
 use Rattle.rules.specs.F32.{zeros}
-use Rattle.rules.specs.Written.{from}
-use Rattle.logs.specs.Log10.{logsOf}
+use Rattle.rules.specs.Place.{get}
+use Rattle.model.specs.Model.{readOf}
+use Rattle.model.specs.declared.Model.{Model}
+use Rattle.model.specs.declared.Reading.{Reading}
+use Rattle.model.specs.declared.Reading.the-variants.{Good, Refused as Unread}
+use Rattle.frame.specs.declared.Reply.{Reply}
+use Rattle.frame.specs.declared.Reply.the-variants.{Done, Silent, Heard, Numbered, Refused, Misread}
+use Rattle.frame.specs.Frame.{counted, checked}
 use Rattle.frame.specs.Reply.{passed}
-use Rattle.pieces.specs.Pieces.{completes}
+use Rattle.pieces.specs.Pieces.{waitingIn, completes}
 use Rattle.desk.specs.declared.Record.{Record}
-use Rattle.desk.specs.Desk.{piece, resume, desk}
+use Rattle.desk.specs.Gate.{PIECE, isDue, gate, shareOf}
+use Rattle.desk.specs.Desk.{piece, desk}
 use Rattle.desk.specs.Surface.{heardOf}
-use Rattle.dictation.specs.Dictation.{Told, Dictated, dictated}
-use Rattle.dictation.proofs.Cuts.{fills-front, filled}
-use Rattle.whole.specs.Whole.{takeReply, takeFrames, takeBegins, takeEnds, takenAs}
-use Rattle.whole.specs.Whole as whole
-use Rattle.whole.specs.Taking.{lentToEach, answersOf, Dictates, AsDictated}
-use Rattle.whole.proofs.Accepted.{Take, take-accepted}
-use Rattle.whole.proofs.Followed.{three-long, piece-done, ends}
+use Rattle.desk.proofs.Turned.{none, through}
+use Rattle.dictation.specs.Dictation.{Lent, Told, dictate, dictatedOn, dictated}
+use Rattle.dictation.specs.Resuming.{Fitting}
+use Rattle.dictation.proofs.Cuts.{Row, fills-front, in-a-row}
+use Rattle.dictation.proofs.Resumes.{comes-to-its-end, accepts}
+use Rattle.whole.specs.Whole.{ourLent, takeReply, lentToEach, answersOf}
+use Rattle.whole.specs.Laws.{Dictates}
+use Rattle.whole.proofs.Accepted.{good-both, logs-length, take-accepted, fits-sizes}
+use Rattle.whole.proofs.Behind.{let-in-range}
 
-module _ (n side : ℕ) (rec : Record) (store samples : List Float) (model : List ℕ) (out answers : ℕ) where
-  taken-is : passed (takeReply n side rec store samples model out answers) ≡ true
-      → whole.take n side rec store samples model out answers
-      ≡ takenAs (takeReply n side rec store samples model out answers) (takeEnds n side rec store samples model out)
-  unfolding whole.take
-  taken-is p = rw p
+-- what a take lends fits each frame
+fitting : (rec : Record) (model : List ℕ) → checked (counted (rec .hearing)) (readOf model) ≡ Done → (m : ℕ) → Fitting rec (replicate m (ourLent model))
+fitting rec model e zero = tt
+fitting rec model e (suc m) = (logs-length, e, fitting rec model e m)
 
--- so many places
-places : (n : ℕ) → (xs : List Float) × (length xs ≡ n)
-places n = (zeros n, length-replicate n _)
+-- a model that passes
+is-done : (same : Model → Bool) (r : Reading) → passed (checked same r) ≡ true → checked same r ≡ Done
+unfolding checked
+is-done same (Unread m l) e = absurd (false≢true e)
+is-done same (Good m) e = go (same m) e
+  where
+    go : (t : Bool) → passed (cond t Done (Refused 8)) ≡ true → cond t Done (Refused 8) ≡ Done
+    go true e = refl
+    go false e = absurd (false≢true e)
 
--- what a take hands out that is accepted: 480 samples and three answers of each frame
-pub take-fills : (n side : ℕ) (rec : Record) (store samples : List Float) (model : List ℕ) (out answers : ℕ)
-    → passed (takeReply n side rec store samples model out answers) ≡ true
-    → let t = takeEnds n side rec store samples model out in let k = completes (rec .waiting) (length samples) in
-    (length (t .out) ≡ 480 * k) × (length (t .answers) ≡ 3 * k)
-take-fills n side rec store samples model out answers p =
-    let h = places out in
-    let l = places answers in
-    let e = ends n side rec store samples model (h .0) (l .0) (rw (h .1, l .1) (take-accepted n side rec store samples model out answers p)) in
-    (rw (h .1) at (e .filled), rw (h .1) at (e .threes))
+first-due : (n side : ℕ) (rec : Record) (len : ℕ) → gate n side rec len PIECE ≡ 0 → rec .due ≡ 1
+unfolding isDue
+first-due n side rec len z = eqb-true (rec .due) 1 (not-false _ (none n side rec len PIECE z .1 .1 .1 .1 .0))
 
--- every call of it is done: its piece, and the resume of each frame
-pub take-done : (n side : ℕ) (rec : Record) (store samples : List Float) (model : List ℕ) (out answers : ℕ)
-    → passed (takeReply n side rec store samples model out answers) ≡ true
-    → (passed (desk n side rec store (piece samples out 22) .answer .reply) ≡ true)
-    × ((j : ℕ) → j < completes (rec .waiting) (length samples)
-    → let t = takeFrames j n side samples model out (takeBegins n side rec store samples out) in
-    passed (desk n side (t .rec) (t .store) (resume samples (logsOf (t .sums)) model out 22) .answer .reply) ≡ true)
-take-done n side rec store samples model out answers p =
-    let h = places out in
-    let l = places answers in
-    let k : Take n side rec store samples model (length (h .0)) (length (l .0)) = rw (h .1, l .1) (take-accepted n side rec store samples model out answers p) in
-    (rw (h .1) at (piece-done n side rec store samples model (h .0) (l .0) k), rw (h .1) at (ends n side rec store samples model (h .0) (l .0) k .done))
+pub dictates : Dictates
+dictates n side rec store samples model held answers p =
+    let k = take-accepted n side rec store samples model (length held) answers p in
+    let m = completes (rec .waiting) (length samples) in
+    let t = through n side rec (length store) PIECE (k .gated) in
+    let f = fits-sizes (rec .waiting) (length samples) (length held) 22 (k .fits) in
+    let g = good-both (waitingIn (rec .waiting) (get (shareOf side) store)) samples (k .fine) in
+    let begun = accepts n side rec store samples held (t .0) (t .1) (let-in-range n side rec (length store) PIECE (k .gated))
+    (first-due n side rec (length store) (k .gated)) (f .1) (f .2) (f .3) (g .0) (g .1) in
+    comes-to-its-end n side rec store samples held (lentToEach rec samples model) (ap passed begun) (length-replicate m _)
+    (fitting rec model (is-done (counted (rec .hearing)) (readOf model) (k .right)) m)
+
+module _ (n side : ℕ) (rec : Record) (store samples : List Float) (model : List ℕ) (out answers : ℕ)
+    (p : passed (takeReply n side rec store samples model out answers) ≡ true) where
+  -- an output of so many places
+  abbrev held : List Float
+  held = zeros out
+
+  places : length (zeros out) ≡ out
+  places = length-replicate out _
+
+  accepted : passed (takeReply n side rec store samples model (length (zeros out)) answers) ≡ true
+  accepted = rw places p
+
+  pub take-row : Row n side samples out (desk n side rec store (piece samples out 22)) (lentToEach rec samples model)
+      (dictated side rec store samples (lentToEach rec samples model))
+  take-row =
+      let d = dictates n side rec store samples model held answers accepted in
+      rw places at (in-a-row n side rec store samples held (lentToEach rec samples model) (d .0) (d .1))
+
+  out-fills : length (dictatedOn rec (get (shareOf side) store) samples (lentToEach rec samples model) .out) ≡ 480 * completes (rec .waiting) (length samples)
+  out-fills =
+      let d = dictates n side rec store samples model held answers accepted in
+      let f = fills-front n side rec store samples held (lentToEach rec samples model) (d .0) (d .1) in
+      f .1 ∙ ap (λ (k : ℕ). 480 * k) (f .0)
 
 -- ---- three answers of each frame, in a row
+
+pub three-long : (r : Reply) → length (heardOf r) ≡ 3
+three-long Done = refl
+three-long Silent = refl
+three-long (Heard v e) = refl
+three-long (Numbered f h) = refl
+three-long (Refused m) = refl
+three-long (Misread m l) = refl
 
 pub answers-length : (told : List Told) → length (answersOf told) ≡ 3 * length told
 answers-length [] = refl
@@ -65,31 +107,22 @@ pub answers-both : (fs gs : List Told) → answersOf (fs ++ gs) ≡ answersOf fs
 answers-both [] gs = refl
 answers-both (f ∷ fs) gs = ap (λ (x : List Float). heardOf (f .1) ++ x) (answers-both fs gs) ∙ sym (append-assoc (heardOf (f .1)) (answersOf fs) (answersOf gs))
 
--- ---- it is a dictation
+-- each frame is told of
+told-length : (rec : Record) (share xs : List Float) (lent : List Lent) → length (dictate rec share xs lent .told) ≡ length lent
+unfolding dictate
+told-length rec share xs [] = refl
+told-length rec share xs (l ∷ more) = ap suc (told-length _ _ _ more)
 
-pub dictates : Dictates
-dictates n side rec store samples model held answers p =
-    let l = places answers in
-    let e = ends n side rec store samples model held (l .0) (rw (l .1) (take-accepted n side rec store samples model (length held) answers p)) in
-    (e .dictated, e .led)
-
-pub as-dictated : AsDictated
-as-dictated n side rec store samples model out answers p =
-    let h = places out in
-    let l = places answers in
-    let m = completes (rec .waiting) (length samples) in
-    let e = ends n side rec store samples model (h .0) (l .0) (rw (h .1, l .1) (take-accepted n side rec store samples model out answers p)) in
+-- 480 samples and three answers of each frame
+pub take-fills : (n side : ℕ) (rec : Record) (store samples : List Float) (model : List ℕ) (out answers : ℕ)
+    → passed (takeReply n side rec store samples model out answers) ≡ true
+    → let d = dictatedOn rec (get (shareOf side) store) samples (lentToEach rec samples model) in let k = completes (rec .waiting) (length samples) in
+    (length (d .out) ≡ 480 * k) × (length (answersOf (d .told)) ≡ 3 * k)
+take-fills n side rec store samples model out answers p =
+    let share = get (shareOf side) store in
     let lent = lentToEach rec samples model in
-    let d = dictated side rec store samples lent in
-    let front = fills-front n side rec store samples (h .0) lent (e .dictated) (e .led) in
-    let t = takeEnds n side rec store samples model (length (h .0)) in
-    let size : length (d .out) ≡ 480 * m = front .1 ∙ ap (λ (k : ℕ). 480 * k) (front .0) in
-    let outs : t .out ≡ d .out =
-    sym (filled (480 * m) (t .out) (h .0) (e .filled))
-    ∙ ap (take (480 * m)) (sym (e .out) ∙ e .same .2 ∙ ap (λ (x : Dictated). x .out) (front .2))
-    ∙ filled (480 * m) (d .out) (h .0) size in
-    let reply = takeReply n side rec store samples model out answers in
-    let same : takenAs reply t
-    ≡ record { answer = record { reply = reply; rec = d .rec }; kept = d .kept; written = from 0 (d .out) ∷ from 0 (answersOf (d .told)) ∷ [] } =
-    rw (e .same .0, e .same .1, outs, e .same .3, front .2) in
-    (size, taken-is n side rec store samples model out answers p ∙ ap (λ (k : ℕ). takenAs reply (takeEnds n side rec store samples model k)) (sym (h .1)) ∙ same)
+    let d = dictatedOn rec share samples lent in (
+      out-fills n side rec store samples model out answers p,
+      answers-length (d .told)
+          ∙ ap (λ (k : ℕ). 3 * k) (told-length rec share (waitingIn (rec .waiting) share ++ samples) lent ∙ length-replicate (completes (rec .waiting) (length samples)) _),
+    )

@@ -1,7 +1,6 @@
 pub mod Accepted
+mod Behind
 pub mod Dictations
-mod Followed
-mod Framed
 pub mod Halves
 pub mod Ranged
-mod Taken
+mod Said

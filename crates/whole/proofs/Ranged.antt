@@ -5,14 +5,12 @@
 --     frame-no-out                 a frame with no place for its samples is refused
 --     take-by                      what holds of a take, by its tests
 -- Assumes nothing.
-use Rattle.rules.proofs.Common.{ℕ, zero, suc, _*_, Bool, true, false, cond, not, false≢true, List, [], _∷_, _++_, _≡_, refl, sym, _∙_, eqb, leb}
+use Rattle.rules.proofs.Common.{ℕ, _*_, _<_, Bool, true, false, cond, not, false≢true, List, [], _∷_, _++_, _≡_, refl, sym, _∙_, eqb, leb}
 use Rattle.rules.proofs.Common.{length, Float}
 use native.Mathlib.Omega.{arith}
-use borrow.Author.Tests.{not-false}
-use Rattle.rules.specs.Loop.{loop}
 use Rattle.rules.specs.Place.{get}
 use Rattle.rules.specs.Refusals.{wrong}
-use Rattle.rules.specs.Written.{firstIn}
+use Rattle.frame.specs.Written.{firstIn}
 use Rattle.samples.specs.Samples.{good}
 use Rattle.logs.specs.Log10.{logsOf}
 use Rattle.model.specs.Model.{readOf}
@@ -27,14 +25,20 @@ use Rattle.pieces.specs.Pieces.{waitingIn, completes, pieceFits}
 use Rattle.pieces.proofs.Tested.{by-model}
 use Rattle.desk.specs.declared.Record.{Record}
 use Rattle.desk.specs.Gate.{PIECE, inRange, gate, shareOf}
-use Rattle.desk.specs.Desk.{Ask, secondHalf, piece, resume, desk}
+use Rattle.desk.specs.Desk.{Ask, secondHalf, piece}
+use Rattle.desk.specs.Laws.{placed}
 use Rattle.desk.proofs.Buffers.{buffers}
 use Rattle.desk.proofs.Ranged.{range-kept}
 use Rattle.desk.proofs.Replies.{SmallSeven, small}
-use Rattle.desk.proofs.Kept.{refused-keeps}
-use Rattle.desk.proofs.Turned.{none}
-use Rattle.whole.specs.Whole.{frameRows, frameReply, frameBegins, frameEnds, frame, takeRows, takeReply, Taking, takeStep, takeFrames, takeBegins, takeEnds, takenAs, take}
+use Rattle.dictation.specs.Dictation.{Lent, Dictated}
+use Rattle.dictation.proofs.Cuts.{Row, rowEnd, rowMore, row-passes}
+use Rattle.whole.specs.Whole.{frameRows, frameReply, frame, takeRows, takeReply, takenOn, take}
+use Rattle.whole.specs.Laws.{frameBegins, frameEnds}
+use Rattle.desk.proofs.Turned.{none, through}
 use Rattle.whole.proofs.Accepted.{frame-accepted, take-accepted}
+use Rattle.whole.proofs.Behind.{by-reply, let-in-range}
+use Rattle.whole.proofs.Dictations.{take-row}
+use Rattle.whole.proofs.Halves.{two-halves, refused-is}
 
 -- ---- the rows of a table
 
@@ -44,10 +48,6 @@ numbered = by-number SmallSeven (λ _. tt)
 module _ (rec : Record) (model : List ℕ) where
   modelled : passed (checked (counted (rec .hearing)) (readOf model)) ≡ false → SmallSeven (checked (counted (rec .hearing)) (readOf model))
   modelled = by-model (rec .hearing) model SmallSeven (λ _. tt) (λ n l e. let r = refused-in model e in (r .1, r .2))
-
--- the gate lets no other record through
-let-in-range : (n side : ℕ) (rec : Record) (len call : ℕ) → gate n side rec len call ≡ 0 → inRange rec ≡ true
-let-in-range n side rec len call e = not-false (inRange rec) (none n side rec len call e .1 .1 .0)
 
 -- ---- a frame
 
@@ -68,19 +68,18 @@ module _ (n side : ℕ) (rec : Record) (store samples : List Float) (model : Lis
     -- what holds of its second half, where no test refuses it, and of a refusal, holds of a frame
     frame-by : (P : Effect Answer → Type 0) → (passed reply ≡ true → P two) → (passed reply ≡ false → P (refusal (record { reply = reply; rec = rec }) store))
         → P (frame n side rec store samples model out)
-    unfolding frame
-    frame-by P two-halves refused = go (passed reply) refl
+    frame-by P done bad = go (passed reply) refl
       where
-        go : (t : Bool) → passed reply ≡ t → P (cond t two (refusal (record { reply = reply; rec = rec }) store))
-        go true e = two-halves e
-        go false e = refused e
+        go : (t : Bool) → passed reply ≡ t → P (frame n side rec store samples model out)
+        go true e = rw (two-halves n side rec store samples model out e .2) (done e)
+        go false e = rw (refused-is n side rec store samples model out e) (bad e)
 
     reply-small : SmallSeven reply
     unfolding frameReply
     reply-small =
         let number = gate n side rec (length store) 1 in
         let lengths : List (ℕ × ℕ) = (length samples, 480) ∷ (out, 480) ∷ [] in
-        by-each SmallSeven (frameRows n side rec (length store) samples model out)
+        by-each SmallSeven (number when not (eqb number 0) ∷ frameRows rec samples model out)
         (numbered number (not (eqb number 0)), (numbered 5 (wrong lengths), (modelled rec model, (numbered 9 (not (good samples)), tt)))) (λ _. tt)
 
     pub frame-small : SmallSeven (frame n side rec store samples model out .answer .reply)
@@ -95,6 +94,13 @@ module _ (n side : ℕ) (rec : Record) (store samples : List Float) (model : Lis
         (let-in-range n side rec (length store) 1 (k .gated), range-kept n side (one .answer .rec) (one .kept) asked q .1))
         (λ f q. absurd (false≢true (sym f ∙ q)))
 
+    -- and its side is one of the benches
+    pub frame-seated : passed (frame n side rec store samples model out .answer .reply) ≡ true → side < n
+    frame-seated =
+        frame-by (λ o. passed (o .answer .reply) ≡ true → side < n)
+        (λ p _. through n side rec (length store) 1 (frame-accepted n side rec store samples model out p .gated) .0)
+        (λ f q. absurd (false≢true (sym f ∙ q)))
+
     pub frame-buffers : length (frame n side rec store samples model out .written) ≡ cond (passed (frame n side rec store samples model out .answer .reply)) 1 0
     frame-buffers =
         frame-by (λ o. length (o .written) ≡ cond (passed (o .answer .reply)) 1 0) (λ _. buffers n side (one .answer .rec) (one .kept) asked) (λ f. rw f)
@@ -106,63 +112,53 @@ module _ (n side : ℕ) (rec : Record) (store samples : List Float) (model : Lis
 
 -- ---- a take
 
-module _ (n side : ℕ) where
-  -- a call of the desk is done, and gives a record in range, or is refused, and leaves it
-  stays : (b : Record) (store : List Float) (ask : Ask) → inRange b ≡ true → inRange (desk n side b store ask .answer .rec) ≡ true
-  stays b store ask r = go (passed (desk n side b store ask .answer .reply)) refl
-    where
-      go : (t : Bool) → passed (desk n side b store ask .answer .reply) ≡ t → inRange (desk n side b store ask .answer .rec) ≡ true
-      go true p = range-kept n side b store ask p .1
-      go false p = rw (refused-keeps n side b store ask p .0) r
+-- along the resumes of a piece records stay in range
+row-range : {n side : ℕ} {samples : List Float} {room : ℕ} {o : Effect Answer} {lent : List Lent} {d : Dictated} → Row n side samples room o lent d
+    → inRange (o .answer .rec) ≡ true → inRange (d .rec) ≡ true
+row-range (rowEnd p) r = r
+row-range {n = n} {side = side} (rowMore {o = o} p e more) r =
+    row-range more (rw e (range-kept n side (o .answer .rec) (o .kept) _ (rw e at (row-passes more)) .1))
 
-  module _ (samples : List Float) (model : List ℕ) where
-    steps-range : (k out : ℕ) (t : Taking) → inRange (t .rec) ≡ true → inRange (loop k (λ _. takeStep n side samples model out) t .rec) ≡ true
-    unfolding loop
-    steps-range zero out t r = r
-    steps-range (suc k) out t r =
-        let s = loop k (λ _. takeStep n side samples model out) t in
-        stays (s .rec) (s .store) (resume samples (logsOf (s .sums)) model out 22) (steps-range k out t r)
+module _ (n side : ℕ) (samples : List Float) (model : List ℕ) (rec : Record) (store : List Float) (out answers : ℕ) where
+  abbrev taken : Reply
+  taken = takeReply n side rec store samples model out answers
 
-    module _ (rec : Record) (store : List Float) (out answers : ℕ) where
-      abbrev taken : Reply
-      taken = takeReply n side rec store samples model out answers
+  -- what holds of its dictation, where no test refuses it, and of a refusal, holds of a take
+  pub take-by : (P : Effect Answer → Type 0)
+      → (passed (takeReply n side rec store samples model out answers) ≡ true → P (placed side store (takenOn rec (get (shareOf side) store) samples model)))
+      → (passed (takeReply n side rec store samples model out answers) ≡ false
+      → P (refusal (record { reply = takeReply n side rec store samples model out answers; rec = rec }) store))
+      → P (take n side rec store samples model out answers)
+  unfolding take
+  take-by = by-reply taken side rec store (takenOn rec (get (shareOf side) store) samples model)
 
-      -- what holds of its end, where no test refuses it, and of a refusal, holds of a take
-      pub take-by : (P : Effect Answer → Type 0)
-          → (passed (takeReply n side rec store samples model out answers) ≡ true
-          → P (takenAs (takeReply n side rec store samples model out answers) (takeEnds n side rec store samples model out)))
-          → (passed (takeReply n side rec store samples model out answers) ≡ false
-          → P (refusal (record { reply = takeReply n side rec store samples model out answers; rec = rec }) store))
-          → P (take n side rec store samples model out answers)
-      unfolding take
-      take-by P ends refused = go (passed taken) refl
-        where
-          go : (t : Bool) → passed taken ≡ t → P (cond t (takenAs taken (takeEnds n side rec store samples model out)) (refusal (record { reply = taken; rec = rec }) store))
-          go true e = ends e
-          go false e = refused e
+  taken-small : SmallSeven taken
+  unfolding takeReply
+  taken-small =
+      let number = gate n side rec (length store) PIECE in
+      let room = leb (3 * completes (rec .waiting) (length samples)) answers in
+      let all = waitingIn (rec .waiting) (get (shareOf side) store) ++ samples in
+      by-each SmallSeven (number when not (eqb number 0) ∷ takeRows rec (get (shareOf side) store) samples model out answers) (
+        numbered number (not (eqb number 0)),
+        (numbered 5 (not (pieceFits (rec .waiting) (length samples) out 22)), (numbered 5 (not room), (modelled rec model, (numbered 9 (not (good all)), tt)))),
+      )
+      (λ _. tt)
 
-      taken-small : SmallSeven taken
-      unfolding takeReply
-      taken-small =
-          let number = gate n side rec (length store) PIECE in
-          let room = leb (3 * completes (rec .waiting) (length samples)) answers in
-          let all = waitingIn (rec .waiting) (get (shareOf side) store) ++ samples in
-          by-each SmallSeven (takeRows n side rec store samples model out answers) (
-            numbered number (not (eqb number 0)),
-            (numbered 5 (not (pieceFits (rec .waiting) (length samples) out 22)), (numbered 5 (not room), (modelled rec model, (numbered 9 (not (good all)), tt)))),
-          )
-          (λ _. tt)
+  pub take-small : SmallSeven (take n side rec store samples model out answers .answer .reply)
+  take-small = take-by (λ o. SmallSeven (o .answer .reply)) (λ _. tt) (λ _. taken-small)
 
-      pub take-small : SmallSeven (take n side rec store samples model out answers .answer .reply)
-      take-small = take-by (λ o. SmallSeven (o .answer .reply)) (λ _. taken-small) (λ _. taken-small)
+  pub take-range : passed (take n side rec store samples model out answers .answer .reply) ≡ true
+      → (inRange rec ≡ true) × (inRange (take n side rec store samples model out answers .answer .rec) ≡ true)
+  take-range =
+      take-by (λ o. passed (o .answer .reply) ≡ true → (inRange rec ≡ true) × (inRange (o .answer .rec) ≡ true))
+      (λ p _.
+      let r = take-row n side rec store samples model out answers p in
+      let k = range-kept n side rec store (piece samples out 22) (row-passes r) in
+      (k .0, row-range r (k .1)))
+      (λ f q. absurd (false≢true (sym f ∙ q)))
 
-      pub take-range : passed (take n side rec store samples model out answers .answer .reply) ≡ true
-          → (inRange rec ≡ true) × (inRange (take n side rec store samples model out answers .answer .rec) ≡ true)
-      unfolding takeFrames
-      take-range =
-          take-by (λ o. passed (o .answer .reply) ≡ true → (inRange rec ≡ true) × (inRange (o .answer .rec) ≡ true))
-          (λ p _.
-          let k = take-accepted n side rec store samples model out answers p in
-          let r = let-in-range n side rec (length store) PIECE (k .gated) in
-          (r, steps-range (completes (rec .waiting) (length samples)) out (takeBegins n side rec store samples out) (stays rec store (piece samples out 22) r)))
-          (λ f q. absurd (false≢true (sym f ∙ q)))
+  pub take-seated : passed (take n side rec store samples model out answers .answer .reply) ≡ true → side < n
+  take-seated =
+      take-by (λ o. passed (o .answer .reply) ≡ true → side < n)
+      (λ p _. through n side rec (length store) PIECE (take-accepted n side rec store samples model out answers p .gated) .0)
+      (λ f q. absurd (false≢true (sym f ∙ q)))

@@ -1,11 +1,26 @@
--- A frame and a take in one call: what is claimed. The proofs are in proofs/Halves.antt.
-use Rattle.rules.specs.Common.{ℕ, true, false, List, _≡_, length, Float}
-use Rattle.frame.specs.Effect.{refusal}
+-- A frame and a take in one call: what is claimed. The proofs are in proofs/Halves.antt and proofs/Dictations.antt.
+use Rattle.rules.specs.Common.{ℕ, true, List, _≡_, length, Float}
+use Rattle.frame.specs.Effect.{Effect}
 use Rattle.frame.specs.Reply.{passed}
+use Rattle.frame.specs.Written.{firstIn}
+use Rattle.logs.specs.Log10.{logsOf}
+use Rattle.desk.specs.declared.Answer.{Answer}
 use Rattle.desk.specs.declared.Record.{Record}
-use Rattle.whole.specs.Whole.{frameReply, frameBegins, frameEnds, frame, take}
+use Rattle.desk.specs.Desk.{firstHalf, secondHalf, desk}
+use Rattle.dictation.specs.Dictation.{Dictated}
+use Rattle.dictation.specs.Cutting.{handedIn, Led}
+use Rattle.whole.specs.Whole.{frameReply, frame, takeReply, lentToEach}
 
--- a frame that is accepted is its two halves: neither is refused, and what the second gives is what the frame gives
+-- the desk's two halves, the second with our logarithms of the first one's sums
+abbrev pub frameBegins : ℕ → ℕ → Record → List Float → List Float → Effect Answer
+frameBegins n side rec store samples = desk n side rec store (firstHalf samples 22)
+
+abbrev pub frameEnds : ℕ → ℕ → Record → List Float → List Float → List ℕ → ℕ → Effect Answer
+frameEnds n side rec store samples model out =
+    let one = frameBegins n side rec store samples in
+    desk n side (one .answer .rec) (one .kept) (secondHalf (logsOf (firstIn (one .written))) model out)
+
+-- a frame that is accepted is these: neither is refused, and what the second gives is what the frame gives
 abbrev pub TwoHalves : Type 0
 TwoHalves =
     (n side : ℕ) (rec : Record) (store samples : List Float) (model : List ℕ) (out : ℕ)
@@ -14,16 +29,9 @@ TwoHalves =
     × (passed (frameEnds n side rec store samples model out .answer .reply) ≡ true)
     × (frame n side rec store samples model out ≡ frameEnds n side rec store samples model out)
 
--- refused, it leaves the record, the store and the buffers
-abbrev pub FrameLeaves : Type 0
-FrameLeaves =
-    (n side : ℕ) (rec : Record) (store samples : List Float) (model : List ℕ) (out : ℕ)
-    → let o = frame n side rec store samples model out in
-    passed (o .answer .reply) ≡ false → o ≡ refusal (record { reply = o .answer .reply; rec = rec }) store
-
--- and so does a take
-abbrev pub TakeLeaves : Type 0
-TakeLeaves =
-    (n side : ℕ) (rec : Record) (store samples : List Float) (model : List ℕ) (out answers : ℕ)
-    → let o = take n side rec store samples model out answers in
-    passed (o .answer .reply) ≡ false → o ≡ refusal (record { reply = o .answer .reply; rec = rec }) store
+-- and every call of an accepted take is done: the piece, and a resume with our logarithms for each frame. So by the law of cutting they give its dictation
+abbrev pub Dictates : Type 0
+Dictates =
+    (n side : ℕ) (rec : Record) (store samples : List Float) (model : List ℕ) (held : List Float) (answers : ℕ)
+    → passed (takeReply n side rec store samples model (length held) answers) ≡ true
+    → (d : Dictated) × Led n side samples (handedIn n side rec store samples held) held (lentToEach rec samples model) d

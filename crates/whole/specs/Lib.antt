@@ -1,5 +1,4 @@
 pub mod Whole
 pub mod Surface
 pub mod Laws
-pub mod Taking
 pub mod Parts

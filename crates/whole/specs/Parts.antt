@@ -1,39 +1,32 @@
--- For the parts of the code: a take between two calls, with the buffers that they are lent.
-use Rattle.rules.specs.Common.{ℕ, _*_, List, [], _∷_, length, getD, Float}
-use Rattle.rules.specs.Loop.{loop}
-use Rattle.rules.specs.Place.{Place, put}
-use Rattle.rules.specs.Written.{onto}
-use Rattle.logs.specs.Log10.{logsOf}
+-- For the parts of the code: what dictation over one share asks for, and one frame of it.
+use Rattle.rules.specs.Common.{ℕ, _+_, _*_, _≤_, true, List, _++_, _≡_, length, take, drop, Float}
+use Rattle.samples.specs.Samples.{good}
+use Rattle.model.specs.Model.{readOf}
 use Rattle.frame.specs.Effect.{Effect}
+use Rattle.frame.specs.Frame.{counted, checked}
+use Rattle.frame.specs.Reply.{passed}
+use Rattle.frame.specs.Share.{SHARE}
+use Rattle.pieces.specs.Pieces.{waitingIn}
 use Rattle.desk.specs.declared.Answer.{Answer}
 use Rattle.desk.specs.declared.Record.{Record}
-use Rattle.desk.specs.Desk.{resume, desk}
-use Rattle.desk.specs.Surface.{heardOf}
+use Rattle.dictation.specs.Dictation.{frameOn}
+use Rattle.whole.specs.Whole.{ourLent}
 
-pub record Midway : Type 0 where
-  pub rec : Record
-  pub store : List Float
-  pub out : List Float
-  pub sums : List Float
-  pub answers : List Float
+-- a record, a share and a model with which a frame is refused nothing
+pub record Fit (rec : Record) (share : List Float) (model : List ℕ) : Type 0 where
+  pub whole : length share ≡ SHARE
+  pub index : rec .hearing .index ≤ 7
+  pub right : passed (checked (counted (rec .hearing)) (readOf model)) ≡ true
 
-abbrev pub midway : Record → List Float → List Float → List Float → List Float → Midway
-midway rec store out sums answers = record { rec = rec; store = store; out = out; sums = sums; answers = answers }
+-- and samples, of which so many wait in the share, with room for this many frames
+pub record Ready (waiting : ℕ) (share piece : List Float) (frames out answers : ℕ) : Type 0 where
+  pub few : waiting ≤ 479
+  pub short : length piece ≤ 4096
+  pub enough : 480 * frames ≤ waiting + length piece
+  pub room : 480 * frames ≤ out
+  pub places : 3 * frames ≤ answers
+  pub fine : good (waitingIn waiting share ++ piece) ≡ true
 
--- after a call, which was lent the output and the sums
-abbrev pub behind : Effect Answer → List Float → List Float → List Float → Midway
-behind o out sums answers =
-    let held = onto (o .written) (out ∷ sums ∷ []) in midway (o .answer .rec) (o .kept) (getD held 0 []) (getD held 1 []) answers
-
--- where the answers of frame j stand, from 0
-abbrev pub three : ℕ → Place
-three j = record { at = 3 * j; size = 3 }
-
--- frame j, as a step of `take` has it
-abbrev pub stepOf : ℕ → ℕ → List Float → List ℕ → ℕ → Midway → Midway
-stepOf n side samples model j t =
-    let o = desk n side (t .rec) (t .store) (resume samples (logsOf (t .sums)) model (length (t .out)) 22) in
-    behind o (t .out) (t .sums) (put (three j) (t .answers) (heardOf (o .answer .reply)))
-
-unfoldable pub stepsOf : ℕ → ℕ → ℕ → List Float → List ℕ → Midway → Midway
-stepsOf k n side samples model t = loop k (stepOf n side samples model) t
+-- frame j of these, from 0
+abbrev pub frameOf : ℕ → ℕ → Record → List Float → List Float → List ℕ → Effect Answer
+frameOf j waiting rec share piece model = frameOn rec share (take 480 (drop (480 * j) (waitingIn waiting share ++ piece))) (ourLent model)

@@ -7,8 +7,8 @@ use Rattle.whole.specs.Whole.{frame, take}
 
 -- a frame, asked with a record that is numbers; a buffer more holds the answer as three numbers
 unfoldable pub hostedFrame : ℕ → ℕ → List ℕ → List Float → List Float → List ℕ → ℕ → Effect Answer
-hostedFrame benches side ns store samples model out = telling (frame benches side (recordIn ns) store samples model out)
+hostedFrame benches side ns store samples model out = telling (frame benches side (recordIn side ns) store samples model out)
 
 -- a take
 unfoldable pub hostedTake : ℕ → ℕ → List ℕ → List Float → List Float → List ℕ → ℕ → ℕ → Effect Answer
-hostedTake benches side ns store samples model out answers = take benches side (recordIn ns) store samples model out answers
+hostedTake benches side ns store samples model out answers = take benches side (recordIn side ns) store samples model out answers

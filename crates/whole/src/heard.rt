@@ -4,9 +4,8 @@ ghost use mathlib.Core.List.{[], _∷_};
 ghost use Prim.Native.Nat.{_+_, _*_, _≤_};
 ghost use lib.ListN.{length};
 ghost use Rattle.rules.specs.F32.{zeros};
-ghost use Rattle.rules.specs.Place.{put};
+ghost use Rattle.frame.specs.Written.{from, over};
 ghost use Rattle.desk.specs.Surface.{heardOf};
-ghost use Rattle.whole.specs.Parts.{three};
 use frame::Reply;
 
 pub struct Three {
@@ -45,7 +44,7 @@ pub fn three_of(reply: Reply) -> Three
 // The three answers of frame j.
 pub(crate) fn tell(answers: &mut [f32], j: usize, reply: Reply)
     requires { ⌜ 3 * j + 3 ≤ length (now answers) ⌝ }
-    ensures { λ _. ⌜ now (answers .exit) ≡ put (three j) (now (answers .entry)) (heardOf reply) ⌝ }
+    ensures { λ _. ⌜ now (answers .exit) ≡ over (from (3 * j) (heardOf reply)) (now (answers .entry)) ⌝ }
 {
     let Three {
         heard,

@@ -2,6 +2,7 @@
 mod heard;
 mod one_frame;
 mod one_piece;
+mod spoken;
 mod tests;
 
 pub use heard::Three;

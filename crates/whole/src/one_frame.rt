@@ -1,4 +1,4 @@
-// A frame in one call: its two halves, with our logarithms between them.
+// A frame in one call: its two halves over the side's share, after one table of refusals.
 ghost use mathlib.Core.List.{[], _∷_};
 ghost use lib.ListN.{length};
 ghost use Rattle.desk.specs.Gate.{BENCHES};
@@ -25,10 +25,7 @@ pub fn frame(
     if !frame::passed(reply) {
         return Answer { reply, rec };
     }
-    let mut sums = [0.0f32; 22];
-    let first = desk::first_half(side, rec, store, samples, &mut sums);
-    let next = first.rec;
-    let mut logs = [0.0f32; 22];
-    logs::logs(&mut logs, &sums);
-    desk::second_half(side, next, store, &logs, model, out)
+    let start = side.0 * frame::SHARE;
+    let end = start + frame::SHARE;
+    crate::spoken::speak(&mut store[start..end], rec, samples, model, out)
 }

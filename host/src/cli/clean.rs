@@ -1,15 +1,17 @@
 //! `box clean` and `box demo`, from the words, told in words or as JSON.
 
-use crate::clean::{self, Inputs, Job, Report};
-use crate::cleaned::Summary;
+use crate::cleaning::clean::{self, Inputs, Job, Report};
+use crate::cleaning::cleaned::Summary;
+use crate::cleaning::demo::HOUSE_NAME;
+use crate::cleaning::mix;
+use crate::cleaning::recorder::{Side, Way};
 use crate::cli::words::Given;
-use crate::demo::HOUSE_NAME;
-use crate::folder::told;
-use crate::json::{rounded, Json};
-use crate::recorder::{Side, Way};
-use crate::shown::{shown, steers};
-use crate::status::{Failure, WRONG};
-use crate::stop;
+use crate::error::{Error, Result};
+use crate::reading::source::{How, STANDARD_INPUT};
+use crate::sys::signals;
+use crate::telling::json::{rounded, Json};
+use crate::telling::names;
+use crate::telling::shown::{line_of, shown, steers};
 use std::cell::Cell;
 use std::path::{Path, PathBuf};
 
@@ -20,31 +22,21 @@ fn way(given: &Given) -> Way {
     }
 }
 
-/// The sides that a name says: as a word of its own, so that `bright.wav` says none.
-fn said(name: &str) -> Vec<Side> {
-    let name = name.to_lowercase();
-    let words: Vec<&str> = name.split(|c: char| !c.is_alphabetic()).collect();
-    Side::BOTH.into_iter().filter(|side| words.contains(&side.name())).collect()
+/// The side that `--side` says.
+fn asked_side(given: &Given) -> Option<Side> {
+    given.word("--side").map(|side| if side == "left" { Side::Left } else { Side::Right })
 }
 
-/// The side of a file by its name, and of one whose name says none by `--side`.
-fn side_of(file: &Path, asked: Option<Side>) -> Result<Side, String> {
-    let name = file.file_stem().unwrap_or_default().to_string_lossy();
-    match (&said(&name)[..], asked) {
-        ([side], None) => Ok(*side),
-        ([], Some(side)) => Ok(side),
-        ([side], Some(asked)) if *side == asked => Ok(*side),
-        ([side], Some(asked)) => {
-            let (side, asked) = (side.name(), asked.name());
-            Err(told(file, format!("its name says {side}, and --side {asked}; --{asked} FILE says it outright")))
-        }
-        ([], None) => Err(told(file, "its name says neither left nor right; --side left or --side right tells it")),
-        _ => Err(told(file, "its name says both sides; --left FILE or --right FILE says which it is")),
-    }
+/// The side of a file of a list: `--side`, and without it what its name says.
+fn side_of(given: &Given, file: &Path) -> Result<Side> {
+    let side = asked_side(given).or_else(|| Some(names::meant(file)?.0));
+    side.ok_or_else(|| {
+        given.wrong(line_of(file, "its name says neither left nor right; add --side left or --side right"))
+    })
 }
 
 /// What stands in front of the names of what is written.
-fn prefix(given: &Given) -> Result<String, Failure> {
+fn prefix(given: &Given) -> Result<String> {
     let Some(name) = given.word("--name") else { return Ok(String::new()) };
     // of unicode, and so short that what is put behind it fits too
     let is_plain = !name.chars().any(|c| c == '/' || c == char::REPLACEMENT_CHARACTER || steers(c));
@@ -55,30 +47,53 @@ fn prefix(given: &Given) -> Result<String, Failure> {
     Ok(name + "-")
 }
 
-fn job(given: &Given, inputs: Inputs, out: PathBuf) -> Result<Job, Failure> {
+fn job(given: &Given, inputs: Inputs, out: PathBuf) -> Result<Job> {
     let (model, quiet) = (given.path("--model"), given.has("-q"));
     let (force, anyway) = (given.has("--force"), given.has("--anyway"));
-    Ok(Job { inputs, model, way: way(given), quiet, force, anyway, out, prefix: prefix(given)? })
+    let how = How { raw: given.has("--raw"), to_the_end: given.has("--to-the-end") };
+    let (way, csv, prefix) = (way(given), given.has("--csv"), prefix(given)?);
+    Ok(Job { inputs, model, way, quiet, force, anyway, how, csv, out, prefix })
 }
 
-/// What is named by options, or comes on standard input; `None` where it is named by files alone.
-fn inputs(given: &Given) -> Result<Option<Inputs>, Failure> {
-    let named = |name: &str| given.path(name);
-    let stream = given.files.iter().any(|file| file.as_os_str() == "-");
-    let raw = given.has("--raw");
-    if raw && !stream {
-        return Err(given.wrong("--raw is for a stream, and - is missing"));
+/// Refuses `--raw` and `--channels` where they say nothing, or something else than the benches that are asked for.
+fn look_at_raw(given: &Given, inputs: Option<&Inputs>) -> Result<()> {
+    let is_stream = inputs.is_some_and(|inputs| inputs.names().contains(&Path::new(STANDARD_INPUT)));
+    let is_stereo = matches!(inputs, Some(Inputs::Stereo(_)));
+    match given.word("--channels").as_deref() {
+        Some(_) if !given.has("--raw") => {
+            Err(given.wrong("--channels is for --raw; a WAV file says its channels itself"))
+        }
+        _ if given.has("--raw") && !is_stream => {
+            Err(given.wrong("--raw is for standard input: add -, or --left - or --right - for one bench"))
+        }
+        Some("1") if is_stereo => {
+            Err(given.wrong("--channels 1 is one bench's recording: use --left - or --right - instead of -"))
+        }
+        Some("2") if !is_stereo => {
+            Err(given.wrong("--channels 2 is a recording of both benches: use - instead of --left - or --right -"))
+        }
+        _ => Ok(()),
     }
+}
+
+/// What is named by options, or comes on standard input; `None` if it is named by a list of files.
+fn inputs(given: &Given) -> Result<Option<Inputs>> {
+    let named = |name: &str| given.path(name);
+    let is_stream = |file: &PathBuf| file.as_os_str() == "-";
+    let stream = given.files.iter().find(|file| is_stream(file));
     let inputs = match (named("--left"), named("--right"), named("--both")) {
-        (None, None, None) if stream => Some(Inputs::Stream { raw }),
-        (None, None, None) => None,
+        (None, None, None) => stream.map(|stream| Inputs::Stereo(stream.clone())),
+        (Some(left), Some(right), None) if is_stream(&left) && is_stream(&right) => {
+            return Err(given.wrong("standard input is one recording: - takes both benches as its channels"));
+        }
         (Some(left), Some(right), None) => Some(Inputs::Two { left, right }),
         (Some(file), None, None) => Some(Inputs::One { side: Side::Left, file }),
         (None, Some(file), None) => Some(Inputs::One { side: Side::Right, file }),
         (None, None, Some(both)) => Some(Inputs::Stereo(both)),
         _ => return Err(given.wrong("--both stands for both benches, and another is named besides")),
     };
-    let alone = usize::from(matches!(inputs, Some(Inputs::Stream { .. })));
+    look_at_raw(given, inputs.as_ref())?;
+    let alone = usize::from(!["--left", "--right", "--both"].iter().any(|name| given.has(name)) && stream.is_some());
     match (&inputs, given.files.get(alone)) {
         (Some(_), Some(more)) => Err(given.wrong(format!("{} is one recording too many", shown(more)))),
         (Some(_), None) if given.has("--side") => Err(given.wrong("--side is for files that no option names")),
@@ -87,7 +102,20 @@ fn inputs(given: &Given) -> Result<Option<Inputs>, Failure> {
     }
 }
 
-fn json(file: &Path, recording: &Path, bench: Option<&Summary>, model: &str, error: Option<&str>) -> Json {
+/// What is told of one recording as JSON.
+struct Told<'a> {
+    /// Where it was written; if it was not, the folder.
+    file: &'a Path,
+    recording: &'a Path,
+    bench: Option<&'a Summary>,
+    model: &'a str,
+    notes: &'a [String],
+    status: u8,
+    error: Option<&'a str>,
+}
+
+fn recording_json(told: &Told) -> Json {
+    let Told { file, recording, bench, .. } = *told;
     let number = |of: fn(&Summary) -> u64| Json::from(bench.map(of));
     let decibels = |of: fn(&Summary) -> Option<f64>| Json::from(bench.and_then(of).map(|db| rounded(db, 1)));
     let seconds = |of: fn(&Summary) -> Option<f64>| Json::from(bench.and_then(of).map(|s| rounded(s, 5)));
@@ -104,8 +132,10 @@ fn json(file: &Path, recording: &Path, bench: Option<&Summary>, model: &str, err
         ("clipped", number(|bench| bench.clipped)),
         ("peak", decibels(|bench| Some(20.0 * (f64::from(bench.peak) / 32_768.0).log10()))),
         ("noise_taken", decibels(|bench| bench.pauses.taken())),
-        ("model", model.into()),
-        ("error", error.into()),
+        ("model", told.model.into()),
+        ("notes", told.notes.into()),
+        ("status", u32::from(told.status).into()),
+        ("error", told.error.into()),
     ])
 }
 
@@ -114,94 +144,130 @@ fn written(report: &Report) -> impl Iterator<Item = &Summary> {
     report.benches.iter().filter(|bench| bench.samples > 0)
 }
 
-/// An object for each recording that was written, and for each that was read where nothing came of it.
-fn tell_as_json(job: &Job, outcome: &Result<Report, Failure>) {
-    let model = job.model.as_deref().map_or(HOUSE_NAME.into(), shown);
+/// An object for each recording that was written, and for each that was read if nothing came of it.
+fn tell_as_json(job: &Job, outcome: &Result<Report>) {
+    let model = &job.model.as_deref().map_or(HOUSE_NAME.into(), shown);
     match outcome {
         Ok(report) => {
             for bench in report.benches.iter().filter(|bench| !bench.about.absent) {
                 let (recording, fault) = (job.inputs.named(bench.side), bench.about.fault.as_deref());
-                let object = match bench.samples {
-                    0 => json(&job.out, recording, None, &model, fault.or(Some("no sound came"))),
-                    _ => json(&job.place(bench.side), recording, Some(bench), &model, fault),
-                };
-                crate::say!("{object}");
+                let (place, status) = (job.place(bench.side), if fault.is_some() { 2 } else { 0 });
+                let notes = &report.notes;
+                crate::say!(
+                    "{}",
+                    recording_json(&match bench.samples {
+                        0 => {
+                            let error = fault.or(Some("no sound came"));
+                            Told { file: &job.out, recording, bench: None, model, notes, status, error }
+                        }
+                        _ => Told { file: &place, recording, bench: Some(bench), model, notes, status, error: fault },
+                    })
+                );
             }
         }
-        Err(failure) => {
-            let files = job.inputs.files();
-            let stream = [Path::new("standard input")];
-            for file in if files.is_empty() { &stream[..] } else { &files } {
-                crate::say!("{}", json(&job.out, file, None, &model, Some(&failure.why)));
+        Err(error) => {
+            let (status, error) = (error.status(), &*error.to_string());
+            for recording in job.inputs.names() {
+                let (file, error) = (&*job.out, Some(error));
+                crate::say!(
+                    "{}",
+                    recording_json(&Told { file, recording, bench: None, model, notes: &[], status, error })
+                );
             }
         }
     }
 }
 
 /// Runs a job, tells it by `tell`, and gives what of it is missing.
-fn run(given: &Given, job: &Job, tell: impl Fn(&Report)) -> Result<(), Failure> {
+fn run_job(given: &Given, job: &Job, tell: impl Fn(&Report)) -> Result<()> {
     let outcome = clean::clean(job);
     let is_json = given.has("--json");
     if is_json {
         tell_as_json(job, &outcome);
     }
-    let silent = |failure: Failure| Failure { why: if is_json { String::new() } else { failure.why }, ..failure };
+    let silent = |error: Error| if is_json { Error::Reported(error.status()) } else { error };
     let report = outcome.map_err(silent)?;
-    if !is_json {
+    if !is_json && !job.quiet {
+        report.notes.iter().for_each(|note| crate::warn!("{note}"));
         tell(&report);
     }
-    match &report.lost[..] {
-        [] => Ok(()),
-        lost => Err(silent(Failure::wrong(lost.join("\n")))),
-    }
+    Error::several(report.lost).map_err(silent)
 }
 
 /// Tells that no model was named.
 fn tell_house(given: &Given) {
-    if !given.has("--model") && !given.has("--json") {
+    if !given.has("--model") && !given.has("--json") && !given.has("-q") {
         crate::say!("Cleaned with the house model, since --model names none.");
     }
 }
 
-/// Files of one bench each, every one into a folder of its own.
-fn many(given: &Given, out: &Path) -> Result<(), Failure> {
-    let asked = given.word("--side").map(|side| if side == "left" { Side::Left } else { Side::Right });
-    let sides: Result<Vec<Side>, String> = given.files.iter().map(|file| side_of(file, asked)).collect();
-    let (mut worst, mut bad, cleaned) = (0, vec![], Cell::new(false));
-    for (file, side) in given.files.iter().zip(sides.map_err(|why| given.wrong(why))?) {
-        if stop::asked() {
-            bad.push(told(file, "stopped before it"));
-            worst = worst.max(WRONG);
+/// Where the recording of a file of a list is written: a folder that is called like the file.
+fn folder_of(out: &Path, file: &Path) -> PathBuf {
+    out.join(file.file_stem().unwrap_or(file.as_os_str()))
+}
+
+/// Refuses two files of a list that would be written to one folder.
+fn look_for_twins(given: &Given, out: &Path) -> Result<()> {
+    for (place, file) in given.files.iter().enumerate() {
+        let folder = folder_of(out, file);
+        if let Some(twin) = given.files[..place].iter().find(|twin| folder_of(out, twin) == folder) {
+            let [twin, file, folder] = [twin, file, &folder].map(|path| shown(path));
+            let why = format!("{twin} and {file} would both be written to {folder}; clean them with different --out");
+            return Err(given.wrong(why));
+        }
+    }
+    Ok(())
+}
+
+/// Files of one bench each, every one into a folder of its own. All names are looked at before anything is written.
+fn many(given: &Given, out: &Path) -> Result<()> {
+    look_for_twins(given, out)?;
+    let mut jobs = vec![];
+    for file in &given.files {
+        let inputs = Inputs::One { side: side_of(given, file)?, file: file.clone() };
+        mix::check(&inputs, given.has("--anyway"))?;
+        jobs.push(job(given, inputs, folder_of(out, file))?);
+    }
+    let (mut bad, cleaned) = (vec![], Cell::new(false));
+    for (file, job) in given.files.iter().zip(jobs) {
+        if signals::asked() {
+            bad.push(Error::wrong("stopped before it").at(file));
             continue;
         }
-        let folder = out.join(file.file_stem().unwrap_or(file.as_os_str()));
-        let job = job(given, Inputs::One { side, file: file.clone() }, folder)?;
         let tell = |report: &Report| {
             cleaned.set(true);
             for bench in written(report) {
-                let place = shown(&job.place(side));
-                crate::say!("{}", told(file, format!("{} side, {} frames, in {place}", side.name(), bench.frames)));
+                let (side, frames, place) = (bench.side.name(), bench.frames, shown(&job.place(bench.side)));
+                crate::say!("{}", line_of(file, format!("{side} side, {frames} frames, in {place}")));
             }
         };
-        if let Err(failure) = run(given, &job, tell) {
-            worst = worst.max(failure.status);
-            bad.extend(Some(failure.why).filter(|why| !why.is_empty()));
-        }
+        bad.extend(run_job(given, &job, tell).err());
     }
     if cleaned.get() {
         tell_house(given);
     }
-    match worst {
-        0 => Ok(()),
-        status => Err(Failure { status, why: bad.join("\n") }),
-    }
+    Error::several(bad)
 }
 
-pub fn clean(given: &Given) -> Result<(), Failure> {
+/// Says how a stream without a header is read.
+fn tell_raw(inputs: &Inputs) {
+    let what = match inputs {
+        Inputs::Stereo(_) => "two channels, left and right in turn",
+        _ => "one channel",
+    };
+    crate::warn!(
+        "Reading standard input as samples without a header: {what}, 48,000 a second, 16 bits, little end first."
+    );
+}
+
+pub fn run_clean(given: &Given) -> Result<()> {
     let (inputs, out) = (inputs(given)?, given.wanted("--out")?);
     let Some(inputs) = inputs else { return many(given, &out) };
+    if given.has("--raw") && !given.has("-q") && !given.has("--json") {
+        tell_raw(&inputs);
+    }
     let job = job(given, inputs, out)?;
-    run(given, &job, |report| {
+    run_job(given, &job, |report| {
         for bench in written(report) {
             crate::say!("{}: {} frames", bench.side.name(), bench.frames);
         }
@@ -209,22 +275,10 @@ pub fn clean(given: &Given) -> Result<(), Failure> {
     })
 }
 
-pub fn demo(given: &Given) -> Result<(), Failure> {
+pub fn run_demo(given: &Given) -> Result<()> {
     let dir = &given.files[0];
-    crate::demo::demo(dir, way(given), given.has("--force"))?;
+    crate::cleaning::demo::demo(dir, way(given), given.has("--force"), given.has("--csv"))?;
     let dir = shown(dir);
     crate::say!("Look at {dir}/index.html, and listen to {dir}/left-before.wav and {dir}/left.wav.");
     Ok(())
-}
-
-#[cfg(test)]
-mod tests {
-    use super::*;
-
-    #[test]
-    fn what_a_name_says() {
-        let names = ["left", "Monday_LEFT-2", "right.raw", "bright", "leftover", "left-or-right", "monday"];
-        let sides = names.map(|name| said(name).iter().map(|side| side.name()).collect::<Vec<_>>().join(" "));
-        assert_eq!(sides, ["left", "left", "right", "", "", "left right", ""]);
-    }
 }

@@ -1,7 +1,7 @@
 //! What a command is: its words, what each is for, and what runs it.
 
 use crate::cli::words::Given;
-use crate::status::Failure;
+use crate::error::Result;
 
 /// What stands behind an option.
 pub enum Takes {
@@ -88,7 +88,7 @@ pub struct Command {
     /// What there is to know besides.
     pub about: &'static str,
     pub examples: &'static [&'static str],
-    pub run: fn(&Given) -> Result<(), Failure>,
+    pub run: fn(&Given) -> Result<()>,
 }
 
 impl Command {

@@ -1,16 +1,20 @@
 //! The commands. An option is a line of its command's table.
 
 use crate::cli::command::{Command, Files, Opt, Takes};
-use crate::cli::{clean, dev, models, sheets};
+use crate::cli::{clean, help, models, sheets, texts, Program};
 
 const FORCE: Opt = Opt::flag("--force", "Write over what stands there.");
-const JSON: Opt = Opt::flag("--json", "The answer as JSON: an object on a line for each file.");
+pub const JSON: Opt = Opt::flag("--json", "The answer as JSON: an object on a line for each file.");
+const CSV: Opt = Opt::flag("--csv", "Write frames.csv too: a row for each frame.");
 const LAG: Opt = Opt::of(
     "--lag",
     Takes::OneOf(&["crate", "own"]),
     "Whose pitch finder: the Rust crate's, as where none is named, which gives what nnnoiseless gives but for the last \
      bits; or our own, with transforms as plain sums, which takes several times as long.",
 );
+
+/// The box.
+pub const BOX: Program = Program { name: "", commands: COMMANDS, help: help::help_of_box, asks: "what shall be done?" };
 
 pub const COMMANDS: &[Command] = &[
     Command {
@@ -20,31 +24,37 @@ pub const COMMANDS: &[Command] = &[
             "--left L.wav --right R.wav --out DIR",
             "--both STEREO.wav --out DIR",
             "FILE.. [--side left|right] --out DIR",
-            "- [--raw] --out DIR",
+            "- --out DIR",
+            "--left - [--raw] --out DIR",
         ],
         files: Files::from(0, "FILE"),
         options: &[
-            Opt::of("--left", Takes::There("FILE"), "The left bench's recording; alone, that bench's alone."),
+            Opt::of("--left", Takes::There("FILE"), "The left bench's recording; alone, that bench's alone. - is standard input."),
             Opt::of("--right", Takes::There("FILE"), "The right bench's."),
             Opt::of("--both", Takes::There("FILE"), "Both in one: the left channel is the left bench."),
             Opt::of("--side", Takes::OneOf(&["left", "right"]), "The side of the files whose name says none."),
-            Opt::flag("--raw", "The stream has no header: 16 bits, little end first, left and right in turn."),
+            Opt::flag("--raw", "Standard input has no header: 48,000 samples a second, 16 bits, little end first, left and right in turn."),
+            Opt::of("--channels", Takes::OneOf(&["1", "2"]), "The channels of --raw: 2 with -, 1 with --left - or --right -."),
+            Opt::flag("--to-the-end", "Clean all that a file holds, even if its header announces less."),
             Opt::of("--out", Takes::Place("DIR"), "Where the files are written. Of several FILEs each has a folder there."),
             Opt::of("--name", Takes::Text("NAME"), "Call what is written NAME-left.wav and so on."),
             Opt::of("--model", Takes::There("FILE"), "The model: .rnn, .rnnn or rnn_data.c. The house model where none is named."),
             LAG,
             FORCE,
-            Opt::flag("--anyway", "Take a recording that says the other side, or one file for both benches."),
-            Opt::flag("-q", "No progress."),
+            Opt::flag("--anyway", "Clean a recording although its name or its seal says the other side, or both benches' are identical."),
+            CSV,
+            Opt::flag("-q", "Print errors only."),
             JSON,
         ],
         about: "\
-Recordings of 48 kHz, 16-bit or 24-bit PCM or 32-bit float. Writes left.wav and right.wav, frames.csv, benches.svg and
-index.html, a page with all of it, into DIR. Each recording is sealed: behind its audio stands its side, with each frame's
-number. One file for both benches, and a recording whose own seal or side sheet says the other bench, are refused.
+Recordings of 48 kHz, 16-bit or 24-bit PCM or 32-bit float. Writes left.wav and right.wav, benches.svg and index.html, a
+page with all of it, into DIR. Each recording is sealed: behind its audio stands its side, with each frame's number. A
+recording whose name, seal or side sheet says the other bench, one file for both benches, and two recordings that are
+identical are refused before anything is written.
 
-FILE.. are recordings of one bench each, every one with a folder of its own in DIR that is called like the file. Its
-side is the word left or right in its name, or what --side says where the name has neither.
+FILE.. are recordings of one bench each, every one with a folder of its own in DIR that is called like the file. Its side
+is what its name says: left or right as a word, or L or R as the last word (patientR.wav, p-r-2.wav), and if it says none,
+what its folder's name says; or what --side says.
 
 - is a stereo WAV stream on standard input, of any length up to 12 hours and 19 minutes, which is what a WAV file can
 hold. All recordings are cleaned as they are read, and written as they are cleaned: it takes no more memory for ten hours
@@ -58,9 +68,9 @@ they stay as they are, and box mend DIR closes them.",
         examples: &[
             "box clean --left l.wav --right r.wav --out monday",
             "box clean *.wav --out monday",
-            "arecord -f S16_LE -c 2 -r 48000 -t raw | box clean - --raw --out monday",
+            "arecord -f S16_LE -c 2 -r 48000 -t wav | box clean - --out monday",
         ],
-        run: clean::clean,
+        run: clean::run_clean,
     },
     Command {
         name: "side",
@@ -74,7 +84,7 @@ them were heard. Of any other no side is told, but the reason, with an exit stat
 with frames; 4 a sheet without a seal; 5 a seal that is not of this audio, or damage; 6 a name or a folder that says
 another side. Of several files the highest. - is a recording on standard input.",
         examples: &["box side monday/left.wav monday/right.wav", "box side --json *.wav"],
-        run: sheets::side,
+        run: sheets::run_side,
     },
     Command {
         name: "mend",
@@ -93,17 +103,17 @@ its audio and its records both go, and put in its place, or where that is taken 
 Of a file: a recording whose side sheet was torn. The side must stand in its seal; of a recording without one --as says
 it, and the answer says that you did. As much of the audio is kept as there are records of, and it is sealed again.",
         examples: &["box mend monday", "box mend torn.wav --out left.wav"],
-        run: sheets::mend,
+        run: sheets::run_mend,
     },
     Command {
         name: "demo",
         what: "Two dictations over a grinder, cleaned with the house model.",
         usage: &["DIR"],
         files: Files::place("DIR"),
-        options: &[LAG, FORCE],
+        options: &[LAG, FORCE, CSV],
         about: "They come with the program. Writes what clean writes, and the recordings before cleaning too.",
         examples: &["box demo out"],
-        run: clean::demo,
+        run: clean::run_demo,
     },
     Command {
         name: "import",
@@ -115,7 +125,7 @@ it, and the answer says that you did. As much of the audio is kept as there are 
 From RNNoise's rnn_data.c or from rnnoise-nu's text form (.rnnn), which are told apart by their first words. --model and
 unpack take both as they are, too. What is wrong is said by layer, array and line, and then nothing is written.",
         examples: &["box import rnn_data.c --out rnnoise.rnn"],
-        run: models::import,
+        run: models::run_import,
     },
     Command {
         name: "export",
@@ -129,7 +139,7 @@ unpack take both as they are, too. What is wrong is said by layer, array and lin
         ],
         about: "",
         examples: &["box export house.rnn --as rnnn --out house.rnnn"],
-        run: models::export,
+        run: models::run_export,
     },
     Command {
         name: "pack",
@@ -145,7 +155,7 @@ unpack take both as they are, too. What is wrong is said by layer, array and lin
 FOLDER has layers.txt, a line for each layer with its name, inputs, neurons and activation, and a file of signed bytes
 for each array (input_dense.weights, input_dense.bias, vad_gru.recurrent ...).",
         examples: &["box pack --layers layers --out mine.rnn"],
-        run: models::pack,
+        run: models::run_pack,
     },
     Command {
         name: "unpack",
@@ -155,72 +165,26 @@ for each array (input_dense.weights, input_dense.bias, vad_gru.recurrent ...).",
         options: &[Opt::of("--out", Takes::Place("FOLDER"), "Where the arrays are written."), FORCE],
         about: "The other way round than pack.",
         examples: &["box unpack house.rnn --out layers"],
-        run: models::unpack,
-    },
-];
-
-/// What serves developers.
-pub const DEV: &[Command] = &[
-    Command {
-        name: "dev bench",
-        what: "How fast the box is.",
-        usage: &[""],
-        files: Files::NONE,
-        options: &[JSON],
-        about: "\
-Frames a second in pieces, as clean runs them, with either --lag; how much of a core sixteen benches leave idle; frames
-in four calls each, with this program's transforms, beside the Rust text; and where a frame's time goes.",
-        examples: &[],
-        run: dev::bench,
+        run: models::run_unpack,
     },
     Command {
-        name: "dev lags",
-        what: "How often our own lag and that of the Rust text agree.",
-        usage: &[""],
-        files: Files::NONE,
-        options: &[],
-        about: "On the demo's voices and on seeded ones of known pitch.",
-        examples: &[],
-        run: dev::lags,
-    },
-    Command {
-        name: "dev logs",
-        what: "How far the sound moves with the library's own logarithms.",
-        usage: &[""],
-        files: Files::NONE,
-        options: &[],
-        about: "Against those of this machine: on the demo and on ten minutes of noise and speech.",
-        examples: &[],
-        run: dev::logs,
-    },
-    Command {
-        name: "dev text",
-        what: "How far a recording is from what the Rust text gives.",
-        usage: &[""],
-        files: Files::NONE,
-        options: &[],
-        about: "Sample by sample beside its process_frame: on the demo and on ten minutes of noise and speech.",
-        examples: &[],
-        run: dev::text,
-    },
-    Command {
-        name: "dev man",
+        name: "man",
         what: "The man page, as `box install` puts it in its place.",
         usage: &[""],
         files: Files::NONE,
         options: &[],
         about: "",
         examples: &[],
-        run: dev::man,
+        run: texts::run_man,
     },
     Command {
-        name: "dev completion",
+        name: "completion",
         what: "The completion for bash.",
         usage: &[""],
         files: Files::NONE,
         options: &[],
         about: "",
         examples: &[],
-        run: dev::completion,
+        run: texts::run_completion,
     },
 ];

@@ -1,7 +1,7 @@
 //! The completion for bash, written from the table.
 
 use crate::cli::command::{Command, Takes};
-use crate::cli::commands::{COMMANDS, DEV};
+use crate::cli::commands::COMMANDS;
 use std::fmt::Write;
 
 /// What may follow an option of a command.
@@ -42,21 +42,15 @@ complete -F _box box tuppencehop
 "#;
 
 pub fn script() -> String {
-    let [of_all, of_dev] = [COMMANDS, DEV].map(|all| all.iter().map(Command::short).collect::<Vec<_>>().join(" "));
+    let all = COMMANDS.iter().map(Command::short).collect::<Vec<_>>().join(" ");
     let mut text = String::from(HEAD);
-    for (at, names) in [
-        ("1:*", format!("{of_all} dev help --help --version")),
-        ("2:dev", format!("{of_dev} --help")),
-        ("2:help", format!("{of_all} dev")),
-    ] {
+    for (at, names) in [("1:*", format!("{all} help --help --version")), ("2:help", all)] {
         writeln!(text, "    {at}) names='{names}' ;;").unwrap();
     }
     text += "    esac\n    [ -z \"$names\" ] || { COMPREPLY=($(compgen -W \"$names\" -- \"$word\")); return; }\n";
-    text += "    [ \"$command\" = dev ] && command=\"dev ${COMP_WORDS[2]}\"\n    case \"$command $before\" in\n";
+    text += "    case \"$command $before\" in\n";
     values(&mut text, COMMANDS);
-    values(&mut text, DEV);
     text += "    esac\n    case $command in\n";
     options(&mut text, COMMANDS);
-    options(&mut text, DEV);
     text + TAIL
 }

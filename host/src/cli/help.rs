@@ -1,7 +1,7 @@
 //! Help, written from the table.
 
 use crate::cli::command::{Command, Opt};
-use crate::cli::commands::{COMMANDS, DEV};
+use crate::cli::commands::COMMANDS;
 use std::fmt::Write;
 
 const WIDE: usize = 90;
@@ -23,23 +23,36 @@ fn wrapped(text: &str, behind: usize) -> String {
     lines.join(&format!("\n{:behind$}", ""))
 }
 
-const EXIT: &str = "\
-Exit status: 0 done as asked; 1 it could not be done; 2 what was given is not right: the
-command line, or a recording that is not all there, of which the rest is cleaned.
-";
+/// The exit statuses, each with its meaning.
+pub const EXIT: [(u8, &str); 7] = [
+    (0, "done as asked"),
+    (1, "it could not be done"),
+    (2, "what was given is not right: the command line, or a recording that is not whole or seems to be another bench's"),
+    (3, "`side` finds no side sheet: not a sealed recording"),
+    (4, "`side` finds a side sheet without a seal"),
+    (5, "`side` finds a recording that was changed after it was sealed, or is damaged"),
+    (6, "`side` finds a name, or a folder's name, that says the other side"),
+];
+
+fn exit(text: &mut String) {
+    *text += "Exit status, of several the highest:\n";
+    for (status, what) in EXIT {
+        writeln!(text, "  {status}  {}", wrapped(what, 5)).unwrap();
+    }
+}
 
 /// What each does, in a line.
-fn list(text: &mut String, commands: &[Command]) {
+pub fn list(text: &mut String, commands: &[Command]) {
     for command in commands {
         writeln!(text, "  {:14}  {}", command.name, command.what).unwrap();
     }
 }
 
-pub fn whole() -> String {
+pub fn help_of_box() -> String {
     let mut text =
         String::from("box: cleans dictations over a grinder, and tells whose each is\n\n  box COMMAND ..\n\n");
     list(&mut text, COMMANDS);
-    text += "\n  box COMMAND --help, box help COMMAND: all about one\n  box dev --help: what serves developers\n";
+    text += "\n  box COMMAND --help, box help COMMAND: all about one\n";
     text += "  box --help, box --version\n\n";
     text +=
         "Options may stand in front of files or behind them; --out=DIR is --out DIR; behind -- are files\nalone.\n\n";
@@ -47,12 +60,8 @@ pub fn whole() -> String {
     for example in COMMANDS.iter().flat_map(|command| command.examples) {
         writeln!(text, "  {example}").unwrap();
     }
-    text + "\n" + EXIT
-}
-
-pub fn dev() -> String {
-    let mut text = String::from("box dev: what serves developers\n\n");
-    list(&mut text, DEV);
+    text += "\n";
+    exit(&mut text);
     text
 }
 
@@ -60,7 +69,7 @@ fn option(text: &mut String, option: &Opt) {
     writeln!(text, "  {:20}  {}", option.shown(), wrapped(option.what, 24)).unwrap();
 }
 
-pub fn of(command: &Command) -> String {
+pub fn help_of(command: &Command) -> String {
     let mut text = format!("box {}: {}\n\n", command.name, command.what);
     for usage in command.usage {
         writeln!(text, "  {}", format!("box {} {usage}", command.name).trim_end()).unwrap();

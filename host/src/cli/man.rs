@@ -1,11 +1,12 @@
 //! The man page, written from the table.
 
 use crate::cli::command::Command;
-use crate::cli::commands::{COMMANDS, DEV};
+use crate::cli::commands::COMMANDS;
+use crate::cli::help::EXIT;
 use std::fmt::Write;
 
 /// A text as roff takes it: its own signs are escaped, and no line begins with a dot or an apostrophe.
-fn escaped(text: &str) -> String {
+fn roff(text: &str) -> String {
     let text = text.replace('\\', "\\e").replace('-', "\\-");
     let lines = text.lines().map(|line| match line.starts_with(['.', '\'']) {
         true => format!("\\&{line}"),
@@ -14,19 +15,19 @@ fn escaped(text: &str) -> String {
     lines.collect::<Vec<_>>().join("\n")
 }
 
-fn command(text: &mut String, command: &Command) {
-    writeln!(text, ".SS box {}\n{}", escaped(command.name), escaped(command.what)).unwrap();
+fn man_of(text: &mut String, command: &Command) {
+    writeln!(text, ".SS box {}\n{}", roff(command.name), roff(command.what)).unwrap();
     for usage in command.usage {
-        writeln!(text, ".PP\n.B {}", escaped(format!("box {} {usage}", command.name).trim_end())).unwrap();
+        writeln!(text, ".PP\n.B {}", roff(format!("box {} {usage}", command.name).trim_end())).unwrap();
     }
     for option in command.options {
-        writeln!(text, ".TP\n.B {}\n{}", escaped(&option.shown()), escaped(option.what)).unwrap();
+        writeln!(text, ".TP\n.B {}\n{}", roff(&option.shown()), roff(option.what)).unwrap();
     }
     for paragraph in command.about.split("\n\n").filter(|paragraph| !paragraph.is_empty()) {
-        writeln!(text, ".PP\n{}", escaped(paragraph)).unwrap();
+        writeln!(text, ".PP\n{}", roff(paragraph)).unwrap();
     }
     for example in command.examples {
-        writeln!(text, ".PP\n.EX\n    {}\n.EE", escaped(example)).unwrap();
+        writeln!(text, ".PP\n.EX\n    {}\n.EE", roff(example)).unwrap();
     }
 }
 
@@ -39,12 +40,11 @@ pub fn page() -> String {
          them; \\-\\-out=DIR is \\-\\-out DIR; behind \\-\\- are files alone.\n.SH COMMANDS\n",
         env!("CARGO_PKG_VERSION")
     );
-    COMMANDS.iter().for_each(|one| command(&mut text, one));
-    text += ".SH FOR DEVELOPERS\n";
-    DEV.iter().for_each(|one| command(&mut text, one));
-    text += ".SH EXIT STATUS\n\
-             0 done as asked; 1 it could not be done; 2 what was given is not right: the command line, or a recording\n\
-             that is not all there, of which the rest is cleaned. Of several the highest.\n\
-             .SH ENVIRONMENT\n.TP\n.B NO_COLOR\nWhere it is set, nothing is coloured.\n";
+    COMMANDS.iter().for_each(|one| man_of(&mut text, one));
+    text += ".SH EXIT STATUS\nOf several the highest.\n";
+    for (status, what) in EXIT {
+        writeln!(text, ".TP\n.B {status}\n{}", roff(what)).unwrap();
+    }
+    text += ".SH ENVIRONMENT\n.TP\n.B NO_COLOR\nWhere it is set, nothing is coloured.\n";
     text
 }

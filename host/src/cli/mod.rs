@@ -2,119 +2,101 @@
 //! the man page and the completion are written from it.
 
 mod clean;
-mod command;
-mod commands;
+pub mod command;
+pub mod commands;
 mod completion;
-mod dev;
-mod help;
+pub mod help;
 mod man;
 mod models;
 mod near;
 mod sheets;
+mod texts;
 mod version;
-mod words;
+pub mod words;
 
-use crate::status::{Failure, UNDONE};
+use crate::error::{Error, Result};
+use crate::telling::answer;
 use command::{is_help, Command};
-use commands::{COMMANDS, DEV};
 use std::ffi::OsString;
 
-/// A command by its name.
-fn find(name: &str) -> Option<&'static Command> {
-    COMMANDS.iter().find(|command| command.name == name)
+/// A program of commands: the box, or the developers' own.
+pub struct Program {
+    /// What stands before the names of its commands: nothing, or `dev`.
+    pub name: &'static str,
+    pub commands: &'static [Command],
+    /// Its help as a whole.
+    pub help: fn() -> String,
+    /// What it asks if no command is named.
+    pub asks: &'static str,
 }
 
-/// One of the developers'.
-fn find_dev(name: &str) -> Option<&'static Command> {
-    DEV.iter().find(|command| command.short() == name)
-}
+/// The developers' commands are not in the box.
+const ELSEWHERE: &str = "dev is a program of its own, tuppencehop-dev; ./box dev runs it where the project's text is";
 
-/// Why a word is no command.
-fn unknown(word: &str) -> Failure {
-    let names = COMMANDS.iter().map(|command| command.name).chain(["help"]);
-    let meant = match find_dev(word) {
-        Some(command) => Some(command.name),
-        None => near::nearest(word, names),
-    };
-    Failure::misused("", format!("unknown command {word}{}", near::did_you_mean(meant)))
-}
+impl Program {
+    fn find(&self, name: &str) -> Result<&'static Command> {
+        self.commands.iter().find(|command| command.short() == name).ok_or_else(|| self.unknown(name))
+    }
 
-/// Why a word behind `dev` is no command.
-fn unknown_dev(word: &str) -> Failure {
-    let meant = near::nearest(word, DEV.iter().map(Command::short));
-    Failure::misused("dev", format!("unknown command {word}{}", near::did_you_mean(meant)))
-}
+    /// Why a word is no command.
+    fn unknown(&self, word: &str) -> Error {
+        if word == "dev" {
+            return Error::misused(self.name, ELSEWHERE);
+        }
+        let meant = near::nearest(word, self.commands.iter().map(Command::short).chain(["help"]));
+        Error::misused(self.name, &format!("unknown command {word}{}", near::did_you_mean(meant)))
+    }
 
-/// The help of the whole, or of the command that the words name.
-fn tell_help(words: &[OsString]) -> Result<(), Failure> {
-    let words: Vec<_> = words.iter().map(|word| word.to_string_lossy()).collect();
-    let words: Vec<&str> = words.iter().map(|word| &**word).filter(|word| !is_help(word)).collect();
-    let text = match words[..] {
-        [] => help::whole(),
-        ["dev"] => help::dev(),
-        ["dev", name, ..] => help::of(find_dev(name).ok_or_else(|| unknown_dev(name))?),
-        [name, ..] => help::of(find(name).ok_or_else(|| unknown(name))?),
-    };
-    crate::say!("{}", text.trim_end());
-    Ok(())
+    /// The help of the whole, or of the command that the words name.
+    fn tell_help(&self, words: &[OsString]) -> Result<()> {
+        let words: Vec<_> = words.iter().map(|word| word.to_string_lossy()).collect();
+        let text = match words.iter().find(|word| !is_help(word)) {
+            None => (self.help)(),
+            Some(name) => help::help_of(self.find(name)?),
+        };
+        crate::say!("{}", text.trim_end());
+        Ok(())
+    }
+
+    fn run(&self, words: &[OsString]) -> Result<()> {
+        let Some((first, rest)) = words.split_first() else { return Err(Error::misused(self.name, self.asks)) };
+        match &*first.to_string_lossy() {
+            "help" => self.tell_help(rest),
+            word if is_help(word) => self.tell_help(rest),
+            "--version" => {
+                crate::say!("{}", version::told());
+                Ok(())
+            }
+            word if word.starts_with('-') => {
+                let meant = near::nearest(word, ["--help", "--version"]);
+                let why = format!("unknown option {word}{}; a command comes first", near::did_you_mean(meant));
+                Err(Error::misused(self.name, &why))
+            }
+            word => run_command(self.find(word)?, rest),
+        }
+    }
 }
 
 /// Reads a command's words, and runs it; or tells its help.
-fn run_command(command: &'static Command, words: &[OsString]) -> Result<(), Failure> {
-    match words::read(command, words)? {
+fn run_command(command: &'static Command, words: &[OsString]) -> Result<()> {
+    match words::read_words(command, words)? {
         Some(given) => (command.run)(&given),
         None => {
-            crate::say!("{}", help::of(command).trim_end());
+            crate::say!("{}", help::help_of(command).trim_end());
             Ok(())
         }
     }
 }
 
-fn run_dev(words: &[OsString]) -> Result<(), Failure> {
-    let Some((first, rest)) = words.split_first() else {
-        return Err(Failure::misused("dev", "which of them?".into()));
-    };
-    let name = first.to_string_lossy();
-    if is_help(&name) {
-        return tell_help(&["dev".into()]);
-    }
-    run_command(find_dev(&name).ok_or_else(|| unknown_dev(&name))?, rest)
-}
-
-fn run_words(words: &[OsString]) -> Result<(), Failure> {
-    let Some((first, rest)) = words.split_first() else {
-        return Err(Failure::misused("", "what shall be done?".into()));
-    };
-    match &*first.to_string_lossy() {
-        "help" => tell_help(rest),
-        word if is_help(word) => tell_help(rest),
-        "--version" => {
-            crate::say!("{}", version::told());
-            Ok(())
-        }
-        "dev" => run_dev(rest),
-        word if word.starts_with('-') => {
-            let meant = near::nearest(word, ["--help", "--version"]);
-            let why = format!("unknown option {word}{}; a command comes first", near::did_you_mean(meant));
-            Err(Failure::misused("", why))
-        }
-        word => run_command(find(word).ok_or_else(|| unknown(word))?, rest),
-    }
+/// Says what went wrong, and gives its exit status.
+fn complained(error: Error) -> u8 {
+    answer::complain(&error.to_string());
+    error.status()
 }
 
 /// Runs a command line, and gives its exit status.
-pub fn run(words: &[OsString]) -> u8 {
-    let mut status = match run_words(words) {
-        Ok(()) => 0,
-        Err(Failure { status, why }) => {
-            crate::answer::complain(&why);
-            status
-        }
-    };
+pub fn run_program(program: &Program, words: &[OsString]) -> u8 {
+    let status = program.run(words).err().map_or(0, complained);
     // what was told, but could not be written, is lost too
-    if let Some(why) = crate::answer::untold() {
-        crate::answer::complain(&why);
-        status = status.max(UNDONE);
-    }
-    status
+    status.max(answer::untold().err().map_or(0, complained))
 }

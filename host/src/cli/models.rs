@@ -1,34 +1,34 @@
 //! `box import`, `export`, `pack` and `unpack`, from the words.
 
 use crate::cli::words::Given;
-use crate::shown::shown;
-use crate::status::Failure;
+use crate::error::Result;
+use crate::telling::shown::shown;
 
-pub fn import(given: &Given) -> Result<(), Failure> {
+pub fn run_import(given: &Given) -> Result<()> {
     let out = given.wanted("--out")?;
-    let told = crate::import::import(&given.files[0], &out, given.has("--force"))?;
+    let told = crate::models::import::import(&given.files[0], &out, given.has("--force"))?;
     crate::say!("{}: {told}", shown(&out));
     Ok(())
 }
 
-pub fn export(given: &Given) -> Result<(), Failure> {
+pub fn run_export(given: &Given) -> Result<()> {
     given.wanted("--as")?;
     let out = given.wanted("--out")?;
-    let bytes = crate::export::export(&given.files[0], &out, given.has("--force"))?;
+    let bytes = crate::models::export::export(&given.files[0], &out, given.has("--force"))?;
     crate::say!("{}: {bytes} bytes", shown(&out));
     Ok(())
 }
 
-pub fn pack(given: &Given) -> Result<(), Failure> {
+pub fn run_pack(given: &Given) -> Result<()> {
     let (layers, out) = (given.wanted("--layers")?, given.wanted("--out")?);
-    let bytes = crate::pack::pack(&layers, &out, given.has("--force"))?;
+    let bytes = crate::models::pack::pack(&layers, &out, given.has("--force"))?;
     crate::say!("{}: {bytes} bytes", shown(&out));
     Ok(())
 }
 
-pub fn unpack(given: &Given) -> Result<(), Failure> {
+pub fn run_unpack(given: &Given) -> Result<()> {
     let out = given.wanted("--out")?;
-    crate::pack::unpack(&given.files[0], &out, given.has("--force"))?;
+    crate::models::pack::unpack(&given.files[0], &out, given.has("--force"))?;
     crate::say!("{}: sixteen files", shown(&out));
     Ok(())
 }

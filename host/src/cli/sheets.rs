@@ -1,17 +1,17 @@
 //! `box side` and `box mend`, from the words, told in words or as JSON.
 
+use crate::cleaning::recorder::Side;
 use crate::cli::words::Given;
-use crate::json::{rounded, Json};
-use crate::recorder::Side;
-use crate::rescue;
-use crate::side::{self, Sheet};
-use crate::status::{Failure, UNDONE};
+use crate::error::{Error, Result};
+use crate::recording::rescue;
+use crate::telling::json::{rounded, Json};
+use crate::telling::side::{self, Sheet};
 use std::path::Path;
 
 type Fields = Vec<(&'static str, Json)>;
 
 /// What a sheet says; nothing of one that is not there.
-fn of_sheet(sheet: Option<&Sheet>) -> Fields {
+fn sheet_fields(sheet: Option<&Sheet>) -> Fields {
     vec![
         ("side", sheet.map(|sheet| sheet.side.name()).into()),
         ("frames", sheet.map(|sheet| sheet.frames).into()),
@@ -20,36 +20,34 @@ fn of_sheet(sheet: Option<&Sheet>) -> Fields {
     ]
 }
 
-fn object(file: &Path, fields: Fields, wrong: Option<&str>) -> Json {
-    let (file, error) = (("file", file.into()), ("error", wrong.into()));
-    Json::Object([file].into_iter().chain(fields).chain([error]).collect())
+fn object(file: &Path, fields: Fields, wrong: Option<&Error>) -> Json {
+    let status = ("status", wrong.map_or(0, |error| u32::from(error.status())).into());
+    let (file, error) = (("file", file.into()), ("error", wrong.map(Error::to_string).into()));
+    Json::Object([file].into_iter().chain(fields).chain([status, error]).collect())
 }
 
 /// An object for each file; and the highest status where one is bad.
-fn side_as_json(given: &Given) -> Result<(), Failure> {
-    let mut worst = 0;
+fn side_as_json(given: &Given) -> Result<()> {
+    let mut statuses = vec![];
     for path in &given.files {
-        let looked = side::of(path, given.has("--quick"));
-        let wrong = looked.as_ref().err().map(|failure| failure.why.as_str());
-        crate::say!("{}", object(path, of_sheet(looked.as_ref().ok()), wrong));
-        worst = worst.max(looked.err().map_or(0, |failure| failure.status));
+        let looked = side::sheet_of(path, given.has("--quick"));
+        crate::say!("{}", object(path, sheet_fields(looked.as_ref().ok()), looked.as_ref().err()));
+        statuses.extend(looked.err().map(|error| error.status()));
     }
-    match worst {
-        0 => Ok(()),
-        status => Err(Failure { status, why: String::new() }),
-    }
+    Error::reported(statuses)
 }
 
-pub fn side(given: &Given) -> Result<(), Failure> {
+pub fn run_side(given: &Given) -> Result<()> {
     match given.has("--json") {
         true => side_as_json(given),
-        false => side::side(&given.files, given.has("--quick")),
+        false => side::tell_sides(&given.files, given.has("--quick")),
     }
 }
 
 /// An object for each recording that was closed, and for each that could not be.
-fn mend_folder_as_json(folder: &Path) -> Result<(), Failure> {
-    let mended = rescue::mend(folder).unwrap_or_else(|why| rescue::Mended { bad: vec![why], ..Default::default() });
+fn mend_folder_as_json(folder: &Path) -> Result<()> {
+    let mended =
+        rescue::mend_folder(folder).unwrap_or_else(|why| rescue::Mended { bad: vec![why], ..Default::default() });
     let of = |seconds: [Option<f64>; 3]| {
         let seconds = seconds.map(|seconds| seconds.map(|seconds| rounded(seconds, 5)).into());
         ["seconds", "lost", "zeros"].into_iter().zip(seconds)
@@ -59,16 +57,16 @@ fn mend_folder_as_json(folder: &Path) -> Result<(), Failure> {
         let seconds = of([kept.kept, kept.lost, kept.zeros].map(Some));
         crate::say!(
             "{}",
-            object(&closed.place, of_sheet(Some(&kept.sheet)).into_iter().chain(seconds).collect(), None)
+            object(&closed.place, sheet_fields(Some(&kept.sheet)).into_iter().chain(seconds).collect(), None)
         );
     }
     for why in &mended.bad {
-        crate::say!("{}", object(folder, of_sheet(None).into_iter().chain(of([None; 3])).collect(), Some(why)));
+        crate::say!("{}", object(folder, sheet_fields(None).into_iter().chain(of([None; 3])).collect(), Some(why)));
     }
-    mended.bad.is_empty().then_some(()).ok_or(Failure { status: UNDONE, why: String::new() })
+    Error::reported(mended.bad.iter().map(Error::status))
 }
 
-fn mend_folder(given: &Given, folder: &Path) -> Result<(), Failure> {
+fn run_mend_folder(given: &Given, folder: &Path) -> Result<()> {
     if given.has("--out") {
         return Err(given.wrong("--out is for a file; a folder is mended where it is"));
     }
@@ -77,18 +75,18 @@ fn mend_folder(given: &Given, folder: &Path) -> Result<(), Failure> {
     }
     match given.has("--json") {
         true => mend_folder_as_json(folder),
-        false => Ok(rescue::mend(folder)?.tell(folder)?),
+        false => rescue::mend_folder(folder)?.tell(folder),
     }
 }
 
-pub fn mend(given: &Given) -> Result<(), Failure> {
+pub fn run_mend(given: &Given) -> Result<()> {
     let file = &given.files[0];
     if file.is_dir() {
-        return mend_folder(given, file);
+        return run_mend_folder(given, file);
     }
     let out = given.wanted("--out")?;
     let said = given.word("--as").map(|side| if side == "left" { Side::Left } else { Side::Right });
-    let mended = crate::mend::mend(file, &out, said);
+    let mended = crate::recording::mend::mend_file(file, &out, said);
     if !given.has("--json") {
         mended?.tell(&out);
         return Ok(());
@@ -96,14 +94,15 @@ pub fn mend(given: &Given) -> Result<(), Failure> {
     let of = |lost: Json, whole: Json| vec![("recording", Json::from(&**file)), ("lost", lost), ("whole", whole)];
     match mended {
         Ok(mended) => {
-            let fields = of_sheet(Some(&mended.sheet)).into_iter().chain(of(mended.lost().into(), mended.whole.into()));
+            let fields =
+                sheet_fields(Some(&mended.sheet)).into_iter().chain(of(mended.lost().into(), mended.whole.into()));
             crate::say!("{}", object(&out, fields.collect(), None));
             Ok(())
         }
         Err(why) => {
-            let fields = of_sheet(None).into_iter().chain(of(Json::Null, Json::Null));
+            let fields = sheet_fields(None).into_iter().chain(of(Json::Null, Json::Null));
             crate::say!("{}", object(&out, fields.collect(), Some(&why)));
-            Err(Failure { status: UNDONE, why: String::new() })
+            Err(Error::Reported(why.status()))
         }
     }
 }

@@ -3,8 +3,8 @@
 
 use crate::cli::command::{is_help, Command, Opt, Takes};
 use crate::cli::near;
-use crate::shown::shown;
-use crate::status::Failure;
+use crate::error::{Error, Result};
+use crate::telling::shown::shown;
 use std::ffi::{OsStr, OsString};
 use std::io::ErrorKind;
 use std::os::unix::ffi::OsStrExt;
@@ -19,8 +19,8 @@ pub struct Given {
 
 impl Given {
     /// What is wrong with the command line.
-    pub fn wrong(&self, why: impl Into<String>) -> Failure {
-        Failure::misused(self.command.name, why.into())
+    pub fn wrong(&self, why: impl AsRef<str>) -> Error {
+        Error::misused(self.command.name, why.as_ref())
     }
 
     fn value(&self, name: &str) -> Option<&OsStr> {
@@ -42,7 +42,7 @@ impl Given {
     }
 
     /// A place that must be named.
-    pub fn wanted(&self, name: &str) -> Result<PathBuf, Failure> {
+    pub fn wanted(&self, name: &str) -> Result<PathBuf> {
         let missing = || {
             let option = self.command.option(name).map_or(name.into(), Opt::shown);
             self.wrong(format!("{option} is missing"))
@@ -61,17 +61,19 @@ fn parts(word: &OsStr) -> (OsString, Option<OsString>) {
 }
 
 /// A file that must be there.
-fn look_for(given: &Given, what: &str, path: &Path) -> Result<(), Failure> {
+fn look_for(given: &Given, what: &str, path: &Path) -> Result<()> {
+    // `-` is standard input
     match path.symlink_metadata() {
+        _ if path == Path::new("-") => Ok(()),
         Err(why) if why.kind() == ErrorKind::NotFound => {
-            Err(Failure::from(format!("{}: {what}{}: no such file", given.command.name, shown(path))))
+            Err(Error::undone(format!("{}: {what}{}: no such file", given.command.name, shown(path))))
         }
         _ => Ok(()),
     }
 }
 
 /// What an option takes must be there, or be one of its words; no name is not the current folder's.
-fn look(given: &Given, option: &Opt, value: &OsStr) -> Result<(), Failure> {
+fn look(given: &Given, option: &Opt, value: &OsStr) -> Result<()> {
     let (name, told) = (option.name, shown(Path::new(value)));
     match &option.takes {
         Takes::Nothing => Ok(()),
@@ -90,7 +92,7 @@ fn value(
     option: &Opt,
     behind: Option<OsString>,
     rest: &mut std::slice::Iter<OsString>,
-) -> Result<OsString, Failure> {
+) -> Result<OsString> {
     let name = option.name;
     let Some(takes) = option.takes.name() else {
         return match behind {
@@ -111,7 +113,7 @@ fn value(
     }
 }
 
-fn take_option(given: &mut Given, word: &OsStr, rest: &mut std::slice::Iter<OsString>) -> Result<(), Failure> {
+fn take_option(given: &mut Given, word: &OsStr, rest: &mut std::slice::Iter<OsString>) -> Result<()> {
     let (name, behind) = parts(word);
     let Some(option) = name.to_str().and_then(|name| given.command.option(name)) else {
         let name = shown(Path::new(&name));
@@ -128,7 +130,7 @@ fn take_option(given: &mut Given, word: &OsStr, rest: &mut std::slice::Iter<OsSt
 }
 
 /// Neither too few files nor too many, and none without a name.
-fn count(given: &Given) -> Result<(), Failure> {
+fn check_count(given: &Given) -> Result<()> {
     let files = &given.command.files;
     if let Some(more) = given.files.get(files.most) {
         return Err(given.wrong(format!("{} is one word too many", shown(more))));
@@ -143,7 +145,7 @@ fn count(given: &Given) -> Result<(), Failure> {
 }
 
 /// `None` where help is asked for.
-pub fn read(command: &'static Command, words: &[OsString]) -> Result<Option<Given>, Failure> {
+pub fn read_words(command: &'static Command, words: &[OsString]) -> Result<Option<Given>> {
     let mut given = Given { command, options: Vec::new(), files: Vec::new() };
     let plain = words.iter().take_while(|word| *word != "--");
     if plain.into_iter().any(|word| word.to_str().is_some_and(is_help)) {
@@ -159,7 +161,7 @@ pub fn read(command: &'static Command, words: &[OsString]) -> Result<Option<Give
             given.files.push(word.into());
         }
     }
-    count(&given)?;
+    check_count(&given)?;
     for (option, value) in &given.options {
         look(&given, option, value)?;
     }

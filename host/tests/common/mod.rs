@@ -9,13 +9,15 @@ use std::process::{Child, Command, Output, Stdio};
 use std::sync::OnceLock;
 use std::thread::sleep;
 use std::time::{Duration, Instant};
-use tuppencehop::demo::{dictation, HOUSE};
-use tuppencehop::found::sealed;
-use tuppencehop::side::Sheet;
-use tuppencehop::wav;
+use tuppencehop::cleaning::demo::{dictation, HOUSE};
+use tuppencehop::reading::wav;
+use tuppencehop::telling::found::sealed;
+use tuppencehop::telling::side::Sheet;
 
 pub const HEADER: usize = 44;
-pub const WRITTEN: [&str; 5] = ["benches.svg", "frames.csv", "index.html", "left.wav", "right.wav"];
+/// What `clean` writes, and what it writes with `--csv`.
+pub const WRITTEN: [&str; 4] = ["benches.svg", "index.html", "left.wav", "right.wav"];
+pub const WITH_TABLE: [&str; 5] = ["benches.svg", "frames.csv", "index.html", "left.wav", "right.wav"];
 
 /// A folder of its own for each test, with the house model in it.
 pub fn folder(name: &str) -> PathBuf {
@@ -26,7 +28,8 @@ pub fn folder(name: &str) -> PathBuf {
     path
 }
 
-/// The program, to be run in the folder. A lost line ends it, though the tests themselves may run behind `nohup`.
+/// The program, to be run in the folder. Signals end it, though the tests themselves may run behind `nohup`
+/// or in the background, where a shell has them ignored.
 pub fn host(path: &Path, words: &[&str]) -> Command {
     extern "C" {
         fn signal(number: i32, handler: usize) -> usize;
@@ -36,16 +39,18 @@ pub fn host(path: &Path, words: &[&str]) -> Command {
     // SAFETY: `signal` may be called between fork and exec, and the default, 0, needs no handler
     unsafe {
         command.pre_exec(|| {
-            signal(HUP, 0);
+            for number in [HUP, INT, TERM] {
+                signal(number, 0);
+            }
             Ok(())
         })
     };
     command
 }
 
-/// `box clean` with the house model.
+/// `box clean` with the house model, and the table of frames.
 pub fn clean(path: &Path, words: &[&str]) -> Command {
-    let mut command = host(path, &["clean", "--model", "house.rnn"]);
+    let mut command = host(path, &["clean", "--model", "house.rnn", "--csv"]);
     command.args(words);
     command
 }
@@ -124,7 +129,7 @@ pub fn recording(path: &Path) -> (Vec<f32>, Sheet) {
 /// A recording, its sheet that of its side and of its length, and no gap in it.
 pub fn sound(path: &Path, side: &str) -> Vec<f32> {
     let (audio, sheet) = recording(path);
-    let frames = tuppencehop::run::frames_of(audio.len() as u64) as usize;
+    let frames = tuppencehop::cleaning::run::frames_of(audio.len() as u64) as usize;
     assert_eq!((sheet.side.name(), sheet.frames, sheet.gaps.count), (side, frames, 0), "{}", path.display());
     audio
 }

@@ -1,8 +1,8 @@
 //! Sealed recordings made by hand, byte by byte and by a checksum of their own: what the box is to write and to read.
 #![allow(dead_code)]
 
-use tuppencehop::demo::Rng;
-use tuppencehop::run::frames_of;
+use tuppencehop::cleaning::demo::Rng;
+use tuppencehop::cleaning::run::frames_of;
 
 pub const HEARD: u64 = 1 << 32;
 pub const HEADER: usize = 44;
@@ -16,7 +16,7 @@ pub fn crc32(bytes: &[u8]) -> u32 {
 /// So many samples of noise, as bytes.
 pub fn noise(samples: usize, seed: u64) -> Vec<u8> {
     let mut rng = Rng(0x9e37_79b9 + seed);
-    (0..samples).flat_map(|_| (rng.next() as i16 / 8).to_le_bytes()).collect()
+    (0..samples).flat_map(|_| (rng.draw() as i16 / 8).to_le_bytes()).collect()
 }
 
 /// The entries of so many frames that number up from 0, each third of them heard.

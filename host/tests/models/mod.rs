@@ -1,13 +1,13 @@
 //! Models for tests: of any shape, with seeded weights; as a file, and as RNNoise's `rnn_data.c`.
 #![allow(dead_code)]
 
-use tuppencehop::demo::Rng;
-use tuppencehop::layers::{first_array, lengths, Layers, LAYERS};
+use tuppencehop::cleaning::demo::Rng;
+use tuppencehop::models::layers::{first_array, lengths, Layers, LAYERS};
 
 /// A number from 0 to `most`.
 pub fn up_to(rng: &mut Rng, most: u32) -> u32 {
     // the first numbers of neighbouring seeds are alike in their low digits
-    ((rng.next() >> 20) % u64::from(most + 1)) as u32
+    ((rng.draw() >> 20) % u64::from(most + 1)) as u32
 }
 
 /// Layers of these neurons, as RNNoise joins them; weights from `-most - 1` to `most`.

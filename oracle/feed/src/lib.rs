@@ -35,12 +35,15 @@ pub const SPECTRUM: usize = 961;
 /// Numbers of a window, the transforms' length.
 pub const WINDOW: usize = 960;
 
+/// From the numbers in the first slice to those in the second.
+pub type Transform = Box<dyn FnMut(&[f32], &mut [f32])>;
+
 /// What works the numbers out in computed mode.
 pub struct Functions {
     /// From a window of 960 to a spectrum of 961.
-    pub forward: Box<dyn FnMut(&[f32], &mut [f32])>,
+    pub forward: Transform,
     /// From a spectrum of 961 to 960 numbers.
-    pub inverse: Box<dyn FnMut(&[f32], &mut [f32])>,
+    pub inverse: Transform,
     /// The logarithm to base 10.
     pub log10: fn(f32) -> f32,
 }

@@ -2,7 +2,7 @@
 //! `bench ROW ours|rust N`: runs one side of one row N times and measures nothing, for callgrind.
 //!
 //! Each row is measured in rounds, ours and the Rust's in turn; the table has the medians of all samples, in nanoseconds
-//! for one call, and ours divided by the Rust's.
+//! for one call, and ours divided by the Rust's. A sample is as many calls as take 20 us; of six layers it is one frame.
 
 #![cfg_attr(not(feature = "frame"), allow(unused_imports))]
 
@@ -30,6 +30,8 @@ struct Row {
     name: &'static str,
     ours: Side,
     rusts: Side,
+    /// Whether a sample is one run, however short: request 11 asks for the median of 1,000 frames.
+    single: bool,
 }
 
 fn timed<R>(mut call: impl FnMut() -> R + 'static) -> Side {
@@ -43,7 +45,7 @@ fn timed<R>(mut call: impl FnMut() -> R + 'static) -> Side {
 }
 
 fn row<A, B>(name: &'static str, ours: impl FnMut() -> A + 'static, rusts: impl FnMut() -> B + 'static) -> Row {
-    Row { name, ours: timed(ours), rusts: timed(rusts) }
+    Row { name, ours: timed(ours), rusts: timed(rusts), single: false }
 }
 
 /// How many runs make a sample.
@@ -59,7 +61,7 @@ impl Row {
     /// The medians, in nanoseconds.
     fn measure(&mut self) -> [f64; 2] {
         let mut samples = [vec![], vec![]];
-        let times = batch(&mut self.ours).max(batch(&mut self.rusts));
+        let times = if self.single { 1 } else { batch(&mut self.ours).max(batch(&mut self.rusts)) };
         for _ in 0..ROUNDS {
             for (side, samples) in [&mut self.ours, &mut self.rusts].into_iter().zip(&mut samples) {
                 side(times);
@@ -313,7 +315,7 @@ fn of_shape(rng: &mut Rng, name: &'static str, shape: models::Shape) -> Row {
     let (mut gains, mut voice, mut states) = ([0.0; 22], [0.0], [[0.0; 128]; 3]);
     let (mut gain, mut vad, mut state) = ([0.0; 22], [0.0], rnn::state(text));
     let (mut i, mut j) = (0, 0);
-    row(
+    let both = row(
         name,
         move || {
             let [a, b, c] = &mut states;
@@ -324,7 +326,8 @@ fn of_shape(rng: &mut Rng, name: &'static str, shape: models::Shape) -> Row {
             state.compute(&mut gain, &mut vad, black_box(&again[j % 1000]));
             j += 1;
         },
-    )
+    );
+    Row { single: true, ..both }
 }
 
 /// An hour of frames.
@@ -361,6 +364,27 @@ fn of_wav(rng: &mut Rng) -> Vec<Row> {
         "a checksum of 65,536 bytes",
         move || tuppence::checksum(0, black_box(&audio)),
         move || !black_box(&again).iter().fold(!0u32, |c, byte| table[usize::from(c as u8 ^ byte)] ^ (c >> 8)),
+    )]
+}
+
+/// Ten seconds, handed over in parts of 65,536 bytes, beside the library's own checksum of the same parts.
+#[cfg(feature = "recording")]
+fn of_recording(rng: &mut Rng) -> Vec<Row> {
+    use oracle::plain_recording::{Front, Recording};
+    let front = Front { side: 1, began: 0, first: 0 };
+    let file = Recording { front, audio: rng.bytes(960_000), heard: vec![true; 1_001] }.bytes();
+    let again = file.clone();
+    vec![row(
+        "a recording of ten seconds, judged, beside its checksum alone",
+        move || {
+            let (mut numbers, mut held, mut out) = ([0; 11], [0; 76], [0; 5]);
+            tuppence::judge_begin(&mut numbers, &mut held);
+            for part in black_box(&file).chunks(65_536) {
+                tuppence::judge_more(&mut numbers, &mut held, part);
+            }
+            assert_eq!(tuppence::judge_verdict(&mut out, &numbers, &held), 0);
+        },
+        move || black_box(&again).chunks(65_536).fold(0, tuppence::checksum),
     )]
 }
 
@@ -426,7 +450,7 @@ fn of_frame(rng: &mut Rng) -> Vec<Row> {
         assert!(refused == 0 && answer[0] == 1.0, "the frame is heard");
         i += 1;
     });
-    vec![Row { name: "a heard frame, four calls", ours, rusts }]
+    vec![Row { name: "a heard frame, four calls", ours, rusts, single: false }]
 }
 
 /// An opened bench, whose frames are all heard.
@@ -515,8 +539,8 @@ fn of_whole(rng: &mut Rng) -> Vec<Row> {
         });
         let [rusts, again] = [(); 2].map(|_| text_with_our_transforms(way, samples, &model));
         [
-            Row { name: frame, ours: timed(move || one.frame(frames.next().unwrap())), rusts },
-            Row { name: piece, ours: takes, rusts: again },
+            Row { name: frame, ours: timed(move || one.frame(frames.next().unwrap())), rusts, single: false },
+            Row { name: piece, ours: takes, rusts: again, single: false },
         ]
     };
     Way::BOTH.into_iter().zip(names).flat_map(of_way).collect()
@@ -592,6 +616,8 @@ fn main() {
     rows.extend(of_sheet(rng));
     #[cfg(feature = "wav")]
     rows.extend(of_wav(rng));
+    #[cfg(feature = "recording")]
+    rows.extend(of_recording(rng));
     #[cfg(feature = "frame")]
     rows.extend([of_frame(rng), of_whole(rng)].into_iter().flatten());
     #[cfg(feature = "blocks")]

@@ -1,15 +1,17 @@
 -- `tuppence_feed` meets its contract: it is a feed, and its answer is handed back as numbers. Assumes nothing.
-use Rattle.rules.proofs.Common.{ℕ, cond, List, _≡_, length, Float}
+use Rattle.rules.proofs.Common.{ℕ, cond, List, [], _∷_, _≡_, ap₂, length, Float}
 use borrow.Author.Needs.{needs}
 use denote.Ref.{now}
+use Rattle.frame.specs.Effect.{WorkedBoth}
 use Rattle.frame.specs.Reply.{passed}
 use Rattle.desk.specs.declared.Answer.{Answer}
 use Rattle.desk.specs.declared.Record.{Record}
 use Rattle.desk.specs.Gate.{BENCHES}
 use Rattle.desk.specs.Surface.{recordIn, numbersOf, replyNumber}
-use Rattle.feed.specs.Feed.{Block, blockOf, feed, FedTo}
-use Rattle.feed.specs.Surface.{HostFed}
-use Rattle.feed.proofs.Ranged.{feed-small, feed-range}
+use Rattle.desk.specs.Surface as surface
+use Rattle.feed.specs.Feed.{Block, blockOf, feed}
+use Rattle.feed.specs.Surface.{hostedFeed}
+use Rattle.feed.proofs.Ranged.{feed-small, feed-range, feed-seated}
 use Rattle.export.specs.Parts.{HandsBack}
 use Rattle.export.proofs.Given as any
 use Rattle.export.proofs.of_feed.tuppence_feed.Statement.{statement}
@@ -17,30 +19,33 @@ use Rattle.export.proofs.of_feed.tuppence_feed.Tie as tie
 
 -- the record as the code has it, and what the feed left
 module _ (side : ℕ) (ns : List ℕ) (b : Record) (store : List Float) (block : Block) (model cleaned entries : List ℕ) (answers : List Float)
-    {store′ : List Float} {cleaned′ entries′ : List ℕ} {answers′ : List Float} {given : Answer} (read : b ≡ recordIn ns)
-    (fed : FedTo (feed BENCHES side b store block model (length cleaned) (length entries) (length answers)) given store′
-    cleaned cleaned′ entries entries′ answers answers′) where
-  hands-back : HandsBack ns given
+    {store′ : List Float} {cleaned′ entries′ : List ℕ} {answers′ : List Float} {given : Answer} (read : b ≡ recordIn side ns)
+    (fed : WorkedBoth (feed BENCHES side b store block model (length cleaned) (length entries) (length answers)) given store′
+    (answers ∷ []) (answers′ ∷ []) (cleaned ∷ entries ∷ []) (cleaned′ ∷ entries′ ∷ [])) where
+  hands-back : HandsBack side ns given
   hands-back =
-      any.hands-back ns b read
+      any.hands-back side ns b read
       (record {
         small = feed-small BENCHES side b store block model (length cleaned) (length entries) (length answers);
         ranged = feed-range BENCHES side b store block model (length cleaned) (length entries) (length answers);
+        seated = feed-seated BENCHES side b store block model (length cleaned) (length entries) (length answers);
       })
-      (fed .answered)
+      (fed .floats .answers)
 
-  handed : {number : ℕ} {ns′ : List ℕ} → (number ≡ replyNumber (given .reply)) × (ns′ ≡ cond (passed (given .reply)) (numbersOf (given .rec)) ns)
-      → HostFed (feed BENCHES side (recordIn ns) store block model (length cleaned) (length entries) (length answers)) number ns ns′ store′
-      cleaned cleaned′ entries entries′ answers answers′
+  handed : {number : ℕ} {ns′ : List ℕ} → (number ≡ replyNumber (given .reply)) × (ns′ ≡ cond (passed (given .reply)) (numbersOf side (given .rec)) ns)
+      → WorkedBoth (surface.handed side ns (hostedFeed BENCHES side ns store block model (length cleaned) (length entries) (length answers))) (number, ns′) store′
+      (answers ∷ []) (answers′ ∷ []) (cleaned ∷ entries ∷ []) (cleaned′ ∷ entries′ ∷ [])
+  unfolding hostedFeed
   handed h =
       rw (← read)
       (record {
-        numbers = rw (← fed .answered) (h .0);
-        records = rw (← fed .answered) (h .1);
-        stores = fed .stores;
-        cleans = fed .cleans;
+        floats =
+            record {
+              answers = rw (← fed .floats .answers) (ap₂ (λ (n : ℕ) (ms : List ℕ). (n, ms)) (h .0) (h .1));
+              keeps = fed .floats .keeps;
+              writes = fed .floats .writes;
+            };
         notes = fed .notes;
-        tells = fed .tells;
       })
 
 hand-back-requires : tie.Need-hand-back-requires

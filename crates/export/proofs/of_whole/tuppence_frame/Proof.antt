@@ -8,14 +8,19 @@ use Rattle.desk.specs.declared.Record.{Record}
 use Rattle.desk.specs.Gate.{BENCHES}
 use Rattle.whole.specs.Whole.{frame}
 use Rattle.whole.specs.Surface.{hostedFrame}
-use Rattle.whole.proofs.Ranged.{frame-small, frame-range, frame-buffers, frame-no-out}
+use Rattle.whole.proofs.Ranged.{frame-small, frame-range, frame-seated, frame-buffers, frame-no-out}
 use Rattle.export.proofs.Given.{Sound, Telling, hands-back, no-more, three, told-three}
 use Rattle.export.proofs.of_whole.tuppence_frame.Statement.{statement}
 use Rattle.export.proofs.of_whole.tuppence_frame.Tie as tie
 
 module _ (side : ℕ) (b : Record) (store samples : List Float) (model : List ℕ) where
-  sound : (out : ℕ) → Sound b (frame BENCHES side b store samples model out .answer)
-  sound out = record { small = frame-small BENCHES side b store samples model out; ranged = frame-range BENCHES side b store samples model out }
+  sound : (out : ℕ) → Sound side b (frame BENCHES side b store samples model out .answer)
+  sound out =
+      record {
+        small = frame-small BENCHES side b store samples model out;
+        ranged = frame-range BENCHES side b store samples model out;
+        seated = frame-seated BENCHES side b store samples model out;
+      }
 
   known : Telling 1 (frame BENCHES side b store samples model)
   known = record { no-place = frame-no-out BENCHES side b store samples model; writes = frame-buffers BENCHES side b store samples model }
@@ -33,7 +38,7 @@ tell-requires c κs =
     let r = d .before .before .before in
     let p = r .before .before in
     let a = p .before .before .before .before .before .before .before .args in
-    three [] _ (frame BENCHES (a .side) (r .record-in .result) (now (a .store)) (now (a .samples)) (now (a .model))) (now (a .out)) (now (a .answer)) _ [] [] _ (p .places .result)
+    three (a .side) [] _ (frame BENCHES (a .side) (r .record-in .result) (now (a .store)) (now (a .samples)) (now (a .model))) (now (a .out)) (now (a .answer)) _ [] [] _ (p .places .result)
     (known (a .side) (r .record-in .result) (now (a .store)) (now (a .samples)) (now (a .model))) (p .places .ensures) (d .frame .ensures)
 
 hand-back-requires : tie.Need-hand-back-requires
@@ -41,7 +46,7 @@ hand-back-requires c κs =
     let d = c .before .before .before .before .before .before .before .before .before in
     let r = d .before .before .before in
     let a = r .before .before .before .before .before .before .before .before .before .args in
-    hands-back _ _ (r .record-in .ensures) (sound (a .side) (r .record-in .result) (now (a .store)) (now (a .samples)) (now (a .model)) _) (d .frame .ensures .answers)
+    hands-back (a .side) _ _ (r .record-in .ensures) (sound (a .side) (r .record-in .result) (now (a .store)) (now (a .samples)) (now (a .model)) _) (d .frame .ensures .answers)
 
 returns : tie.Need-returns
 unfolding get put hostedFrame
@@ -53,7 +58,7 @@ returns c =
     let p = r .before .before in
     let a = p .before .before .before .before .before .before .before .args in
     rw (← r .record-in .ensures)
-    (told-three _ _ (frame BENCHES (a .side) (r .record-in .result) (now (a .store)) (now (a .samples)) (now (a .model))) (now (a .out)) (now (a .answer)) _ [] [] _ (p .places .result)
+    (told-three (a .side) _ _ (frame BENCHES (a .side) (r .record-in .result) (now (a .store)) (now (a .samples)) (now (a .model))) (now (a .out)) (now (a .answer)) _ [] [] _ (p .places .result)
     (known (a .side) (r .record-in .result) (now (a .store)) (now (a .samples)) (now (a .model))) (p .places .ensures) (d .frame .ensures)
     (omega (arith, d .frame .kept)) (t .tell .ensures) (h .hand-back .ensures))
 

@@ -11,7 +11,7 @@ use Rattle.desk.specs.Surface.{recordIn, numbersOf, replyNumber}
 use Rattle.desk.specs.Surface as surface
 use Rattle.whole.specs.Whole.{take}
 use Rattle.whole.specs.Surface.{hostedTake}
-use Rattle.whole.proofs.Ranged.{take-small, take-range}
+use Rattle.whole.proofs.Ranged.{take-small, take-range, take-seated}
 use Rattle.export.specs.Parts.{HandsBack}
 use Rattle.export.proofs.Given as any
 use Rattle.export.proofs.of_whole.tuppence_take.Statement.{statement}
@@ -20,18 +20,19 @@ use Rattle.export.proofs.of_whole.tuppence_take.Tie as tie
 -- the record as the code has it, and what the take left
 module _ (side : ℕ) (ns : List ℕ) (b : Record) (store samples : List Float) (model : List ℕ) (out answers : List Float)
     {store′ : List Float} {left : List (List Float)} {given : Answer}
-    (read : b ≡ recordIn ns) (took : Worked (take BENCHES side b store samples model (length out) (length answers)) given store′ (out ∷ answers ∷ []) left) where
-  hands-back : HandsBack ns given
+    (read : b ≡ recordIn side ns) (took : Worked (take BENCHES side b store samples model (length out) (length answers)) given store′ (out ∷ answers ∷ []) left) where
+  hands-back : HandsBack side ns given
   hands-back =
-      any.hands-back ns b read
+      any.hands-back side ns b read
       (record {
         small = take-small BENCHES side samples model b store (length out) (length answers);
         ranged = take-range BENCHES side samples model b store (length out) (length answers);
+        seated = take-seated BENCHES side samples model b store (length out) (length answers);
       })
       (took .answers)
 
-  handed : {number : ℕ} {ns′ : List ℕ} → (number ≡ replyNumber (given .reply)) × (ns′ ≡ cond (passed (given .reply)) (numbersOf (given .rec)) ns)
-      → Worked (surface.handed ns (hostedTake BENCHES side ns store samples model (length out) (length answers))) (number, ns′) store′ (out ∷ answers ∷ []) left
+  handed : {number : ℕ} {ns′ : List ℕ} → (number ≡ replyNumber (given .reply)) × (ns′ ≡ cond (passed (given .reply)) (numbersOf side (given .rec)) ns)
+      → Worked (surface.handed side ns (hostedTake BENCHES side ns store samples model (length out) (length answers))) (number, ns′) store′ (out ∷ answers ∷ []) left
   unfolding hostedTake
   handed h =
       rw (← read)

@@ -10,12 +10,13 @@ use Rattle.rules.specs.Tab.{tab}
 use Rattle.rules.proofs.Refusals.{left}
 use Rattle.rules.proofs.Lists.{length-tab}
 use Rattle.pcm.specs.Pcm.{packed}
-use Rattle.feed.specs.Feed.{entryOf, atFront}
+use Rattle.frame.specs.Written.{atFront}
+use Rattle.feed.specs.Feed.{entryOf}
 use Rattle.feed.proofs.out.hand_out.Statement.{statement}
 use Rattle.feed.proofs.out.hand_out.Tie as tie
 
 -- what fills a front part of a list
-filled : {A : Type 0} (n : ℕ) (new held : List A) → length new ≡ n → put (record { at = 0; size = n - 0 }) held new ≡ atFront new held
+filled : (n : ℕ) (new held : List ℕ) → length new ≡ n → put (record { at = 0; size = n - 0 }) held new ≡ atFront new held
 unfolding put
 filled n new held e = rw (sub-zero n, ← e)
 

@@ -28,6 +28,10 @@ returns-6 : tie.Need-returns-6
 unfolding formatOf
 returns-6 c = (search tests, omega arith)
 
+returns-7 : tie.Need-returns-7
+unfolding formatOf
+returns-7 c = (search tests, omega arith)
+
 pub format-of-spec : {M : Type 1} → statement M
 format-of-spec = tie.close
     (tie.spec
@@ -36,4 +40,5 @@ format-of-spec = tie.close
     returns-3
     returns-4
     returns-5
-    returns-6)
+    returns-6
+    returns-7)

@@ -4,6 +4,7 @@ use denote.Ref.{now}
 use Rattle.rules.proofs.Tests.{tests}
 use Rattle.rules.proofs.Refusals.{leaves}
 use Rattle.rules.proofs.Places.{all-stored}
+use Rattle.sides.specs.Sides.{numberOf}
 use Rattle.wav.specs.Seal.{sealSummary}
 use borrow.Author.Needs.{needs}
 use Rattle.wav.proofs.seal.summary.Statement.{statement}
@@ -17,11 +18,12 @@ returns-2 : tie.Need-returns-2
 unfolding sealSummary
 returns-2 c =
     let s = c .before .before .before .seal .given .0 .0 in
-    rw (eq-eqb _ 3 (c .before .before .before .before .before .before .if1 .left), ← sym (c .before .before .before .seal .given .1) ∙ c .before .before .before .before .before .read .ensures) (leaves (all-stored (now (c .before .before .before .before .before .before .before .before .before .args .numbers)) (s .side ∷ s .size ∷ s .checksum ∷ []) (c .before .before .before .before .before .before .if1 .left)))
+    rw (c .before .number .ensures .0, eq-eqb _ 3 (c .before .before .before .before .before .before .if1 .left), ← sym (c .before .before .before .seal .given .1) ∙ c .before .before .before .before .before .read .ensures)
+    (leaves (all-stored (now (c .before .before .before .before .before .before .before .before .before .args .numbers)) (numberOf (s .side) ∷ s .long ∷ s .short ∷ []) (c .before .before .before .before .before .before .if1 .left)))
 
 returns-3 : tie.Need-returns-3
 unfolding sealSummary
-returns-3 c = rw (eq-eqb _ 3 (c .before .before .before .before .if1 .left), ← sym (c .before .number .given .1) ∙ c .before .before .before .read .ensures)
+returns-3 c = rw (eq-eqb _ 3 (c .before .before .before .before .if1 .left), ← sym (c .before .number2 .given .1) ∙ c .before .before .before .read .ensures)
 
 pub summary-spec : {M : Type 1} → statement M
 summary-spec =
@@ -30,6 +32,7 @@ summary-spec =
     returns
     (λ c κs. search needs)  -- read-requires
     (λ c. search needs)  -- enum-known-seal
+    (λ c κs. search needs)  -- number-requires
     (λ c. search needs)  -- cast-numbers
     (λ c. search needs)  -- slice-write-numbers
     (λ c. search needs)  -- slice-write-numbers-2

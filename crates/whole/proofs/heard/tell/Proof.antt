@@ -5,7 +5,7 @@ use native.Mathlib.Omega.{arith}
 use denote.Ref.{now}
 use Rattle.rules.specs.Place.{put}
 use Rattle.rules.proofs.Places.{put-sets}
-use Rattle.whole.specs.Parts.{three}
+use Rattle.frame.specs.Written.{from, over}
 use Rattle.whole.proofs.heard.tell.Statement.{statement}
 use Rattle.whole.proofs.heard.tell.Tie as tie
 
@@ -22,7 +22,7 @@ returns c =
     let a = s .args in
     let r = c .three-of .result in
     stored (now (a .answers)) (3 * a .j) (r .heard) (r .voice) (r .energy) (s .pre)
-    ∙ ap (put (three (a .j)) (now (a .answers))) (c .three-of .ensures)
+    ∙ ap (λ (xs : List Float). over (from (3 * a .j) xs) (now (a .answers))) (c .three-of .ensures)
 
 pub tell-spec : {M : Type 1} → statement M
 tell-spec =

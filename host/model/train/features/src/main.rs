@@ -8,7 +8,7 @@
 //!     out: for each frame 22 remembered gains, voice, and 1 for heard or 0, as the product works them out in its four
 //!     calls with this model: what train.py's own network is checked against
 
-#[path = "../../../../src/dev/transform.rs"]
+#[path = "../../../../dev/src/transform.rs"]
 #[allow(dead_code)]
 mod transform;
 
@@ -203,7 +203,7 @@ fn learn(t: &Tables, text: bool, clean: &[f32], mixed: &[f32]) -> Vec<f32> {
 }
 
 fn product(t: &Tables, text: bool, mixed: &[f32], model: &[u8]) -> Vec<f32> {
-    let (mut store, mut record) = (vec![0.0; 98_304], [0; 11]);
+    let (mut store, mut record) = (vec![0.0; tuppence::STORE], [0; tuppence::RECORD]);
     assert_eq!(tuppence::open(&mut record, &mut store, 0, model), 0);
     let (mut window, mut spectrum, mut sums) = ([0.0; WINDOW], [0.0; SPECTRUM], [0.0; BANDS]);
     let (mut finder, mut out) = (PitchFinder::new(), Vec::new());

@@ -1,0 +1,10 @@
+//! From recorded bytes to cleaned bytes: both benches over one store, through the proved library.
+
+pub mod clean;
+pub mod cleaned;
+pub mod demo;
+pub mod first_voice;
+pub mod mix;
+pub mod pauses;
+pub mod recorder;
+pub mod run;

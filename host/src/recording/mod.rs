@@ -1,0 +1,12 @@
+//! From cleaned bytes to a sealed recording on the disk, and how an unfinished one is closed.
+
+pub mod files;
+pub mod folder;
+pub mod mend;
+pub mod place;
+pub mod put;
+pub mod records;
+pub mod rescue;
+pub mod seal;
+pub mod through;
+pub mod unfinished;
