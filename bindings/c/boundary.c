@@ -18,6 +18,7 @@
 
 enum { CALLS = 10000, PIECE = 1000, FRAME = 480, FRAMES = 9, BYTES = 4 * PIECE, STACK = 1 << 20 };
 enum { NULL_POINTER = 101, MISALIGNED, TOO_LONG, OVERLAP };
+enum { TRAPS = FE_DIVBYZERO | FE_INVALID | FE_OVERFLOW | FE_UNDERFLOW | FE_INEXACT };
 
 /* All that a call is lent. */
 struct world {
@@ -63,6 +64,20 @@ static void fill(void)
         world.sound[i] = (float)random_below(8000) - 4000.0f;
     for (int i = 0; i < BYTES; i++)
         world.bytes[i] = (uint8_t)random_below(256);
+}
+
+/* An opening of bench 0. */
+typedef uint32_t opening(uint32_t *, size_t, float *, size_t, uint32_t, const uint8_t *, size_t);
+
+static uint32_t open_by(opening *open)
+{
+    return open(world.record, TUPPENCE_RECORD, world.store, TUPPENCE_STORE, 0, model, model_size);
+}
+
+static uint32_t take(void)
+{
+    return tuppence_take(world.record, TUPPENCE_RECORD, world.store, TUPPENCE_STORE, 0, world.sound, PIECE,
+        model, model_size, world.out, FRAME * FRAMES, world.answers, 3 * FRAMES);
 }
 
 /* ---- bad calls */
@@ -128,7 +143,8 @@ static void bad_call(void)
     if (random_below(3) == 0) {
         /* the record, which is written, lies within another slice; or that one within the store */
         int other = slices[1 + random_below((uint32_t)count - 1)];
-        s[0].at = (uint8_t *)s[other].at + (other == 2 || other == 6 || other == 7 ? (size_t)-(intptr_t)s[other].at % 4 : 0);
+        size_t to_four = (size_t)-(intptr_t)s[other].at % 4;
+        s[0].at = (uint8_t *)s[other].at + to_four;
         wanted = OVERLAP;
     } else {
         wanted = 0;
@@ -153,12 +169,9 @@ static void take_all(float *samples)
     fill();
     seed = 99;
     fill();
-    expect("open", tuppence_open_crate(world.record, TUPPENCE_RECORD, world.store, TUPPENCE_STORE, 0, model, model_size), 0);
+    expect("open", open_by(tuppence_open_crate), 0);
     for (int i = 0; i < 10; i++) {
-        expect("take",
-            tuppence_take(world.record, TUPPENCE_RECORD, world.store, TUPPENCE_STORE, 0, world.sound, PIECE, model, model_size,
-                world.out, FRAME * FRAMES, world.answers, 3 * FRAMES),
-            0);
+        expect("take", take(), 0);
         memcpy(samples + i * 2 * FRAME, world.out, 2 * FRAME * sizeof(float));
     }
 }
@@ -172,12 +185,12 @@ static void environments(void)
         fesetround(modes[i]);
         feclearexcept(FE_ALL_EXCEPT);
         /* an invalid operation, a division by zero or an overflow would now kill this program */
-        feenableexcept(FE_DIVBYZERO | FE_INVALID | FE_OVERFLOW | FE_UNDERFLOW | FE_INEXACT);
+        feenableexcept(TRAPS);
         take_all(other);
         int traps = fegetexcept(), mode = fegetround(), flags = fetestexcept(FE_ALL_EXCEPT);
         fedisableexcept(FE_ALL_EXCEPT);
         fesetround(FE_TONEAREST);
-        expect("trapped exceptions after a call", (uint32_t)traps, FE_DIVBYZERO | FE_INVALID | FE_OVERFLOW | FE_UNDERFLOW | FE_INEXACT);
+        expect("trapped exceptions after a call", (uint32_t)traps, TRAPS);
         expect("rounding mode after a call", (uint32_t)mode, (uint32_t)modes[i]);
         expect("flags after a call", (uint32_t)flags, 0);
         expect("samples that differ", memcmp(usual, other, sizeof usual) != 0, 0);
@@ -188,15 +201,12 @@ static void environments(void)
 
 static void *on_its_own_stack(void *nothing)
 {
-    expect("open", tuppence_open(world.record, TUPPENCE_RECORD, world.store, TUPPENCE_STORE, 0, model, model_size), 0);
-    expect("take",
-        tuppence_take(world.record, TUPPENCE_RECORD, world.store, TUPPENCE_STORE, 0, world.sound, PIECE, model, model_size,
-            world.out, FRAME * FRAMES, world.answers, 3 * FRAMES),
-        0);
-    expect("open_crate", tuppence_open_crate(world.record, TUPPENCE_RECORD, world.store, TUPPENCE_STORE, 0, model, model_size), 0);
+    expect("open", open_by(tuppence_open), 0);
+    expect("take", take(), 0);
+    expect("open_crate", open_by(tuppence_open_crate), 0);
     expect("feed",
-        tuppence_feed(world.record, TUPPENCE_RECORD, world.store, TUPPENCE_STORE, 0, world.bytes, BYTES, 16, 2, 1, model, model_size,
-            world.cleaned, 2 * FRAME * FRAMES, world.entries, FRAMES, world.answers, 3 * FRAMES),
+        tuppence_feed(world.record, TUPPENCE_RECORD, world.store, TUPPENCE_STORE, 0, world.bytes, BYTES, 16, 2, 1,
+            model, model_size, world.cleaned, 2 * FRAME * FRAMES, world.entries, FRAMES, world.answers, 3 * FRAMES),
         0);
     return nothing;
 }
@@ -232,7 +242,7 @@ int main(int count, char **words)
     model_size = fread(model, 1, sizeof model, file);
     fclose(file);
     fill();
-    expect("open", tuppence_open(world.record, TUPPENCE_RECORD, world.store, TUPPENCE_STORE, 0, model, model_size), 0);
+    expect("open", open_by(tuppence_open), 0);
     for (int i = 0; i < CALLS; i++)
         bad_call();
     expect("NULL with length 0", tuppence_pack(NULL, 0, NULL, 0), 0);

@@ -113,7 +113,8 @@ class Sides(unittest.TestCase):
     def test_no_damaged_file_is_reported(self):
         file = tuppence._recording(array.array("h", [7] * 100).tobytes(), 1, [1, 1])
         self.assertEqual(self.side_of(file), "right")
-        damaged = [file[:at] + bytes([file[at] ^ 1 << bit]) + file[at + 1 :] for at in range(len(file)) for bit in range(8)]
+        places = [(at, bit) for at in range(len(file)) for bit in range(8)]
+        damaged = [file[:at] + bytes([file[at] ^ 1 << bit]) + file[at + 1 :] for at, bit in places]
         told = [file for file in damaged if self.is_told(file)]
         self.assertEqual(told, [])
         for cut in list(range(0, len(file), 7)) + [len(file) - 1]:

@@ -84,7 +84,8 @@ _SIZE = ctypes.c_size_t
 for _name in ("tuppence_open", "tuppence_open_crate"):
     getattr(_lib, _name).argtypes = [_U32S, _SIZE, _FLOATS, _SIZE, ctypes.c_uint32, ctypes.c_char_p, _SIZE]
 _lib.tuppence_take.argtypes = [
-    _U32S, _SIZE, _FLOATS, _SIZE, ctypes.c_uint32, _FLOATS, _SIZE, ctypes.c_char_p, _SIZE, _FLOATS, _SIZE, _FLOATS, _SIZE,
+    _U32S, _SIZE, _FLOATS, _SIZE, ctypes.c_uint32, _FLOATS, _SIZE,
+    ctypes.c_char_p, _SIZE, _FLOATS, _SIZE, _FLOATS, _SIZE,
 ]
 _lib.tuppence_pack.argtypes = [ctypes.POINTER(ctypes.c_uint8), _SIZE, _FLOATS, _SIZE]
 _BYTES = ctypes.POINTER(ctypes.c_uint8)

@@ -56,7 +56,8 @@ impl Channel {
         }
     }
 
-    /// Cleans a whole frame. A refusal cannot come: the block is a frame of finite numbers. Silence would stand in for it.
+    /// Cleans a whole frame. A refusal cannot come, because the block is a frame of finite numbers; silence would stand
+    /// in for it.
     fn feed(&mut self) {
         let block = Block { bytes: &self.block, format: Format::Float, channels: 1, channel: 0 };
         match self.bench.feed(block) {
