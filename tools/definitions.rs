@@ -318,7 +318,8 @@ fn unpaired(crates: &[PathBuf]) -> Vec<String> {
     let mut found = Vec::new();
     for (title, text) in promises.split("\n## ").filter_map(|section| section.split_once('\n')) {
         for (statement, proof) in pairs(text) {
-            let stated: BTreeSet<&str> = in_backticks(&statement).iter().filter_map(|says| words(says).next()).collect();
+            let stated = in_backticks(&statement);
+            let stated: BTreeSet<&str> = stated.iter().filter_map(|says| words(says).next()).collect();
             for name in in_backticks(&proof) {
                 let here = laws.get(name).into_iter().flatten();
                 let mut here = here.filter(|(krate, _)| krate == title || !Path::new("crates").join(title).exists());

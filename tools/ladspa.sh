@@ -1,13 +1,15 @@
 #!/usr/bin/env bash
-# The LADSPA plugin as its users run it, beside `box clean`: tools/ladspa.sh. What LADSPA's own applyplugin, ffmpeg and sox
-# write must be what the box writes, sample for sample, 960 samples later; and so must both channels of a stereo file. Needs
-# Debian's ladspa-sdk, ffmpeg, sox and python3; the box and the plugin are built first. Not part of the gate, which has
-# tests of the plugin in bindings/ladspa.
+# The LADSPA plugin as its users run it, beside `box clean`: tools/ladspa.sh. What LADSPA's own applyplugin, ffmpeg and
+# sox write must be what the box writes, sample for sample, 960 samples later; and so must both channels of a stereo
+# file. Needs Debian's ladspa-sdk, ffmpeg, sox and python3; the box and the plugin are built first. Not part of the gate,
+# which has tests of the plugin in bindings/ladspa.
 set -euo pipefail
 cd "$(dirname "$0")/.."
 root=$PWD
 for program in analyseplugin applyplugin ffmpeg sox python3; do
-    command -v "$program" >/dev/null || { echo "$program is missing: apt-get install ladspa-sdk ffmpeg sox python3"; exit 1; }
+    command -v "$program" >/dev/null && continue
+    echo "$program is missing: apt-get install ladspa-sdk ffmpeg sox python3"
+    exit 1
 done
 ./box --version >/dev/null
 (cd bindings/ladspa && cargo build --quiet --release --offline --locked --target-dir ../../target/ladspa)
