@@ -281,10 +281,27 @@ fn unstated(crates: &[PathBuf]) -> Vec<String> {
     found
 }
 
-/// What an item of a page says after a label, up to the next label or item, if it has that label.
-fn labelled<'a>(item: &'a str, label: &str) -> Option<&'a str> {
-    let (_, said) = item.split_once(&format!("*{label}:*"))?;
-    Some(said.split("\n  - ").next().and_then(|said| said.split("\n\n").next()).unwrap())
+/// The cells of a table's row. A bar within a cell is written `\|`.
+fn cells(row: &str) -> Vec<String> {
+    row.replace("\\|", "\u{1}").split('|').map(|cell| cell.trim().replace('\u{1}', "|")).collect()
+}
+
+/// What the tables of a text have in the columns Statement and Proof, row by row.
+fn pairs(text: &str) -> Vec<(String, String)> {
+    let (mut found, mut columns) = (Vec::new(), None);
+    for line in text.lines() {
+        let row = cells(line);
+        let column = |name: &str| row.iter().position(|cell| cell == name);
+        columns = match (line.starts_with('|'), column("Statement"), column("Proof")) {
+            (false, ..) => None,
+            (_, Some(statement), Some(proof)) => Some((statement, proof)),
+            _ => columns,
+        };
+        if let Some((statement, proof)) = columns.filter(|(_, proof)| *proof < row.len()) {
+            found.push((row[statement].clone(), row[proof].clone()));
+        }
+    }
+    found
 }
 
 /// The proofs that docs/PROMISES.md pairs with a statement, and whose type is none of the statements named there.
@@ -300,11 +317,10 @@ fn unpaired(crates: &[PathBuf]) -> Vec<String> {
     let promises = page("PROMISES");
     let mut found = Vec::new();
     for (title, text) in promises.split("\n## ").filter_map(|section| section.split_once('\n')) {
-        // an item has one statement, or, in the section of the three demands, one for each of its claims
-        for item in text.split("\n- ").flat_map(|item| item.split("*Claim:*")) {
-            let (Some(statement), Some(proof)) = (labelled(item, "Statement"), labelled(item, "Proof")) else { continue };
-            let stated: BTreeSet<&str> = in_backticks(statement).iter().filter_map(|says| words(says).next()).collect();
-            for name in in_backticks(proof) {
+        for (statement, proof) in pairs(text) {
+            let stated = in_backticks(&statement);
+            let stated: BTreeSet<&str> = stated.iter().filter_map(|says| words(says).next()).collect();
+            for name in in_backticks(&proof) {
                 let here = laws.get(name).into_iter().flatten();
                 let mut here = here.filter(|(krate, _)| krate == title || !Path::new("crates").join(title).exists());
                 if !here.any(|(_, says)| stated.contains(&says[..])) {

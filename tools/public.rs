@@ -262,8 +262,8 @@ fn listed(functions: &[Function]) -> Vec<String> {
         }
     }
     for (title, text) in sections.iter().filter(|(title, _)| Path::new("crates").join(title).exists()) {
-        let heads = format!("\n{text}");
-        let heads = heads.split("\n- ").skip(1).filter_map(|item| item.split("\n  - ").next());
+        // the first cell of each row of a table
+        let heads = text.lines().filter_map(|line| line.strip_prefix("| ")?.split(" | ").next());
         for entry in heads.flat_map(|head| in_backticks(head).into_iter().map(String::from).collect::<Vec<_>>()) {
             let for_c = entry.starts_with("tuppence_") || entry.starts_with('_');
             let function = for_c || (entry.contains('(') && !entry.contains(") ")) || entry.contains("::");

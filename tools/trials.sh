@@ -87,7 +87,7 @@ premise_of_a_module() {
     # the law and what follows it, in a module with a parameter
     sed -i -e '/^pub same-end : SameEnd$/,$ s/^./  &/' -e 's/^  pub same-end /module _ (never : ⊥) where\n&/' $file
 }
-other_statement() { replace docs/PROMISES.md '*Proof:* `our-calls`' '*Proof:* `refused-leaves`'; }
+other_statement() { replace docs/PROMISES.md '| `our-calls` |' '| `refused-leaves` |'; }
 
 # ---- a public function that promises nothing, or that no claim is about
 

@@ -1,15 +1,37 @@
-/* tuppence.h: the functions of the proved library, libexport.a, for C and C++.
+/* tuppence.h: a proved denoiser for speech at 48 kHz, for C and C++. Link libtuppence.so or libtuppence.a.
 
    Made by tools/make_header.sh from crates/export, whose comments these are. Do not change it here.
 
-   A slice is a pointer and how many numbers stand behind it, NAME and NAME_len. The pointer is aligned
-   as its type is, and not NULL, not even of an empty slice. What is behind a pointer to const is not
-   written; what is lent to be written overlaps nothing else that the same call is lent, and nobody else
-   touches it meanwhile. No pointer is kept.
+   Start here. Open a bench once, then hand it what its microphone records, 1 to 4,096 samples at a time.
+   Out come the cleaned samples of every frame of 480 that is complete, and three answers for each frame:
 
-   Nothing else is asked: whatever the lengths and the numbers are, a call ends in an answer or in a
-   refusal. A function that returns a float returns its answer, tuppence_side_of a side, and every other
-   0 where it is done, or the number of its refusal, and then all that was lent is as it was. */
+       static float store[TUPPENCE_STORE];          serves 16 benches; even ones are left, odd ones right
+       uint32_t record[TUPPENCE_RECORD] = {0};      one for each bench; pass it with its own bench alone
+       float cleaned[9 * 480], answers[9 * 3];
+       uint32_t refusal = tuppence_open_crate(record, TUPPENCE_RECORD, store, TUPPENCE_STORE, 0, model, model_len);
+       ...
+       uint32_t before = record[5];
+       refusal = tuppence_take(record, TUPPENCE_RECORD, store, TUPPENCE_STORE, 0, samples, n,
+           model, model_len, cleaned, 9 * 480, answers, 9 * 3);
+       if (refusal == 0) use(cleaned, 480 * (record[5] - before));
+
+   record[5] is the number of frames since the opening, and record[6] how many of them were heard. `model`
+   is the content of a model file. docs/EMBEDDING.md has a complete program, and tuppence_feed takes bytes.
+
+   Answers. A function that returns a float returns its answer, tuppence_side_of a side, and tuppence_checksum
+   a checksum. Every other function returns 0 when it is done, or the number of its refusal; then everything
+   that was lent is unchanged. Whatever the lengths and the numbers are, a call ends in one of these.
+
+   Slices. A slice is a pointer and how many numbers are there, NAME and NAME_len. What a const pointer leads
+   to is not written. No pointer is kept. libtuppence.so checks each pointer and refuses with 101 to 104; NULL
+   with length 0 is an empty slice there. libtuppence.a does not check: pointers must be aligned and not NULL,
+   and a slice that is written must not overlap another one. Nobody else may touch what is lent meanwhile.
+
+   Floating point. The proofs are about IEEE 754's default environment: round to nearest, nothing trapped,
+   subnormal numbers kept. libtuppence.so sets it for each call and restores the caller's. With libtuppence.a
+   the caller must have it.
+
+   Stack. A call needs less than 128 KiB. */
 #ifndef TUPPENCE_H
 #define TUPPENCE_H
 
@@ -23,6 +45,9 @@ extern "C" {
 /* The numbers of the store, which serves all benches, and of a bench's record: zeros before its first opening. */
 #define TUPPENCE_STORE 98304
 #define TUPPENCE_RECORD 12
+
+/* The version of this header and of the library. */
+#define TUPPENCE_VERSION "0.1.0"
 
 /* What a call returns if it refuses, and 40, which is no refusal; docs/REFUSALS.md says of each exactly when. */
 #define TUPPENCE_NO_SUCH_SIDE 1

@@ -213,7 +213,7 @@ fn what_is_missing_is_told() {
     assert_eq!(ended.status, Some(0), "{}", ended.why);
     let lines: Vec<&str> = ended.said.lines().collect();
     assert!(lines[0].starts_with("out/left-2.wav: left side, "), "{}", ended.said);
-    assert!(lines[1].ends_with(" s. The 0.10 s behind them have no records, and are lost."), "{}", ended.said);
+    assert!(lines[1].ends_with(" s. The 0.10 s after them have no records and are lost."), "{}", ended.said);
     assert!(lines[3].ends_with(" s. The last 0.10 s are zeros, as a power cut may leave them."), "{}", ended.said);
     assert_eq!(fs::read(path.join("out/left.wav")).unwrap(), b"of yesterday");
     assert!(sound(&path.join("out/left-2.wav"), "left").len() > 40_000);

@@ -191,7 +191,7 @@ fn a_header_that_says_none() {
     fs::write(path.join("none.wav"), &none).unwrap();
     let ended = two(&path, "l.wav", "none.wav", "out");
     assert_eq!(ended.status, Some(2));
-    let why = "box: none.wav: its header says that there is no audio; the 4.0 s behind it are cleaned\n";
+    let why = "box: none.wav: its header says that there is no audio; the 4.0 s after it are cleaned\n";
     assert_eq!(ended.why, why);
     assert!(same(&path, "out/right.wav", "whole/right.wav"));
     // other chunks are no audio

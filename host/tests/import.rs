@@ -51,7 +51,7 @@ fn the_house_model_through_both_and_back() {
     }
 }
 
-/// A damage to some bytes: one is another, is gone, or there twice; the end is gone; a part stands there twice; a
+/// A damage to some bytes: one is another, is gone, or there twice; the end is gone; a part is given twice; a
 /// number is another.
 fn damaged(mut text: Vec<u8>, rng: &mut Rng) -> Vec<u8> {
     for _ in 0..=up_to(rng, 1) {
@@ -211,7 +211,7 @@ fn each_refusal_of_a_text_of_rnnoise_nu() {
         (13, "44 1", "44 128", "line 13: denoise_gru: `128` neurons are not from 1 to 127 (refusal 13, layer 3)"),
         (20, "1 1", "1 0", "line 20: vad_output: it has no neurons (refusal 15, layer 5)"),
         (22, "0", "", "it ends within vad_output.bias: 0 of 1 numbers are there (refusal 16, layer 5)"),
-        (22, "0", "0\r\n\r\n0", "line 24: `0` stands behind the last number of vad_output.bias"),
+        (22, "0", "0\r\n\r\n0", "line 24: `0` follows the last number of vad_output.bias"),
         (20, "1 1 1", "", "it ends before the activation of vad_output"),
     ] {
         refused(&with_line(&text, line, from, to), why);
@@ -303,7 +303,7 @@ fn each_refusal_of_an_array_in_c() {
     }
     let none = "line 34: vad_gru: there is no array `vad_gru_bias` of rnn_weight";
     refused_in_c("rnn_weight vad_gru_bias", "float vad_gru_bias", none);
-    let twice = "line 120: vad_gru_bias stands there for the second time";
+    let twice = "line 120: vad_gru_bias is there for the second time";
     refused_in_c("rnn_weight vad_output_bias", "rnn_weight vad_gru_bias", twice);
     let text = smallest_in_c();
     let cut = text.find("noise_gru_bias[3] = {\n   0,").unwrap() + 26;
@@ -335,10 +335,10 @@ fn each_refusal_of_a_layer_in_c() {
         "line 34: vad_gru: a GRULayer of bias, weights, recurrent weights, inputs, neurons, activation is wanted; \
                 this is a DenseLayer of 6 parts";
     refused_in_c("GRULayer vad_gru =", "DenseLayer vad_gru =", kind);
-    let none = |name: &str| format!("there is no layer {name} (what stands between #if and #endif is not read)");
+    let none = |name: &str| format!("there is no layer {name} (what is between #if and #endif is not read)");
     refused_in_c("DenseLayer vad_output", "DenseLayer vad_out", &none("vad_output"));
     refused_in_c("static const DenseLayer vad_output", "#if 1\nconst DenseLayer vad_output", &none("vad_output"));
-    let twice = "line 123: denoise_output stands there for the second time";
+    let twice = "line 123: denoise_output is there for the second time";
     refused_in_c("DenseLayer vad_output", "DenseLayer denoise_output", twice);
 }
 
@@ -412,9 +412,9 @@ fn what_is_refused_writes_nothing() {
         ("import cut.rnn --out m.rnn", "cut.rnn: the model is refused: it ends within a layer's weights (refusal 16"),
         ("import none.c --out m.rnn", "none.c: "),
         ("import house.rnnn --out house.rnn/m.rnn", "house.rnn: "),
-        ("import house.rnnn --out cut.rnn", "cut.rnn: it stands there already"),
+        ("import house.rnnn --out cut.rnn", "cut.rnn: it already exists"),
         ("export cut.rnn --as rnnn --out m.rnnn", "cut.rnn: the model is refused"),
-        ("export house.rnn --as rnnn --out cut.rnn", "cut.rnn: it stands there already"),
+        ("export house.rnn --as rnnn --out cut.rnn", "cut.rnn: it already exists"),
         ("export house.rnn --as c --out m.c", "export: --as c: rnnn is wanted"),
         ("import house.rnnn", "import: --out M.rnn is missing"),
     ] {

@@ -57,14 +57,14 @@ fn what_is_kept() {
     closed(&changed, &[], all, &right);
     // with fewer records, as much of the audio as they are of
     let less = "new.wav: right side, 4 frames, 2 heard, no gap\n\
-         Kept 0.03 s. The 0.00 s behind them have no records, and stand in the torn file alone.\n";
+         Kept 0.03 s. The 0.00 s after them have no records; they are only in the torn file.\n";
     for torn in [records + 32, records + 39] {
         closed(&right[..torn], &[], less, &sealed(1, &audio[..2 * 1_440]));
     }
     let mut zeros = right.clone();
     zeros[records + 18..].fill(0);
     let two = "new.wav: right side, 2 frames, 1 heard, no gap\n\
-         Kept 0.01 s. The 0.02 s behind them have no records, and stand in the torn file alone.\n";
+         Kept 0.01 s. The 0.02 s after them have no records; they are only in the torn file.\n";
     closed(&zeros, &[], two, &sealed(1, &audio[..960]));
     let whole = "new.wav: right side, 5 frames, 2 heard, no gap\nIt was sealed: the file is copied as it was.\n";
     closed(&right, &[], whole, &right);
@@ -112,7 +112,7 @@ fn what_a_person_says() {
     let audio = noise(1_500, 1);
     let right = sealed(1, &audio);
     let said = "new.wav: right side, 5 frames, 2 heard, no gap\n\
-         Kept 0.03 s. That it is the right side stands in no seal: you said it.\n";
+         Kept 0.03 s. That it is the right side is in no seal: you said so.\n";
     let mut broken = right.clone();
     broken[44 + 3_000 + 8] = 0;
     closed(&broken, &["--as", "right"], said, &right);

@@ -55,7 +55,7 @@ fn nothing_is_written_over() {
             fs::write(path.join(out).join(name), b"of yesterday").unwrap();
             let ended = run(host(&path, words));
             assert_eq!(ended.status, Some(1), "{name}");
-            assert!(ended.why.contains(&format!("{out}/{name}: it stands there already")), "{}", ended.why);
+            assert!(ended.why.contains(&format!("{out}/{name}: it already exists")), "{}", ended.why);
             assert!(ended.why.contains("--force"), "{}", ended.why);
             assert_eq!(contents(&path.join(out)), [(name.clone(), b"of yesterday".to_vec())]);
             // with --force it is written over, and what was set aside is gone
@@ -230,7 +230,7 @@ fn a_place_that_is_taken_meanwhile() {
     drop(to);
     let ended = ended(child.wait_with_output().unwrap());
     assert_eq!(ended.status, Some(1));
-    assert!(ended.why.contains("out/right.wav: it stands there already"), "{}", ended.why);
+    assert!(ended.why.contains("out/right.wav: it already exists"), "{}", ended.why);
     assert!(ended.why.contains("`box mend out`"), "{}", ended.why);
     assert_eq!(run(host(&path, &["mend", "out"])).status, Some(0));
     assert_eq!(fs::read(path.join("out/right.wav")).unwrap(), b"somebody's");

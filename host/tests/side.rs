@@ -79,9 +79,9 @@ fn a_sheet_without_a_seal() {
     let says = "a side sheet without a seal says: left side, 3 frames, 1 heard, no gap";
     untold(&riff(&audio, &sheet(0, &entries(3))), 4, says);
     untold(&sheet(0, &entries(3)), 4, says);
-    let gaps = "a side sheet without a seal says: right side, 5 frames, 1 heard, 2 gaps, the first behind frame 8";
+    let gaps = "a side sheet without a seal says: right side, 5 frames, 1 heard, 2 gaps, the first after frame 8";
     untold(&riff(&audio, &sheet(1, &[7, 8 + HEARD, 10, 11, 40])), 4, gaps);
-    let once = "a side sheet without a seal says: right side, 2 frames, 0 heard, 1 gap, behind frame 5";
+    let once = "a side sheet without a seal says: right side, 2 frames, 0 heard, 1 gap, after frame 5";
     untold(&riff(&audio, &sheet(1, &[5, 7])), 4, once);
 }
 
@@ -168,7 +168,7 @@ fn damaged_seals_and_sheets() {
     let why = "its seal is whole, but no side sheet: its records are not those that it was closed with (refusal 35)";
     untold(&of(&left, &broken), 5, why);
     let numbers = "its frames don't number up from 0: left side, 3 frames, 0 heard,";
-    untold(&of(&left, &sheet(0, &[0, 1, 3])), 5, &format!("{numbers} 1 gap, behind frame 1"));
+    untold(&of(&left, &sheet(0, &[0, 1, 3])), 5, &format!("{numbers} 1 gap, after frame 1"));
     untold(&of(&left, &sheet(0, &[1, 2, 3])), 5, &format!("{numbers} no gap"));
     untold(&of(&left, &sheet(0, &entries(4))), 5, "its side sheet has 4 frames, and its audio 3");
     // the end filled with zeros, as a power cut may leave it
@@ -264,6 +264,6 @@ fn what_is_claimed_takes_no_memory() {
     let why = "box: 1.wav: no side sheet: a record is broken or of the other side (refusal 34)\n";
     assert_eq!(looked("told-claims-right", &claims(536_870_911, 1)), (Some(3), why.into()));
     let why = "box: 1.wav: a side sheet without a seal says: left side, 8000000 frames, 0 heard, 7999999 gaps, \
-         the first behind frame 0\n";
+         the first after frame 0\n";
     assert_eq!(looked("told-claims-left", &claims(8_000_000, 0)), (Some(4), why.into()));
 }

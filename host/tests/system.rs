@@ -110,7 +110,7 @@ fn a_file_system_without_renameat2() {
     fs::write(path.join("new/right.wav"), b"somebody's").unwrap();
     drop(to);
     let ended = ended(child.wait_with_output().unwrap());
-    assert!(ended.status == Some(1) && ended.why.contains("new/right.wav: it stands there already"), "{}", ended.why);
+    assert!(ended.status == Some(1) && ended.why.contains("new/right.wav: it already exists"), "{}", ended.why);
     assert_eq!(fs::read(path.join("new/right.wav")).unwrap(), b"somebody's");
 }
 

@@ -92,10 +92,10 @@ fn errors_name_what_is_wrong() {
         (of(&["--out", "out", "--model", "M.rnn"]), 1, "clean: --model M.rnn: no such file"),
         (of(&["--out", "out", "--lag", "mine"]), 2, "clean: --lag mine: crate or own is wanted"),
         (of(&[]), 2, "clean: --out DIR is missing"),
-        (of(&["--out"]), 2, "clean: --out: DIR is missing behind it"),
-        (of(&["--out", "--force"]), 2, "clean: --out: DIR is missing behind it; --force follows"),
-        (of(&["--out="]), 2, "clean: --out: what stands behind it is empty"),
-        (of(&["--out", "out", "--out", "other"]), 2, "clean: --out stands there twice"),
+        (of(&["--out"]), 2, "clean: --out: DIR is missing after it"),
+        (of(&["--out", "--force"]), 2, "clean: --out: DIR is missing after it; --force follows"),
+        (of(&["--out="]), 2, "clean: --out: what follows it is empty"),
+        (of(&["--out", "out", "--out", "other"]), 2, "clean: --out is given twice"),
         (of(&["--out", "out", "--force=yes"]), 2, "clean: --force takes nothing; yes follows it"),
         (of(&["--out", "out", "l.wav"]), 2, "clean: l.wav is one recording too many"),
         (
@@ -103,7 +103,7 @@ fn errors_name_what_is_wrong() {
             2,
             "clean: --raw is for standard input: add -, or --left - or --right - for one bench",
         ),
-        (of(&["--out", "out", "--both", "l.wav"]), 2, "clean: --both stands for both benches"),
+        (of(&["--out", "out", "--both", "l.wav"]), 2, "clean: --both names both benches"),
         (of(&["--out", "out", "--name", "a/b"]), 2, "clean: --name a/b: a short name without /"),
         (vec!["clean", "--out", "out"], 2, "clean: no recording is named"),
         (
@@ -265,7 +265,7 @@ fn a_name_of_its_own() {
     }
     assert_eq!(names(&path.join("week")).len(), 8);
     let ended = said(&path, &[&words[..], &["monday"]].concat());
-    assert!(ended.status == Some(1) && ended.why.contains("week/monday-left.wav: it stands there"), "{}", ended.why);
+    assert!(ended.status == Some(1) && ended.why.contains("week/monday-left.wav: it already exists"), "{}", ended.why);
     good(&path, &[&words[..], &["monday", "--force"]].concat());
     // nothing that is read is written over
     fs::copy(path.join("l.wav"), path.join("x-left.wav")).unwrap();

@@ -90,7 +90,7 @@ fn inputs(given: &Given) -> Result<Option<Inputs>> {
         (Some(file), None, None) => Some(Inputs::One { side: Side::Left, file }),
         (None, Some(file), None) => Some(Inputs::One { side: Side::Right, file }),
         (None, None, Some(both)) => Some(Inputs::Stereo(both)),
-        _ => return Err(given.wrong("--both stands for both benches, and another is named besides")),
+        _ => return Err(given.wrong("--both names both benches, and another recording is named too")),
     };
     look_at_raw(given, inputs.as_ref())?;
     let alone = usize::from(!["--left", "--right", "--both"].iter().any(|name| given.has(name)) && stream.is_some());

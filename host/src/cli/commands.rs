@@ -3,7 +3,7 @@
 use crate::cli::command::{Command, Files, Opt, Takes};
 use crate::cli::{clean, help, models, sheets, texts, Program};
 
-const FORCE: Opt = Opt::flag("--force", "Write over what stands there.");
+const FORCE: Opt = Opt::flag("--force", "Overwrite what is there.");
 pub const JSON: Opt = Opt::flag("--json", "The answer as JSON: an object on a line for each file.");
 const CSV: Opt = Opt::flag("--csv", "Write frames.csv too: a row for each frame.");
 const LAG: Opt = Opt::of(

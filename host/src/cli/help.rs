@@ -54,8 +54,7 @@ pub fn help_of_box() -> String {
     list(&mut text, COMMANDS);
     text += "\n  box COMMAND --help, box help COMMAND: all about one\n";
     text += "  box --help, box --version\n\n";
-    text +=
-        "Options may stand in front of files or behind them; --out=DIR is --out DIR; behind -- are files\nalone.\n\n";
+    text += "Options may come before or after files; --out=DIR is --out DIR; after -- come files alone.\n\n";
     text += "Examples:\n";
     for example in COMMANDS.iter().flat_map(|command| command.examples) {
         writeln!(text, "  {example}").unwrap();

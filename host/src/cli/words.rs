@@ -77,7 +77,7 @@ fn look(given: &Given, option: &Opt, value: &OsStr) -> Result<()> {
     let (name, told) = (option.name, shown(Path::new(value)));
     match &option.takes {
         Takes::Nothing => Ok(()),
-        _ if value.is_empty() => Err(given.wrong(format!("{name}: what stands behind it is empty"))),
+        _ if value.is_empty() => Err(given.wrong(format!("{name}: what follows it is empty"))),
         Takes::There(_) => look_for(given, &format!("{name} "), Path::new(value)),
         Takes::OneOf(words) if !words.iter().any(|word| value == *word) => {
             Err(given.wrong(format!("{name} {told}: {} is wanted", words.join(" or "))))
@@ -104,10 +104,10 @@ fn value(
         |word: &OsString| word.to_str().is_some_and(|word| word == "--" || given.command.option(word).is_some());
     match behind.map_or_else(|| Err(rest.next().cloned()), Ok) {
         Ok(value) => Ok(value),
-        Err(None) => Err(given.wrong(format!("{name}: {takes} is missing behind it"))),
+        Err(None) => Err(given.wrong(format!("{name}: {takes} is missing after it"))),
         Err(Some(word)) if is_option(&word) => {
             let word = word.to_string_lossy().into_owned();
-            Err(given.wrong(format!("{name}: {takes} is missing behind it; {word} follows")))
+            Err(given.wrong(format!("{name}: {takes} is missing after it; {word} follows")))
         }
         Err(Some(value)) => Ok(value),
     }
@@ -122,7 +122,7 @@ fn take_option(given: &mut Given, word: &OsStr, rest: &mut std::slice::Iter<OsSt
         return Err(given.wrong(format!("unknown option {name}{}", near::did_you_mean(meant))));
     };
     if given.has(option.name) {
-        return Err(given.wrong(format!("{} stands there twice", option.name)));
+        return Err(given.wrong(format!("{} is given twice", option.name)));
     }
     let value = value(given, option, behind, rest)?;
     given.options.push((option, value));

@@ -22,7 +22,7 @@ pub struct Head {
     pub is_long: bool,
 }
 
-const BEYOND: Fault = Fault::NotWav(42, "a chunk in front of its audio goes beyond its end");
+const BEYOND: Fault = Fault::NotWav(42, "a chunk before its audio goes beyond its end");
 
 /// The library's refusal of a step, in words, by the bytes that it was lent.
 fn fault(refused: u32, bytes: &[u8]) -> Fault {
@@ -36,7 +36,7 @@ fn fault(refused: u32, bytes: &[u8]) -> Fault {
         },
         42 if bytes.len() < 8 => Fault::NotWav(42, "it has no `data` chunk"),
         42 => BEYOND,
-        43 => Fault::NotWav(43, "it has no `fmt ` chunk in front of its audio"),
+        43 => Fault::NotWav(43, "it has no `fmt ` chunk before its audio"),
         44 => Fault::NotWav(44, "its `fmt ` chunk is too short"),
         _ if channels != 1 && channels != 2 => Fault::Channels(channels),
         // an extensible format has its own tag in front of the identifier's rest

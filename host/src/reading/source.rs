@@ -255,7 +255,7 @@ impl Recording {
             _ if !self.reader.ended || signals::asked() => return None,
             _ if read == 0 => self.reader.has_head().then(|| "no audio follows its header".into())?,
             _ if self.unannounced == Unannounced::All => {
-                format!("its header says that there is no audio; the {} s behind it are cleaned", after(0)[0])
+                format!("its header says that there is no audio; the {} s after it are cleaned", after(0)[0])
             }
             _ if matches!(self.unannounced, Unannounced::More { are_read: true, .. }) => return None,
             _ => match (self.unannounced, promised) {

@@ -575,13 +575,13 @@ mod tests {
         assert_eq!(why(&file), (41, "it does not start as one"));
         assert_eq!(why(&good[1..]), (41, "it does not start as one"));
         assert_eq!(why(&good[..36]), (42, "it has no `data` chunk"));
-        assert_eq!(why(&[&good[..12], &good[36..]].concat()), (43, "it has no `fmt ` chunk in front of its audio"));
+        assert_eq!(why(&[&good[..12], &good[36..]].concat()), (43, "it has no `fmt ` chunk before its audio"));
         file = good;
         file[16] = 14;
         assert_eq!(why(&file), (44, "its `fmt ` chunk is too short"));
         for size in [60, u32::MAX] {
             file[16..20].copy_from_slice(&size.to_le_bytes());
-            assert_eq!(why(&file), (42, "a chunk in front of its audio goes beyond its end"), "{size}");
+            assert_eq!(why(&file), (42, "a chunk before its audio goes beyond its end"), "{size}");
         }
     }
 }

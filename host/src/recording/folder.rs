@@ -12,7 +12,7 @@ use std::path::{Path, PathBuf};
 
 /// Why nothing is written there.
 fn taken(place: &Path) -> Error {
-    Error::undone("it stands there already; name another place, or write over it with --force").at(place)
+    Error::undone("it already exists; choose another place, or overwrite it with --force").at(place)
 }
 
 /// A file on its way to its place.

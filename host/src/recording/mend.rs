@@ -124,7 +124,7 @@ impl Mended {
         let mut text = format!("Kept {:.2} s.", seconds(self.kept()));
         if self.lost() > 0 {
             let behind = seconds(self.lost());
-            text += &format!(" The {behind:.2} s behind them have no records, and stand in the torn file alone.");
+            text += &format!(" The {behind:.2} s after them have no records; they are only in the torn file.");
         }
         match self.follows {
             Follows::Nothing => {}
@@ -132,7 +132,7 @@ impl Mended {
             Follows::Recording => text += " Another recording follows in the file: this is the first one.",
         }
         if self.said {
-            text += &format!(" That it is the {} side stands in no seal: you said it.", self.sheet.side.name());
+            text += &format!(" That it is the {} side is in no seal: you said so.", self.sheet.side.name());
         }
         text
     }

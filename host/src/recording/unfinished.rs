@@ -173,7 +173,7 @@ impl fmt::Display for Kept {
     fn fmt(&self, f: &mut fmt::Formatter) -> fmt::Result {
         write!(f, "{}\nKept {:.2} s.", self.sheet, self.kept)?;
         if self.lost > 0.0 {
-            write!(f, " The {:.2} s behind them have no records, and are lost.", self.lost)?;
+            write!(f, " The {:.2} s after them have no records and are lost.", self.lost)?;
         }
         if self.zeros > 0.0 {
             write!(f, " The last {:.2} s are zeros, as a power cut may leave them.", self.zeros)?;

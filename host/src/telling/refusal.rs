@@ -30,7 +30,7 @@ pub fn of_model(number: u32) -> &'static str {
         14 => "a layer's activation is not 0, 1 or 2",
         15 => "a layer has no neurons",
         16 => "it ends within a layer's weights",
-        17 => "there are bytes behind the last layer",
+        17 => "there are bytes after the last layer",
         18 => "it does not take 42 features to 22 gains and one voice",
         19 => "vad_gru does not fit input_dense and vad_output",
         20 => "noise_gru does not fit the layers before it",

@@ -74,8 +74,8 @@ impl fmt::Display for Sheet {
         write!(f, "{} side, {} frames, {} heard, ", self.side.name(), self.frames, self.heard)?;
         match self.gaps {
             Gaps { first: None, .. } => write!(f, "no gap"),
-            Gaps { count: 1, first: Some(frame) } => write!(f, "1 gap, behind frame {frame}"),
-            Gaps { count, first: Some(frame) } => write!(f, "{count} gaps, the first behind frame {frame}"),
+            Gaps { count: 1, first: Some(frame) } => write!(f, "1 gap, after frame {frame}"),
+            Gaps { count, first: Some(frame) } => write!(f, "{count} gaps, the first after frame {frame}"),
         }
     }
 }

@@ -136,7 +136,7 @@ impl<'a> Reader<'a> {
 
 fn insert_new<T>(to: &mut BTreeMap<String, T>, name: String, what: T, line: usize) -> Result<()> {
     if to.contains_key(&name) {
-        return Err(Error::undone(format!("line {line}: {name} stands there for the second time")));
+        return Err(Error::undone(format!("line {line}: {name} is there for the second time")));
     }
     to.insert(name, what);
     Ok(())
@@ -202,8 +202,7 @@ pub fn layers_in_c(text: &[u8]) -> Result<Layers> {
     reader.read()?;
     let mut layers = Layers::default();
     for (layer, (name, _)) in LAYERS.iter().enumerate() {
-        let none =
-            || Error::undone(format!("there is no layer {name} (what stands between #if and #endif is not read)"));
+        let none = || Error::undone(format!("there is no layer {name} (what is between #if and #endif is not read)"));
         let declared = reader.layers.get(*name).ok_or_else(none)?;
         fill(&mut layers, layer, declared, &reader.arrays).within(format!("line {}", declared.line))?;
     }

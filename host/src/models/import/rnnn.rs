@@ -82,7 +82,7 @@ pub fn layers_in_rnnn(text: &[u8]) -> Result<Layers> {
     match words.next() {
         None => Ok(layers),
         Some((line, word)) => {
-            let why = format!("line {line}: {} stands behind the last number of vad_output.bias", shown_word(word));
+            let why = format!("line {line}: {} follows the last number of vad_output.bias", shown_word(word));
             Err(Error::undone(why))
         }
     }
