@@ -26,7 +26,7 @@ fn headers([dense, vad, noise, denoise]: [usize; 4]) -> [[usize; 3]; 6] {
 #[test]
 fn lag_768_passes_and_769_gives_6() {
     for (lag, number) in [(768, 0), (769, 6)] {
-        let (mut store, mut record) = (vec![0.0; 98_304], vec![0; record()]);
+        let (mut store, mut record) = (vec![0.0; tuppence::STORE], vec![0; record()]);
         let (mut window, mut sums) = ([0.0; 960], [0.0; 22]);
         assert_eq!(tuppence::open(&mut record, &mut store, 0, &zeros(headers([1; 4]))), 0);
         assert_eq!(tuppence::call1(&mut record, &mut store, 0, &[100.0; 480], &mut window), 0);
