@@ -30,10 +30,15 @@ example=(cc -std=c11 -Wall -Wextra -Werror -O2 -Ibindings/c bindings/c/clean_a_s
 (cd bindings/ladspa && cargo test --release --offline --locked --target-dir ../../target/ladspa)
 (cd bindings/ladspa && cargo build --release --offline --locked --target-dir ../../target/ladspa)
 
-# The examples of docs/EMBEDDING.md, as they are printed there.
+# The examples of docs/EMBEDDING.md, as they are printed there; and the README's, which is a doctest of the Rust crate.
 example_in() {
-    awk -v fence="\`\`\`$1" '$0 == fence { inside = 1; next } /^```/ { inside = 0 } inside' docs/EMBEDDING.md
+    awk -v fence="\`\`\`$1" '$0 == fence { inside = 1; next } /^```/ { inside = 0 } inside' "${2:-docs/EMBEDDING.md}"
 }
+example_in rust README.md | while IFS= read -r line; do
+    grep -qxF "//! $line" bindings/rust/src/lib.rs && continue
+    echo "README.md: not in the doctest of bindings/rust: $line"
+    exit 1
+done
 example_in c >"$made/example.c"
 cc -std=c11 -Wall -Wextra -Werror -Ibindings/c -o "$made/example" "$made/example.c" -L"$shared" -ltuppence -Wl,-rpath,"$PWD/$shared"
 "$made/example"
