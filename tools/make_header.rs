@@ -317,9 +317,9 @@ fn refusals(wrong: &mut Wrong) -> String {
     if rows.is_empty() {
         wrong.note(PAGE, "no row of its table can be read".into());
     }
-    let lines = rows.iter().map(|cells| format!("#define {} {}\n", cells[2].trim_matches('`'), cells[1]));
-    let what = "What a call returns if it refuses, and 40, which is no refusal; docs/REFUSALS.md says of each exactly when.";
-    format!("\n/* {what} */\n{}", lines.collect::<String>())
+    let lines = rows.iter().map(|cells| format!("    {} = {},\n", cells[2].trim_matches('`'), cells[1]));
+    let what = "The refusals that a call may return, and 40, which is none. docs/REFUSALS.md says exactly when.";
+    format!("\n/* {what} */\nenum tuppence_refusal {{\n{}}};\n", lines.collect::<String>())
 }
 
 /// The version of the Rust crate, which is that of the library.
