@@ -1,4 +1,4 @@
--- For the parts of the code: what a function leaves, as one value of the stage's definition.
+-- For the contracts of private functions: what a function leaves, as a value of the step's definition.
 use Rattle.rules.specs.Common.{ℕ, Bool, true, false, List, _≡_, Float}
 use Rattle.model.specs.Model.{readOf}
 use Rattle.model.specs.declared.Model.{Model}
@@ -9,7 +9,7 @@ use Rattle.frame.specs.Heard.{Featured, Rnn, Spoken}
 use Rattle.frame.specs.declared.Reply.{Reply}
 use Rattle.frame.specs.declared.Reply.the-variants.{Silent, Heard, Refused}
 
--- what holds of the model, where its bytes read
+-- P holds of the model, if the bytes read as one.
 abbrev pub Reads : List ℕ → (Model → Type 0) → Type 0
 Reads bytes P = (m : Model) → readOf bytes ≡ Good m → P m
 
