@@ -1,4 +1,4 @@
--- For the parts of the code.
+-- For the contracts of private functions.
 use Rattle.rules.specs.Common.{ℕ, _+_, _-_, _≤_, cond, _≡_}
 use Rattle.model.specs.declared.Reading.{Reading}
 use Rattle.model.specs.declared.Reading.the-variants.{Good, Refused as Unread}
@@ -13,8 +13,8 @@ use Rattle.desk.specs.declared.Record.{Record}
 use Rattle.desk.specs.declared.Answer.{Answer}
 use Rattle.desk.specs.declared.Admission.{Admission}
 
--- the gate's number, and of a call that it lets through where the side's share lies, a frame's part in front: as numbers that are in order in any
--- case
+-- The gate's number; and if it is 0, where the side's share begins, where the frame's part ends, and where
+-- the share ends. The three places are in order in any case, so that slices can be taken.
 pub record Admits (benches side : ℕ) (rec : Record) (len call : ℕ) (a : Admission) : Type 0 where
   pub number : a .number ≡ gate benches side rec len call
   pub inOrder : a .start ≤ a .part
@@ -22,7 +22,8 @@ pub record Admits (benches side : ℕ) (rec : Record) (len call : ℕ) (a : Admi
   pub inside : a .end ≤ len
   pub share : a .number ≡ 0 → (a .start ≡ shareOf side .at) × (a .part ≡ shareOf side .at + PART) × (a .end ≡ shareOf side .at + SHARE)
 
--- the answers of a call that is turned away, of calls 1 to 3 and call 4, and of the two halves
+-- The answer of a call that the gate refuses; of calls 1 to 3; of call 4; of the first half; of the second
+-- half.
 abbrev pub turnedAway : Record → ℕ → Answer
 turnedAway rec number = record { reply = Refused number; rec = rec }
 
@@ -39,7 +40,7 @@ toldFirst rec reply = record { reply = reply; rec = cond (passed reply) (advance
 abbrev pub toldSecond : Record → Reply → Answer
 toldSecond rec reply = record { reply = reply; rec = cond (passed reply) (numbered (advanced rec reply)) rec }
 
--- of a piece and of a resume, with so many samples
+-- The answers of a piece and of a resume with so many samples.
 abbrev pub toldPiece : Record → ℕ → Reply → Answer
 toldPiece rec size reply = record { reply = reply; rec = cond (passed reply) (carried rec (rec .waiting + size) size (480 - rec .waiting)) rec }
 
@@ -47,7 +48,7 @@ abbrev pub toldResume : Record → ℕ → Reply → Answer
 toldResume rec size reply =
     record { reply = reply; rec = cond (passed reply) (carried (numbered (advanced rec reply)) (size - rec .progress) size (rec .progress + 480)) rec }
 
--- of an opening
+-- The answer of an opening.
 abbrev pub openedOf : Record → Way → Reading → Answer
 openedOf rec way (Good m) = record { reply = Done; rec = started rec way (Good m) }
 openedOf rec way (Unread n l) = record { reply = Misread n l; rec = rec }
