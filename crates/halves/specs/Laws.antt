@@ -1,4 +1,5 @@
--- What is claimed of the calls that are made of others, over one share. The proofs are in proofs/Sister, proofs/Lagged, proofs/Joined and proofs/Tested.
+-- Claims about the calls that are made of others, on one share. Proofs: proofs/Sister, Lagged, Joined,
+-- Tested.
 use Rattle.rules.specs.Common.{ℕ, true, false, not, List, [], _∷_, _≡_, ltb, length, drop, Float}
 use Rattle.rules.specs.Place.{get}
 use Rattle.rules.specs.Refusals.{wrong}
@@ -19,7 +20,8 @@ use Rattle.halves.specs.Own.{call2Own}
 use Rattle.halves.specs.Ways.{lagBy, remembered, forwardBy, inverseBy}
 use Rattle.halves.specs.Halves.{firstHalf, lookedBack, secondHalf}
 
--- the sister keeps call 2's refusals, of which 6 is never due (request 04): 5 for a wrong length, or done with our own lag
+-- The sister has call 2's refusals, except that 6 never comes up (request 04): it is refused with 5 for a
+-- wrong length, or done with our own lag.
 abbrev pub SisterByFive : Type 0
 SisterByFive =
     (share spectrum : List Float) (window sums : ℕ)
@@ -49,7 +51,7 @@ SecondTests =
     (5 when wrong ((length share, PART) ∷ (length logs, 22) ∷ (out, 480) ∷ []) ∷ 5 when ltb 7 (hearing .index) ∷ checked (counted hearing) (readOf model) ∷ [])
     share (secondHalf share hearing logs model out)
 
--- behind a call 2, whoever made it, the second half looks at that call's window (request 08)
+-- After any call 2, whoever made it, the second half uses the window of that call (request 08).
 abbrev pub SameWindow : Type 0
 SameWindow =
     (share spectrum : List Float) (lag window sums : ℕ)
@@ -60,7 +62,8 @@ OwnWindow =
     (share spectrum : List Float) (window sums : ℕ)
     → let b = call2Own share spectrum window sums in passed (b .answer) ≡ true → lookedBack (b .kept) ≡ firstIn (b .written)
 
--- a half that is the calls a and b: both are done, it leaves b's share, and this is its reply and what it writes
+-- A half is the calls a and b: both are done, the half leaves b's share, and this is its reply and what it
+-- writes.
 pub record Both (a b half : Effect Reply) (reply : Reply) (written : List Written) : Type 0 where
   pub first : passed (a .answer) ≡ true
   pub last : passed (b .answer) ≡ true
@@ -68,7 +71,7 @@ pub record Both (a b half : Effect Reply) (reply : Reply) (written : List Writte
   pub keeps : half .kept ≡ b .kept
   pub writes : half .written ≡ written
 
--- accepted, a half is its two calls, one after the other, with the spectra and the lag of its way lent
+-- A half that is accepted is its two calls, one after the other, lent the spectra and the lag of its way.
 abbrev pub FirstIsCalls : Type 0
 FirstIsCalls =
     (share : List Float) (way : Way) (samples : List Float) (sums : ℕ)
@@ -85,7 +88,7 @@ SecondIsCalls =
     let half = secondHalf share hearing logs model out in
     passed (half .answer) ≡ true → Both three four half (three .answer) (four .written)
 
--- the way that requests 04 and 08 ask: call 2's sister, and the plain sums
+-- The same for way 0 (requests 04 and 08): call 2's sister, and the plain sums.
 abbrev pub AskedFirst : Type 0
 AskedFirst =
     (share samples : List Float) (sums : ℕ)

@@ -1,11 +1,11 @@
--- For the parts of the code.
+-- For the contracts of private functions.
 use Rattle.rules.specs.Common.{ℕ, List, Float}
 use Rattle.frame.specs.Reply.{firstRefusal}
 use Rattle.frame.specs.declared.Hearing.{Hearing}
 use Rattle.frame.specs.declared.Reply.{Reply}
 use Rattle.pieces.specs.Pieces.{pieceRows, resumeRows}
 
--- the refusal of a piece and of a resume, or Done
+-- The refusal of a piece or of a resume, or Done.
 unfoldable pub pieceReply : List Float → ℕ → List Float → ℕ → ℕ → Reply
 pieceReply share waiting samples out sums = firstRefusal (pieceRows share waiting samples out sums)
 
