@@ -1,4 +1,4 @@
--- What stands at the end of some bytes: the sheet and the bytes before it, or a refusal.
+-- What is at the end of some bytes: a sheet and the bytes before it, or a refusal.
 use Rattle.rules.specs.Common.{ℕ, zero, suc, _+_, _-_, _*_, _%_, Bool, cond, not, _&&_, _||_, List, [], _∷_, eqb, ltb, length, getD, take, drop}
 use Rattle.rules.specs.Lists.{sum}
 use Rattle.rules.specs.Refusals.{Row, _when_, refusing}
@@ -6,21 +6,21 @@ use Rattle.sheet.specs.Sheet.{Sheet}
 use Rattle.sheet.specs.declared.Reading.{Reading}
 use Rattle.sheet.specs.declared.Reading.the-variants.{Good, Refused}
 
--- the number that the four bytes in front are
+-- The number that the first four bytes are.
 unfoldable pub fromFour : List ℕ → ℕ
 fromFour s = getD s 0 0 + 256 * getD s 1 0 + 65536 * getD s 2 0 + 16777216 * getD s 3 0
 
--- three zeros
+-- The first three bytes are zeros.
 unfoldable pub zeros : List ℕ → Bool
 zeros s = eqb (getD s 0 0) 0 && (eqb (getD s 1 0) 0 && eqb (getD s 2 0) 0)
 
 -- ---- records, in front of some bytes
 
--- the first is of this side, silent or heard, and ends in two zeros
+-- The first record is of this side, is silent or heard, and ends in two zeros.
 unfoldable pub good : ℕ → List ℕ → Bool
 good side s = not (ltb 1 (getD s 4 0)) && (eqb (getD s 5 0) side && (eqb (getD s 6 0) 0 && eqb (getD s 7 0) 0))
 
--- how many of n are, up to the first that is not
+-- How many of n records are good, up to the first that is not.
 unfoldable pub run : ℕ → ℕ → List ℕ → ℕ
 run side zero s = 0
 run side (suc n) s = cond (good side s) (suc (run side n (drop 8 s))) 0
@@ -55,11 +55,11 @@ sumNoted s = fromFour (drop 12 (trailer s))
 unfoldable pub start : List ℕ → ℕ
 start s = length s - 16 - distance s
 
--- the bytes from the first record on
+-- The bytes from the first record on.
 unfoldable pub records : List ℕ → List ℕ
 records s = drop (start s) s
 
--- the refusals of some bytes, in order
+-- The refusals of some bytes, in order.
 unfoldable pub faults : List ℕ → List Row
 faults s =
     31 when ltb (length s) 16
@@ -76,7 +76,7 @@ pub data End : Type 0 where
 unfoldable pub endOf : List ℕ → End
 endOf s = refusing (faults s) refused (sheet (take (start s) s) (record { side = sideByte s; entries = entriesOf (number s) (records s) }))
 
--- what a reader is told: where the records start, how many there are, and the side
+-- What a reader is told: where the records start, how many there are, and the side.
 abbrev pub readingOf : End → Reading
 readingOf (sheet before sh) = Good (length before) (length (sh .entries)) (sh .side)
 readingOf (refused n) = Refused n

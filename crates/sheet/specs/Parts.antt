@@ -1,4 +1,4 @@
--- What the private functions promise and ask for.
+-- For the contracts of private functions.
 use Rattle.rules.specs.Common.{ℕ, _+_, _*_, _^_, _≤_, _<_, List, [], _∷_, _++_, _≡_, ltb, length, getD, take, drop}
 use Rattle.rules.specs.Leaf.{_leaving_}
 use Rattle.rules.specs.Lists.{sum}
@@ -8,19 +8,19 @@ use Rattle.sheet.specs.End.{number, sideByte, start, faults}
 use Rattle.sheet.specs.declared.Reading.{Reading}
 use Rattle.sheet.specs.declared.Reading.the-variants.{Good, Refused}
 
--- the answer by the first three refusals alone, and by the others
+-- The answer by the first three refusals alone, and the answer by the others.
 abbrev pub pointed : List ℕ → Reading
 pointed s = refusing (take 3 (faults s)) Refused (Good (start s) (number s) (sideByte s))
 
 abbrev pub checked : List ℕ → Reading
 checked s = refusing (drop 3 (faults s)) Refused (Good (start s) (number s) (sideByte s))
 
--- the trailer's distance is below 2^32
+-- A sheet that reads has fewer than 2^29 records, because its distance is below 2^32.
 abbrev pub Few : Reading → Type 0
 Few (Good at n side) = n < 2 ^ 29
 Few (Refused n) = Unit
 
--- a start, a number of records and a side as a trailer says them
+-- A start, a number of records and a side, as a trailer says them.
 pub record Pointed (s : List ℕ) (at n side : ℕ) : Type 0 where
   pub starts : at ≡ start s
   pub counts : n ≡ number s
@@ -29,15 +29,15 @@ pub record Pointed (s : List ℕ) (at n side : ℕ) : Type 0 where
   pub few : n < 2 ^ 29
   pub known : side ≤ 1
 
--- every entry is silent or heard
+-- Every entry is silent or heard.
 abbrev pub Kinds : List ℕ → Type 0
 Kinds es = (i : ℕ) → kind (getD es i 0) ≤ 1
 
--- records in front of a buffer that is left as a sheet
+-- Records at the front of a buffer, followed by their trailer.
 abbrev pub closed : ℕ → ℕ → List ℕ → List ℕ
 closed n side out = let rs = take (8 * n) out in rs ++ trailerOf n side (sum rs)
 
--- a file copied into a buffer
+-- A file copied into a buffer.
 abbrev pub copied : List ℕ → ℕ → List ℕ → List ℕ → ℕ × (List ℕ × List ℕ)
 copied s n numbers out =
     refusing (36 when ltb (length out) (length s) ∷ []) (λ r. r leaving numbers leaving out)

@@ -1,15 +1,15 @@
--- What writing a sheet gives: what is returned, and what the buffer then holds.
+-- Writing a sheet: what is returned, and what the buffer holds afterwards.
 use Rattle.rules.specs.Common.{ℕ, _+_, Bool, true, not, _&&_, List, [], _∷_, _++_, ltb, length, drop}
 use Rattle.rules.specs.Leaf.{_leaving_}
 use Rattle.rules.specs.Refusals.{Row, _when_, refusing}
 use Rattle.sheet.specs.Sheet.{Sheet, kind, bytesOf, sizeOf}
 
--- each is silent or heard
+-- Every entry is silent or heard.
 unfoldable pub kinds : List ℕ → Bool
 kinds [] = true
 kinds (e ∷ es) = not (ltb 1 (kind e)) && kinds es
 
--- the refusals of a sheet, and last of a buffer of so many bytes
+-- The refusals of a sheet, and last that of a buffer with too little room.
 abbrev pub writtenFaults : Sheet → ℕ → List Row
 writtenFaults sh room =
     32 when ltb 536870911 (length (sh .entries))
