@@ -10,7 +10,7 @@ fn wide(byte: u8) -> u32
     byte as u32
 }
 
-// The register after these bytes, by the table's entries.
+// The register after these bytes, by the entries of the table.
 fn update(entries: &[u32; 256], start: u32, bytes: &[u8]) -> u32
     requires { ⌜ now entries ≡ table ⌝ }
     ensures { λ r. ⌜ r ≡ crc start (now (bytes .entry)) ⌝ }
@@ -23,7 +23,8 @@ fn update(entries: &[u32; 256], start: u32, bytes: &[u8]) -> u32
     register
 }
 
-// The checksum of what was handed in before, 0 of nothing, and of these bytes behind it.
+// The checksum of the bytes so far, followed by these. `before` is the checksum of the bytes so far, 0 at
+// first.
 pub fn crc32(before: u32, bytes: &[u8]) -> u32
     ensures { λ r. ⌜ r ≡ crc32 before (now (bytes .entry)) ⌝ }
 {

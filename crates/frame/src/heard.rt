@@ -18,7 +18,7 @@ use crate::Reply;
 use features::Sound;
 use model::Reading;
 
-// Refusals 7 and 8, or done.
+// The reply of the model's test: refusal 7 or 8, or Done.
 fn judge(read: Reading, hearing: Hearing) -> Reply
     ensures { λ r. ⌜ r ≡ checked (counted hearing) read ⌝ }
 {
@@ -45,7 +45,8 @@ pub fn check(model: &[u8], hearing: Hearing) -> Reply
     judge(model::read(model), hearing)
 }
 
-// The features, the correlations and the new cepstrum; x and ex are as the share keeps them.
+// Computes the features and the correlations, and stores the new cepstrum. x and ex are those that the share
+// keeps.
 fn sense(
     share: &mut [f32],
     features: &mut [f32],
@@ -78,7 +79,7 @@ fn sense(
     );
 }
 
-// The network, over the states in the share: the gains, and the voice.
+// Runs the network on the states in the share. Gives the gains and returns the voice.
 fn think(share: &mut [f32], gains: &mut [f32], model: &[u8], features: &[f32]) -> f32
     requires { ⌜ (length (now share) ≡ 3778) × (length (now gains) ≡ 22) × (length (now features) ≡ 42) ⌝ }
     ensures { λ r. ⌜ Reads (now (model .entry))
@@ -106,7 +107,7 @@ fn apply(out: &mut [f32], gains: &[f32])
     apply_in(out, &mut gf, gains);
 }
 
-// The gains are raised, remembered and applied.
+// Raises the gains to 0.6 of the last ones, remembers them, and applies them.
 fn raise(share: &mut [f32], out: &mut [f32], gains: &mut [f32])
     requires { ⌜ (length (now share) ≡ 3778) × (length (now out) ≡ 961) × (length (now gains) ≡ 22) ⌝ }
     ensures { λ _. ⌜ now (share .exit) ≡ put lastg (now (share .entry)) (heldGains (now (share .entry)) (now (gains .entry))) ⌝ }
@@ -164,7 +165,8 @@ fn speak_in(
     voice
 }
 
-// A heard frame, from p and its energies on: out holds x, and becomes the spectrum for the inverse. Gives the voice back.
+// A heard frame, from p and its energies on. `out` holds x and becomes the spectrum to be transformed back.
+// Returns the voice.
 fn speak(
     share: &mut [f32],
     out: &mut [f32],
@@ -220,7 +222,7 @@ fn hear_in(
     speak(share, out, index, p, ex, ep, logs, model)
 }
 
-// A heard frame: out holds x, and becomes the spectrum for the inverse. Gives the voice back.
+// A heard frame. `out` holds x and becomes the spectrum to be transformed back. Returns the voice.
 fn hear(
     share: &mut [f32],
     out: &mut [f32],
@@ -270,7 +272,7 @@ fn reply_of(sound: Sound, voice: f32) -> Reply
     }
 }
 
-// Silent, or heard; the spectrum is written.
+// Call 3 after its refusals: the frame is silent or heard, and the spectrum is written.
 pub(crate) fn listen(
     share: &mut [f32],
     out: &mut [f32],

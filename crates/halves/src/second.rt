@@ -11,7 +11,7 @@ use frame::PART;
 use frame::Reply;
 use frame::Way;
 
-// The spectrum of the window that call 2 gave, for the lag that stands in the share.
+// The spectrum of the window that call 2 gave, for the lag that the share keeps.
 fn look_back(spectrum: &mut [f32], share: &[f32], way: Way)
     requires { ⌜ (length (now spectrum) ≡ 961) × (length (now share) ≡ 3778) ⌝ }
     ensures { λ _. ⌜ now (spectrum .exit) ≡ forwardBy way (lookedBack (now (share .entry))) ⌝ }
@@ -34,7 +34,8 @@ fn synthesise(share: &mut [f32], way: Way, spectrum: &[f32], out: &mut [f32]) ->
     frame::call4(share, &samples, out)
 }
 
-// 22 logarithms and the model in, 480 samples written; silent, or heard with voice and energy.
+// The second half. Takes 22 logarithms and the model, and writes 480 samples. The frame is silent, or heard
+// with voice and energy.
 pub fn second_half(
     share: &mut [f32],
     hearing: Hearing,

@@ -1,4 +1,4 @@
-// What a bench's way decides: whose lag, and which transforms.
+// What a bench's way decides: which lag and which transforms.
 ghost use mathlib.Core.Path.{_≡_};
 ghost use lib.ListN.{length};
 ghost use Rattle.frame.specs.declared.Way.the-variants.{Crate};
@@ -7,7 +7,7 @@ ghost use Rattle.halves.specs.Ways.{lagBy, remembered, forwardBy, invers
 use frame::Lag;
 use frame::Way;
 
-// The finder's period, which it remembers with its gain.
+// The finder's period. The finder remembers it, with its gain.
 fn find(share: &mut [f32]) -> Lag
     requires { ⌜ length (now share) ≡ 3778 ⌝ }
     ensures { λ r. ⌜ r .0 ≡ lagBy Crate (now (share .entry)) ⌝ }
@@ -20,7 +20,7 @@ fn find(share: &mut [f32]) -> Lag
     Lag(period)
 }
 
-// The lag, and what is remembered of it.
+// The lag of a way. What is remembered of it is stored.
 pub(crate) fn lag(share: &mut [f32], way: Way) -> Lag
     requires { ⌜ length (now share) ≡ 3778 ⌝ }
     ensures { λ r. ⌜ r .0 ≡ lagBy way (now (share .entry)) ⌝ }

@@ -1,4 +1,4 @@
-// A resume: the frame under way is finished, and the rest of its piece waits or begins the next one.
+// A resume: it finishes the frame under way. The rest of its piece waits, or begins the next frame.
 ghost use mathlib.Core.Bool.{true, not};
 ghost use mathlib.Core.Path.{_≡_};
 ghost use mathlib.Core.List.{[], _∷_};
@@ -17,7 +17,7 @@ use frame::Hearing;
 use frame::Reply;
 use frame::Way;
 
-// Whether a resume of the piece noted fits its buffers.
+// Whether a resume of the noted piece fits its buffers.
 fn resume_fits(
     index: usize,
     piece: usize,
@@ -54,7 +54,7 @@ fn resume_fits(
     sums == 22
 }
 
-// Refusals 7 to 9, behind the lengths, or Done.
+// The tests after the lengths: refusals 7 to 9, or Done.
 pub fn last_tests(hearing: Hearing, model: &[u8], fine: bool) -> Reply
     ensures { λ r. ⌜ r ≡ firstRefusal (checked (counted hearing) (readOf (now (model .entry))) ∷ 9 when not fine ∷ []) ⌝ }
 {
@@ -101,7 +101,7 @@ fn resume_reply(
     last_tests(hearing, model, samples::all_good(samples))
 }
 
-// The samples from `from` on wait, or the first 480 of them begin a frame, and 22 sums are written.
+// The samples from `from` on wait, or the first 480 of them begin a frame and 22 sums are written.
 fn go_on(share: &mut [f32], way: Way, samples: &[f32], from: usize, sums: &mut [f32])
     requires { ⌜ (length (now share) ≡ 6144) × (from ≤ length (now samples)) × (good (now samples) ≡ true) × (length (now sums) ≡ 22) ⌝ }
     ensures { λ _. ⌜ Worked (further Done (now (share .entry)) way (drop from (now (samples .entry))) nothing)
@@ -115,8 +115,9 @@ fn go_on(share: &mut [f32], way: Way, samples: &[f32], from: usize, sums: &mut [
     crate::frames::enter(share, way, &samples[from..end], sums);
 }
 
-// The frame under way is finished with its logarithms and written to its place of the output. The rest of the samples waits, or 480 of
-// them begin the next frame, and 22 sums are written. Silent, or heard with voice and energy.
+// Finishes the frame under way with its logarithms, and writes it to its place in the output. The rest of the
+// samples waits, or 480 of them begin the next frame and 22 sums are written. The frame is silent, or heard
+// with voice and energy.
 pub fn resume(
     share: &mut [f32],
     hearing: Hearing,

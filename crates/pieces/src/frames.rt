@@ -1,4 +1,5 @@
-// A frame's two halves over its part of a share. Their callers have tested what they could refuse.
+// The two halves of a frame, on its part of a share. The callers have tested everything that could refuse
+// them.
 ghost use mathlib.Core.Bool.{true};
 ghost use mathlib.Core.Path.{_≡_};
 ghost use Prim.Native.Nat.{_+_, _≤_};
@@ -16,7 +17,7 @@ use frame::PART;
 use frame::Reply;
 use frame::Way;
 
-// 480 samples begin a frame, and its sums are written.
+// Begins a frame with 480 samples, and writes its sums.
 pub(crate) fn enter(share: &mut [f32], way: Way, samples: &[f32], sums: &mut [f32])
     requires { ⌜ (length (now share) ≡ 6144) × (length (now samples) ≡ 480) × (good (now samples) ≡ true) × (length (now sums) ≡ 22) ⌝ }
     ensures { λ _. ⌜ now (share .exit)
@@ -26,7 +27,7 @@ pub(crate) fn enter(share: &mut [f32], way: Way, samples: &[f32], sums: &mut [f3
     halves::first_half(&mut share[0..PART], way, samples, sums);
 }
 
-// The frame under way is finished, and written from `start` on.
+// Finishes the frame under way, and writes it from `start` on.
 pub(crate) fn leave(
     share: &mut [f32],
     hearing: Hearing,

@@ -1,4 +1,4 @@
-// Samples as a recorder may give them, request 05: -32768 to 32767.
+// Which samples a call accepts (request 05): -32768 to 32767.
 ghost use mathlib.Core.Path.{_≡_};
 ghost use Rattle.samples.specs.Samples.{good};
 

@@ -31,7 +31,7 @@ pub enum Reading {
     Refused(u32),
 }
 
-// Four letters, little end first.
+// Four letters as a number, least significant byte first.
 fn word_of(word: Word) -> u64
     ensures { λ r. ⌜ r ≡ wordOf word ⌝ }
 {

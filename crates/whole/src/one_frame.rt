@@ -1,4 +1,4 @@
-// A frame in one call: its two halves over the side's share, after one table of refusals.
+// A frame in one call: one table of refusals, then its two halves on the side's share.
 ghost use mathlib.Core.List.{[], _∷_};
 ghost use lib.ListN.{length};
 ghost use Rattle.desk.specs.Gate.{BENCHES};
@@ -8,7 +8,8 @@ use desk::Answer;
 use desk::Record;
 use desk::Side;
 
-// 480 samples and the model in, 480 numbers written; silent, or heard with voice and energy.
+// Takes 480 samples and the model, and writes 480 numbers. The frame is silent, or heard with voice and
+// energy.
 pub fn frame(
     side: Side,
     rec: Record,

@@ -1,4 +1,4 @@
-// A piece in one call: the dictation of its samples over the side's share, behind one table of refusals.
+// A piece in one call: one table of refusals, then the dictation of its samples on the side's share.
 ghost use mathlib.Core.List.{[], _∷_};
 ghost use lib.ListN.{length};
 ghost use Rattle.desk.specs.Gate.{BENCHES};
@@ -8,7 +8,8 @@ use desk::Answer;
 use desk::Record;
 use desk::Side;
 
-// 1 to 4,096 samples and the model in; 480 numbers written for each frame that they complete, and three answers: heard or not, voice, energy.
+// Takes 1 to 4,096 samples and the model. Writes 480 numbers and three answers (heard, voice, energy) for
+// each frame that they complete.
 pub fn take(
     side: Side,
     rec: Record,

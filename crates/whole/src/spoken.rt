@@ -1,5 +1,5 @@
-// Dictation over one share: frame by frame a first half, our logarithms and a second half; what is left of the samples waits. Its callers have
-// tested what could refuse it.
+// Dictation on one share: for each frame a first half, our logarithms and a second half; the rest of the
+// samples waits. The callers have tested everything that could refuse it.
 ghost use mathlib.Core.Bool.{true};
 ghost use mathlib.Core.List.{[], _∷_, _++_};
 ghost use mathlib.Core.Path.{_≡_};
@@ -18,7 +18,7 @@ use desk::Record;
 use frame::PART;
 use frame::Reply;
 
-// One frame over a share: 480 samples in, 480 numbers written, with our logarithms between its halves.
+// One frame on a share: takes 480 samples and writes 480 numbers, with our logarithms between its halves.
 pub(crate) fn speak(
     share: &mut [f32],
     rec: Record,
@@ -41,7 +41,8 @@ pub(crate) fn speak(
     desk::told_second(desk::holding(3, rec, 0, 0, 0), reply)
 }
 
-// `out` becomes the samples from frame j on, of those that wait and of a piece's, as far as they go, and zeros.
+// `out` becomes the samples from frame j on, of those that wait followed by the piece's, as far as it has
+// room, filled up with zeros.
 fn gather(out: &mut [f32], share: &[f32], waiting: usize, piece: &[f32], j: usize)
     requires { ⌜ (length (now share) ≡ 6144) × (waiting ≤ 479) × (length (now piece) ≤ 4096) × (480 * j ≤ waiting + length (now piece)) ⌝ }
     ensures { λ _. ⌜ now (out .exit)
@@ -56,7 +57,7 @@ fn gather(out: &mut [f32], share: &[f32], waiting: usize, piece: &[f32], j: usiz
     pieces::join(out, &piece[0..0], &piece[start..]);
 }
 
-// Frame j, from 0, of the samples that wait and of a piece's, and its three answers.
+// Frame j, counted from 0, of the samples that wait followed by the piece's, and its three answers.
 fn step(
     share: &mut [f32],
     rec: Record,
@@ -88,10 +89,10 @@ fn step(
     done.rec
 }
 
-// From frame::PART to here samples may wait.
+// The places at which samples may wait end here. They begin at frame::PART.
 const TO: usize = PART + 479;
 
-// The samples after so many frames wait, of those that waited and of a piece's.
+// Lets the samples after so many frames wait.
 fn settle(share: &mut [f32], waiting: usize, piece: &[f32], frames: usize)
     requires { ⌜ (length (now share) ≡ 6144) × (waiting ≤ 479) × (length (now piece) ≤ 4096) × (480 * frames ≤ waiting + length (now piece)) ⌝ }
     ensures { λ _. ⌜ now (share .exit)
@@ -102,7 +103,7 @@ fn settle(share: &mut [f32], waiting: usize, piece: &[f32], frames: usize)
     rules::copy(&mut share[PART..TO], &rest);
 }
 
-// All frames that the samples complete, one after another, and the rest waits.
+// All frames that the samples complete, one after another. The rest waits.
 pub(crate) fn dictate(
     share: &mut [f32],
     rec: Record,

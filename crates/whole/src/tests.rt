@@ -1,4 +1,4 @@
-// What a call is refused for, before anything changes.
+// The refusals of a call, tested before anything changes.
 ghost use mathlib.Core.Path.{_≡_};
 ghost use mathlib.Core.List.{_++_};
 ghost use Prim.Native.Nat.{_*_, _≤_, _<_};
