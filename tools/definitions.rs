@@ -138,7 +138,8 @@ fn blocks(text: &str) -> Vec<Block> {
         }
         block.words.extend(words(line).filter(|word| *word != block.name).map(String::from));
         if in_type {
-            block.of_type.push_str(line.split_once(" : ").filter(|_| begun.is_some()).map_or(line, |(_, of_type)| of_type));
+            let typed = line.split_once(" : ").filter(|_| begun.is_some());
+            block.of_type.push_str(typed.map_or(line, |(_, of_type)| of_type));
             block.of_type.push('\n');
         }
     }
@@ -266,7 +267,8 @@ fn unstated(crates: &[PathBuf]) -> Vec<String> {
     let sections = promises.split("\n## ").filter_map(|section| section.split_once('\n'));
     let promised: BTreeMap<&str, BTreeSet<&str>> = sections.map(|(title, text)| (title, in_backticks(text))).collect();
     let others = ["TRUST", "ARCHITECTURE", "DECISIONS"].map(page);
-    let elsewhere: BTreeSet<&str> = others.iter().flat_map(|text| in_backticks(text)).filter(|name| name.contains('-')).collect();
+    let quoted = others.iter().flat_map(|text| in_backticks(text));
+    let elsewhere: BTreeSet<&str> = quoted.filter(|name| name.contains('-')).collect();
     let mut found = Vec::new();
     for path in crates.iter().flat_map(|c| files(&c.join("proofs"), "antt")) {
         let (krate, _) = name_of(&path, "proofs");
@@ -344,7 +346,8 @@ fn signed(crates: &[PathBuf], specs: &Specs) -> BTreeSet<Name> {
     }
     for path in crates.iter().flat_map(|c| files(&c.join("proofs"), "antt")) {
         let source = read(&path, "--");
-        for law in blocks(&source.text).iter().filter(|law| law.public && named.contains(&law.name[..]) && is_claim(law, &source)) {
+        let claim = |law: &Block| law.public && named.contains(&law.name[..]) && is_claim(law, &source);
+        for law in blocks(&source.text).iter().filter(|law| claim(law)) {
             signed.extend(specs.meant(&words(&law.of_type).map(String::from).collect(), &source));
         }
     }
@@ -375,14 +378,16 @@ fn twice(specs: &Specs, may: &BTreeSet<String>) -> Vec<String> {
         crates.len() < files.len() || files.iter().filter(|(_, parts, _)| !parts).count() > 1
     };
     let found = places.into_iter().filter(|(name, files)| several(files) && !may.contains(*name));
-    found.map(|(name, files)| format!("{name}: {}", files.into_iter().map(|f| f.2).collect::<Vec<_>>().join(" "))).collect()
+    let paths = |files: BTreeSet<(&str, bool, String)>| files.into_iter().map(|f| f.2).collect::<Vec<_>>().join(" ");
+    found.map(|(name, files)| format!("{name}: {}", paths(files))).collect()
 }
 
 /// The names that tools/definitions.txt lets stand twice, in lines `NAME NAME: why`.
 fn may_stand_twice() -> BTreeSet<String> {
     let list = fs::read_to_string("tools/definitions.txt").expect("tools/definitions.txt");
     let lines = list.lines().filter(|line| !line.is_empty() && !line.starts_with('#'));
-    let names = lines.flat_map(|line| line.split_once(": ").unwrap_or_else(|| panic!("no reason: {line}")).0.split(' '));
+    let parts = lines.map(|line| line.split_once(": ").unwrap_or_else(|| panic!("no reason: {line}")));
+    let names = parts.flat_map(|(names, _)| names.split(' '));
     names.map(String::from).collect()
 }
 

@@ -54,7 +54,8 @@ install_libraries_into() {
 # A cdylib, built as this repository has it.
 build() {
     command -v cargo >/dev/null || PATH="$PATH:$HOME/.cargo/bin"
-    cargo build --quiet --release --offline --locked --manifest-path "$root/$1/Cargo.toml" --target-dir "$root/target/$2"
+    cargo build --quiet --release --offline --locked --manifest-path "$root/$1/Cargo.toml" \
+        --target-dir "$root/target/$2"
 }
 
 # For pkg-config: the folders are found from the place of this file, so that a package works wherever it is unpacked.

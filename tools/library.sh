@@ -12,8 +12,8 @@ archive=target/staticlib/libexport.a note=target/staticlib/made-of
 
 # What the crates hold, but for the edits that must fail: these are no part of the library.
 held() {
-    { find crates -type f -not -path '*/must-fail/*' -not -name '.*' -print0; printf 'crates.txt\0'; } | LC_ALL=C sort -z |
-        xargs -0 sha256sum | sha256sum | cut -d ' ' -f 1
+    { find crates -type f -not -path '*/must-fail/*' -not -name '.*' -print0; printf 'crates.txt\0'; } |
+        LC_ALL=C sort -z | xargs -0 sha256sum | sha256sum | cut -d ' ' -f 1
 }
 
 sum() {
@@ -75,7 +75,8 @@ fi
 held=$(held)
 if is_proved; then exit; fi
 command -v rt >/dev/null || {
-    echo "rt is missing, which proves the library: it comes with the Rattle toolchain, $kit; put its bin folder into PATH"
+    echo "rt is missing, which proves the library: it comes with the Rattle toolchain, $kit;" \
+        "put its bin folder into PATH"
     exit 1
 }
 echo "Proving the library, crate by crate: about ten minutes in all on an idle machine where none is proved yet."

@@ -123,7 +123,9 @@ fn kind_of(text: &str) -> Kind {
 /// A constant's number.
 fn constant(file: &str, name: &str, wrong: &mut Wrong) -> usize {
     let text = read(file);
-    let value = text.lines().find_map(|line| line.split_once(&format!("const {name}: usize = "))?.1.trim_end_matches(';').replace('_', "").parse().ok());
+    let declared = format!("const {name}: usize = ");
+    let number = |line: &str| line.split_once(&declared)?.1.trim_end_matches(';').replace('_', "").parse().ok();
+    let value = text.lines().find_map(number);
     value.unwrap_or_else(|| {
         wrong.note(file, format!("no number `const {name}: usize = …;`, which the header tells"));
         0
@@ -159,9 +161,10 @@ fn explained(module: &Module, wrong: &mut Wrong) {
 fn declared(functions: &[Function], wrong: &mut Wrong) {
     const FILE: &str = "bindings/rust/src/functions.rs";
     let text: String =
-        read(FILE).lines().filter(|line| !line.trim_start().starts_with("//")).map(|line| format!("{line}\n")).collect();
+        read(FILE).lines().filter(|line| !line.trim_start().starts_with("//")).flat_map(|line| [line, "\n"]).collect();
     let surfaces = text.split("surface! {").skip(1).filter_map(|part| part.split_once("\n}")).map(|(inside, _)| inside);
-    let lines = surfaces.flat_map(|inside| inside.split(';')).map(|one| one.split_whitespace().collect::<Vec<_>>().join(" "));
+    let spaced = |one: &str| one.split_whitespace().collect::<Vec<_>>().join(" ");
+    let lines = surfaces.flat_map(|inside| inside.split(';')).map(spaced);
     let declared: Vec<Function> = lines
         .filter(|line| !line.is_empty())
         .filter_map(|line| {

@@ -21,6 +21,10 @@ others=0
 for file in $(cd "$room" && find crates -type f | sort); do
     cmp -s "$room/$file" "$file" && continue
     others=1
-    if [ "${1:-}" = --check ]; then echo "$file is not what tools/make_tables.sh makes"; else cp "$room/$file" "$file"; fi
+    if [ "${1:-}" = --check ]; then
+        echo "$file is not what tools/make_tables.sh makes"
+    else
+        cp "$room/$file" "$file"
+    fi
 done
 [ "${1:-}" != --check ] || exit $others

@@ -1,6 +1,6 @@
-// The forward and the inverse 960-point real transforms of `transforms`, fast: by way of a complex transform of 480 numbers in stages (stages), over the one table of
-// 960 cosines. Read without rounding, they are the plain sums of `transforms`.
-// Each leaf refuses lengths other than its arrays' with 5, and then changes nothing.
+// The forward and the inverse 960-point real transforms of `transforms`, but fast: through a complex transform of 480
+// numbers in stages (stages), with the one table of 960 cosines. Without rounding they would be the plain sums of
+// `transforms`. Both refuse other lengths than those of their arrays with 5, and then change nothing.
 ghost use mathlib.Core.Path.{_≡_};
 ghost use lib.ListN.{length};
 ghost use Rattle.rules.specs.Leaf.{Leaf, _leaving_};

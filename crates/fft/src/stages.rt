@@ -1,5 +1,7 @@
-// The five stages of the complex transform. Each runs over its lanes four at a time: what the four need is read and worked out before anything is stored, and the
-// compiler packs them. A turn does several fours, so that there are fewer than 16 turns: else the compiler packs four turns instead, by gathers, and loses a quarter.
+// The five stages of the complex transform. Each goes over its lanes four at a time: what the four need is read and
+// computed before anything is stored, so that the compiler uses vector instructions for the four. A turn of the loop
+// does several fours, so that there are fewer than 16 turns. With more, the compiler would vectorise over four turns
+// instead, with gathers, and lose a quarter of the speed.
 ghost use mathlib.Core.Path.{_≡_};
 ghost use Prim.Native.Nat.{_+_, _*_, _/_, _%_, _≤_, _<_};
 ghost use lib.ListN.{length};

@@ -1,4 +1,5 @@
--- The constants' rule, and the steps that lose nothing. An f64 is exactly z / c, for a whole number z; zero is +0.
+-- The rule of the constants, and the steps of `log10` that lose nothing. An f64 is written exactly as z / c with a
+-- whole number z; zero is +0.
 use Rattle.rules.specs.Common.{ℕ, suc, _+_, _*_, _/_, _%_, _^_, _≤_, _<_, true, false, pos, Float, binary32, binary64, nan, inf, fin, up, down}
 use lib.Dec.{T}
 use lib.IntN.{ℤ, negsuc, _+ℤ_, _-ℤ_, _*ℤ_}
@@ -8,17 +9,18 @@ use lib.Ieee.Positive.{positive}
 use Rattle.logs.specs.Tables.{rowAt, twoHigh}
 use Rattle.logs.specs.Log10.{rowOf, offCentre, highOf}
 
+-- x is exactly z / c.
 abbrev pub Exactly : Float → ℤ → ℕ → Type 0
 Exactly x (pos n) c = HasValue x false n c
 Exactly x (negsuc n) c = HasValue x true (suc n) c
 
--- how many 2^-p there are in x
+-- How many times 2^-p is contained in x.
 abbrev pub wholes : ℕ → Float → ℕ
 wholes p nan = 0
 wholes p (inf s) = 0
 wholes p (fin s m e) = m * up e * 2 ^ p / down e
 
--- x is a whole number of 2^-p, from `least` to `most` of them
+-- x is a whole number of 2^-p, from `least` to `most` of them.
 pub record Grained (p least most : ℕ) (x : Float) : Type 0 where
   pub value : Exactly x (pos (wholes p x)) (2 ^ p)
   pub from : least ≤ wholes p x
@@ -30,19 +32,20 @@ pub record Rule (i : ℕ) : Type 0 where
   pub high : Grained 40 0 (2 ^ 39) (rowAt i .high)
 
 -- ---- m, of 24 digits, in whole numbers of 2^-23
+-- m as a whole number of 2^-23: an f32 has 24 binary digits.
 abbrev pub digitsOf : ℕ → ℕ
 digitsOf bits = 2 ^ 23 + bits % 2 ^ 52 / 2 ^ 29
 
--- m * centre - 1 is exact where m has 24 digits
+-- m * centre - 1 is exact if m has 24 digits.
 abbrev pub RestExact : ℕ → Type 0
 RestExact bits = Exactly (offCentre bits) (pos (digitsOf bits * wholes 20 (rowAt (rowOf bits) .centre)) -ℤ pos (2 ^ 43)) (2 ^ 43)
 
--- e * two_high + high is exact
+-- e * two_high + high is exact.
 abbrev pub HighExact : ℕ → Type 0
 HighExact bits =
     Exactly (highOf bits) ((pos (bits / 2 ^ 52) -ℤ pos 1023) *ℤ pos (wholes 40 twoHigh) +ℤ pos (wholes 40 (rowAt (rowOf bits) .high))) (2 ^ 40)
 
--- both, of one f32
+-- Both steps are exact for one f32.
 pub record Exact (x : Float) : Type 0 where
   pub rest : RestExact (toBits binary64 x)
   pub high : HighExact (toBits binary64 x)

@@ -5,7 +5,7 @@ ghost use lib.Dec.{eqb};
 ghost use lib.ListN.{length};
 ghost use Rattle.matrix.specs.Sums.{ofByte, addColumn, mulAdd, MulAddFits, MulAdd};
 
-// A model byte as the f32 that it stands for. Without a branch, so that loops over it are vectorised.
+// A byte of the model as the weight that it stands for. There is no branch, so that loops over it are vectorised.
 pub fn weight(b: u8) -> f32
     ensures { λ r. ⌜ r ≡ ofByte b ⌝ }
 {
@@ -32,7 +32,7 @@ fn add_two(out: &mut [f32], first: &[u8], x: f32, second: &[u8], y: f32)
     }
 }
 
-// The sums of `mul_add` column by column, for lengths that fit.
+// `mul_add` column by column, for lengths that fit.
 fn columns(out: &mut [f32], weights: &[u8], stride: usize, offset: usize, input: &[f32])
     requires { ⌜ MulAddFits (length (now out)) (length (now weights)) stride offset (length (now input)) ⌝ }
     ensures { λ _. ⌜ now (out .exit) ≡ mulAdd (now (out .entry)) (now (weights .entry)) stride offset (now (input .entry)) ⌝ }
@@ -56,7 +56,7 @@ fn columns(out: &mut [f32], weights: &[u8], stride: usize, offset: usize, input:
     }
 }
 
-// How many sums go sixteen at a time.
+// How many of n sums are computed sixteen at a time.
 fn wide_of(n: usize) -> usize
     ensures { λ r. ⌜ (r ≤ n) × (r ≤ 128) × (r % 16 ≡ 0) ⌝ }
 {
@@ -66,7 +66,7 @@ fn wide_of(n: usize) -> usize
     128
 }
 
-// The sums of `mul_add`: as many as there is lent room for sixteen at a time, and the others column by column.
+// `mul_add`: as many sums as there are lent places are computed sixteen at a time, and the others column by column.
 fn both(
     out: &mut [f32],
     kept: &mut [f32],
@@ -88,7 +88,7 @@ fn both(
     }
 }
 
-// The sums of `mul_add`, for lengths that fit.
+// `mul_add` for lengths that fit.
 fn mul_add_core(out: &mut [f32], weights: &[u8], stride: usize, offset: usize, input: &[f32])
     requires { ⌜ MulAddFits (length (now out)) (length (now weights)) stride offset (length (now input)) ⌝ }
     ensures { λ _. ⌜ now (out .exit) ≡ mulAdd (now (out .entry)) (now (weights .entry)) stride offset (now (input .entry)) ⌝ }
@@ -98,7 +98,7 @@ fn mul_add_core(out: &mut [f32], weights: &[u8], stride: usize, offset: usize, i
     both(out, &mut kept[0..m], weights, stride, offset, input);
 }
 
-// Whether len is a * b, a product that may be past the largest usize.
+// Whether len is a * b, even if the product is larger than any usize.
 fn is_product(len: usize, a: usize, b: usize) -> bool
     ensures { λ r. ⌜ r ≡ eqb len (a * b) ⌝ }
 {
@@ -111,7 +111,8 @@ fn is_product(len: usize, a: usize, b: usize) -> bool
     len / a == b
 }
 
-// out[j] += weights[i * stride + offset + j] * input[i], for each i in order; 5, and out as it was, where lengths do not fit.
+// out[j] += weights[i * stride + offset + j] * input[i], for each i in order. Refuses with 5, and leaves out unchanged,
+// if the lengths do not fit.
 pub fn mul_add(out: &mut [f32], weights: &[u8], stride: usize, offset: usize, input: &[f32]) -> u32
     ensures { λ r. ⌜ MulAdd (now (out .entry)) (now (weights .entry)) stride offset (now (input .entry)) r (now (out .exit)) ⌝ }
 {

@@ -1,4 +1,4 @@
-// The layers for lengths that fit. The table of the activations is lent, so that a frame takes it once.
+// The layers for lengths that fit. The table of the activations is lent, so that a frame fills it only once.
 ghost use mathlib.Core.Path.{_≡_};
 ghost use mathlib.Core.List.{map};
 ghost use Prim.Native.Nat.{_+_, _*_, _≤_};
@@ -13,7 +13,7 @@ use model::Activation;
 
 const WEIGHTS_SCALE: f32 = 1.0 / 256.0;
 
-// Biases, as numbers.
+// Copies biases, as numbers.
 fn copy_weights(out: &mut [f32], bytes: &[u8])
     requires { ⌜ length (now out) ≡ length (now bytes) ⌝ }
     ensures { λ _. ⌜ now (out .exit) ≡ copied (now (bytes .entry)) ⌝ }
@@ -23,6 +23,7 @@ fn copy_weights(out: &mut [f32], bytes: &[u8])
     }
 }
 
+// Multiplies each sum by the scale of the weights.
 fn scale(xs: &mut [f32])
     ensures { λ _. ⌜ now (xs .exit) ≡ map (λ x. weightsScale ⊗ x) (now (xs .entry)) ⌝ }
 {
@@ -31,7 +32,7 @@ fn scale(xs: &mut [f32])
     }
 }
 
-// What the activation makes of the sums.
+// Applies the activation to each sum.
 fn activate(sums: &mut [f32], table: &[f32; 201], activation: Activation)
     requires { ⌜ now table ≡ tansig ⌝ }
     ensures { λ _. ⌜ now (sums .exit) ≡ map (λ x. activated activation (weightsScale ⊗ x)) (now (sums .entry)) ⌝ }
@@ -44,6 +45,7 @@ fn activate(sums: &mut [f32], table: &[f32; 201], activation: Activation)
     }
 }
 
+// A dense layer.
 pub(crate) fn dense(
     output: &mut [f32],
     table: &[f32; 201],
@@ -62,7 +64,7 @@ pub(crate) fn dense(
     activate(output, table, activation);
 }
 
-// Sums to gates.
+// Turns sums into gates.
 fn update(gates: &mut [f32], table: &[f32; 201])
     requires { ⌜ now table ≡ tansig ⌝ }
     ensures { λ _. ⌜ now (gates .exit) ≡ loop (length (now (gates .entry))) updateStep (now (gates .entry)) ⌝ }
@@ -71,7 +73,7 @@ fn update(gates: &mut [f32], table: &[f32; 201])
     numbers::lists::sigmoids(gates, table);
 }
 
-// Each reset gate times the old state.
+// Multiplies each reset gate by the old state.
 fn times(gates: &mut [f32], state: &[f32])
     requires { ⌜ length (now gates) ≡ length (now state) ⌝ }
     ensures { λ _. ⌜ now (gates .exit) ≡ loop (length (now (gates .entry))) (timesStep (now (state .entry))) (now (gates .entry)) ⌝ }
@@ -81,7 +83,7 @@ fn times(gates: &mut [f32], state: &[f32])
     }
 }
 
-// Sums to reset gates, each times the old state.
+// Turns sums into reset gates, each multiplied by the old state.
 fn reset(r: &mut [f32], state: &[f32], table: &[f32; 201])
     requires { ⌜ (length (now r) ≡ length (now state)) × (now table ≡ tansig) ⌝ }
     ensures { λ _. ⌜ now (r .exit) ≡ loop (length (now (r .entry))) (resetStep (now (state .entry))) (now (r .entry)) ⌝ }
@@ -101,7 +103,7 @@ fn mix(state: &mut [f32], z: &[f32], new: &[f32])
     }
 }
 
-// The new state, from the update gates and the candidates' sums, which become the candidates.
+// The new state, from the update gates and the sums of the candidates; these become the candidates.
 fn blend(state: &mut [f32], z: &[f32], h: &mut [f32], activation: Activation, table: &[f32; 201])
     requires { ⌜ (length (now z) ≡ length (now state)) × (length (now h) ≡ length (now state)) × (now table ≡ tansig) ⌝ }
     ensures { λ _. ⌜ now (state .exit) ≡ loop (length (now (state .entry))) (blendStep activation (now (z .entry)) (now (h .entry)))
@@ -111,7 +113,7 @@ fn blend(state: &mut [f32], z: &[f32], h: &mut [f32], activation: Activation, ta
     mix(state, z, &h[..]);
 }
 
-// The sums of one gate, at this offset: bias, inputs, recurrent.
+// The sums of the gate at this offset: its bias, plus weights times input, plus recurrent weights times state.
 fn gate_sums(
     out: &mut [f32],
     weights: &[u8],
@@ -134,7 +136,7 @@ fn gate_sums(
     matrix::mul_add_at(recurrent, stride, offset, out, state);
 }
 
-// A GRU layer over lent scratch, one slice for each gate.
+// A GRU layer with lent places for its gates.
 pub(crate) fn gru(
     state: &mut [f32],
     z: &mut [f32],
@@ -163,7 +165,7 @@ pub(crate) fn gru(
     blend(state, &z[..], h, activation, table);
 }
 
-// A GRU layer over scratch of its own.
+// A GRU layer with places of its own for its gates.
 pub(crate) fn gru_alone(
     state: &mut [f32],
     table: &[f32; 201],

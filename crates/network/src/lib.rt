@@ -1,5 +1,5 @@
-// The network's layers, each proved equal to its definition. A layer refuses, with 5 and nothing changed, exactly where a length
-// does not fit or a count lies outside 1 to 127.
+// The layers of the network. Each is proved equal to its definition. A layer refuses with 5, and changes nothing,
+// exactly if a length does not fit or a count is outside 1 to 127.
 ghost use mathlib.Core.Path.{_≡_};
 ghost use lib.ListN.{length};
 ghost use Rattle.rules.specs.Leaf.{Leaf, _leaving_};
@@ -12,7 +12,7 @@ mod six;
 use model::Activation;
 use model::Reading;
 
-// A dense layer: output is what activation makes of bias and weights times input.
+// A dense layer: the output is the activation of the biases plus the weights times the input.
 pub fn dense(
     output: &mut [f32],
     weights: &[u8],
@@ -51,7 +51,7 @@ pub fn dense(
     0
 }
 
-// A GRU layer: state becomes the next state.
+// A GRU layer: the state becomes the next state.
 pub fn gru(
     state: &mut [f32],
     weights: &[u8],
@@ -96,15 +96,15 @@ pub fn gru(
     0
 }
 
-// What a frame's call answers: done, a wrong length (5), or a model that does not read, its number and layer.
+// The answer for a frame.
 pub enum Computed {
     Done,
     Refused(u32),
     Misread(u32, u32),
 }
 
-// The six layers for one frame: 22 gains and one voice probability from 42 features, and the three states, of 128 places each and
-// side by side in one slice of 384, moved on.
+// The six layers for one frame: 42 features give 22 gains and the probability of a voice. The three states, of 128
+// places each, are next to each other in a slice of 384, and are updated.
 pub fn compute_on(
     gains: &mut [f32],
     voice: &mut [f32],
@@ -137,7 +137,7 @@ pub fn compute_on(
     }
 }
 
-// The same, with each state in a slice of its own.
+// The same with each state in a slice of its own.
 pub fn compute(
     gains: &mut [f32],
     voice: &mut [f32],

@@ -1,4 +1,5 @@
-// The six layers of a model that reads. `model::place_in` says where a layer's arrays are in the model's bytes.
+// The six layers of a model that reads. `model::place_in` gives the places of a layer's arrays in the bytes of the
+// model.
 ghost use mathlib.Core.Path.{_≡_};
 ghost use mathlib.Core.List.{_++_};
 ghost use Prim.Native.Nat.{_+_, _≤_};
@@ -15,7 +16,7 @@ use model::Header;
 use model::Kind;
 use model::Model;
 
-// Puts src at this place: what stands before it stays.
+// Stores src from this place on; what comes before it stays.
 fn put(buf: &mut [f32], at: usize, src: &[f32])
     requires { ⌜ at + length (now src) ≤ length (now buf) ⌝ }
     ensures { λ _. ⌜ take (at + length (now (src .entry))) (now (buf .exit)) ≡ take at (now (buf .entry)) ++ now (src .entry) ⌝ }
@@ -25,7 +26,7 @@ fn put(buf: &mut [f32], at: usize, src: &[f32])
     }
 }
 
-// Three slices, one after the other, in the front of buf.
+// Stores three slices, one after the other, at the front of buf.
 pub(crate) fn join(buf: &mut [f32], first: &[f32], second: &[f32], third: &[f32])
     requires { ⌜ length (now first) + length (now second) + length (now third) ≤ length (now buf) ⌝ }
     ensures { λ _. ⌜ take (length (now (first .entry)) + length (now (second .entry)) + length (now (third .entry))) (now (buf .exit))
@@ -38,6 +39,7 @@ pub(crate) fn join(buf: &mut [f32], first: &[f32], second: &[f32], third: &[f32]
     put(buf, b, third);
 }
 
+// The dense layer with this header.
 fn dense(output: &mut [f32], table: &[f32; 201], bytes: &[u8], h: Header, input: &[f32])
     requires { ⌜ (now table ≡ tansig) × LayerFits Dense h (length (now bytes)) (length (now output)) (length (now input)) ⌝ }
     ensures { λ _. ⌜ now (output .exit) ≡ denseAt (now (bytes .entry)) h (now (input .entry)) ⌝ }
@@ -59,7 +61,7 @@ fn dense(output: &mut [f32], table: &[f32; 201], bytes: &[u8], h: Header, input:
     );
 }
 
-// The layer on the n numbers of `states` from `at` on.
+// The same with an input that is in `states` from `at` on.
 fn dense_on(
     output: &mut [f32],
     table: &[f32; 201],
@@ -76,7 +78,7 @@ fn dense_on(
     dense(output, table, bytes, h, &states[at..end]);
 }
 
-// The layer whose state stands in `states` from `at` on, a place for each neuron.
+// The GRU layer with this header, whose state is in `states` from `at` on.
 fn gru(states: &mut [f32], at: usize, table: &[f32; 201], bytes: &[u8], h: Header, input: &[f32])
     requires { ⌜ (now table ≡ tansig) × (at + h .neurons ≤ length (now states))
         × LayerFits Gru h (length (now bytes)) (h .neurons) (length (now input)) ⌝ }
@@ -131,7 +133,7 @@ fn voice_of(
     dense_on(voice, table, bytes, vad_output, &states[..], 0, n);
 }
 
-// noise_gru: its inputs are joined before its state is written.
+// noise_gru. Its inputs are joined before its state is written.
 fn noise_of(
     states: &mut [f32],
     table: &[f32; 201],
@@ -155,7 +157,7 @@ fn noise_of(
     gru(states, 128, table, bytes, noise_gru, &buf[0..inputs]);
 }
 
-// denoise_gru, likewise.
+// denoise_gru. Its inputs are joined before its state is written.
 fn denoise_of(states: &mut [f32], table: &[f32; 201], bytes: &[u8], m: Model, features: &[f32])
     requires { ⌜ (now table ≡ tansig) × (length (now states) ≡ 384)
         × LayerFits Gru (m .«denoise_gru») (length (now bytes)) (m .«denoise_gru» .neurons)
@@ -197,7 +199,7 @@ fn gains_of(
     dense_on(gains, table, bytes, denoise_output, &states[..], 256, n);
 }
 
-// The six layers, over a lent buffer for the first one's output.
+// The six layers, with a lent buffer for the output of the first.
 fn frame_in(
     hidden: &mut [f32],
     gains: &mut [f32],

@@ -13,7 +13,7 @@ use Rattle.numbers.specs.Root.{root}
 
 -- ---- the larger and the smaller of two
 
--- the cases of maximumNumber, IEEE 754-2019 (request 06); and either order gives what compares equal
+-- The cases of `maximumNumber` of IEEE 754-2019 (request 06). In either order the results compare equal.
 pub record IsMaximum : Type 0 where
   pub of-nan : (x : Float) → (larger nan x ≡ x) × (larger x nan ≡ x)
   pub of-less : (x y : Float) → lt x y ≡ true → larger x y ≡ y
@@ -23,8 +23,7 @@ pub record IsMaximum : Type 0 where
       × (larger (fin false zero e) (fin true zero d) ≡ fin false zero e)
   pub either-order : (x y : Float) → isNan x ≡ false → isNan y ≡ false → eq (larger x y) (larger y x) ≡ true
 
--- The smaller of two as Rust's `min` gives it: the other one if one is a NaN, the one below the other, and the left one if they compare
--- equal.
+-- The cases of Rust's `min`: if one is a NaN the other, then the lower one, and if both compare equal the left one.
 pub record IsMinimum : Type 0 where
   pub of-nan : (x : Float) → (smaller nan x ≡ x) × (smaller x nan ≡ x)
   pub of-less : (x y : Float) → lt x y ≡ true → smaller x y ≡ x
@@ -33,25 +32,27 @@ pub record IsMinimum : Type 0 where
 
 -- ---- rounding
 
--- at most p digits, and just as many where k digits behind them were dropped
+-- q has at most p binary digits, and exactly p if k digits after them were dropped.
 abbrev pub KeptDigits : ℕ → ℕ → ℕ → Type 0
 KeptDigits p q k = (q ≤ 2 ^ p) × (0 < k → 2 ^ (p - 1) ≤ q)
 
--- how far ±a is from ±b
+-- The distance of two whole numbers.
 abbrev pub gap : ℕ → ℕ → ℕ
 gap a b = a - b + (b - a)
 
+-- The distance of ±a and ±b, whose signs are s and t.
 abbrev pub distance : Bool → ℕ → Bool → ℕ → ℕ
 distance s a t b = cond (Bool·beq s t) (gap a b) (a + b)
 
--- y is ±Y times the format's smallest value, 2 ^ -low. An infinity stands for 2 ^ (emax + 1), which is `overflow` of them
+-- y is ±Y times the smallest value of the format, 2^-low. An infinity stands for 2^(emax + 1), which is `overflow`
+-- times that value.
 abbrev pub Stands : Format → Float → Bool → ℕ → Type 0
 Stands f nan s Y = ⊥
 Stands f (inf t) s Y = (t ≡ s) × (Y ≡ overflow f)
 Stands f (fin t m e) s Y = HasValue (fin t m e) s Y (2 ^ low f)
 
--- y is the value of the format f that is nearest to ±num / den, and of two that are as near the one whose last digit is even. Distances
--- are in units of 2 ^ -low / den. q is y's digits, with the last one in the unit's place
+-- y is the value of the format f that is nearest to ±num / den. If two are equally near, it is the one whose last digit
+-- is even. Distances are in units of 2^-low / den.
 pub record Nearest (f : Format) (s : Bool) (num den : ℕ) (y : Float) : Type 0 where
   pub Y : ℕ
   pub q : ℕ
@@ -65,23 +66,23 @@ pub record Nearest (f : Format) (s : Bool) (num den : ℕ) (y : Float) : Type 0 
       → distance s (num * 2 ^ low f) s (Y * den) ≡ distance s (num * 2 ^ low f) t (Z * den)
       → (Z ≡ Y → ⊥) → q % 2 ≡ 0
 
--- whatever fraction is rounded, to either format
+-- `round` gives the nearest value for every fraction, in either format.
 abbrev pub RoundsRight : Type 0
 RoundsRight = (f : Format) (s : Bool) (num den : ℕ) → 0 < den → Nearest f s num den (round f s num den)
 
--- an f64 that is finite, of either sign, to an f32. (A NaN stays one, and so does an infinity, by the definition.)
+-- `narrowed` gives the nearest f32 for every finite f64. (A NaN and an infinity stay, by the definition.)
 abbrev pub NarrowsRight : Type 0
 NarrowsRight = (s : Bool) (m : ℕ) (e : ℤ) → Nearest binary32 s (m * up e) (down e) (narrowed (fin s m e))
 
 -- ---- the root
 
--- √n and two numbers Y and Z, in terms of squares: it is no nearer to Z, and where it is as near to both, q is even
+-- In terms of squares: the root of n is at least as near to Y as to Z; and if it is equally near to both, q is even.
 pub record HalfWay (n q Y Z : ℕ) : Type 0 where
   pub above : Y < Z → (4 * n ≤ (Y + Z) * (Y + Z)) × (4 * n ≡ (Y + Z) * (Y + Z) → q % 2 ≡ 0)
   pub below : Z < Y → ((Y + Z) * (Y + Z) ≤ 4 * n) × ((Y + Z) * (Y + Z) ≡ 4 * n → q % 2 ≡ 0)
 
--- y is the value of the format f that is nearest to the root of x, a value above zero: x is n of 2 ^ -(2 * low), and y is Y of 2 ^ -low,
--- with the digits q
+-- y is the value of the format f that is nearest to the root of x, a value above zero. x is n units of 2^-(2 * low),
+-- and y is Y units of 2^-low, with the digits q.
 pub record NearestRoot (f : Format) (x y : Float) : Type 0 where
   pub n : ℕ
   pub Y : ℕ
@@ -93,7 +94,8 @@ pub record NearestRoot (f : Format) (x y : Float) : Type 0 where
   pub digits : (Y ≡ q * 2 ^ k) × (2 ^ (prec f - 1) ≤ q) × (q ≤ 2 ^ prec f)
   pub nearest : (z : Float) (Z : ℕ) → T (fits f z) → HasValue z false Z (2 ^ low f) → HalfWay n q Y Z
 
--- in either format, of every value above zero. (The root of a zero is that zero, by the definition.)
+-- `root` gives the nearest value for every value above zero, in either format. (The root of a zero is that zero, by the
+-- definition.)
 abbrev pub RootIsRight : Type 0
 RootIsRight =
     (f : Format) (m : ℕ) (e : ℤ)
