@@ -48,12 +48,21 @@ featuresOf exp lag logs mem index = laid (drop 6 (cepstrum logs)) (pitchFeatures
 
 -- All lengths fit, and the index is that of a row.
 pub record FeaturesFit (features exp mem index x p ex ep logs : ℕ) : Type 0 where
+  -- NB_FEATURES.
   pub all : features ≡ 42
+  -- NB_BANDS correlations.
   pub correlations : exp ≡ 22
+  -- CEPS_MEM rows of NB_BANDS.
   pub rows : mem ≡ 176
+  -- The index of a row.
   pub inside : index ≤ 7
+  -- The spectrum: bin 0, and two numbers for each of the other bins.
   pub spectrum : x ≡ 961
+  -- The lagged spectrum.
   pub lagged : p ≡ 961
+  -- NB_BANDS energies of the spectrum.
   pub energies : ex ≡ 22
+  -- NB_BANDS energies of the lagged spectrum.
   pub laggedEnergies : ep ≡ 22
+  -- NB_BANDS logarithms.
   pub logarithms : logs ≡ 22

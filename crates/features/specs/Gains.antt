@@ -18,5 +18,7 @@ gained g last = tab 22 (λ i. atLeast (at g i) (at last i))
 
 -- Both lengths are 22.
 pub record GainsFit (g last : ℕ) : Type 0 where
+  -- The new gains.
   pub gains : g ≡ 22
+  -- The remembered gains.
   pub remembered : last ≡ 22

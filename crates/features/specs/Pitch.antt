@@ -50,14 +50,22 @@ pitchFiltered x p gains exp ex ep = restored (pitchAdded x p (bandGain (pitchGai
 
 -- All lengths fit.
 pub record PitchFilterFits (x p gains exp ex ep : ℕ) : Type 0 where
+  -- The spectrum.
   pub spectrum : x ≡ 961
+  -- The lagged spectrum.
   pub lagged : p ≡ 961
+  -- The gains of the network.
   pub wanted : gains ≡ 22
+  -- The correlations.
   pub correlations : exp ≡ 22
+  -- The energies of the spectrum.
   pub energies : ex ≡ 22
+  -- The energies of the lagged spectrum.
   pub laggedEnergies : ep ≡ 22
 
 -- Both lengths fit.
 pub record ApplyFits (x gains : ℕ) : Type 0 where
+  -- The spectrum.
   pub spectrum : x ≡ 961
+  -- A gain for each bin.
   pub bins : gains ≡ 481

@@ -37,9 +37,11 @@ module _ {A : Type 0} (o : Ops A) where
   -- ---- complex numbers
   infixl 65 _+ᶜ_ _-ᶜ_ _+ⁱ_ _-ⁱ_
   infixl 70 _·_
+  -- The sum of two complex numbers.
   abbrev pub _+ᶜ_ : Complex A → Complex A → Complex A
   x +ᶜ y = record { re = x .re ⊕ y .re; im = x .im ⊕ y .im }
 
+  -- Their difference.
   abbrev pub _-ᶜ_ : Complex A → Complex A → Complex A
   x -ᶜ y = record { re = x .re ⊖ y .re; im = x .im ⊖ y .im }
 

@@ -215,7 +215,7 @@ fn last_stage(out: &mut [f32], c: &[f32; 960], z: &[f32; 960])
     }
 }
 
-// The transform of z, into y; z is used up.
+// The transform of z is written to y. z is overwritten.
 pub(crate) fn transform(y: &mut [f32; 960], z: &mut [f32; 960], c: &[f32; 960])
     requires { ⌜ (length (now y) ≡ 960) × (length (now z) ≡ 960) ⌝ }
     ensures { λ _. ⌜ now (y .exit) ≡ transformed single (of (now (c .entry))) (now (z .entry)) ⌝ }

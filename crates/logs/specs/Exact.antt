@@ -22,13 +22,18 @@ wholes p (fin s m e) = m * up e * 2 ^ p / down e
 
 -- x is a whole number of 2^-p, from `least` to `most` of them.
 pub record Grained (p least most : ℕ) (x : Float) : Type 0 where
+  -- It is a whole number of 2^-p.
   pub value : Exactly x (pos (wholes p x)) (2 ^ p)
+  -- At least this many.
   pub from : least ≤ wholes p x
+  -- At most this many.
   pub to : wholes p x ≤ most
 
 -- ---- the rule: a centre has 20 binary digits, from 1/2 to 1; high parts are whole numbers of 2^-40, below 1/2
 pub record Rule (i : ℕ) : Type 0 where
+  -- The centre.
   pub centre : Grained 20 (2 ^ 19) (2 ^ 20) (rowAt i .centre)
+  -- The high part of its logarithm.
   pub high : Grained 40 0 (2 ^ 39) (rowAt i .high)
 
 -- ---- m, of 24 digits, in whole numbers of 2^-23
@@ -47,11 +52,16 @@ HighExact bits =
 
 -- Both steps are exact for one f32.
 pub record Exact (x : Float) : Type 0 where
+  -- m * centre - 1.
   pub rest : RestExact (toBits binary64 x)
+  -- e * two_high + high.
   pub high : HighExact (toBits binary64 x)
 
 -- ---- what is claimed: the rule holds of all 33 rows, and of log10 2; so both steps are exact at every f32 above zero
 pub record Claim : Type 0 where
+  -- The rule holds for each row.
   pub ruled : (i : ℕ) → i < 33 → Rule i
+  -- log10(2) follows the same rule.
   pub two : Grained 40 1 (2 ^ 39) twoHigh
+  -- Both steps are exact for every f32 above zero.
   pub exact : (x : Float) → T (fits binary32 x) → T (positive x) → Exact x

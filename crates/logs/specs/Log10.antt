@@ -84,5 +84,7 @@ logsOf sums = tab 22 (λ i. log10Of (at sums i))
 
 -- Both lengths are 22.
 pub record LogsFits (out sums : ℕ) : Type 0 where
+  -- The logarithms.
   pub into : out ≡ 22
+  -- The sums.
   pub from : sums ≡ 22

@@ -76,10 +76,15 @@ ArraysAreRead =
 
 -- A layer whose header and arrays are within this number of bytes.
 pub record LiesIn (size : ℕ) (k : Kind) (h : Header) : Type 0 where
+  -- A byte holds the number of inputs.
   pub inputs : h .inputs < 128
+  -- A byte holds the number of neurons.
   pub neurons : h .neurons < 128
+  -- There is at least one neuron.
   pub some : 1 ≤ h .neurons
+  -- The three bytes of the header come before the arrays.
   pub start : 3 ≤ h .start
+  -- The arrays end within the file.
   pub reach : h .start + sizeOf k (h .inputs) (h .neurons) ≤ size
 
 -- A model that a file of this size can have: each layer is within the file, and their counts go together.
@@ -90,13 +95,21 @@ pub record Shaped (size : ℕ) (m : Model) : Type 0 where
   pub layer3 : LiesIn size Gru (m .«denoise_gru»)
   pub layer4 : LiesIn size Dense (m .«denoise_output»)
   pub layer5 : LiesIn size Dense (m .«vad_output»)
+  -- The features are 42.
   pub features : m .«input_dense» .inputs ≡ 42
+  -- The gains are 22.
   pub gains : m .«denoise_output» .neurons ≡ 22
+  -- The probability of a voice is one number.
   pub voice : m .«vad_output» .neurons ≡ 1
+  -- vad_gru reads what input_dense gives.
   pub vad-reads : m .«input_dense» .neurons ≡ m .«vad_gru» .inputs
+  -- vad_output reads what vad_gru gives.
   pub voice-reads : m .«vad_gru» .neurons ≡ m .«vad_output» .inputs
+  -- noise_gru reads the features and what input_dense and vad_gru give.
   pub noise-reads : 42 + m .«input_dense» .neurons + m .«vad_gru» .neurons ≡ m .«noise_gru» .inputs
+  -- denoise_gru reads the features and what vad_gru and noise_gru give.
   pub denoise-reads : 42 + m .«vad_gru» .neurons + m .«noise_gru» .neurons ≡ m .«denoise_gru» .inputs
+  -- denoise_output reads what denoise_gru gives.
   pub gains-read : m .«denoise_gru» .neurons ≡ m .«denoise_output» .inputs
 
 -- Every file that reads has such a model.

@@ -82,7 +82,9 @@ layeredOn gains voice states = layeredOf gains voice (vadIn states) (noiseIn sta
 
 -- What a call returns, and what it leaves in the buffers that it was lent.
 pub record Outcome : Type 0 where
+  -- What it returns.
   pub answer : Computed
+  -- What it leaves in the lent buffers.
   pub layers : Layered
 
 -- The same from its six parts.

@@ -73,28 +73,41 @@ gruOf weights recurrent bias activation input state =
 
 -- A number of neurons or inputs.
 pub record Count (n : ℕ) : Type 0 where
+  -- There is at least one.
   pub some : 1 ≤ n
+  -- There are at most 127.
   pub small : n ≤ 127
 
 -- The arrays of a dense layer have the right lengths.
 pub record DenseArrays (output weights bias input : ℕ) : Type 0 where
+  -- A weight for each neuron and input.
   pub weighted : weights ≡ output * input
+  -- A bias for each neuron.
   pub biased : bias ≡ output
 
 -- The arguments of a dense layer fit.
 pub record DenseFits (output weights bias input : ℕ) : Type 0 where
+  -- The number of neurons.
   pub neurons : Count output
+  -- The number of inputs.
   pub inputs : Count input
+  -- The lengths of the arrays.
   pub arrays : DenseArrays output weights bias input
 
 -- The arrays of a GRU layer have the right lengths.
 pub record GruArrays (state weights recurrent bias input : ℕ) : Type 0 where
+  -- For each of the three gates, a weight for each neuron and input.
   pub weighted : weights ≡ 3 * state * input
+  -- For each of the three gates, a weight for each neuron and neuron.
   pub recurs : recurrent ≡ 3 * state * state
+  -- For each of the three gates, a bias for each neuron.
   pub biased : bias ≡ 3 * state
 
 -- The arguments of a GRU layer fit.
 pub record GruFits (state weights recurrent bias input : ℕ) : Type 0 where
+  -- The number of neurons.
   pub neurons : Count state
+  -- The number of inputs.
   pub inputs : Count input
+  -- The lengths of the arrays.
   pub arrays : GruArrays state weights recurrent bias input

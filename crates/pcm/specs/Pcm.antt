@@ -102,4 +102,5 @@ packed samples = tab (2 * length samples) (λ k. byteOf (nearest16 (at samples (
 
 -- The lengths fit: two bytes for each sample.
 pub record PackFits (out samples : ℕ) : Type 0 where
+  -- The bytes.
   pub size : out ≡ 2 * samples

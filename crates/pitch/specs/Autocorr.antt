@@ -23,5 +23,7 @@ celtAutocorr x = let fast = length x - 4 in addTails x fast (pitchXcorr (take fa
 
 -- The lengths fit.
 pub record AutocorrFits (x ac : ℕ) : Type 0 where
+  -- There is a place for each lag.
   pub lags : ac ≡ 5
+  -- There are at least as many numbers as lags.
   pub enough : 5 ≤ x

@@ -56,5 +56,7 @@ downsampled x = fir5 (halved x) (coefficients (halved x))
 
 -- The lengths fit.
 pub record DownsampleFits (x low : ℕ) : Type 0 where
+  -- The input has PITCH_BUF_SIZE numbers.
   pub whole : x ≡ 1728
+  -- The output has half of that.
   pub half : low ≡ 864

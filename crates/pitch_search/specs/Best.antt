@@ -84,4 +84,5 @@ secondOf (Pitches.Refused n) = 0
 
 -- The lengths fit: `ys` is long enough for the last lag.
 pub record BestFits (xcorr ys len : ℕ) : Type 0 where
+  -- The last lag and `len` numbers after it are in `ys`.
   pub enough : xcorr + len ≤ ys
