@@ -4,12 +4,14 @@
 ghost use mathlib.Core.Path.{_≡_};
 ghost use Prim.Native.Nat.{_+_, _-_, _≤_, _<_};
 ghost use lib.ListN.{length};
-ghost use Rattle.rules.specs.F32.{zeros};
+ghost use Rattle.rules.specs.F32.{at, zeros};
 ghost use Rattle.rules.specs.Leaf.{Leaf, _leaving_};
 ghost use Rattle.rules.specs.Loop.{loop, range};
+ghost use Rattle.rules.specs.Tab.{tab};
 ghost use Rattle.bands.specs.Bands.{edges, edge, binCorr, inBand, corrStep, bandCorr, BandFits, gainStep, bandGain, GainFits};
-ghost use Rattle.bands.specs.Dct.{dctSum, dctScaled, dctIn, dctOf, DctFits};
+ghost use Rattle.bands.specs.Dct.{dctScaled, dctIn, dctOf, DctFits};
 ghost use Rattle.bands.specs.Norm.{wnorm};
+ghost use Rattle.bands.specs.Parts.{sumsAfter};
 ghost use Rattle.bands.specs.Windowed.{windowedBy, windowed, WindowFits};
 
 mod dct_table;
@@ -186,15 +188,27 @@ pub fn interp_band_gain(out: &mut [f32], bands: &[f32]) -> u32
     0
 }
 
-fn dct_sum(table: &[f32; 484], x: &[f32], i: usize) -> f32
-    requires { ⌜ (length (now x) ≡ 22) × (i < 22) ⌝ }
-    ensures { λ r. ⌜ r ≡ dctSum (now (table .entry)) (now (x .entry)) i ⌝ }
+// Row j of the table: each of the 22 sums gets its next product. The sums do not wait for each other, so that four are added at a time.
+fn add_row(sums: &mut [f32], table: &[f32; 484], x: &[f32], j: usize)
+    requires { ⌜ (length (now x) ≡ 22) × (j < 22) × (now sums ≡ sumsAfter (now table) (now x) j) ⌝ }
+    ensures { λ _. ⌜ now (sums .exit) ≡ sumsAfter (now (table .entry)) (now (x .entry)) (j + 1) ⌝ }
 {
-    let mut sum = 0.0;
-    for j in 0..22 {
-        sum = sum + x[j] * table[j * 22 + i];
+    let factor = x[j];
+    let row = j * 22;
+    for i in 0..22 {
+        sums[i] = sums[i] + factor * table[row + i];
     }
-    sum
+}
+
+// The 22 sums, into any places.
+fn add_rows(sums: &mut [f32], table: &[f32; 484], x: &[f32])
+    requires { ⌜ DctFits (length (now sums)) (length (now x)) ⌝ }
+    ensures { λ _. ⌜ now (sums .exit) ≡ sumsAfter (now (table .entry)) (now (x .entry)) 22 ⌝ }
+{
+    rules::clear(sums);
+    for j in 0..22 {
+        add_row(sums, table, x, j);
+    }
 }
 
 // A cast to f64 is asked to be of no NaN.
@@ -207,13 +221,21 @@ fn dct_scaled(sum: f32) -> f32
     numbers::narrow(sum as f64 * DCT_SCALE)
 }
 
+fn scale_sums(sums: &mut [f32])
+    requires { ⌜ length (now sums) ≡ 22 ⌝ }
+    ensures { λ _. ⌜ now (sums .exit) ≡ tab 22 (λ i. dctScaled (at (now (sums .entry)) i)) ⌝ }
+{
+    for i in 0..22 {
+        sums[i] = dct_scaled(sums[i]);
+    }
+}
+
 fn dct_core(out: &mut [f32], table: &[f32; 484], x: &[f32])
     requires { ⌜ DctFits (length (now out)) (length (now x)) ⌝ }
     ensures { λ _. ⌜ now (out .exit) ≡ dctIn (now (table .entry)) (now (x .entry)) ⌝ }
 {
-    for i in 0..22 {
-        out[i] = dct_scaled(dct_sum(table, x, i));
-    }
+    add_rows(out, table, x);
+    scale_sums(out);
 }
 
 // A brute-force DCT of 22 numbers.
