@@ -144,7 +144,7 @@ pub fn compute_band_corr(out: &mut [f32], x: &[f32], p: &[f32]) -> u32
     0
 }
 
-// The bins of band i, between its gain and the next band's.
+// The bins of band i, between its gain and the next band's. The processor makes floats of four numbers of 16 bits at a time, and of a `usize` not.
 fn fill_band(out: &mut [f32], table: &[usize; 22], bands: &[f32], i: usize)
     requires { ⌜ GainFits (length (now out)) (length (now bands)) ⌝ }
     requires { ⌜ (now table ≡ edges) × (i < 21) ⌝ }
@@ -154,8 +154,9 @@ fn fill_band(out: &mut [f32], table: &[usize; 22], bands: &[f32], i: usize)
     let size = table[i + 1] - start;
     let low = bands[i];
     let high = bands[i + 1];
+    let bins = size as u16 as f32;
     for j in 0..size {
-        let frac = j as f32 / size as f32;
+        let frac = j as u16 as f32 / bins;
         out[start + j] = (1.0 - frac) * low + frac * high;
     }
 }
