@@ -211,9 +211,26 @@ const INFINITY: u64 = 0x7f80_0000;
 // The pattern of 2^48: what is added to it counts sixteenths.
 const SIXTEENTHS: u64 = 0x42f0_0000_0000_0000;
 
-// x as an `f32`: the nearest one, and of two that are as near the one whose last digit is even.
-// Past the largest it is an infinity, and a NaN stays one.
+// x as an `f32`: the nearest one, and of two that are as near the one whose last digit is even. Past the largest it is an infinity,
+// and a NaN stays one. The language has a cast for an `f64` that is an `f32` already, so x is rounded in front of it.
 pub fn narrow(x: f64) -> f32
+    ensures { λ r. ⌜ r ≡ narrowed x ⌝ }
+{
+    if x != x {
+        return 0.0 / 0.0;
+    }
+    let bits: u64 = f64::to_bits(x);
+    let size: u64 = bits % 0x8000_0000_0000_0000;
+    if size >= NORMAL {
+        if size < HALF_LARGEST {
+            return f64::from_bits(rounded(bits, 29) * 0x2000_0000) as f32;
+        }
+    }
+    by_parts(x)
+}
+
+// The same of any x, by its sign and its size.
+fn by_parts(x: f64) -> f32
     ensures { λ r. ⌜ r ≡ narrowed x ⌝ }
 {
     if x != x {
@@ -239,7 +256,7 @@ pub(crate) fn shortened(x: f64) -> f64
             return f64::from_bits(rounded(bits, 29) * 0x2000_0000);
         }
     }
-    std::num::f32_to_f64_with_nan(narrow(x))
+    std::num::f32_to_f64_with_nan(by_parts(x))
 }
 
 // `narrow` on bit patterns without their sign. An `f32` counts its exponent from 896 less, and has

@@ -51,6 +51,6 @@ shortened-spec =
     mul-result
     real  -- float-from-bits-result
     returns-2
-    (λ c κs. search needs)  -- narrow-requires
+    (λ c κs. search needs)  -- by-parts-requires
     (λ c κs. search needs)  -- f32-to-f64-with-nan-requires
-    (λ c. c .f32-to-f64-with-nan .ensures ∙ c .before .narrow .ensures))  -- returns-3
+    (λ c. c .f32-to-f64-with-nan .ensures ∙ c .before .by-parts .ensures))  -- returns-3
