@@ -98,6 +98,11 @@ enum tuppence_refusal {
     TUPPENCE_RECORDING_RECORDS = 64,
     TUPPENCE_RECORDING_TRAILER = 65,
     TUPPENCE_RECORDING_LONGER = 66,
+    TUPPENCE_RECORDER_TOO_LONG = 67,
+    TUPPENCE_RECORDER_RECORDS = 68,
+    TUPPENCE_RECORDER_SIZE = 69,
+    TUPPENCE_RECORDER_FRAMES = 70,
+    TUPPENCE_RECORDER_NO_CUT = 71,
     TUPPENCE_NULL = 101,
     TUPPENCE_MISALIGNED = 102,
     TUPPENCE_TOO_LONG = 103,
@@ -365,6 +370,43 @@ uint32_t tuppence_autocorr(float *ac, size_t ac_len, const float *x, size_t x_le
 
 /* Halves the sampling rate. `x` has 1,728 numbers, `x_lp` gets 864. */
 uint32_t tuppence_downsample(float *x_lp, size_t x_lp_len, const float *x, size_t x_len);
+
+
+/* ---- recorder: a recording while it is being made. Which of a feed's bytes belong to it, and its head,
+   seal and trailer. Refusals: 5 a wrong length; 53 no side; 67 longer than a recording can be; 68
+   not the records of the next frames; 69 no audio, or more than a recording has; 70 not as many
+   records as the audio takes; 71 no place for a cut. */
+
+/* A recording begins. `numbers` has eight places; what they held is overwritten. `side` is 0 for
+   left and 1 for right; it `began` so many seconds after 1970 began, 0 if nobody knows; its `first`
+   frame has this number, 0 after an opening. */
+uint32_t tuppence_recorder_begin(uint64_t *numbers, size_t numbers_len, uint32_t side,
+    uint64_t began, uint32_t first);
+
+/* What a feed gave. `numbers` has eight places, as they were left. The feed took in `taken` samples
+   of the stream, 0 if it was silence; it gave the bytes `cleaned`, 960 for each frame, and the
+   `records`, 8 for each. `part` has two places: where the bytes begin that belong to the recording,
+   and how many they are. A host writes these, and all records. */
+uint32_t tuppence_recorder_more(uint64_t *numbers, size_t numbers_len,
+    uint64_t *part, size_t part_len, uint32_t taken, const uint8_t *cleaned, size_t cleaned_len,
+    const uint8_t *records, size_t records_len);
+
+/* `silence` has one place: how many samples of silence the bench must still be fed after the
+   stream's last sample, so that all that was taken in comes out. `numbers` has eight places, as
+   they were left. */
+uint32_t tuppence_recorder_closing(uint64_t *silence, size_t silence_len,
+    const uint64_t *numbers, size_t numbers_len);
+
+/* The bench goes on in the next recording, which `began` then. `numbers` has eight places, as they
+   were left after a whole frame; they become those of the next recording. The recording that ends
+   is finished first. */
+uint32_t tuppence_recorder_next(uint64_t *numbers, size_t numbers_len, uint64_t began);
+
+/* The recording ends here. `numbers` has eight places, as they were left. `head` has 76 bytes,
+   which are before the audio; `chunk` has 32, which are between the audio and the records;
+   `trailer` has 16, which are after the records. */
+uint32_t tuppence_recorder_finish(uint8_t *head, size_t head_len, uint8_t *chunk, size_t chunk_len,
+    uint8_t *trailer, size_t trailer_len, const uint64_t *numbers, size_t numbers_len);
 
 
 /* ---- recording: whether a file's bytes are exactly those that the box writes for a side, and what is

@@ -156,6 +156,20 @@ surface! {
     tuppence_recording_chunk as recording_chunk(out: &mut [u8], side: u32, first: u32, size: u32, checksum: u32) -> u32;
 }
 
+// A recording while it is being made, in eight numbers. A feed's bytes and records are handed in, and it is told where
+// the bytes begin that belong to the recording, and how many they are. At the end: its head, its seal and its trailer.
+surface! {
+    tuppence_recorder_begin as recorder_begin(numbers: &mut [u64], side: u32, began: u64, first: u32) -> u32;
+    tuppence_recorder_more as recorder_more(
+        numbers: &mut [u64], part: &mut [u64], taken: u32, cleaned: &[u8], records: &[u8]
+    ) -> u32;
+    tuppence_recorder_closing as recorder_closing(silence: &mut [u64], numbers: &[u64]) -> u32;
+    tuppence_recorder_next as recorder_next(numbers: &mut [u64], began: u64) -> u32;
+    tuppence_recorder_finish as recorder_finish(
+        head: &mut [u8], chunk: &mut [u8], trailer: &mut [u8], numbers: &[u64]
+    ) -> u32;
+}
+
 // A format is 16, 24, 32 for floats, or 33 for 32-bit integers. One of the channels, which take turns, is unpacked.
 // Packed are 16 bits, two bytes for each sample.
 surface! {

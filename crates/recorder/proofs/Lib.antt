@@ -1,0 +1,2 @@
+pub mod InRow
+pub mod Answers

@@ -1,0 +1,3 @@
+pub mod Recorder
+pub mod Numbers
+pub mod Parts
