@@ -1,7 +1,10 @@
 //! From cleaned bytes to a sealed recording on the disk, and how an unfinished one is closed.
 
+pub mod closing;
+pub mod day;
 pub mod files;
 pub mod folder;
+pub mod listed;
 pub mod mend;
 pub mod place;
 pub mod put;
@@ -9,4 +12,5 @@ pub mod records;
 pub mod rescue;
 pub mod seal;
 pub mod through;
+pub mod times;
 pub mod unfinished;
