@@ -1,9 +1,12 @@
 //! From cleaned bytes to a sealed recording on the disk, and how an unfinished one is closed.
 
+pub mod after;
 pub mod closing;
 pub mod day;
 pub mod files;
 pub mod folder;
+pub mod front;
+pub mod judge;
 pub mod listed;
 pub mod mend;
 pub mod place;
@@ -14,3 +17,4 @@ pub mod seal;
 pub mod through;
 pub mod times;
 pub mod unfinished;
+pub mod writing;
