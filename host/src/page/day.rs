@@ -61,7 +61,8 @@ fn cell(text: &mut String, one: &Listed) {
     }
     let said = format!("listen from the start, {whole} long");
     button(text, one, 0.0, "all", &format!("<span aria-hidden=\"true\">▶</span> all {whole}"), &said);
-    let (seal, name) = (frames(one.front.first, one.frames()), html_text(&one.name.to_string_lossy()));
+    let file = one.name.file_name().unwrap_or_default().to_string_lossy();
+    let (seal, name) = (frames(one.front.first, one.frames()), html_text(&file));
     write!(text, "<span class=\"more\">{spoken}</span><span class=\"more\"><strong>sealed</strong>, {seal}</span>")
         .unwrap();
     writeln!(text, "<a class=\"more\" href=\"{}\">{name}</a></td>", link(&one.name)).unwrap();

@@ -8,15 +8,16 @@ use crate::cleaning::run::Sink;
 use crate::cleaning::split::Cutter;
 use crate::error::{At, Error, Result};
 use crate::page::day::{html, BEGINS};
-use crate::reading::block::{packed, Layout};
-use crate::reading::wav::Writer;
+use crate::reading::block::Layout;
 use crate::recording::closing::Closer;
 use crate::recording::files::PAGE;
 use crate::recording::folder::Folder;
 use crate::recording::front::{Front, MOST};
 use crate::recording::judge::Told;
 use crate::recording::listed::{days, dictations, note, Voice, BEFORE};
+use crate::recording::original::Original;
 use crate::recording::place::{beside, is_taken};
+use crate::recording::rolling::{full_at, BYTES};
 use crate::recording::through::Through;
 use crate::recording::times::{day_of, name_of, Times};
 use crate::recording::unfinished::{self, mend_command, PART, SHEET};
@@ -27,9 +28,6 @@ use std::collections::VecDeque;
 use std::fs::{self, File};
 use std::io::{Read, Write};
 use std::path::{Path, PathBuf};
-
-/// The bytes of a frame's audio.
-const BYTES: u64 = 2 * FRAME as u64;
 
 /// A dictation that was closed.
 pub struct Closed {
@@ -57,7 +55,7 @@ pub struct Dictation {
     /// `None` once it is closed.
     recording: Option<Recording>,
     /// The recording as it was before cleaning, if that is kept.
-    before: Option<(Folder, Writer<File>)>,
+    before: Option<Original>,
     through: Option<Through>,
     summary: Summary,
     fault: Option<String>,
@@ -66,7 +64,7 @@ pub struct Dictation {
 impl Drop for Dictation {
     fn drop(&mut self) {
         self.folder.iter_mut().for_each(Folder::leave);
-        self.before.iter_mut().for_each(|(folder, _)| folder.leave());
+        self.before.iter_mut().for_each(Original::leave);
     }
 }
 
@@ -84,7 +82,7 @@ impl Dictation {
         let mut folder = Folder::new(&day, false)?;
         let name = free_name(&day, front);
         let recording = Recording::new(&mut folder, &name, front.side, front.began, front.first)?;
-        let before = keep_before.then(|| before_of(&day, &name)).transpose()?;
+        let before = keep_before.then(|| Original::new(&day, &name)).transpose()?;
         let files = recording.files().map(File::try_clone).into_iter().collect::<Result<_, _>>().at(&day.join(&name))?;
         sync_folder(&day);
         let through = Some(Through::new(files));
@@ -99,9 +97,7 @@ impl Dictation {
         let entries: Vec<u64> = frames.iter().map(|frame| frame.entry).collect();
         recording.records(&entries)?;
         recording.audio(audio)?;
-        if let Some((folder, writer)) = &mut self.before {
-            writer.write(&packed(before)).at(&folder.place(&self.name))?;
-        }
+        self.before.as_mut().map_or(Ok(()), |original| original.write(before))?;
         self.summary.before(before);
         frames.iter().for_each(|frame| self.summary.frame(frame));
         self.summary.after(&Layout::CLEANED.samples(audio, 0));
@@ -125,7 +121,10 @@ impl Dictation {
         let shift = u64::from(self.front.first != 0);
         let second = |frame: u64| ((frame + shift) * FRAME as u64) as f64 / f64::from(RATE);
         match (self.summary.first_voice.begins(), self.summary.first_voice.ends()) {
-            (Some(first), Some(last)) => Voice::From { first: second(first), last: second(last + 1) },
+            (Some(first), Some(last)) => {
+                let last = second(last + 1).min(self.summary.seconds());
+                Voice::From { first: second(first), last }
+            }
             _ => Voice::None,
         }
     }
@@ -135,11 +134,7 @@ impl Dictation {
         self.through = None;
         let Some(recording) = self.recording.take() else { return Ok(()) };
         let (told, voice) = (recording.finish()?, self.voice());
-        if let Some((mut folder, writer)) = self.before.take() {
-            let place = folder.place(&self.name);
-            writer.finish(0).and_then(|file| sync_all(&file)).at(&place)?;
-            folder.keep()?;
-        }
+        self.before.take().map_or(Ok(()), Original::keep)?;
         self.folder.take().map_or(Ok(()), |mut folder| folder.keep())?;
         let summary = std::mem::replace(&mut self.summary, Summary::of(self.front.side));
         note(&self.day, &self.name, self.front, told.frames, told.heard, summary.seconds(), voice)?;
@@ -148,14 +143,6 @@ impl Dictation {
         tell(&Closed { place, told, summary, voice, fault: self.fault.take() });
         Ok(())
     }
-}
-
-/// The file of a recording as it was before cleaning: a plain WAV file, without a seal.
-fn before_of(day: &Path, name: &str) -> Result<(Folder, Writer<File>)> {
-    let mut folder = Folder::new(&day.join(BEFORE), false)?;
-    let place = folder.place(name);
-    let writer = Writer::new(folder.create(name)?, RATE).at(&place)?;
-    Ok((folder, writer))
 }
 
 /// Writes the page of all dictations in a folder anew: beside its place, and then there in one step.
@@ -226,6 +213,12 @@ impl Bench {
         }
     }
 
+    /// What was recorded.
+    fn record(&mut self, samples: &[f32]) {
+        self.come += samples.len() as u64;
+        self.before.extend(samples);
+    }
+
     fn frame(&mut self, frame: Frame) {
         self.cuts.extend(self.cutter.frame(frame.heard.voice() > LIKELY));
         self.frames.push_back(frame);
@@ -243,19 +236,11 @@ impl Bench {
         Ok(&mut self.under_way.as_mut().expect("it was begun just now").1)
     }
 
-    /// The frame with which the dictation that begins with this one is full.
-    fn full_at(first: u64, most: u32) -> u64 {
-        let full = first + u64::from(most) / BYTES + u64::from(first as u32 == 0);
-        // no recording begins with the number 0 but at an opening
-        full - u64::from(full as u32 == 0)
-    }
-
     /// Writes the frames before this one, with their sound. Where a dictation ends, it goes to be closed.
     fn pass(&mut self, to: u64, how: &How, closer: &mut Closer) -> Result<()> {
         while self.passed < to {
             let cut = self.cuts.front().copied().filter(|cut| *cut == self.passed);
-            let is_full =
-                self.under_way.as_ref().is_some_and(|(first, _)| Bench::full_at(*first, how.most) == self.passed);
+            let is_full = self.under_way.as_ref().is_some_and(|(first, _)| full_at(*first, how.most) == self.passed);
             if cut.is_some() || is_full {
                 if cut.is_some() {
                     self.cuts.pop_front();
@@ -266,7 +251,7 @@ impl Bench {
             }
             self.dictation(how)?;
             let first = self.under_way.as_ref().map_or(self.passed, |(first, _)| *first);
-            let end = to.min(Bench::full_at(first, how.most)).min(self.cuts.front().copied().unwrap_or(u64::MAX));
+            let end = to.min(full_at(first, how.most)).min(self.cuts.front().copied().unwrap_or(u64::MAX));
             self.write(end)?;
         }
         Ok(())
@@ -401,9 +386,7 @@ pub fn given_up(out: &Path, why: Error) -> Error {
 
 impl Sink for Day {
     fn before(&mut self, side: Side, samples: &[f32]) -> Result<()> {
-        let bench = &mut self.benches[side as usize];
-        bench.come += samples.len() as u64;
-        bench.before.extend(samples);
+        self.benches[side as usize].record(samples);
         Ok(())
     }
 
@@ -421,5 +404,150 @@ impl Sink for Day {
         let settled = bench.cuts.back().copied().unwrap_or(0).max(bench.cutter.settled());
         let come = bench.passed + bench.frames.len() as u64;
         bench.pass(settled.min(come), &self.how, &mut self.closer)
+    }
+}
+
+#[cfg(test)]
+mod tests {
+    use super::*;
+    use crate::cleaning::recorder::Heard;
+    use crate::recording::times::read_moment;
+    use std::ops::Range;
+    use std::sync::{Arc, Mutex};
+
+    /// What was told of a dictation: its name, its first frame, where its voice begins and ends, and its fault.
+    type Said = (String, u32, Option<[f64; 2]>, Option<String>);
+
+    /// The sample of a bench at a place, which is no other bench's.
+    fn sample(side: Side, at: u64) -> f32 {
+        ((at / 480) % 1_000) as f32 + if side == Side::Left { 2_000.0 } else { -9_000.0 }
+    }
+
+    fn samples(side: Side, places: Range<u64>) -> Vec<f32> {
+        places.map(|at| sample(side, at)).collect()
+    }
+
+    /// Hands in so many frames of both benches, eight at a time, with voices in these of each. What comes out of a bench is
+    /// 1 more than what went in.
+    fn hand_in(day: &mut Day, frames: u64, voices: [&[Range<u64>]; 2]) {
+        for first in (0..frames).step_by(8) {
+            let numbers = first..(first + 8).min(frames);
+            let frame = |side: Side, number: u64| {
+                let voice = voices[side as usize].iter().any(|voice| voice.contains(&number));
+                let heard = Heard::Voice { probability: if voice { 0.9 } else { 0.1 }, energy: 1.0 };
+                Frame { entry: number | 1 << 32, heard, heard_so_far: 0 }
+            };
+            for side in Side::BOTH {
+                day.before(side, &samples(side, 480 * numbers.start..480 * numbers.end)).unwrap();
+            }
+            let all = Side::BOTH.map(|side| numbers.clone().map(|number| frame(side, number)).collect());
+            day.frames(&all).unwrap();
+            for side in Side::BOTH {
+                let out = 480 * numbers.start.max(1) - 480..480 * numbers.end - 480;
+                let after: Vec<f32> = samples(side, out).iter().map(|x| x + 1.0).collect();
+                day.after(side, &crate::reading::block::packed(&after)).unwrap();
+            }
+        }
+    }
+
+    /// A day in a folder of its own that began at 9 o'clock at the left bench, and ten seconds later at the right one.
+    fn day(name: &str) -> (PathBuf, Arc<Mutex<Vec<Said>>>, Day) {
+        let out = std::env::temp_dir().join(format!("day-{}-{name}", std::process::id()));
+        let _ = fs::remove_dir_all(&out);
+        let said = Arc::new(Mutex::new(vec![]));
+        let told = said.clone();
+        let tell: Tell = Box::new(move |closed| {
+            let name = closed.place.file_name().unwrap().to_str().unwrap().to_string();
+            let voice = match closed.voice {
+                Voice::From { first, last } => Some([first, last]),
+                _ => None,
+            };
+            told.lock().unwrap().push((name, closed.told.front.first, voice, closed.fault.clone()));
+        });
+        let mut day = Day::new(&Plan { out: &out, split: 2.0, keep_before: true, force: false }, tell).unwrap();
+        let start = read_moment("2026-11-16T09:00:00").unwrap();
+        day.set_times([start, start + 10].map(Times::From));
+        (out, said, day)
+    }
+
+    /// A dictation's file has the sound of its own bench, from its first frame on, and so has its original.
+    fn has_its_own(out: &Path, name: &str, side: Side, sound: Range<u64>) {
+        let place = out.join("2026-11-16").join(name);
+        let bytes = fs::read(&place).unwrap();
+        let told = crate::recording::judge::judged(&mut &bytes[..]).unwrap().unwrap();
+        assert_eq!(told.front.side, side, "{name}");
+        let wanted: Vec<f32> = samples(side, sound.clone()).iter().map(|x| x + 1.0).collect();
+        let audio = &bytes[76..76 + 2 * wanted.len()];
+        assert!(Layout::CLEANED.samples(audio, 0) == wanted, "{name}");
+        let before = fs::read(out.join("2026-11-16/before").join(name)).unwrap();
+        assert!(Layout::CLEANED.samples(&before[44..], 0) == samples(side, sound), "{name}");
+    }
+
+    /// Each bench is cut by its own voices, and has its own sound, its own originals, its own times and its own faults.
+    #[test]
+    fn each_bench_has_its_own_dictations() {
+        let (out, said, mut day) = day("own");
+        hand_in(&mut day, 1_001, [&[100..200, 600..700], &[300..400, 800..900]]);
+        day.fault(Side::Right, "torn");
+        assert_eq!(day.finish(), Ok(true));
+        let mut said = said.lock().unwrap().clone();
+        said.sort_by_key(|(name, ..)| name.clone());
+        let wanted = [
+            ("090000-left.wav", 0, [1.0, 2.0], None),
+            ("090005-left.wav", 551, [0.5, 1.5], None),
+            ("090010-right.wav", 0, [3.0, 4.0], None),
+            ("090017-right.wav", 751, [0.5, 1.5], Some("torn".into())),
+        ];
+        assert_eq!(said, wanted.map(|(name, first, voice, fault)| (name.to_string(), first, Some(voice), fault)));
+        let [left, right] = Side::BOTH;
+        has_its_own(&out, "090000-left.wav", left, 0..480 * 550);
+        has_its_own(&out, "090005-left.wav", left, 480 * 550..480 * 1_000);
+        has_its_own(&out, "090010-right.wav", right, 0..480 * 750);
+        has_its_own(&out, "090017-right.wav", right, 480 * 750..480 * 1_000);
+        let page = fs::read_to_string(out.join(PAGE)).unwrap();
+        assert_eq!(page.matches("<tr><th scope=\"row\">").count(), 4);
+        fs::remove_dir_all(out).unwrap();
+    }
+
+    /// A recording that is full goes on in the next one, with the next frame.
+    #[test]
+    fn a_dictation_that_is_full() {
+        let (out, said, day) = day("full");
+        let mut day = day.at_most(960 * 400 + 7);
+        hand_in(&mut day, 1_001, [&[100..200, 600..700], &[]]);
+        assert_eq!(day.finish(), Ok(true));
+        let mut firsts: Vec<(String, u32)> =
+            said.lock().unwrap().iter().map(|(name, first, ..)| (name.clone(), *first)).collect();
+        firsts.sort();
+        let wanted = [
+            ("090000-left.wav", 0),
+            ("090004-left.wav", 401),
+            ("090005-left.wav", 551),
+            ("090009-left.wav", 951),
+            ("090010-right.wav", 0),
+            ("090014-right.wav", 401),
+            ("090018-right.wav", 801),
+        ];
+        assert_eq!(firsts, wanted.map(|(name, first)| (name.to_string(), first)));
+        has_its_own(&out, "090009-left.wav", Side::Left, 480 * 950..480 * 1_000);
+        has_its_own(&out, "090014-right.wav", Side::Right, 480 * 400..480 * 800);
+        fs::remove_dir_all(out).unwrap();
+    }
+
+    /// What is discarded leaves nothing, and what is dropped is left for `mend`.
+    #[test]
+    fn what_is_not_finished() {
+        let (out, _, mut day) = day("discarded");
+        hand_in(&mut day, 100, [&[], &[]]);
+        day.discard();
+        assert!(!out.exists());
+        let (out, _, mut day) = self::day("dropped");
+        hand_in(&mut day, 100, [&[], &[]]);
+        let why = day.give_up(Error::undone("no room")).to_string();
+        assert!(why.starts_with("no room; what was cleaned is left unfinished, and `box mend "), "{why}");
+        assert_eq!(left_in_days(&out).len(), 6);
+        let again = Day::new(&Plan { out: &out, split: 2.0, keep_before: false, force: false }, Box::new(|_| ()));
+        assert!(again.is_err_and(|why| why.to_string().contains("is of a run that was not finished")));
+        fs::remove_dir_all(out).unwrap();
     }
 }
