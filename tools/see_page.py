@@ -74,12 +74,13 @@ class Browser:
             sys.exit(f'{expression}: {answer["exceptionDetails"]}')
         return answer['result'].get('value')
 
-    def open(self, page, wide, high, phone, scheme):
+    def open(self, page, wide, high, phone, scheme, has_sound=True):
         self.ask('Emulation.setDeviceMetricsOverride', width=wide, height=high, deviceScaleFactor=1, mobile=phone)
         self.ask('Emulation.setEmulatedMedia', features=[{'name': 'prefers-color-scheme', 'value': scheme}])
         self.ask('Page.navigate', url=f'file://{page}')
-        ready = """document.readyState == 'complete'
-          && [...document.querySelectorAll('audio')].every(a => a.readyState > 0)"""
+        ready = "document.readyState == 'complete'"
+        if has_sound:
+            ready += " && [...document.querySelectorAll('audio')].every(a => a.readyState > 0)"
         for _ in range(100):
             if self.value(ready):
                 return
@@ -166,11 +167,66 @@ def listen(browser, which, must):
     return f'{strips} strips played by presses and keys, {players} players one at a time'
 
 
+PLAYS = """(() => { const a = document.getElementById('player'), c = document.querySelector('td.chosen');
+  return [a.paused, a.currentTime, decodeURI(a.src), c && c.querySelector('.which').textContent,
+    document.getElementById('now').textContent]; })()"""
+CENTRE = """(() => { const e = document.querySelector('%s'); e.scrollIntoView({ block: 'center' });
+  const r = e.getBoundingClientRect(); return [r.left + r.width / 2, r.top + r.height / 2]; })()"""
+
+
+def look_at_day(program, profile, out, page):
+    """The page of a day: pictures, then one press to hear the first word, and the keys."""
+    browser, wrong = Browser(program, profile), []
+
+    def must(holds, what):
+        if not holds:
+            wrong.append(what)
+
+    for device, wide, high in (('desk', 1280, 1000), ('phone', 390, 844)):
+        for scheme in ('light', 'dark'):
+            which = f'day-{device}-{scheme}'
+            browser.open(page, wide, high, device == 'phone', scheme, has_sound=False)
+            smallest = browser.value(SMALLEST)
+            must(smallest >= 12, f'{which}: text of {smallest} px')
+            must(browser.value('document.documentElement.scrollWidth <= innerWidth'), f'{which}: wider than the screen')
+            must(browser.value(IN_SIGHT), f'{which}: the player is out of sight')
+            browser.press(*browser.value(CENTRE % 'button.word'))
+            time.sleep(0.5)
+            paused, at, src, side, now = browser.value(PLAYS)
+            word = float(browser.value("document.querySelector('button.word').dataset.at"))
+            must(not paused and word - 0.4 < at < word + 1.5, f'{which}: the first word plays from {at} s, paused: {paused}')
+            must(side.lower() in src and now.startswith(side), f'{which}: {side} plays {src}, and says {now}')
+            for key, code in (('n', 78), ('n', 78), ('p', 80)):
+                browser.key(key, code)
+                time.sleep(0.3)
+                paused, _, src, side, now = browser.value(PLAYS)
+                must(not paused and side.lower() in src and now.startswith(side), f'{which}: {key}: {side} plays {src}, says {now}')
+            cells = browser.value("[...document.querySelectorAll('button.all')].findIndex(b => b.closest('td.chosen'))")
+            must(cells == 1, f'{which}: n, n and p lead to dictation {cells}')
+            browser.key('b', 66)
+            time.sleep(0.3)
+            must('/before/' in browser.value(PLAYS)[2], f'{which}: b does not switch to the original')
+            browser.key('b', 66)
+            time.sleep(0.3)
+            must('/before/' not in browser.value(PLAYS)[2], f'{which}: b does not switch back')
+            browser.value("document.getElementById('player').pause(); scrollTo(0, 0)")
+            shot = browser.ask('Page.captureScreenshot', format='png')['data']
+            with open(f'{out}/{which}.png', 'wb') as file:
+                file.write(base64.b64decode(shot))
+            print(f'{out}/{which}.png: text of {smallest:.0f} px and more; first word, next, previous, before and after')
+    browser.process.terminate()
+    for what in wrong:
+        print(what)
+    sys.exit(1 if wrong else 0)
+
+
 if __name__ == '__main__':
     command, *rest = sys.argv[1:]
     if command == 'sound':
         sound(rest[0], int(rest[1]))
     elif command == 'broken':
         broken(*rest)
+    elif command == 'day':
+        look_at_day(*rest)
     else:
         look(*rest)

@@ -1,6 +1,7 @@
 //! `box clean`: two recordings, one for each bench, cleaned as they come.
 
 use crate::cleaning::cleaned::Summary;
+use crate::cleaning::day::Split;
 use crate::cleaning::demo::{HOUSE, HOUSE_NAME};
 use crate::cleaning::mix::{self, Apart};
 use crate::cleaning::recorder::{Recorder, Side, Way};
@@ -34,6 +35,8 @@ pub struct Job {
     pub out: PathBuf,
     /// What stands in front of the name of each file that is written.
     pub prefix: String,
+    /// How it is cut into dictations, if it is.
+    pub split: Option<Split>,
 }
 
 impl Job {
@@ -58,7 +61,7 @@ pub enum Inputs {
 }
 
 impl Inputs {
-    fn recordings(&self, how: How) -> Result<Recordings> {
+    pub fn recordings(&self, how: How) -> Result<Recordings> {
         match self {
             Inputs::One { side, file } => Recordings::one(*side, file, how),
             Inputs::Two { left, right } => Recordings::two(left, right, how),
@@ -103,7 +106,7 @@ impl Inputs {
     }
 
     /// Whether both benches are recorded.
-    fn are_both(&self) -> bool {
+    pub fn are_both(&self) -> bool {
         !matches!(self, Inputs::One { .. })
     }
 }
@@ -132,7 +135,7 @@ fn is_in_the_way(file: &Path, job: &Job) -> bool {
 }
 
 /// The model, which the library must take.
-fn model_of_job(job: &Job) -> Result<Vec<u8>> {
+pub fn model_of_job(job: &Job) -> Result<Vec<u8>> {
     let Some(path) = &job.model else { return Ok(HOUSE.into()) };
     let model = import::read_model(path)?;
     Recorder::new(job.way).open(Side::Left, &model).at(path)?;
@@ -146,7 +149,7 @@ fn ended(side: Side, sample: u64, why: impl Into<Reason>) -> Lost {
 }
 
 /// The benches that the library refused.
-fn refused(benches: [Option<Refused>; 2]) -> impl Iterator<Item = Lost> {
+pub fn refused(benches: [Option<Refused>; 2]) -> impl Iterator<Item = Lost> {
     let told = |(side, bench): (Side, Option<Refused>)| bench.map(|at| ended(side, at.sample, at.refusal));
     Side::BOTH.into_iter().zip(benches).filter_map(told)
 }
@@ -193,7 +196,7 @@ pub fn clean(job: &Job) -> Result<Report> {
 }
 
 /// Why nothing is written.
-fn nothing(mut lost: Vec<Error>) -> Error {
+pub fn nothing(mut lost: Vec<Error>) -> Error {
     let Some(last) = lost.pop() else { return Error::undone("no samples came: nothing is written") };
     lost.push(last.reworded(|why| format!("{why}; nothing is written")));
     Error::Several(lost)

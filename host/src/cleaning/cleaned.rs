@@ -72,6 +72,13 @@ impl Summary {
         }
     }
 
+    /// Of a recording that was cut from a stream. The network has settled, and the first frame brings audio already.
+    pub fn cut(side: Side) -> Summary {
+        let mut summary = Summary { first_voice: FirstVoice::settled(), ..Summary::of(side) };
+        summary.pauses.frame(false);
+        summary
+    }
+
     pub fn seconds(&self) -> f64 {
         self.samples as f64 / f64::from(RATE)
     }

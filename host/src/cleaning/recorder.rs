@@ -29,6 +29,13 @@ impl Side {
             Side::Right => "right",
         }
     }
+
+    pub fn other(self) -> Side {
+        match self {
+            Side::Left => Side::Right,
+            Side::Right => Side::Left,
+        }
+    }
 }
 
 /// A bench's way, which its opening settles: the crate's own finder and the fast transforms; or what requests 04 and 08

@@ -5,6 +5,7 @@ use crate::cleaning::cleaned::Summary;
 use crate::cleaning::demo::HOUSE_NAME;
 use crate::cleaning::mix;
 use crate::cleaning::recorder::{Side, Way};
+use crate::cli::dictations;
 use crate::cli::words::Given;
 use crate::error::{Error, Result};
 use crate::reading::source::{How, STANDARD_INPUT};
@@ -52,7 +53,8 @@ fn job(given: &Given, inputs: Inputs, out: PathBuf) -> Result<Job> {
     let (force, anyway) = (given.has("--force"), given.has("--anyway"));
     let how = How { raw: given.has("--raw"), to_the_end: given.has("--to-the-end") };
     let (way, csv, prefix) = (way(given), given.has("--csv"), prefix(given)?);
-    Ok(Job { inputs, model, way, quiet, force, anyway, how, csv, out, prefix })
+    let split = dictations::split(given)?;
+    Ok(Job { inputs, model, way, quiet, force, anyway, how, csv, out, prefix, split })
 }
 
 /// Refuses `--raw` and `--channels` where they say nothing, or something else than the benches that are asked for.
@@ -180,6 +182,9 @@ fn tell_as_json(job: &Job, outcome: &Result<Report>) {
 
 /// Runs a job, tells it by `tell`, and gives what of it is missing.
 fn run_job(given: &Given, job: &Job, tell: impl Fn(&Report)) -> Result<()> {
+    if let Some(split) = &job.split {
+        return dictations::run_dictations(given, job, split);
+    }
     let outcome = clean::clean(job);
     let is_json = given.has("--json");
     if is_json {

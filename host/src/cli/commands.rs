@@ -26,6 +26,7 @@ pub const COMMANDS: &[Command] = &[
             "FILE.. [--side left|right] --out DIR",
             "- --out DIR",
             "--left - [--raw] --out DIR",
+            "- --split SECONDS [--start TIME] --out DIR",
         ],
         files: Files::from(0, "FILE"),
         options: &[
@@ -37,6 +38,9 @@ pub const COMMANDS: &[Command] = &[
             Opt::of("--channels", Takes::OneOf(&["1", "2"]), "The channels of --raw: 2 with -, 1 with --left - or --right -."),
             Opt::flag("--to-the-end", "Clean all that a file holds, even if its header announces less."),
             Opt::of("--out", Takes::Place("DIR"), "Where the files are written. Of several FILEs each has a folder there."),
+            Opt::of("--split", Takes::Text("SECONDS"), "Cut into dictations, DIR/2026-11-16/093012-left.wav and so on: one is over after so many seconds without a voice."),
+            Opt::of("--start", Takes::Text("TIME"), "When the first sample was recorded, as 2026-11-16T09:30:12. For --split."),
+            Opt::flag("--keep-before", "Keep each dictation as it was before cleaning, too. For --split."),
             Opt::of("--name", Takes::Text("NAME"), "Call what is written NAME-left.wav and so on."),
             Opt::of("--model", Takes::There("FILE"), "The model: .rnn, .rnnn or rnn_data.c. The house model where none is named."),
             LAG,

@@ -3,6 +3,7 @@
 
 pub mod about;
 pub mod colours;
+pub mod day;
 pub mod overview;
 pub mod picture;
 pub mod table;
@@ -15,7 +16,7 @@ use crate::{FRAME, RATE};
 use std::fmt::Write;
 
 /// A text as it stands on a page: what means something to a browser is escaped, and control characters are shown.
-fn html_text(text: &str) -> String {
+pub fn html_text(text: &str) -> String {
     let one = |letter: char| match letter {
         '&' => "&amp;".into(),
         '<' => "&lt;".into(),
@@ -28,7 +29,7 @@ fn html_text(text: &str) -> String {
 }
 
 /// A file's name as a link has it: but for letters, digits and `-._`, each byte by its number.
-fn in_a_link(name: &str) -> String {
+pub fn in_a_link(name: &str) -> String {
     let one = |byte: u8| match byte {
         b'a'..=b'z' | b'A'..=b'Z' | b'0'..=b'9' | b'-' | b'.' | b'_' => char::from(byte).to_string(),
         byte => format!("%{byte:02X}"),
@@ -37,7 +38,7 @@ fn in_a_link(name: &str) -> String {
 }
 
 /// A number with a comma between each three digits.
-fn grouped(number: u64) -> String {
+pub fn grouped(number: u64) -> String {
     let digits = number.to_string();
     let threes: Vec<&str> =
         digits.as_bytes().rchunks(3).rev().map(|three| std::str::from_utf8(three).unwrap_or_default()).collect();
@@ -45,7 +46,7 @@ fn grouped(number: u64) -> String {
 }
 
 /// Seconds as `m:ss`, and where that says little with a tenth.
-fn length(seconds: f64) -> String {
+pub fn length(seconds: f64) -> String {
     if seconds < 1.0 {
         tenths(seconds)
     } else {
@@ -53,7 +54,7 @@ fn length(seconds: f64) -> String {
     }
 }
 
-fn tenths(seconds: f64) -> String {
+pub fn tenths(seconds: f64) -> String {
     let tenths = (10.0 * seconds) as u64;
     format!("{}.{}", clock(tenths / 10), tenths % 10)
 }

@@ -339,6 +339,14 @@ impl Recordings {
         self.all().iter().map(|recording| recording.length).max().flatten()
     }
 
+    /// The length of a bench's, where that is known.
+    pub fn length_of(&self, side: Side) -> Option<u64> {
+        match self {
+            Recordings::Two(both) => both[side as usize].length,
+            Recordings::One(_, one) | Recordings::Stereo(one) => one.length,
+        }
+    }
+
     /// What was not as it should be, if nothing is lost by it.
     pub fn notes(&self) -> Vec<String> {
         self.all().iter().flat_map(Recording::notes).collect()

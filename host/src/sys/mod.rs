@@ -11,7 +11,9 @@
 //! | `renameat2` | `rename` | a file gets its place in one step that writes over nothing |
 //! | `fdatasync`, `fsync` | `disk` | what was recorded is on the disk, and not in memory, when the power fails |
 //! | `flock` | `lock` | two runs must not write into one folder |
+//! | `tzset`, `localtime_r`, `mktime` | `clock` | a dictation is called by the time that the clock on the wall showed |
 
+pub mod clock;
 pub mod disk;
 pub mod lock;
 pub mod rename;

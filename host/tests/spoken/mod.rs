@@ -159,7 +159,7 @@ pub struct Spoken {
 }
 
 /// A voice without the silence before its first word, as loud as `LEVEL` while it speaks.
-fn voice(rng: &mut Rng, is_made: bool) -> Vec<f64> {
+pub fn voice(rng: &mut Rng, is_made: bool) -> Vec<f64> {
     let voice = if is_made { made(rng) } else { spoken(rng) };
     // the word begins with the first sample that is less than 40 dB softer than the loudest
     let loudest = voice.iter().fold(0.0f64, |most, x| most.max(x.abs()));
