@@ -21,8 +21,7 @@ peak() {
     local most=0 now
     rm -rf "$scratch/out"
     mkfifo "$scratch/fifo"
-    "$host" clean - --raw -q --model "$root/host/model/house.rnn" --out "$scratch/out" \
-        <"$scratch/fifo" >"$scratch/said" &
+    "$host" clean - --raw -q --model "$root/host/model/house.rnn" --out "$scratch/out" <"$scratch/fifo" >"$scratch/said" &
     local pid=$!
     sound "$1" >"$scratch/fifo" &
     while now=$(sed -n 's/^VmHWM:[^0-9]*\([0-9]*\) kB$/\1/p' "/proc/$pid/status" 2>/dev/null) && [ -n "$now" ]; do

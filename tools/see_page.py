@@ -28,8 +28,7 @@ def broken(folder):
     right = samples(folder, 'right')
     floats = array.array('f', (x for sample in right[:72_000] for x in (0.0, sample / 32_768)))
     floats.extend([float('nan'), 0.0] * 9_600)
-    format_ = struct.pack('<IHHIIHH', 16, 3, 2, 48_000, 384_000, 8, 32)
-    head = b'RIFF' + struct.pack('<I', 36 + 4 * len(floats)) + b'WAVEfmt ' + format_
+    head = b'RIFF' + struct.pack('<I', 36 + 4 * len(floats)) + b'WAVEfmt ' + struct.pack('<IHHIIHH', 16, 3, 2, 48_000, 384_000, 8, 32)
     sys.stdout.buffer.write(head + b'data' + struct.pack('<I', 4 * len(floats)) + floats.tobytes())
 
 
@@ -42,8 +41,7 @@ class Browser:
         high_in, high_out = os.dup2(theirs_in, 60, inheritable=True), os.dup2(theirs_out, 61, inheritable=True)
         words = [program, '--headless', '--no-sandbox', '--disable-gpu', '--hide-scrollbars', '--mute-audio',
                  f'--user-data-dir={profile}', '--remote-debugging-pipe', 'about:blank']
-        self.process = subprocess.Popen(words, stdout=subprocess.DEVNULL, stderr=subprocess.DEVNULL,
-                                        pass_fds=(3, 4, high_in, high_out),
+        self.process = subprocess.Popen(words, stdout=subprocess.DEVNULL, stderr=subprocess.DEVNULL, pass_fds=(3, 4, high_in, high_out),
                                         preexec_fn=lambda: (os.dup2(high_in, 3), os.dup2(high_out, 4)))
         self.count, self.rest, self.session = 0, b'', None
         target = self.ask('Target.createTarget', url='about:blank')['targetId']
@@ -78,8 +76,7 @@ class Browser:
         self.ask('Emulation.setDeviceMetricsOverride', width=wide, height=high, deviceScaleFactor=1, mobile=phone)
         self.ask('Emulation.setEmulatedMedia', features=[{'name': 'prefers-color-scheme', 'value': scheme}])
         self.ask('Page.navigate', url=f'file://{page}')
-        ready = """document.readyState == 'complete'
-          && [...document.querySelectorAll('audio')].every(a => a.readyState > 0)"""
+        ready = "document.readyState == 'complete' && [...document.querySelectorAll('audio')].every(a => a.readyState > 0)"
         for _ in range(100):
             if self.value(ready):
                 return
@@ -97,15 +94,10 @@ class Browser:
         time.sleep(0.3)
 
 
-SMALLEST = """Math.min(...[...document.querySelectorAll('body *')]
-  .filter(e => [...e.childNodes].some(n => n.nodeType == 3 && n.data.trim())
-    && !['SCRIPT', 'TITLE', 'DESC'].includes(e.tagName.toUpperCase()))
-  .map(e => parseFloat(getComputedStyle(e).fontSize)))"""
-IN_SIGHT = """[...document.querySelectorAll('audio')].map(a => a.getBoundingClientRect())
-  .every(r => r.left >= 0 && r.right <= innerWidth && r.width > 200)"""
-FIRST_CARD = """[...document.querySelector('section').querySelectorAll('audio')]
-  .every(a => a.getBoundingClientRect().bottom <= innerHeight)"""
-PLAYING = """[...document.querySelectorAll('audio')].filter(a => !a.paused).length"""
+SMALLEST = """Math.min(...[...document.querySelectorAll('body *')].filter(e => [...e.childNodes].some(n => n.nodeType == 3 && n.data.trim())
+  && !['SCRIPT', 'TITLE', 'DESC'].includes(e.tagName.toUpperCase())).map(e => parseFloat(getComputedStyle(e).fontSize)))"""
+IN_SIGHT = """[...document.querySelectorAll('audio')].map(a => a.getBoundingClientRect()).every(r => r.left >= 0 && r.right <= innerWidth && r.width > 200)"""
+FIRST_CARD = """[...document.querySelector('section').querySelectorAll('audio')].every(a => a.getBoundingClientRect().bottom <= innerHeight)"""
 STRIP = """(() => { const s = document.querySelectorAll('.strip input')[%d]; s.scrollIntoView({ block: 'center' });
   const r = s.getBoundingClientRect(), end = Number(s.max);
   return [r.left + r.width / 2, r.top + r.height / 2, end / 2, 3 * end / r.width, s.dataset.player]; })()"""
@@ -128,8 +120,7 @@ def look(program, profile, out, *pages):
                     file.write(base64.b64decode(shot))
                 smallest = browser.value(SMALLEST)
                 must(smallest >= 12, f'{which}: text of {smallest} px')
-                inside = browser.value('document.documentElement.scrollWidth <= innerWidth')
-                must(inside, f'{which}: wider than the screen')
+                must(browser.value('document.documentElement.scrollWidth <= innerWidth'), f'{which}: wider than the screen')
                 must(browser.value(IN_SIGHT) and browser.value(FIRST_CARD), f'{which}: a player is out of sight')
                 heard = listen(browser, which, must)
                 print(f'{out}/{which}.png: text of {smallest:.0f} px and more; {heard}')
@@ -148,9 +139,8 @@ def listen(browser, which, must):
         audio = f"document.getElementById('{player}')"
         browser.press(x, y)
         now, paused = browser.value(f'{audio}.currentTime'), browser.value(f'{audio}.paused')
-        plays = f'{which}: a press in the middle of strip {at} plays {player} from {now} s, paused: {paused}'
-        must(not paused and middle - line - 0.1 < now < middle + line + 2, plays)
-        must(browser.value(PLAYING) == 1, f'{which}: two players at once')
+        must(not paused and middle - line - 0.1 < now < middle + line + 2, f'{which}: a press in the middle of strip {at} plays {player} from {now} s, paused: {paused}')
+        must(browser.value("[...document.querySelectorAll('audio')].filter(a => !a.paused).length") == 1, f'{which}: two players at once')
         browser.key('Enter', 13)
         must(browser.value(f'{audio}.paused'), f'{which}: Enter does not stop {player}')
         before = browser.value(f'{audio}.currentTime')

@@ -19,14 +19,9 @@ mkdir -p "$out"
 python3 "$root/tools/see_page.py" sound "$scratch/demo" $((60 * minutes)) |
     "$host" clean - --raw -q --model "$model" --out "$scratch/long" >/dev/null
 python3 "$root/tools/see_page.py" broken "$scratch/demo" >"$scratch/broken.wav"
-"$host" clean - -q --model "$model" --out "$scratch/broken" <"$scratch/broken.wav" >"$scratch/said" 2>&1 && {
-    echo "a broken stream was taken"
-    exit 1
-}
+"$host" clean - -q --model "$model" --out "$scratch/broken" <"$scratch/broken.wav" >"$scratch/said" 2>&1 && { echo "a broken stream was taken"; exit 1; }
 python3 "$root/tools/see_page.py" look "$browser" "$scratch/profile" "$out" \
     "demo=$scratch/demo/index.html" "long=$scratch/long/index.html" "broken=$scratch/broken/index.html"
 if command -v pngquant >/dev/null; then
-    for png in "$out"/{demo,long,broken}-{desk,phone}-{light,dark}.png; do
-        pngquant --force --nofs --ext .png 24 "$png"
-    done
+    for png in "$out"/{demo,long,broken}-{desk,phone}-{light,dark}.png; do pngquant --force --nofs --ext .png 24 "$png"; done
 fi
