@@ -1,9 +1,11 @@
 #!/usr/bin/env bash
-# The memory of `box clean -`: the most that a short stream takes, and a long one, in KiB. They must be alike within 512.
+# The memory of `box clean -`: the most that a short stream takes, and a long one, in KiB. They must be alike within
+# 512.
 #   tools/flat_memory.sh [SECONDS [SECONDS [OPTION..]]]
 # 60 and 3600 where none are named; an hour of both benches takes some five minutes. Options are those of `clean`, as
 # --split 3600. (A folder's page lists all its dictations, so each of them takes some KiB.)
-# Needs the box built (./box --version does it), Python, and Linux, whose /proc tells the most memory that a process had.
+# Needs the box built (./box --version does it), Python, and Linux, whose /proc tells the most memory that a process
+# had.
 set -euo pipefail
 root=$(cd "$(dirname "$0")/.." && pwd)
 host=$root/target/host/release/tuppencehop

@@ -27,5 +27,7 @@ python3 "$root/tools/see_page.py" sound "$scratch/demo" 120 |
     "$host" clean - --raw -q --split 1.5 --start 2026-11-16T09:30:12 --keep-before --out "$scratch/day" >/dev/null
 python3 "$root/tools/see_page.py" day "$browser" "$scratch/profile-day" "$out" "$scratch/day/index.html"
 if command -v pngquant >/dev/null; then
-    for png in "$out"/{demo,long,broken,day}-{desk,phone}-{light,dark}.png; do pngquant --force --nofs --ext .png 24 "$png"; done
+    for png in "$out"/{demo,long,broken,day}-{desk,phone}-{light,dark}.png; do
+        pngquant --force --nofs --ext .png 24 "$png"
+    done
 fi

@@ -117,8 +117,8 @@ const PLAYER: &str = "<section class=\"player\" aria-label=\"Player\">\n\
 
 const ABOUT: &str = "<footer><p>LEFT is the left bench's column and RIGHT the right one's. <em>word</em> plays from a \
     little before the first voice, <em>all</em> from the start. Silence between two dictations is at the end of the \
-    earlier one. Keys: N next, P previous, W first word, B before or after cleaning if the original is kept. A dictation \
-    was sealed when it was closed; whether it still is, the command <code>side</code> tells.</p></footer>\n";
+    earlier one. Keys: N next, P previous, W first word, B before or after cleaning if the original is kept. A \
+    dictation was sealed when it was closed; whether it still is, the command <code>side</code> tells.</p></footer>\n";
 
 /// The page of these dictations, which are in order.
 pub fn html(all: &[Listed]) -> String {
