@@ -194,13 +194,14 @@ def look_at_day(program, profile, out, page):
             time.sleep(0.5)
             paused, at, src, side, now = browser.value(PLAYS)
             word = float(browser.value("document.querySelector('button.word').dataset.at"))
-            must(not paused and word - 0.4 < at < word + 1.5, f'{which}: the first word plays from {at} s, paused: {paused}')
+            must(not paused and word - 0.4 < at < word + 1.5, f'{which}: the first word plays from {at} s, {paused}')
             must(side.lower() in src and now.startswith(side), f'{which}: {side} plays {src}, and says {now}')
             for key, code in (('n', 78), ('n', 78), ('p', 80)):
                 browser.key(key, code)
                 time.sleep(0.3)
                 paused, _, src, side, now = browser.value(PLAYS)
-                must(not paused and side.lower() in src and now.startswith(side), f'{which}: {key}: {side} plays {src}, says {now}')
+                is_own = side.lower() in src and now.startswith(side)
+                must(not paused and is_own, f'{which}: {key}: {side} plays {src}, says {now}')
             cells = browser.value("[...document.querySelectorAll('button.all')].findIndex(b => b.closest('td.chosen'))")
             must(cells == 1, f'{which}: n, n and p lead to dictation {cells}')
             browser.key('b', 66)
@@ -213,7 +214,7 @@ def look_at_day(program, profile, out, page):
             shot = browser.ask('Page.captureScreenshot', format='png')['data']
             with open(f'{out}/{which}.png', 'wb') as file:
                 file.write(base64.b64decode(shot))
-            print(f'{out}/{which}.png: text of {smallest:.0f} px and more; first word, next, previous, before and after')
+            print(f'{out}/{which}.png: text of {smallest:.0f} px and more; first word, next, previous, before, after')
     browser.process.terminate()
     for what in wrong:
         print(what)

@@ -1,5 +1,5 @@
-//! `box clean --split`: a made-up shift at two benches in dictations. The variables SECONDS, RIGHTS and KILLS ask for a longer
-//! shift, more right channels, and more kills than the gate has time for.
+//! `box clean --split`: a made-up shift at two benches in dictations. The variables SECONDS, RIGHTS and KILLS ask for a
+//! longer shift, more right channels, and more kills than the gate has time for.
 
 mod common;
 mod shift;
@@ -24,7 +24,8 @@ use tuppencehop::recording::listed::{days, wavs};
 
 const START: &str = "2026-11-16T09:00:00";
 const SIDES: [&str; 2] = ["left", "right"];
-/// What is still within the library when a recorder pauses, and what waits until it is certain that no dictation begins.
+/// What is still within the library when a recorder pauses, and what waits until it is certain that no dictation
+/// begins.
 const WITHIN: usize = 480 + 479 + 75 * 480;
 
 fn variable(name: &str, usual: u64) -> u64 {
@@ -79,7 +80,7 @@ fn begins(one: &Dictation) -> usize {
 /// dictation begins before its first word and after the words of the one before it; and nothing else is written.
 #[test]
 fn a_shift_in_dictations() {
-    let (path, seconds) = (folder("day-shift"), variable("SECONDS", 100) as usize);
+    let (path, seconds) = (folder("day-shift"), variable("SECONDS", 300) as usize);
     let benches: [Shift; 2] = [1, 2].map(|seed| shift(seed, seconds, [4.0, 9.0]));
     let stream = stereo(&benches[0].samples, &benches[1].samples);
     let words = ["--start", START, "--keep-before", "--json"];
@@ -171,7 +172,7 @@ fn no_other_bench_moves_a_cut() {
         let ended = fed(split(&path, "out", "1", &["--start", START, "-q"]), &stereo(&left, &right));
         assert_eq!((ended.status, &*ended.said), (Some(0), ""), "{}", ended.why);
         let found = files(&out);
-        assert!(found.len() >= 3, "{} dictations", found.len());
+        assert!(found.len() >= 2, "{} dictations", found.len());
         assert!(*wanted.get_or_insert_with(|| found.clone()) == found, "right channel {number}");
     }
 }
@@ -204,8 +205,8 @@ fn a_full_recording_goes_on_in_the_next() {
     assert_eq!(run(host(&path, &["side", "many"])).status, Some(0));
 }
 
-/// A run that is killed after so much time, in eight times the speed of speech. How many samples of a bench had been handed
-/// to it two seconds before that.
+/// A run that is killed after so much time, in eight times the speed of speech. How many samples of a bench had been
+/// handed to it two seconds before that.
 fn killed(path: &Path, stream: &[u8], after: Duration) -> usize {
     let words = ["--start", START, "-q", "--keep-before"];
     let mut child = split(path, "out", "1", &words).stdin(std::process::Stdio::piped()).spawn().unwrap();

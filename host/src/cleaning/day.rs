@@ -32,8 +32,8 @@ pub struct Ended {
     pub notes: Vec<String>,
 }
 
-/// What tells the time of a bench's samples: what somebody says; of a file its last change less its length, since that is
-/// when a recorder began it; of a stream the clock.
+/// What tells the time of a bench's samples: what somebody says; of a file its last change less its length, since that
+/// is when a recorder began it; of a stream the clock.
 fn times(job: &Job, split: &Split, recordings: &Recordings, side: Side) -> Times {
     let by_file = || {
         let length = recordings.length_of(side)?;

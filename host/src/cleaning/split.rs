@@ -46,8 +46,9 @@ impl Cutter {
     }
 }
 
-/// The first frame of a dictation whose voice begins with this one. A recording whose first frame has the number 0 is one
-/// that begins with an opening, so where the numbers, which have 32 bits, begin again, a dictation begins a frame earlier.
+/// The first frame of a dictation whose voice begins with this one. A recording whose first frame has the number 0 is
+/// one that begins with an opening, so where the numbers, which have 32 bits, begin again, a dictation begins a frame
+/// earlier.
 fn first_frame(voice: u64) -> u64 {
     let first = voice - LEAD;
     first - u64::from(first as u32 == 0)
@@ -58,8 +59,8 @@ mod tests {
     use super::*;
     use crate::cleaning::demo::Rng;
 
-    /// The cuts of a stream in which these frames and no others are likely. Each cut stands at or behind what was settled
-    /// before it, and what is settled never waits for more than three quarters of a second.
+    /// The cuts of a stream in which these frames and no others are likely. Each cut stands at or behind what was
+    /// settled before it, and what is settled never waits for more than three quarters of a second.
     fn cuts(seconds: f64, frames: u64, likely: impl Fn(u64) -> bool) -> Vec<u64> {
         let (mut cutter, mut settled, mut found) = (Cutter::new(seconds), 0, vec![]);
         for frame in 0..frames {

@@ -13,6 +13,14 @@ const LAG: Opt = Opt::of(
      bits; or our own, with transforms as plain sums, which takes several times as long.",
 );
 
+const SPLIT: Opt = Opt::of(
+    "--split",
+    Takes::Text("SECONDS"),
+    "Cut into dictations, DIR/2026-11-16/093012-left.wav and so on: one is over after so many seconds without a voice.",
+);
+const START: Opt =
+    Opt::of("--start", Takes::Text("TIME"), "When the first sample was recorded, as 2026-11-16T09:30:12. For --split.");
+
 /// The box.
 pub const BOX: Program = Program { name: "", commands: COMMANDS, help: help::help_of_box, asks: "what shall be done?" };
 
@@ -38,8 +46,8 @@ pub const COMMANDS: &[Command] = &[
             Opt::of("--channels", Takes::OneOf(&["1", "2"]), "The channels of --raw: 2 with -, 1 with --left - or --right -."),
             Opt::flag("--to-the-end", "Clean all that a file holds, even if its header announces less."),
             Opt::of("--out", Takes::Place("DIR"), "Where the files are written. Of several FILEs each has a folder there."),
-            Opt::of("--split", Takes::Text("SECONDS"), "Cut into dictations, DIR/2026-11-16/093012-left.wav and so on: one is over after so many seconds without a voice."),
-            Opt::of("--start", Takes::Text("TIME"), "When the first sample was recorded, as 2026-11-16T09:30:12. For --split."),
+            SPLIT,
+            START,
             Opt::flag("--keep-before", "Keep each dictation as it was before cleaning, too. For --split."),
             Opt::of("--name", Takes::Text("NAME"), "Call what is written NAME-left.wav and so on."),
             Opt::of("--model", Takes::There("FILE"), "The model: .rnn, .rnnn or rnn_data.c. The house model where none is named."),

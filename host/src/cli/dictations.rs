@@ -70,7 +70,7 @@ fn json(closed: &Closed, recording: &Path, model: &str) -> Json {
         ("recording", recording.into()),
         ("side", told.front.side.name().into()),
         ("began", told.front.began.into()),
-        ("first_frame", told.front.first.into()),
+        ("first", told.front.first.into()),
         ("seconds", rounded(summary.seconds(), 5).into()),
         ("frames", told.frames.into()),
         ("heard", told.heard.into()),

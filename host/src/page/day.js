@@ -1,5 +1,6 @@
 'use strict';
-// One player for all dictations. A press plays from the first word or from the start; keys go to the next and the previous.
+// One player for all dictations. A press plays from the first word or from the start; keys go to the next and the
+// previous.
 const audio = document.getElementById('player'), now = document.getElementById('now');
 const toggle = document.getElementById('switch');
 // one for each dictation: its cell, the button for all of it, and the one for its first word if a voice was found

@@ -1,5 +1,5 @@
-//! One page of a folder's dictations for a browser: by time, left and right in columns of their own, with one player. It is
-//! one file beside the folders of the days, and needs no network.
+//! One page of a folder's dictations for a browser: by time, left and right in columns of their own, with one player.
+//! It is one file beside the folders of the days, and needs no network.
 
 use crate::cleaning::recorder::Side;
 use crate::page::colours::{variables, DARK, LIGHT};
@@ -95,9 +95,9 @@ fn counts(day: &[&Listed]) -> String {
 fn table(text: &mut String, day: &str, all: &[&Listed]) {
     writeln!(
         text,
-        "<section aria-labelledby=\"day-{day}\">\n<h2 id=\"day-{day}\">{day}</h2>\n<table>\n<caption>Dictations of {day} by \
-         time: {}</caption>\n<thead><tr><th scope=\"col\">time</th><th scope=\"col\" class=\"left\">LEFT</th>\
-         <th scope=\"col\" class=\"right\">RIGHT</th></tr></thead>\n<tbody>",
+        "<section aria-labelledby=\"day-{day}\">\n<h2 id=\"day-{day}\">{day}</h2>\n<table>\n\
+         <caption>Dictations of {day} by time: {}</caption>\n<thead><tr><th scope=\"col\">time</th>\
+         <th scope=\"col\" class=\"left\">LEFT</th><th scope=\"col\" class=\"right\">RIGHT</th></tr></thead>\n<tbody>",
         counts(all)
     )
     .unwrap();
@@ -106,7 +106,8 @@ fn table(text: &mut String, day: &str, all: &[&Listed]) {
 }
 
 const PLAYER: &str = "<section class=\"player\" aria-label=\"Player\">\n\
-    <p id=\"now\" aria-live=\"polite\">No dictation is chosen.</p>\n<audio id=\"player\" controls preload=\"none\"></audio>\n\
+    <p id=\"now\" aria-live=\"polite\">No dictation is chosen.</p>\n\
+    <audio id=\"player\" controls preload=\"none\"></audio>\n\
     <div class=\"keys\">\
     <button type=\"button\" id=\"previous\" aria-keyshortcuts=\"p\">previous <kbd>P</kbd></button> \
     <button type=\"button\" id=\"next\" aria-keyshortcuts=\"n\">next <kbd>N</kbd></button> \
@@ -114,10 +115,10 @@ const PLAYER: &str = "<section class=\"player\" aria-label=\"Player\">\n\
     <button type=\"button\" id=\"switch\" aria-keyshortcuts=\"b\" aria-pressed=\"false\" hidden>before cleaning \
     <kbd>B</kbd></button></div>\n</section>\n";
 
-const ABOUT: &str = "<footer><p>LEFT is the left bench's column and RIGHT the right one's. <em>word</em> plays from a little \
-    before the first voice, <em>all</em> from the start. Silence between two dictations is at the end of the earlier one. \
-    Keys: N next, P previous, W first word, B before or after cleaning if the original is kept. A dictation was sealed when it \
-    was closed; whether it still is, the command <code>side</code> tells.</p></footer>\n";
+const ABOUT: &str = "<footer><p>LEFT is the left bench's column and RIGHT the right one's. <em>word</em> plays from a \
+    little before the first voice, <em>all</em> from the start. Silence between two dictations is at the end of the \
+    earlier one. Keys: N next, P previous, W first word, B before or after cleaning if the original is kept. A \
+    dictation was sealed when it was closed; whether it still is, the command <code>side</code> tells.</p></footer>\n";
 
 /// The page of these dictations, which are in order.
 pub fn html(all: &[Listed]) -> String {

@@ -1,5 +1,5 @@
-//! What `box clean --split` writes, as it goes: each dictation of a bench is a recording of its own, in the folder of its
-//! day. It is closed, judged and told while the stream goes on, and then the page is written anew. The benches know
+//! What `box clean --split` writes, as it goes: each dictation of a bench is a recording of its own, in the folder of
+//! its day. It is closed, judged and told while the stream goes on, and then the page is written anew. The benches know
 //! nothing of each other: a bench's dictations hang on what comes from that bench alone.
 
 use crate::cleaning::cleaned::{Summary, LIKELY};
@@ -16,7 +16,7 @@ use crate::recording::front::{Front, MOST};
 use crate::recording::judge::Told;
 use crate::recording::listed::{days, dictations, note, Voice, BEFORE};
 use crate::recording::original::Original;
-use crate::recording::place::{beside, is_taken};
+use crate::recording::place::{beside, is_taken, new_file};
 use crate::recording::rolling::{full_at, BYTES};
 use crate::recording::through::Through;
 use crate::recording::times::{day_of, name_of, Times};
@@ -72,7 +72,10 @@ impl Drop for Dictation {
 fn free_name(day: &Path, front: Front) -> String {
     let name = |number: Option<u32>| name_of(front.began, front.side, number);
     let numbers = std::iter::once(None).chain((2..).map(Some));
-    let is_free = |name: &String| ["", PART, SHEET].iter().all(|ending| !is_taken(&beside(&day.join(name), ending)));
+    let is_free = |name: &String| {
+        let places = [day.join(name), day.join(BEFORE).join(name)];
+        places.iter().all(|place| ["", PART, SHEET].iter().all(|ending| !is_taken(&beside(place, ending))))
+    };
     numbers.map(name).find(is_free).expect("there is always another name")
 }
 
@@ -113,6 +116,8 @@ impl Dictation {
         self.through = None;
         drop(self.before.take());
         drop(self.folder.take());
+        // the other bench's dictation may have found these folders here; they stay if they are not empty
+        [self.day.join(BEFORE), self.day.clone()].iter().for_each(|folder| _ = fs::remove_dir(folder));
     }
 
     /// Where the voice is in it. What comes out of a frame belongs to the one before it: where the first frame brought
@@ -148,7 +153,9 @@ impl Dictation {
 /// Writes the page of all dictations in a folder anew: beside its place, and then there in one step.
 pub fn put_page(out: &Path) -> Result<()> {
     let (place, new) = (out.join(PAGE), out.join(format!("{PAGE}.new")));
-    let written = File::create(&new).and_then(|mut file| {
+    // what a crash left there; a link is not followed
+    let _ = fs::remove_file(&new);
+    let written = new_file(&new).and_then(|mut file| {
         file.write_all(html(&dictations(out)).as_bytes())?;
         sync_all(&file)
     });
@@ -427,8 +434,8 @@ mod tests {
         places.map(|at| sample(side, at)).collect()
     }
 
-    /// Hands in so many frames of both benches, eight at a time, with voices in these of each. What comes out of a bench is
-    /// 1 more than what went in.
+    /// Hands in so many frames of both benches, eight at a time, with voices in these of each. What comes out of a
+    /// bench is 1 more than what went in.
     fn hand_in(day: &mut Day, frames: u64, voices: [&[Range<u64>]; 2]) {
         for first in (0..frames).step_by(8) {
             let numbers = first..(first + 8).min(frames);

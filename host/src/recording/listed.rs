@@ -1,5 +1,5 @@
-//! The recordings in a folder and in the folders of its days, by their heads, and by the table of each day for what no head
-//! says: where the voice is.
+//! The recordings in a folder and in the folders of its days, by their heads, and by the table of each day for what no
+//! head says: where the voice is.
 
 use crate::cleaning::recorder::Side;
 use crate::error::{At, Result};
@@ -169,8 +169,8 @@ pub struct Missing {
     pub between: (Option<PathBuf>, PathBuf),
 }
 
-/// What is missing between some recordings of one bench, which are in order: each begins with frame 0, or with the frame
-/// after the last one of the recording before it. Each is told with its number of frames.
+/// What is missing between some recordings of one bench, which are in order: each begins with frame 0, or with the
+/// frame after the last one of the recording before it. Each is told with its number of frames.
 pub fn missing<'a>(side: Side, all: impl Iterator<Item = (&'a Path, Front, u64)>) -> Vec<Missing> {
     let (mut found, mut before): (Vec<Missing>, Option<(&Path, u32)>) = (vec![], None);
     for (name, front, frames) in all.filter(|(_, front, _)| front.side == side) {

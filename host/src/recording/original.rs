@@ -1,5 +1,5 @@
-//! A dictation as it was before cleaning: a plain WAV file of one channel and 16 bits, without a seal. It lies in a folder
-//! `before` beside the dictations of its day, under the same name.
+//! A dictation as it was before cleaning: a plain WAV file of one channel and 16 bits, without a seal. It lies in a
+//! folder `before` beside the dictations of its day, under the same name.
 
 use crate::error::{At, Result};
 use crate::reading::block::packed;

@@ -1,6 +1,6 @@
-//! A bench's recordings in a row. The sizes of a WAV file have 32 bits, so a recording is full after 12 hours and 19 minutes:
-//! then the next one begins with the next frame, and the full one is closed beside the work. The audio of all, in a row, is
-//! that of one recording.
+//! A bench's recordings in a row. The sizes of a WAV file have 32 bits, so a recording is full after 12 hours and 19
+//! minutes: then the next one begins with the next frame, and the full one is closed beside the work. The audio of all,
+//! in a row, is that of one recording.
 
 use crate::cleaning::recorder::Side;
 use crate::error::{Error, Result};
@@ -106,7 +106,8 @@ impl Rolling {
 mod tests {
     use super::*;
 
-    /// One more frame fits where the first brings no audio, and no recording begins with the number 0 but at an opening.
+    /// One more frame fits where the first brings no audio, and no recording begins with the number 0 but at an
+    /// opening.
     #[test]
     fn when_a_recording_is_full() {
         assert_eq!([full_at(0, 9_600), full_at(7, 9_600), full_at(7, 10_559)], [11, 17, 17]);

@@ -1,5 +1,5 @@
-//! When a dictation began, and what it is called by that: `2026-11-16/093012-left.wav`. Names have the time that the clock
-//! on the wall showed; within a recording there are seconds since 1970, which know no time zone.
+//! When a dictation began, and what it is called by that: `2026-11-16/093012-left.wav`. Names have the time that the
+//! clock on the wall showed; within a recording there are seconds since 1970, which know no time zone.
 
 use crate::cleaning::recorder::Side;
 use crate::sys::clock::{local, moment, Local};

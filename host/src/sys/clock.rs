@@ -1,5 +1,5 @@
-//! The clock on the wall (`localtime_r`, `mktime`): a moment in this computer's time zone, and back. The standard library
-//! knows no time zones.
+//! The clock on the wall (`localtime_r`, `mktime`): a moment in this computer's time zone, and back. The standard
+//! library knows no time zones.
 
 use std::ffi::{c_char, c_int, c_long};
 use std::mem::MaybeUninit;

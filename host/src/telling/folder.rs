@@ -9,7 +9,8 @@ use crate::telling::shown::shown;
 use crate::telling::side::told_of;
 use std::path::{Path, PathBuf};
 
-/// The WAV files of a folder and of the days in it. Recordings come by the time at which they began, and others behind them.
+/// The WAV files of a folder and of the days in it. Recordings come by the time at which they began, and others behind
+/// them.
 fn in_order(folder: &Path) -> Vec<PathBuf> {
     let (mut recordings, mut others) = (vec![], vec![]);
     for path in wavs(folder).into_iter().map(|name| folder.join(name)) {

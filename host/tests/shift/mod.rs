@@ -1,5 +1,5 @@
-//! A made-up shift at a bench: dictations over a grinder, with pauses between them, the same for the same seed. Where each
-//! dictation's first word begins is known.
+//! A made-up shift at a bench: dictations over a grinder, with pauses between them, the same for the same seed. Where
+//! each dictation's first word begins is known.
 #![allow(dead_code)]
 
 use super::spoken;

@@ -1,5 +1,6 @@
 //! Recordings whose first word begins at a known second: a voice over noise. The voice is synthesised here, or it is one
 //! of the demo's, played faster or slower. Everything follows from a seed.
+#![allow(dead_code)]
 
 use std::f64::consts::TAU;
 use tuppencehop::cleaning::demo::{dictation, grinder, power, Rng};
