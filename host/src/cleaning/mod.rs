@@ -4,6 +4,8 @@ pub mod clean;
 pub mod cleaned;
 pub mod demo;
 pub mod first_voice;
+pub mod jobs;
+pub mod measured;
 pub mod mix;
 pub mod pauses;
 pub mod recorder;
