@@ -12,6 +12,7 @@ use tuppencehop::cleaning::recorder::{Frame, Heard, Side};
 use tuppencehop::page;
 use tuppencehop::page::about::About;
 use tuppencehop::page::colours::{DARK, LIGHT};
+use tuppencehop::reading::block::packed;
 use tuppencehop::reading::wav;
 
 /// A tag, and what stands between it and the next one.
@@ -82,7 +83,7 @@ fn benches() -> [Summary; 2] {
             before[50_000..50_003].fill(32_767.0);
         }
         summary.before(&before);
-        summary.after(&before.iter().map(|x| x / 10.0).collect::<Vec<_>>());
+        summary.after(&packed(&before.iter().map(|x| x / 10.0).collect::<Vec<_>>()));
         for number in (0..201).filter(|number| side == Side::Left || *number != 150) {
             let probability = if number >= 100 { 0.9 } else { 0.1 };
             let heard = Heard::Voice { probability, energy: 1.0 };
@@ -366,7 +367,7 @@ fn a_long_recording_has_as_large_a_page() {
             for second in 0..seconds {
                 let sound: Vec<f32> = (0..48_000).map(|i| ((i * 7 + second * 131) % 2_001) as f32 - 1_000.0).collect();
                 summary.before(&sound);
-                summary.after(&sound);
+                summary.after(&packed(&sound));
                 for entry in 100 * second as u64..100 * second as u64 + 100 {
                     let probability = (entry % 7) as f32 / 7.0;
                     summary.frame(&Frame { entry, heard: Heard::Voice { probability, energy: 1.0 }, heard_so_far: 0 });

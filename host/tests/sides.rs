@@ -14,6 +14,7 @@ use tuppencehop::cleaning::demo::dictation;
 use tuppencehop::cleaning::recorder::{Frame, Heard, Side};
 use tuppencehop::page;
 use tuppencehop::page::picture;
+use tuppencehop::reading::block::packed;
 use tuppencehop::reading::wav;
 use tuppencehop::telling::found::sealed as sealed_sheet;
 
@@ -262,7 +263,7 @@ fn benches() -> [Summary; 2] {
         let mut summary = Summary::of(side);
         let level = if side == Side::Left { 100.0 } else { 9_000.0 };
         summary.before(&[level; 38_400]);
-        summary.after(&[level / 2.0; 38_400]);
+        summary.after(&packed(&[level / 2.0; 38_400]));
         for number in (0..81).filter(|number| side == Side::Right || *number != 5) {
             let probability = if side == Side::Left && number >= 40 { 0.9 } else { 0.1 };
             let heard = Heard::Voice { probability, energy: 1.0 };

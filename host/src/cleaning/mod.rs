@@ -5,6 +5,8 @@ pub mod cleaned;
 pub mod day;
 pub mod demo;
 pub mod first_voice;
+pub mod jobs;
+pub mod measured;
 pub mod mix;
 pub mod pauses;
 pub mod recorder;

@@ -7,7 +7,6 @@ use crate::cleaning::run::Sink;
 use crate::error::{At, Error, Result};
 use crate::page::about::About;
 use crate::page::{picture, table};
-use crate::reading::block::Layout;
 use crate::reading::wav::Writer;
 use crate::recording::folder::Folder;
 use crate::recording::records::Records;
@@ -194,7 +193,7 @@ impl Sink for Files {
 
     fn after(&mut self, side: Side, bytes: &[u8]) -> Result<()> {
         let bench = &mut self.benches[side as usize];
-        bench.summary.after(&Layout::CLEANED.samples(bytes, 0));
+        bench.summary.after(bytes);
         bench.audio.write(bytes).at(&bench.place)
     }
 
