@@ -9,12 +9,16 @@ use crate::error::{At, Error, Reason, Result};
 use crate::models::import;
 use crate::page::about::About;
 use crate::reading::source::{How, Limited, Lost, Recordings, STANDARD_INPUT};
-use crate::reading::wav;
 use crate::recording::files::{recording, Files, Place};
+use crate::recording::front::MOST;
+use crate::recording::writing::TOO_LONG;
 use crate::sys::signals;
 use crate::telling::progress::Watched;
 use crate::RATE;
 use std::path::{Path, PathBuf};
+
+/// The most samples that a recording can have.
+const MOST_SAMPLES: u64 = MOST as u64 / 2;
 
 /// What to read, and where to write.
 pub struct Job {
@@ -153,7 +157,7 @@ fn refused(benches: [Option<Refused>; 2]) -> impl Iterator<Item = Lost> {
 
 /// The benches that had more to say than a file can hold.
 fn too_long(cut: [bool; 2]) -> impl Iterator<Item = Lost> {
-    Side::BOTH.into_iter().zip(cut).filter(|(_, cut)| *cut).map(|(side, _)| ended(side, wav::MOST, wav::TOO_LONG))
+    Side::BOTH.into_iter().zip(cut).filter(|(_, cut)| *cut).map(|(side, _)| ended(side, MOST_SAMPLES, TOO_LONG))
 }
 
 /// Runs a job. What ends one bench leaves the other as it is; what was cleaned till then is kept, and told. Where
@@ -172,7 +176,7 @@ pub fn clean(job: &Job) -> Result<Report> {
     let length = recordings.length();
     let is_raw = job.how.raw && matches!(job.inputs, Inputs::Stereo(_));
     let mut apart = Apart::new(&mut recordings, job.inputs.are_both(), job.anyway).in_turns(is_raw);
-    let mut limited = Limited::new(&mut apart, wav::MOST);
+    let mut limited = Limited::new(&mut apart, MOST_SAMPLES);
     let mut watched = Watched::new(&mut files, length, job.quiet);
     let outcome = run(&mut limited, [&model; 2], job.way, &mut watched, |_| ());
     drop(watched);

@@ -48,9 +48,9 @@ pub const COMMANDS: &[Command] = &[
         ],
         about: "\
 Recordings of 48 kHz, 16-bit or 24-bit PCM or 32-bit float. Writes left.wav and right.wav, benches.svg and index.html, a
-page with all of it, into DIR. Each recording is sealed: behind its audio stands its side, with each frame's number. A
-recording whose name, seal or side sheet says the other bench, one file for both benches, and two recordings that are
-identical are refused before anything is written.
+page with all of it, into DIR. Each recording is sealed: its side is before its audio, and after it with each frame's
+number. A recording whose name, seal or side sheet says the other bench, one file for both benches, and two recordings
+that are identical are refused before anything is written.
 
 FILE.. are recordings of one bench each, every one with a folder of its own in DIR that is called like the file. Its side
 is what its name says: left or right as a word, or L or R as the last word (patientR.wav, p-r-2.wav), and if it says none,
@@ -77,18 +77,19 @@ they stay as they are, and box mend DIR closes them.",
         what: "Tell whose recording a file is.",
         usage: &["FILE.."],
         files: Files::from(1, "FILE"),
-        options: &[Opt::flag("--quick", "Look at seal and sheet, and not at the audio."), JSON],
+        options: &[JSON],
         about: "\
-Of a sealed recording, whose audio is the one that it was sealed with: its side, how many frames it has and how many of
-them were heard. Of any other no side is told, but the reason, with an exit status of its own: 3 no side sheet, or none
-with frames; 4 a sheet without a seal; 5 a seal that is not of this audio, or damage; 6 a name or a folder that says
-another side. Of several files the highest. - is a recording on standard input.",
+Of a recording that is, from its first byte to its last, as the box writes it: its side, how many frames it has and how
+many of them were heard. Of any other file no side is told, but the reason, with an exit status of its own: 3 no
+recording; 4 one of an earlier version of the box, or a side sheet without a seal; 5 a recording that is not as the box
+wrote it; 6 a name or a folder that says another side. Of several files the highest. - is a recording on standard input,
+which is judged as it arrives.",
         examples: &["box side monday/left.wav monday/right.wav", "box side --json *.wav"],
         run: sheets::run_side,
     },
     Command {
         name: "mend",
-        what: "Close what a crash left, or a sheet that was torn.",
+        what: "Close what a crash left, or mend a recording that was cut or damaged.",
         usage: &["DIR", "FILE --out FILE2 [--as left|right]"],
         files: Files::one("DIR or FILE"),
         options: &[
@@ -97,11 +98,13 @@ another side. Of several files the highest. - is a recording on standard input."
             JSON,
         ],
         about: "\
-Of a folder: what a run left unfinished, since the power failed or the disk was full. Each recording is closed as far as
-its audio and its records both go, and put in its place, or where that is taken under the next free name.
+Of a folder: what a run left unfinished, since the power failed or the disk was full. Each recording is closed with all
+of its audio, and put in its place, or where that is taken under the next free name. If a recording, its records and its
+name disagree about the side, nothing is closed.
 
-Of a file: a recording whose side sheet was torn. The side must stand in its seal; of a recording without one --as says
-it, and the answer says that you did. As much of the audio is kept as there are records of, and it is sealed again.",
+Of a file: a recording that was cut or damaged, or that an earlier version of the box wrote. Its side is what its seals
+say; if none is whole, --as says it, and the answer says that you did. All of its audio is kept. Records that were lost
+are written again, and their frames marked as heard. FILE2 gets its name only if box side accepts it.",
         examples: &["box mend monday", "box mend torn.wav --out left.wav"],
         run: sheets::run_mend,
     },

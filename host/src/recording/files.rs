@@ -1,23 +1,23 @@
-//! What `box clean` writes, as it goes: for each bench the recording with its seal and side sheet, and of both the table, the picture and the page.
+//! What `box clean` writes, as it goes: for each bench the recording with its seals and side sheet, and of both the
+//! table, the picture and the page.
 //! All that has come out of a bench is in its files before the next block is read, and on the disk a second later.
 
 use crate::cleaning::cleaned::Summary;
 use crate::cleaning::recorder::{Frame, Side};
 use crate::cleaning::run::Sink;
 use crate::error::{At, Error, Result};
+use crate::page;
 use crate::page::about::About;
 use crate::page::{picture, table};
 use crate::reading::block::Layout;
-use crate::reading::wav::Writer;
 use crate::recording::folder::Folder;
-use crate::recording::records::Records;
 use crate::recording::through::Through;
 use crate::recording::unfinished;
-use crate::sys::disk::{sync_all, sync_data, sync_folder};
-use crate::{page, RATE};
+use crate::recording::writing::Recording;
+use crate::sys::disk::{sync_all, sync_folder};
 use std::fs::File;
 use std::io::{self, BufWriter, Write};
-use std::path::{Path, PathBuf};
+use std::path::Path;
 
 pub const TABLE: &str = "frames.csv";
 pub const PICTURE: &str = "benches.svg";
@@ -39,43 +39,34 @@ pub fn names() -> Vec<String> {
 }
 
 struct Bench {
-    place: PathBuf,
-    audio: Writer<File>,
-    records: Records,
+    recording: Recording,
     summary: Summary,
 }
 
 impl Bench {
+    /// When the recording began is not known of a file.
     fn new(side: Side, folder: &mut Folder) -> Result<Bench> {
-        let (name, place) = (recording(side), folder.place(recording(side)));
-        let audio = Writer::new(folder.create(&name)?, RATE).at(&place)?;
-        let (path, sheet) = folder.scratch(&name, unfinished::SHEET)?;
-        Ok(Bench { place, audio, records: Records::new(path, sheet, side)?, summary: Summary::of(side) })
+        let recording = Recording::new(folder, &recording(side), side, 0, 0)?;
+        Ok(Bench { recording, summary: Summary::of(side) })
     }
 
     fn is_empty(&self) -> bool {
-        self.summary.samples == 0
+        self.recording.is_empty()
     }
 
-    /// Closes the recording: its header, which says from then on where the audio ends, and then the chunk with its
-    /// seal and its sheet.
+    /// Closes the recording, if there is any.
     fn finish(self) -> Result<Summary> {
-        let seal = self.audio.seal(self.summary.side);
-        let mut file = self.audio.finish(self.records.behind()).at(&self.place)?;
-        sync_data(&file).at(&self.place)?;
-        self.records.finish(&mut file, seal)?;
-        sync_all(&file).at(&self.place)?;
+        if !self.is_empty() {
+            self.recording.finish()?;
+        }
         Ok(self.summary)
     }
 }
 
 /// The recordings and the records of both benches are written through to the disk as they grow.
 fn written_through(benches: &[Bench; 2]) -> io::Result<Through> {
-    let mut files = Vec::new();
-    for bench in benches {
-        files.extend([bench.audio.inner().try_clone()?, bench.records.inner().try_clone()?]);
-    }
-    Ok(Through::new(files))
+    let files = benches.iter().flat_map(|bench| bench.recording.files());
+    Ok(Through::new(files.map(File::try_clone).collect::<io::Result<_>>()?))
 }
 
 /// A folder on its way. (It is the last to go, once nothing lies in it any more.)
@@ -195,16 +186,13 @@ impl Sink for Files {
     fn after(&mut self, side: Side, bytes: &[u8]) -> Result<()> {
         let bench = &mut self.benches[side as usize];
         bench.summary.after(&Layout::CLEANED.samples(bytes, 0));
-        bench.audio.write(bytes).at(&bench.place)
+        bench.recording.audio(bytes)
     }
 
     fn frames(&mut self, frames: &[Vec<Frame>; 2]) -> Result<()> {
         for (bench, frames) in self.benches.iter_mut().zip(frames) {
-            for frame in frames {
-                bench.summary.frame(frame);
-                bench.records.push(frame.entry)?;
-            }
-            bench.records.put()?;
+            frames.iter().for_each(|frame| bench.summary.frame(frame));
+            bench.recording.records(&frames.iter().map(|frame| frame.entry).collect::<Vec<_>>())?;
         }
         if let Some(table) = &mut self.table {
             table::rows(table, frames).and_then(|()| table.flush()).at(&self.folder.place(TABLE))?;

@@ -8,7 +8,6 @@ pub mod judge;
 pub mod mend;
 pub mod place;
 pub mod put;
-pub mod records;
 pub mod rescue;
 pub mod seal;
 pub mod through;

@@ -3,9 +3,10 @@
 pub mod answer;
 pub mod found;
 pub mod json;
-pub mod kept;
+pub mod moment;
 pub mod names;
 pub mod progress;
 pub mod refusal;
+pub mod refused;
 pub mod shown;
 pub mod side;
