@@ -35,7 +35,7 @@ pub struct Rolling {
     first: u64,
     next: u64,
     /// The most bytes of audio that a recording may have.
-    most: u32,
+    pub most: u32,
     /// Those that are being closed.
     closing: Vec<JoinHandle<Result<Told>>>,
     /// The names of all but the first.

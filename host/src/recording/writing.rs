@@ -1,6 +1,6 @@
 //! One recording being written. Its audio grows in `NAME.part`, whose head already says the side, and its records in
-//! `NAME.sheet`, which begins with the same front seal. At its end both become one file, and the judge reads that file as
-//! it is on the disk.
+//! `NAME.sheet`, which begins with the same front seal. At its end both become one file, and the judge reads that file
+//! as it is on the disk.
 
 use crate::cleaning::recorder::Side;
 use crate::error::{At, Error, Reason, Result};
@@ -74,8 +74,9 @@ impl Recording {
         [&self.audio, &self.sheet]
     }
 
-    /// Closes it: the head, which says from then on where the audio ends, and what follows the audio. What the judge says
-    /// of the file as it is on the disk comes back, and if it is not accepted, an error. The folder gives it its place.
+    /// Closes it: the head, which says from then on where the audio ends, and what follows the audio. What the judge
+    /// says of the file as it is on the disk comes back, and if it is not accepted, an error. The folder gives it its
+    /// place.
     pub fn finish(self) -> Result<Told> {
         let Recording { front, place, part, mut audio, mut sheet, size, checksum } = self;
         let head = front.head(size).at(&place)?;
@@ -87,8 +88,7 @@ impl Recording {
         match found.lost {
             0 => accepted(&part, front).at(&place),
             lost => {
-                Err(Error::undone(format!("{lost} records of its frames are not on the disk as they were written")))
-                    .at(&place)
+                Err(Error::undone(format!("the records of {lost} of its frames are not as they should be")).at(&place))
             }
         }
     }
@@ -165,8 +165,8 @@ mod tests {
             assert!(why.starts_with(&path.join("1.wav").display().to_string()), "{why}");
             why
         };
-        assert!(finished("few", &entries(0, 3)).contains("1 records of its frames are not on the disk"));
-        assert!(finished("number", &entries(1, 4)).contains("4 records of its frames"));
+        assert!(finished("few", &entries(0, 3)).contains("the records of 1 of its frames are not as they should be"));
+        assert!(finished("number", &entries(1, 4)).contains("the records of 4 of its frames"));
         let (_, _folder, recording) = written("none", Side::Right, 0, 0, 0);
         assert!(recording.is_empty() && recording.finish().is_err());
     }
