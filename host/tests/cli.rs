@@ -99,8 +99,9 @@ fn each_recording_carries_its_sheet() {
         let file = fs::read(given.path.join(format!("out/{side}.wav"))).unwrap();
         let rows: Vec<&str> = table.lines().filter(|line| line.starts_with(side)).collect();
         let heard = rows.iter().filter(|row| row.contains(",heard,")).count();
-        let sheet = tuppencehop::telling::side::Sheet::of(&file).unwrap();
-        assert_eq!((sheet.side.name(), sheet.frames, sheet.heard, sheet.gaps.count), (side, rows.len(), heard, 0));
+        let told = tuppencehop::recording::judge::judged(&mut &file[..]).unwrap().unwrap();
+        let wanted = (side, rows.len() as u64, heard as u64);
+        assert_eq!((told.front.side.name(), told.frames, told.heard), wanted);
         assert!(heard > 0);
         // behind the audio and its seal
         let mut start = [0; 3];

@@ -384,9 +384,10 @@ fn long_files() {
     // RF64 is none of ours: no side is told of it
     let left = sealed(0, &noise(960, 1));
     let head = rf64(b"RF64", 1_920, u32::MAX);
-    fs::write(path.join("1.wav"), [&head[..head.len() - audio.len()], &left[44..]].concat()).unwrap();
+    fs::write(path.join("1.wav"), [&head[..head.len() - audio.len()], &left[76..]].concat()).unwrap();
     let ended = run(host(&path, &["side", "1.wav"]));
-    assert_eq!((ended.status, &*ended.why), (Some(5), "box: 1.wav: its header is none that the box writes\n"));
+    let why = "box: 1.wav: another program wrote it in another form (refusal 61)\n";
+    assert_eq!((ended.status, &*ended.why, &*ended.said), (Some(5), why, ""));
 }
 
 /// Two files of a list that would be written to one folder.

@@ -4,7 +4,7 @@ mod common;
 mod made;
 
 use common::*;
-use made::{entries, noise, riff, sealed, sheet};
+use made::{earlier, entries, front, noise, riff, sealed, sheet};
 use std::collections::BTreeMap;
 use std::fs::{self, File};
 use std::io::Write;
@@ -64,6 +64,17 @@ fn of_unfinished(words: &[&str], name: &str) -> i32 {
     run(host(&path, words)).status.unwrap()
 }
 
+/// Of a folder in which a right recording is on its way to the left one's name.
+fn of_mixed() -> i32 {
+    let path = given("mixed");
+    fs::create_dir(path.join("out")).unwrap();
+    let mut open = sealed(1, &noise(480, 1))[..made::HEAD + 960].to_vec();
+    (open[4..8].fill(0xFF), open[72..76].fill(0xFF));
+    fs::write(path.join("out/left.wav.part"), open).unwrap();
+    fs::write(path.join("out/left.wav.sheet"), front(1, 0, 0)).unwrap();
+    run(host(&path, &["mend", "out"])).status.unwrap()
+}
+
 fn of_taken(words: &[&str]) -> i32 {
     let path = given("taken");
     fs::create_dir(path.join("out")).unwrap();
@@ -99,7 +110,7 @@ fn cases() -> Vec<(&'static str, i32)> {
     (broken[20], broken[32], broken[34]) = (3, 4, 32);
     broken[HEADER + 40..HEADER + 44].fill(0xFF);
     let (audio, left) = (noise(480, 1), sealed(0, &noise(480, 1)));
-    let changed = [&left[..60], &[left[60] ^ 1], &left[61..]].concat();
+    let changed = [&left[..100], &[left[100] ^ 1], &left[101..]].concat();
     let mut more = wav::write(48_000, &[3.0; 4_800]);
     more[40..44].copy_from_slice(&960u32.to_le_bytes());
     let asked = [&TWO[..], &["r.wav", "--out", "out"]].concat();
@@ -154,9 +165,16 @@ fn cases() -> Vec<(&'static str, i32)> {
             of("twins", &["clean", "l.wav", "./l.wav", "--out", "out"])
         }),
         ("a file holds more audio than its header announces", of_right("more", &more)),
-        ("`side` finds no side sheet, or one without frames", of("side", &["side", "l.wav"])),
-        ("`side` finds a side sheet without a seal", of_side("1.wav", &riff(&audio, &sheet(0, &entries(2))))),
-        ("`side` finds a recording that is not the one that was sealed, or is damaged", of_side("1.wav", &changed)),
+        ("`mend` finds files in a folder that disagree about a side", of_mixed()),
+        ("`side` finds no recording", of("side", &["side", "l.wav"])),
+        (
+            "`side` finds a recording of an earlier version, or a side sheet without a seal",
+            of_side("1.wav", &riff(&audio, &sheet(0, &entries(2)))),
+        ),
+        ("`side` finds a recording of an earlier version, or a side sheet without a seal", {
+            of_side("1.wav", &earlier(0, &audio))
+        }),
+        ("`side` finds a recording that is not as the box wrote it", of_side("1.wav", &changed)),
         ("`side` finds a name, or a folder's, that says another side", of_side("right.wav", &left)),
     ]
 }

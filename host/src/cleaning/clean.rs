@@ -9,8 +9,7 @@ use crate::cleaning::run::{run, Refused};
 use crate::error::{At, Error, Reason, Result};
 use crate::models::import;
 use crate::page::about::About;
-use crate::reading::source::{How, Limited, Lost, Recordings, STANDARD_INPUT};
-use crate::reading::wav;
+use crate::reading::source::{How, Lost, Recordings, STANDARD_INPUT};
 use crate::recording::files::{recording, Files, Place};
 use crate::sys::signals;
 use crate::telling::progress::Watched;
@@ -154,11 +153,6 @@ pub fn refused(benches: [Option<Refused>; 2]) -> impl Iterator<Item = Lost> {
     Side::BOTH.into_iter().zip(benches).filter_map(told)
 }
 
-/// The benches that had more to say than a file can hold.
-fn too_long(cut: [bool; 2]) -> impl Iterator<Item = Lost> {
-    Side::BOTH.into_iter().zip(cut).filter(|(_, cut)| *cut).map(|(side, _)| ended(side, wav::MOST, wav::TOO_LONG))
-}
-
 /// Runs a job. What ends one bench leaves the other as it is; what was cleaned till then is kept, and told. Where
 /// nothing was cleaned, nothing is written.
 pub fn clean(job: &Job) -> Result<Report> {
@@ -175,18 +169,16 @@ pub fn clean(job: &Job) -> Result<Report> {
     let length = recordings.length();
     let is_raw = job.how.raw && matches!(job.inputs, Inputs::Stereo(_));
     let mut apart = Apart::new(&mut recordings, job.inputs.are_both(), job.anyway).in_turns(is_raw);
-    let mut limited = Limited::new(&mut apart, wav::MOST);
     let mut watched = Watched::new(&mut files, length, job.quiet);
-    let outcome = run(&mut limited, [&model; 2], job.way, &mut watched, |_| ());
+    let outcome = run(&mut apart, [&model; 2], job.way, &mut watched, |_| ());
     drop(watched);
-    let cut = limited.cut;
     notes.extend(apart.found(job.inputs.named(Side::Left))?);
     notes.extend(recordings.notes());
     let benches = match outcome {
         Ok(benches) => benches,
         Err(why) => return Err(files.give_up(why)),
     };
-    let lost: Vec<Lost> = recordings.lost().into_iter().chain(refused(benches)).chain(too_long(cut)).collect();
+    let lost: Vec<Lost> = recordings.lost().into_iter().chain(refused(benches)).collect();
     lost.iter().for_each(|lost| lost.sides.iter().for_each(|side| files.fault(*side, &lost.why.to_string())));
     let lost = lost.into_iter().map(|lost| lost.why).collect();
     if files.is_empty() {
@@ -223,12 +215,6 @@ mod tests {
         assert_eq!(told(refused([None, None])), []);
         let both = told(refused([at(8, 0), at(3, 0)]));
         assert_eq!([&both[0].0[..], &both[1].0], [[left], [right]]);
-        for (cut, side) in [([true, false], left), ([false, true], right)] {
-            let lost = told(too_long(cut));
-            assert_eq!((lost.len(), &lost[0].0[..]), (1, &[side][..]));
-            assert!(lost[0].1.starts_with(&format!("{}, at 44", side.name())), "{}", lost[0].1);
-            assert_eq!(lost[0].2, None);
-        }
     }
 
     /// Each bench's page names its own recording, and so does the answer.

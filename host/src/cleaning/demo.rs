@@ -178,13 +178,13 @@ pub fn cleaned(dictations: &[Dictation; 2], way: Way) -> Result<[Cleaned; 2]> {
 fn store([left, right]: &[Cleaned; 2], out: &Path, force: bool, csv: bool) -> Result<()> {
     let names = [left, right].map(|bench| before(bench.side));
     let mut files = Files::new(&Place { out, prefix: "", more: &names, force, once: false, csv })?;
+    files.frames(&[left.frames.clone(), right.frames.clone()])?;
     for (bench, name) in [left, right].into_iter().zip(&names) {
         files.about(bench.side, About::stream(name, HOUSE_NAME.as_ref()));
         files.add(name, &wav::write(RATE, &bench.before))?;
         files.before(bench.side, &bench.before)?;
         files.after(bench.side, &packed(&bench.after))?;
     }
-    files.frames(&[left.frames.clone(), right.frames.clone()])?;
     files.keep(Some([&names[0], &names[1]])).map(|_| ())
 }
 

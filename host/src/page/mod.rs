@@ -237,7 +237,10 @@ fn facts(text: &mut String, bench: &Summary) {
     ];
     let of_sound = of_sound.into_iter().filter(|_| bench.samples > 0);
     let name = [("recording", html_text(&about.name)), ("date", when)].into_iter();
-    let rows = name.chain(of_sound).chain([("model", html_text(&about.model))]);
+    let link = |name: &String| format!("<a href=\"{}\">{}</a>", in_a_link(name), html_text(name));
+    let more = about.more.iter().map(link).collect::<Vec<_>>().join(", ");
+    let more = [("goes on in", more)].into_iter().filter(|(_, more)| !more.is_empty());
+    let rows = name.chain(more).chain(of_sound).chain([("model", html_text(&about.model))]);
     writeln!(text, "<table class=\"facts\">\n<caption>The {} recording</caption>", bench.side.name()).unwrap();
     for (what, value) in rows {
         writeln!(text, "<tr><th scope=\"row\">{what}</th><td>{value}</td></tr>").unwrap();

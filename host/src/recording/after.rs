@@ -36,6 +36,14 @@ pub struct Rebuilt {
     pub other: u64,
 }
 
+impl Rebuilt {
+    /// Whether records of the other side are among them. One alone may be what a power cut left of a record, filled up
+    /// with zeros.
+    pub fn is_mixed(&self) -> bool {
+        self.other > 1
+    }
+}
+
 /// The records of so many frames, in parts.
 struct Rebuilding {
     front: Front,
@@ -90,8 +98,8 @@ fn rebuild(
     Ok((building.found, trailer))
 }
 
-/// Writes what follows the audio of a recording, which has this size and checksum: the chunk with its end seal, a record
-/// for each frame, and the trailer. The records are taken from here. What was found there comes back.
+/// Writes what follows the audio of a recording, which has this size and checksum: the chunk with its end seal, a
+/// record for each frame, and the trailer. The records are taken from here. What was found there comes back.
 pub fn write_after(
     to: &mut impl Write,
     front: Front,

@@ -14,7 +14,7 @@ use crate::recording::files::PAGE;
 use crate::recording::folder::Folder;
 use crate::recording::front::{Front, MOST};
 use crate::recording::judge::Told;
-use crate::recording::listed::{days, dictations, note, Voice, BEFORE};
+use crate::recording::listed::{dictations, note, Voice, BEFORE};
 use crate::recording::original::Original;
 use crate::recording::place::{beside, is_taken, new_file};
 use crate::recording::rolling::{full_at, BYTES};
@@ -97,13 +97,12 @@ impl Dictation {
     /// Its next frames and their sound, and as much of what was recorded.
     fn write(&mut self, frames: &[Frame], audio: &[u8], before: &[f32]) -> Result<()> {
         let Some(recording) = &mut self.recording else { return Ok(()) };
-        let entries: Vec<u64> = frames.iter().map(|frame| frame.entry).collect();
-        recording.records(&entries)?;
+        recording.records(&frames.iter().map(|frame| frame.record).collect::<Vec<_>>())?;
         recording.audio(audio)?;
         self.before.as_mut().map_or(Ok(()), |original| original.write(before))?;
         self.summary.before(before);
         frames.iter().for_each(|frame| self.summary.frame(frame));
-        self.summary.after(&Layout::CLEANED.samples(audio, 0));
+        self.summary.after(audio);
         self.through.as_mut().map_or(Ok(()), Through::look).at(&self.day.join(&self.name))
     }
 
@@ -165,25 +164,12 @@ pub fn put_page(out: &Path) -> Result<()> {
 }
 
 /// Whether the page of a folder is one of dictations, or there is none.
-fn is_page_ours(out: &Path) -> bool {
+pub fn is_page_ours(out: &Path) -> bool {
     let mut begins = vec![];
     match File::open(out.join(PAGE)) {
         Ok(page) => page.take(BEGINS.len() as u64).read_to_end(&mut begins).is_ok() && begins == BEGINS.as_bytes(),
         Err(_) => !is_taken(&out.join(PAGE)),
     }
-}
-
-/// What a run left unfinished in the folders of the days: recordings and records, and originals.
-pub fn left_in_days(out: &Path) -> Vec<PathBuf> {
-    let folders = days(out).into_iter().map(|day| out.join(day)).flat_map(|day| [day.join(BEFORE), day]);
-    let files = folders.flat_map(|folder| fs::read_dir(folder).into_iter().flatten().filter_map(|entry| entry.ok()));
-    let is_left = |path: &PathBuf| {
-        let name = path.file_name().unwrap_or_default().to_string_lossy().into_owned();
-        [PART, SHEET].iter().any(|ending| name.ends_with(&format!(".wav{ending}")))
-    };
-    let mut left: Vec<PathBuf> = files.map(|entry| entry.path()).filter(is_left).collect();
-    left.sort();
-    left
 }
 
 /// What a bench has handed in that is not in a recording yet, and its dictation that is under way.
@@ -313,11 +299,6 @@ impl Day {
         let mut folder = Folder::new(plan.out, plan.force)?;
         folder.lock()?;
         unfinished::refuse(plan.out)?;
-        if let Some(left) = left_in_days(plan.out).first() {
-            let name = left.strip_prefix(plan.out).unwrap_or(left).display().to_string();
-            let closes = format!("{} closes what it recorded", mend_command(plan.out));
-            return Err(Error::undone(format!("{name} is of a run that was not finished; {closes}")).at(plan.out));
-        }
         if !is_page_ours(plan.out) {
             folder.claim([PAGE])?;
         }
@@ -552,7 +533,7 @@ mod tests {
         hand_in(&mut day, 100, [&[], &[]]);
         let why = day.give_up(Error::undone("no room")).to_string();
         assert!(why.starts_with("no room; what was cleaned is left unfinished, and `box mend "), "{why}");
-        assert_eq!(left_in_days(&out).len(), 6);
+        assert_eq!(unfinished::recordings(&out).len(), 4);
         let again = Day::new(&Plan { out: &out, split: 2.0, keep_before: false, force: false }, Box::new(|_| ()));
         assert!(again.is_err_and(|why| why.to_string().contains("is of a run that was not finished")));
         fs::remove_dir_all(out).unwrap();

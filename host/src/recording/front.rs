@@ -1,5 +1,5 @@
-//! What the library writes around the audio of a recording: the head before it, with the front seal, and the chunk after
-//! it, with the end seal. The box writes no tag and computes no length of its own.
+//! What the library writes around the audio of a recording: the head before it, with the front seal, and the chunk
+//! after it, with the end seal. The box writes no tag and computes no length of its own.
 
 use crate::cleaning::recorder::Side;
 use crate::telling::refusal::{done, Refusal};

@@ -62,8 +62,8 @@ fn fill(from: &mut impl Read, bytes: &mut [u8]) -> io::Result<usize> {
     Ok(filled)
 }
 
-/// What a file is, from here to its end, or the number of the first part that is not as the box writes it. If that is its
-/// head, the rest is not read.
+/// What a file is, from here to its end, or the number of the first part that is not as the box writes it. If that is
+/// its head, the rest is not read.
 pub fn judged(from: &mut impl Read) -> io::Result<Result<Told, Refusal>> {
     let (mut judge, mut from) = (Judge::new(), from.take(MOST + 1));
     let mut bytes = vec![0; PART];

@@ -85,6 +85,42 @@ pub fn wavs(folder: &Path) -> Vec<PathBuf> {
     all.filter(|name| name.extension().is_some_and(|ending| ending.eq_ignore_ascii_case("wav"))).collect()
 }
 
+/// The ends of the names of what is on its way, and of records.
+const ON_THE_WAY: [&str; 2] = [".part", ".sheet"];
+
+/// The names of the recordings in a folder that are on their way.
+fn on_the_way(folder: &Path) -> Vec<String> {
+    let place = |name: String| ON_THE_WAY.iter().find_map(|end| name.strip_suffix(end).map(String::from));
+    let mut found: Vec<String> = names(folder).into_iter().filter_map(place).collect();
+    found.retain(|name| name.ends_with(".wav"));
+    found.dedup();
+    found
+}
+
+/// The recordings that were begun in a folder beside those of both sides: `left-2.wav` and so on, and dictations in the
+/// folders of its days.
+pub fn begun(folder: &Path) -> Vec<PathBuf> {
+    let is_next = |name: &String| {
+        let number = Side::BOTH.iter().find_map(|side| name.strip_prefix(side.name())?.strip_prefix('-'));
+        number.and_then(|rest| rest.strip_suffix(".wav")).is_some_and(|number| number.parse::<u32>().is_ok())
+    };
+    let next = on_the_way(folder).into_iter().filter(is_next).map(|name| folder.join(name));
+    let of_day = |day: String| {
+        let day = folder.join(day);
+        on_the_way(&day).into_iter().map(move |name| day.join(name))
+    };
+    next.chain(days(folder).into_iter().flat_map(of_day)).collect()
+}
+
+/// The originals that are on their way in the folders of a folder's days, as they are called there.
+pub fn originals(folder: &Path) -> Vec<PathBuf> {
+    let of_day = |day: String| {
+        let before = folder.join(day).join(BEFORE);
+        on_the_way(&before).into_iter().map(move |name| before.join(name + ON_THE_WAY[0]))
+    };
+    days(folder).into_iter().flat_map(of_day).collect()
+}
+
 /// The voices that a day's table has, by file. Of two rows of one file the later one counts.
 fn voices(day: &Path) -> Vec<(String, Voice)> {
     let table = fs::read(day.join(TABLE)).unwrap_or_default();

@@ -12,7 +12,6 @@ pub mod mend;
 pub mod original;
 pub mod place;
 pub mod put;
-pub mod records;
 pub mod rescue;
 pub mod rolling;
 pub mod seal;

@@ -2,7 +2,7 @@
 //! minutes: then the next one begins with the next frame, and the full one is closed beside the work. The audio of all,
 //! in a row, is that of one recording.
 
-use crate::cleaning::recorder::Side;
+use crate::cleaning::recorder::{Side, NOTE};
 use crate::error::{Error, Result};
 use crate::recording::folder::Folder;
 use crate::recording::judge::Told;
@@ -35,7 +35,7 @@ pub struct Rolling {
     first: u64,
     next: u64,
     /// The most bytes of audio that a recording may have.
-    most: u32,
+    pub most: u32,
     /// Those that are being closed.
     closing: Vec<JoinHandle<Result<Told>>>,
     /// The names of all but the first.
@@ -49,21 +49,21 @@ impl Rolling {
         Ok(Rolling { side, stem: stem.into(), began, recording, first: 0, next: 0, most, closing, more })
     }
 
-    /// The next frames, by their entries, and their audio. Whether another recording has begun.
-    pub fn write(&mut self, folder: &mut Folder, mut entries: &[u64], mut audio: &[u8]) -> Result<bool> {
+    /// The next frames, by their records, and their audio. Whether another recording has begun.
+    pub fn write(&mut self, folder: &mut Folder, mut records: &[[u8; NOTE]], mut audio: &[u8]) -> Result<bool> {
         let before = self.more.len();
-        while !entries.is_empty() {
+        while !records.is_empty() {
             if self.next == full_at(self.first, self.most) {
                 self.roll(folder)?;
             }
             let room = (full_at(self.first, self.most) - self.next) as usize;
-            let (now, later) = entries.split_at(room.min(entries.len()));
+            let (now, later) = records.split_at(room.min(records.len()));
             let sounding = now.len() - usize::from(self.next == 0);
             let (sound, rest) = audio.split_at(audio.len().min(BYTES as usize * sounding));
             self.recording.records(now)?;
             self.recording.audio(sound)?;
             self.next += now.len() as u64;
-            (entries, audio) = (later, rest);
+            (records, audio) = (later, rest);
         }
         Ok(self.more.len() > before)
     }

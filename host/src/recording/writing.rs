@@ -1,10 +1,10 @@
 //! One recording being written. Its audio grows in `NAME.part`, whose head already says the side, and its records in
-//! `NAME.sheet`, which begins with the same front seal. At its end both become one file, and the judge reads that file as
-//! it is on the disk.
+//! `NAME.sheet`, which begins with the same front seal. At its end both become one file, and the judge reads that file
+//! as it is on the disk.
 
-use crate::cleaning::recorder::Side;
+use crate::cleaning::recorder::{Side, NOTE};
 use crate::error::{At, Error, Reason, Result};
-use crate::recording::after::{records_of, write_after};
+use crate::recording::after::write_after;
 use crate::recording::folder::Folder;
 use crate::recording::front::{Front, HEAD, MOST, SEAL};
 use crate::recording::judge::{judged, Told};
@@ -58,10 +58,9 @@ impl Recording {
         Ok(())
     }
 
-    /// Its next frames, by their entries: the number of each, and 2^32 more if it was heard.
-    pub fn records(&mut self, entries: &[u64]) -> Result<()> {
-        let records = records_of(self.front, entries).at(&self.place)?;
-        self.sheet.write_all(&records).at(&self.place)
+    /// The records of its next frames, as the library wrote them.
+    pub fn records(&mut self, records: &[[u8; NOTE]]) -> Result<()> {
+        self.sheet.write_all(records.as_flattened()).at(&self.place)
     }
 
     /// Whether it has no audio yet.
@@ -74,8 +73,9 @@ impl Recording {
         [&self.audio, &self.sheet]
     }
 
-    /// Closes it: the head, which says from then on where the audio ends, and what follows the audio. What the judge says
-    /// of the file as it is on the disk comes back, and if it is not accepted, an error. The folder gives it its place.
+    /// Closes it: the head, which says from then on where the audio ends, and what follows the audio. What the judge
+    /// says of the file as it is on the disk comes back, and if it is not accepted, an error. The folder gives it its
+    /// place.
     pub fn finish(self) -> Result<Told> {
         let Recording { front, place, part, mut audio, mut sheet, size, checksum } = self;
         let head = front.head(size).at(&place)?;
@@ -87,8 +87,7 @@ impl Recording {
         match found.lost {
             0 => accepted(&part, front).at(&place),
             lost => {
-                Err(Error::undone(format!("{lost} records of its frames are not on the disk as they were written")))
-                    .at(&place)
+                Err(Error::undone(format!("the records of {lost} of its frames are not as they should be")).at(&place))
             }
         }
     }
@@ -112,7 +111,7 @@ pub fn accepted(file: &Path, front: Front) -> Result<Told> {
 #[cfg(test)]
 mod tests {
     use super::*;
-    use crate::recording::after::HEARD;
+    use crate::recording::after::{records_of, HEARD};
     use std::fs;
 
     /// A folder of its own for a test, and a recording in it with so many bytes of audio.
@@ -126,10 +125,12 @@ mod tests {
         (path, folder, recording)
     }
 
-    /// Entries of frames that number up, each third of them heard.
-    fn entries(first: u32, frames: u32) -> Vec<u64> {
+    /// Records of frames of a side that number up, each third of them heard.
+    fn records(side: Side, first: u32, frames: u32) -> Vec<[u8; NOTE]> {
         let entry = |n: u32| u64::from(first.wrapping_add(n)) | if n % 3 == 0 { HEARD } else { 0 };
-        (0..frames).map(entry).collect()
+        let entries: Vec<u64> = (0..frames).map(entry).collect();
+        let bytes = records_of(Front { side, began: 0, first }, &entries).unwrap();
+        bytes.chunks_exact(NOTE).map(|record| record.try_into().unwrap()).collect()
     }
 
     /// What was handed in comes back from the judge: the side, when it began, the first frame, and how many were heard.
@@ -141,7 +142,7 @@ mod tests {
             (Side::Left, 7, u32::MAX, 5_000, 6),
         ] {
             let (path, mut folder, mut recording) = written(&format!("{first}"), side, began, first, size);
-            entries(first, frames).chunks(3).for_each(|entries| recording.records(entries).unwrap());
+            records(side, first, frames).chunks(3).for_each(|records| recording.records(records).unwrap());
             let front = Front { side, began, first };
             // on its way it says its side by itself, twice
             assert!(fs::read(path.join("1.wav.part")).unwrap().starts_with(&front.open_head()));
@@ -158,15 +159,17 @@ mod tests {
     /// A frame too few, one too many, a wrong number, and no audio at all: nothing of that gets a place.
     #[test]
     fn what_is_no_recording_is_not_accepted() {
-        let finished = |name: &str, entries: &[u64]| {
+        let finished = |name: &str, records: &[[u8; NOTE]]| {
             let (path, _folder, mut recording) = written(name, Side::Right, 0, 0, 2_000);
-            recording.records(entries).unwrap();
+            recording.records(records).unwrap();
             let why = recording.finish().unwrap_err().to_string();
             assert!(why.starts_with(&path.join("1.wav").display().to_string()), "{why}");
             why
         };
-        assert!(finished("few", &entries(0, 3)).contains("1 records of its frames are not on the disk"));
-        assert!(finished("number", &entries(1, 4)).contains("4 records of its frames"));
+        let right = |first, frames| records(Side::Right, first, frames);
+        assert!(finished("few", &right(0, 3)).contains("the records of 1 of its frames are not as they should be"));
+        assert!(finished("number", &right(1, 4)).contains("the records of 4 of its frames"));
+        assert!(finished("side", &records(Side::Left, 0, 4)).contains("the records of 4 of its frames"));
         let (_, _folder, recording) = written("none", Side::Right, 0, 0, 0);
         assert!(recording.is_empty() && recording.finish().is_err());
     }
@@ -175,7 +178,7 @@ mod tests {
     #[test]
     fn what_is_on_the_disk_is_judged() {
         let (path, folder, mut recording) = written("disk", Side::Right, 0, 0, 2_000);
-        recording.records(&entries(0, 4)).unwrap();
+        recording.records(&records(Side::Right, 0, 4)).unwrap();
         let front = recording.front;
         recording.finish().unwrap();
         let part = folder.part("1.wav");
