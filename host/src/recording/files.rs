@@ -40,7 +40,7 @@ pub fn names() -> Vec<String> {
 
 struct Bench {
     recordings: Rolling,
-    /// The entries of frames whose audio comes next.
+    /// The records of frames whose audio comes next.
     waiting: Vec<[u8; NOTE]>,
     summary: Summary,
 }
