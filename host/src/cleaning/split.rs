@@ -101,7 +101,7 @@ mod tests {
     /// What the network reports while it settles is no voice.
     #[test]
     fn while_the_network_settles() {
-        assert_eq!(cuts(1.0, 900, |frame| frame < 30 || frame >= 500), []);
+        assert_eq!(cuts(1.0, 900, |frame| !(30..500).contains(&frame)), []);
     }
 
     /// Each voice that comes after a pause begins a dictation, and no other does.

@@ -104,7 +104,9 @@ pub fn begun(folder: &Path) -> Vec<PathBuf> {
         let number = Side::BOTH.iter().find_map(|side| name.strip_prefix(side.name())?.strip_prefix('-'));
         number.and_then(|rest| rest.strip_suffix(".wav")).is_some_and(|number| number.parse::<u32>().is_ok())
     };
-    let next = on_the_way(folder).into_iter().filter(is_next).map(|name| folder.join(name));
+    // the folder may be that of a day itself
+    let is_day = folder.file_name().is_some_and(|name| is_day(&name.to_string_lossy()));
+    let next = on_the_way(folder).into_iter().filter(|name| is_day || is_next(name)).map(|name| folder.join(name));
     let of_day = |day: String| {
         let day = folder.join(day);
         on_the_way(&day).into_iter().map(move |name| day.join(name))
