@@ -211,12 +211,12 @@ uint32_t tuppence_resume(uint32_t *record, size_t record_len, float *store, size
 
 /* `bytes` are 1 to 4,096 whole samples of all channels, little end first; `format` is 16, 24, 32
    for floats, or 33 for 32-bit integers; of so many channels by turns one is the bench's. For each
-   frame that its samples complete `out` has 960 bytes, `entries` one number and `answers` three, or
-   more, which stay. */
+   frame that its samples complete `out` has 960 bytes, `records` the 8 bytes of its record in the
+   side sheet, with the bench's own side, and `answers` three numbers, or more, which stay. */
 uint32_t tuppence_feed(uint32_t *record, size_t record_len, float *store, size_t store_len,
     uint32_t side, const uint8_t *bytes, size_t bytes_len, uint32_t format, uint32_t channels,
     uint32_t channel, const uint8_t *model, size_t model_len, uint8_t *out, size_t out_len,
-    uint64_t *entries, size_t entries_len, float *answers, size_t answers_len);
+    uint8_t *records, size_t records_len, float *answers, size_t answers_len);
 
 
 /* ---- fft: each leaf as it stands there. */

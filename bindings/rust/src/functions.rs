@@ -177,10 +177,11 @@ surface! {
     tuppence_pack as pack(out: &mut [u8], samples: &[f32]) -> u32;
 }
 
-// A block of recorded bytes for a bench, by its channel: 960 bytes, an entry of the side sheet and three answers for each frame that it completes.
+// A block of recorded bytes for a bench, by its channel: 960 bytes, a record of the side sheet (8 bytes) and three answers
+// for each frame that it completes.
 surface! {
     tuppence_feed as feed(
         record: &mut [u32], store: &mut [f32], side: u32, bytes: &[u8], format: u32, channels: u32, channel: u32, model: &[u8],
-        out: &mut [u8], entries: &mut [u64], answers: &mut [f32]
+        out: &mut [u8], records: &mut [u8], answers: &mut [f32]
     ) -> u32;
 }

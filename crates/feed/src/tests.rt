@@ -25,8 +25,8 @@ pub(crate) fn samples_in(bytes: usize, format: u32, channels: usize, channel: us
 }
 
 // Whether so many samples are a piece, and there is room for what the frames that they complete hand out.
-pub(crate) fn fits(waiting: usize, n: usize, cleaned: usize, entries: usize, answers: usize) -> bool
-    ensures { λ r. ⌜ r ≡ fitting waiting n cleaned entries answers ⌝ }
+pub(crate) fn fits(waiting: usize, n: usize, cleaned: usize, records: usize, answers: usize) -> bool
+    ensures { λ r. ⌜ r ≡ fitting waiting n cleaned records answers ⌝ }
 {
     if !pieces::piece_fits(waiting, n, 4320, 22) {
         return false;
@@ -35,7 +35,7 @@ pub(crate) fn fits(waiting: usize, n: usize, cleaned: usize, entries: usize, ans
     if 960 * frames > cleaned {
         return false;
     }
-    if frames > entries {
+    if 8 * frames > records {
         return false;
     }
     3 * frames <= answers

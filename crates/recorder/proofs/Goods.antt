@@ -1,7 +1,8 @@
 -- What is written by calls that are accepted is a good recording. Assumes nothing.
 use Rattle.rules.proofs.Common.{ℕ, zero, suc, _+_, _-_, _*_, _/_, _%_, _^_, _≤_, _<_, Bool, true, false, cond, not}
 use Rattle.rules.proofs.Common.{_&&_, List, [], _∷_, _++_, _≡_, refl}
-use Rattle.rules.proofs.Common.{sym, ap, ap₂, _∙_, eqb, ltb, length, getD, take, drop, length-append, length-drop}
+use Rattle.rules.proofs.Common.{sym, ap, ap₂, subst, _∙_, eqb, ltb, length, getD, take, drop, length-append}
+use Rattle.rules.proofs.Common.{length-drop}
 use mathlib.Core.List.{append-assoc, append-nil}
 use native.Mathlib.Omega.{arith}
 use borrow.Author.Tests.{eq-eqb, ne-eqb, eqb-true, eqb-false, ltb-false, leb-true, not-true, not-false}
@@ -25,17 +26,19 @@ use Rattle.sheet.proofs.Runs.{sum-append}
 use Rattle.sheet.proofs.Laying.{length-records, records-append}
 use Rattle.sheet.proofs.Back.{drop-bytes, record-back}
 use Rattle.recording.specs.Recording.{framesOf, entry, entriesFrom, headFor, chunkFor, bytesOf, MOST, Good}
-use Rattle.recording.specs.Verdict.{wasHeard, heardIn, isSize}
+use Rattle.recording.specs.Verdict.{wasHeard, heardIn, isSize, howMany, verdictOf}
+use Rattle.recording.specs.declared.Verdict.the-variants.{Told}
 use Rattle.recording.specs.Numbers.{sideAt}
 use Rattle.recording.specs.declared.Front.{Front}
 use Rattle.recording.proofs.Cuts.{entries-append}
-use Rattle.recording.proofs.SaidBack.{length-entries}
+use Rattle.recording.proofs.SaidBack.{length-entries, heard-in}
 use Rattle.recording.proofs.Told.{take-bytes, told-all}
 use Rattle.recorder.specs.Recorder.{beginning, nextFrame, skipOf, roomOf, belonging, startOf, isRecord}
 use Rattle.recorder.specs.Recorder.{areRecords, withFeed, tooLong, moreRows}
 use Rattle.recorder.specs.Recorder.{LONGEST, FRAMES, closeRows}
 use Rattle.recorder.specs.Numbers.{recorderIn, recorderNumbers, begunOn, begunLaid, moreLaid, finishLaid}
-use Rattle.recorder.specs.Laws.{Given, AllBytes, Calls, none, more, Written, IsGood, AlwaysGood}
+use Rattle.recorder.specs.Laws.{Given, GivenBytes, Calls, none, more, WrittenWhole, IsGood, AlwaysGood, audioOf}
+use Rattle.recorder.specs.Laws.{recordsIn, Frames, AsDefined}
 use Rattle.recorder.specs.declared.Recorder.{Recorder}
 use Rattle.recorder.proofs.Answers.{part-is, part-size}
 use Rattle.recorder.proofs.GoesOn.{part-few}
@@ -237,7 +240,7 @@ module _ (f : Front) (small : f .first < 2 ^ 32) where
 
   comes : {ns : List ℕ} {gs : List Given} {audio′ records′ end : List ℕ} → Calls ns gs audio′ records′ end
       → (r : Recorder) (audio records : List ℕ) (heard : List Bool) → So f r audio records heard → ns ≡ recorderNumbers
-      r → AllBytes gs
+      r → GivenBytes gs
       → Comes (audio ++ audio′) (records ++ records′) end
   comes (none ns) r audio records heard so held b =
       rw (append-nil audio, append-nil records) (record { recorder = r; heard = heard; so = so; numbers = held })
@@ -328,17 +331,28 @@ module _ (f : Front) (small : f .first < 2 ^ 32) where
         .1 .0) laid ∙ rw (so .front, so .size, so .crc) in
         rw (hs, cs, trailer-is, so .are)
 
-    is-good-file : IsGood f audio (head ++ (audio ++ (chunk ++ (records ++ trailer))))
-    is-good-file = record {
-      heard = heard;
-      good = all-good;
-      bytes = in-a-row;
-      told = rw in-a-row (told-all (record {
-        front = f;
-        audio = audio;
-        heard = heard;
-      }) all-good);
-    }
+    heard-is : heardIn (length records / 8) records ≡ heard
+    heard-is =
+        let side = numberOf (f .side) in
+        let many : length records / 8 ≡ length heard =
+        rw (so .are, length-records side (entriesFrom (f .first) heard), length-entries (f .first) heard) (omega arith)
+        in
+        ap (λ (k : ℕ). heardIn k records) many ∙ ap (heardIn (length heard)) (so .are ∙ sym (append-nil _))
+        ∙ heard-in side (f .first) heard []
+
+    is-good-file : IsGood f audio records (head ++ (audio ++ (chunk ++ (records ++ trailer))))
+    is-good-file =
+        let as-it-is = told-all (record { front = f; audio = audio; heard = heard }) all-good in
+        record {
+          good = subst (λ (hs : List Bool). Good (record { front = f; audio = audio; heard = hs })) (sym heard-is)
+              all-good;
+          bytes = in-a-row ∙ ap (λ (hs : List Bool). bytesOf (record { front = f; audio = audio; heard = hs })) (sym
+              heard-is);
+          noted = so .are ∙ ap (λ (hs : List Bool). recordsOf (numberOf (f .side)) (entriesFrom (f .first) hs)) (sym
+              heard-is);
+          told = ap verdictOf in-a-row ∙ as-it-is ∙ ap (λ (hs : List Bool). Told f (length hs) (howMany hs)) (sym
+              heard-is);
+        }
 
 -- ---- the beginning
 
@@ -369,3 +383,26 @@ always-good side began first gs audio records head chunk trailer time small byte
     is-good-file f small (k .recorder) audio records (k .heard) (k .so) time head chunk trailer (w .lentHead) (w
     .lentChunk) (w .lentTrailer)
     (rw (k .numbers) at (w .ends))
+
+-- ---- and it is what the definition says
+
+as-given : (f : Front) (small : f .first < 2 ^ 32) {ns : List ℕ} {gs : List Given} {audio′ records′ end : List ℕ}
+    → Calls ns gs audio′ records′ end → (r : Recorder) (audio records : List ℕ) (heard : List Bool)
+    → So f r audio records heard → ns ≡ recorderNumbers r → GivenBytes gs
+    → (audio′ ≡ audioOf r gs) × (records′ ≡ recordsIn gs) × Frames gs
+as-given f small (none ns) r audio records heard so held b = (refl, refl, tt)
+as-given f small (more g ns lent ns′ place e rest) r audio records heard so held b =
+    let clear-rows = rows-clear f small r audio records heard so g ns lent ns′ place held e in
+    let on = next f small r audio records heard so g (b .0) (b .1) (clear-rows .1) in
+    let all = as-given f small rest _ _ _ _ on (numbers-are f small r audio records heard so g ns lent ns′ place held e)
+    (b .2) in (
+      ap₂ _++_ (written-is f small r audio records heard so g ns lent ns′ place held e) (all .0),
+      ap (λ (l : List ℕ). g .records ++ l) (all .1),
+      (lengths f small r audio records heard so g (b .0) (b .1) (clear-rows .1) .1, all .2),
+    )
+
+pub as-defined : AsDefined
+as-defined side began first gs audio records head chunk trailer small bytes w =
+    let f : Front = record { side = sideAt side; began = began; first = first } in
+    as-given f small (w .goes) (beginning f) [] [] [] (begun f small) (begun-is began first (w .lent) (w .numbers) side
+    (w .begins)) bytes

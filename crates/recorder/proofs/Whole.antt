@@ -8,7 +8,7 @@ use borrow.Author.Tests.{ne-eqb, ltb-true, ltb-false}
 use lib.Seq.{take-all, take-append-le, take-append-add, drop-append-le}
 use mathlib.Core.List.{append-nil}
 use Rattle.recorder.specs.Recorder.{nextFrame, skipOf, roomOf, belonging, withFeed}
-use Rattle.recorder.specs.Laws.{Given, audioOf, takenIn, cleanedIn, HoweverGiven}
+use Rattle.recorder.specs.Laws.{Given, audioOf, takenIn, cleanedOf, HoweverGiven}
 use Rattle.recorder.specs.declared.Recorder.{Recorder}
 use Rattle.recorder.proofs.GoesOn.{within-feed}
 
@@ -100,6 +100,6 @@ however-given r (g ∷ gs) small frames time =
     let next = withFeed r (g .taken) (g .cleaned) (g .records) in
     let rest = however-given next gs (within-feed r (g .taken) (g .cleaned) (g .records) small) (frames .1) (time .1) in
     ap (λ (l : List ℕ). belonging r (g .taken) (g .cleaned) ++ l) rest
-    ∙ either r (g .taken) (g .cleaned) (g .records) (cleanedIn gs) (frames .0) (takenIn gs) small (time .0)
-    ∙ ap (take (roomOf r (g .taken + takenIn gs))) (sym (drop-on r (g .taken) (g .cleaned) (g .records) (cleanedIn gs)
+    ∙ either r (g .taken) (g .cleaned) (g .records) (cleanedOf gs) (frames .0) (takenIn gs) small (time .0)
+    ∙ ap (take (roomOf r (g .taken + takenIn gs))) (sym (drop-on r (g .taken) (g .cleaned) (g .records) (cleanedOf gs)
     (frames .0)))

@@ -37,7 +37,7 @@ written-is-reported sh before out after e =
 abbrev tallyOf : List ℕ → Tally
 tallyOf numbers = record { count = getD numbers 0 0; total = getD numbers 1 0 }
 
-kinds-both : (xs ys : List ℕ) → kinds xs ≡ true → kinds ys ≡ true → kinds (xs ++ ys) ≡ true
+pub kinds-both : (xs ys : List ℕ) → kinds xs ≡ true → kinds ys ≡ true → kinds (xs ++ ys) ≡ true
 unfolding kinds
 kinds-both [] ys h k = k
 kinds-both (x ∷ xs) ys h k = go (not (ltb 1 (kind x))) h (λ m. kinds-both xs ys m k)

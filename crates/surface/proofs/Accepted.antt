@@ -9,7 +9,7 @@ use Rattle.frame.specs.Reply.{passed}
 use Rattle.pieces.specs.Pieces.{waitingIn, completes, pieceFits}
 use Rattle.desk.specs.declared.Answer.{Answer}
 use Rattle.desk.specs.declared.Record.{Record}
-use Rattle.desk.specs.Gate.{PIECE, gate, shareOf}
+use Rattle.desk.specs.Gate.{PIECE, sideOf, gate, shareOf}
 use Rattle.desk.specs.Desk.{piece}
 use Rattle.desk.specs.Surface.{recordIn, hosted}
 use Rattle.whole.specs.Surface.{hostedFrame, hostedTake}
@@ -47,16 +47,16 @@ module _ (n side : ℕ) (rec : Record) (store : List Float) where
       let w = rec .waiting in
       let z = suits rec m && good (waitingIn w (get (shareOf side) store) ++ x) in
       go (gate n side rec (length store) PIECE) (eqb (gate n side rec (length store) PIECE) 0) (pieceFits w (sizeOf b) ROOM 22) (leb (960 * completes w (sizeOf b)) c)
-      (leb (completes w (sizeOf b)) e) (leb (3 * completes w (sizeOf b)) a) (whole.take n side rec store x m ROOM a)
-      ∙ ap (λ (t : Bool). t && (pieceFits w (sizeOf b) ROOM 22 && (leb (960 * completes w (sizeOf b)) c && (leb (completes w (sizeOf b)) e
+      (leb (8 * completes w (sizeOf b)) e) (leb (3 * completes w (sizeOf b)) a) (whole.take n side rec store x m ROOM a)
+      ∙ ap (λ (t : Bool). t && (pieceFits w (sizeOf b) ROOM 22 && (leb (960 * completes w (sizeOf b)) c && (leb (8 * completes w (sizeOf b)) e
       && (leb (3 * completes w (sizeOf b)) a && passed (whole.take n side rec store x m ROOM a .answer .reply)))))) (gate-opens n side rec (length store) PIECE)
       ∙ rw (take-asks n side rec store x m ROOM a, size-is b)
       (joined (inOrder n side rec (length store)) (mayAsk rec PIECE) (pieceFits w (sizeOf b) ROOM 22) (leb (960 * completes w (sizeOf b)) c)
-      (leb (completes w (sizeOf b)) e) (leb (3 * completes w (sizeOf b)) a) z)
+      (leb (8 * completes w (sizeOf b)) e) (leb (3 * completes w (sizeOf b)) a) z)
     where
       go : (number : ℕ) (t f c e l : Bool) (o : Effect Answer)
           → passed (refusing (number when not t ∷ 5 when not f ∷ 5 when not c ∷ 5 when not e ∷ 5 when not l ∷ [])
-          (λ r. refusal (record { reply = Refused r; rec = rec }) store) (fedBy (rec .frame) o) .answer .reply)
+          (λ r. refusal (record { reply = Refused r; rec = rec }) store) (fedBy (sideOf side) (rec .frame) o) .answer .reply)
           ≡ (t && (f && (c && (e && (l && passed (o .answer .reply))))))
       go number false f c e l o = refl
       go number true false c e l o = refl
@@ -110,8 +110,8 @@ feed-as-its-take n side ns store b m c e a =
     let rec = recordIn side ns in
     let frames = completes (rec .waiting) (sizeOf b) in
     accepted n side ns store (feed b m c e a)
-    ∙ go (inOrder n side rec (length store)) (leb (960 * frames) c) (leb frames e) (takeAsks rec (get (shareOf side) store) (samplesOf b) m ROOM a)
-    ∙ ap (λ (t : Bool). t && (leb (960 * frames) c && leb frames e)) (sym (accepted n side ns store (take (samplesOf b) m ROOM a)))
+    ∙ go (inOrder n side rec (length store)) (leb (960 * frames) c) (leb (8 * frames) e) (takeAsks rec (get (shareOf side) store) (samplesOf b) m ROOM a)
+    ∙ ap (λ (t : Bool). t && (leb (960 * frames) c && leb (8 * frames) e)) (sym (accepted n side ns store (take (samplesOf b) m ROOM a)))
   where
     go : (k c e t : Bool) → (k && (c && (e && t))) ≡ ((k && t) && (c && e))
     go false c e t = refl

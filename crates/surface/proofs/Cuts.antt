@@ -9,13 +9,15 @@ use Rattle.frame.specs.Share.{SHARE}
 use Rattle.pieces.specs.Pieces.{waitingIn, completes}
 use Rattle.pieces.proofs.Shares.{waiting-length}
 use Rattle.desk.specs.declared.Record.{Record}
-use Rattle.desk.specs.Gate.{shareOf}
+use Rattle.desk.specs.Gate.{sideOf, shareOf}
 use Rattle.dictation.specs.Dictation.{Lent, Dictated, dictate}
 use Rattle.dictation.proofs.Joins.{share-size, then, rejoin}
 use Rattle.whole.specs.Whole.{ourLent, lentToEach, answersOf}
 use Rattle.whole.proofs.Dictations.{answers-length, answers-both}
 use Rattle.isolation.specs.Run.{recordAt}
-use Rattle.feed.specs.Feed.{blockOf, samplesOf, entriesOf}
+use Rattle.sheet.specs.Sheet.{recordsOf}
+use Rattle.sheet.proofs.Laying.{records-append}
+use Rattle.feed.specs.Feed.{blockOf, samplesOf, entriesOf, notedOf}
 use Rattle.surface.specs.Surface.{Call}
 use Rattle.surface.specs.Cutting.{Has, hasOf, said, hasSaid, Feeds, lastBlock, moreBlocks, BytesInARow, HoweverCut}
 use Rattle.surface.proofs.Bytes.{samples-alike}
@@ -60,8 +62,9 @@ module _ (b : Record) (xs x y : List Float) (model : List ℕ) (full : length xs
       ap₂ (dictate b xs) (sym (append-assoc (waitingIn (b .waiting) xs) x y)) both-lent
       ∙ rejoin b xs these y ls ms full (omega (arith, frames, size)) (omega (arith, frames, size))
 
-  both-has : b .frame < 4294967296 → hasSaid b xs (x ++ y) model ≡ ahead (hasSaid b xs x model) (hasSaid (first .rec) (first .kept) y model)
-  both-has h =
+  both-has : (side : ℕ) → b .frame < 4294967296
+      → hasSaid side b xs (x ++ y) model ≡ ahead (hasSaid side b xs x model) (hasSaid side (first .rec) (first .kept) y model)
+  both-has side h =
       let fs = first .told in
       let gs = rest .told in
       let number = frame-after ls b xs these h in
@@ -70,21 +73,23 @@ module _ (b : Record) (xs x y : List Float) (model : List ℕ) (full : length xs
       ap (entriesOf (b .frame)) (answers-both fs gs)
       ∙ entries-both (b .frame) (first .rec .frame) (length fs) (length gs) (answersOf fs) (answersOf gs) (answers-length fs) (answers-length gs)
       (λ j. omega (arith, number, many)) in
-      rw (both-are, entries, packed-both (first .out) (rest .out), answers-both fs gs)
+      let records : notedOf side (b .frame) (answersOf (fs ++ gs)) ≡ notedOf side (b .frame) (answersOf fs) ++ notedOf side (first .rec .frame) (answersOf gs) =
+      ap (recordsOf side) entries ∙ records-append side (entriesOf (b .frame) (answersOf fs)) (entriesOf (first .rec .frame) (answersOf gs)) in
+      rw (both-are, records, packed-both (first .out) (rest .out), answers-both fs gs)
 
 -- ---- blocks in a row
 
-module _ (format channels channel : ℕ) (model : List ℕ) where
+module _ (side format channels channel : ℕ) (model : List ℕ) where
   abbrev samples : List ℕ → List Float
   samples bytes = samplesOf (blockOf bytes format channels channel)
 
   rows : {calls : List Call} {bytes : List ℕ} → Feeds format channels channel model calls bytes
-      → (b : Record) (xs : List Float) (h : Has) → length xs ≡ SHARE → b .frame < 4294967296 → Comes calls b xs h
-      → (1 ≤ length (samples bytes)) × (h ≡ hasSaid b xs (samples bytes) model)
+      → (b : Record) (xs : List Float) (h : Has) → length xs ≡ SHARE → b .frame < 4294967296 → Comes side calls b xs h
+      → (1 ≤ length (samples bytes)) × (h ≡ hasSaid side b xs (samples bytes) model)
   unfolding Comes
   rows (lastBlock bytes c e a) b xs h full small k =
-      let said-so = hasSaid b xs (samples bytes) model in
-      (k .1 .some, k .3 ∙ ap (ahead said-so) (k .2) ∙ rw (append-nil (said-so .cleaned), append-nil (said-so .entries), append-nil (said-so .answers)))
+      let said-so = hasSaid side b xs (samples bytes) model in
+      (k .1 .some, k .3 ∙ ap (ahead said-so) (k .2) ∙ rw (append-nil (said-so .cleaned), append-nil (said-so .records), append-nil (said-so .answers)))
   rows (moreBlocks bytes c e a {calls} {rest} r) b xs h full small k =
       let says = k .1 in
       let x = samples bytes in
@@ -97,11 +102,11 @@ module _ (format channels channel : ℕ) (model : List ℕ) where
       samples-both bytes rest format channels channel (omega (arith, size-is (blockOf bytes format channels channel), says .some))
       (omega (arith, size-is (blockOf rest format channels channel), w .0)) in
       rw joined
-      (omega (arith, length-append x y, says .some), k .3 ∙ ap (ahead (hasSaid b xs x model)) (w .1) ∙ sym (both-has b xs x y model full says small))
+      (omega (arith, length-append x y, says .some), k .3 ∙ ap (ahead (hasSaid side b xs x model)) (w .1) ∙ sym (both-has b xs x y model full says side small))
 
 pub bytes-in-a-row : BytesInARow
 bytes-in-a-row n s st calls format channels channel model bytes k =
-    rows format channels channel model (k .fed) (recordAt s st) (get (shareOf s) (st .store)) (hasOf n s st calls)
+    rows (sideOf s) format channels channel model (k .fed) (recordAt s st) (get (shareOf s) (st .store)) (hasOf n s st calls)
     (length-get (shareOf s) (st .store) (omega (arith, k .inside, k .sized))) (k .numbered)
     (lone-run n s (k .inside) calls st (k .sized) (recordAt s st) (get (shareOf s) (st .store)) refl refl) .1
 

@@ -17,7 +17,7 @@ use Rattle.frame.specs.Reply.{passed}
 use Rattle.pieces.specs.Pieces.{completes}
 use Rattle.desk.specs.declared.Answer.{Answer}
 use Rattle.desk.specs.declared.Record.{Record}
-use Rattle.desk.specs.Gate.{BENCHES, PIECE, gate, shareOf}
+use Rattle.desk.specs.Gate.{BENCHES, PIECE, sideOf, gate, shareOf}
 use Rattle.desk.specs.Desk.{Ask, firstHalf, secondHalf, piece, resume, desk}
 use Rattle.desk.specs.Laws.{placed}
 use Rattle.desk.specs.Surface.{numbersOf, recordIn, handedBack, hosted}
@@ -177,16 +177,16 @@ module _ (n side : ℕ) (st : State) where
           ∙ ap (λ (s : State). ended desks n s (map (on side) (map (resumeFor x m o) (d .told)))) (begun n side st (piece x o 22) (row-passes row))
       go false p = none-runs reply p
 
-  feed-runs : (b : Block) (m : List ℕ) (cleaned entries answers : ℕ)
-      → Leads n side st (madeOf n side (recordAt side st) (st .store) (feed b m cleaned entries answers))
-      (feeding.feed n side (recordAt side st) (st .store) b m cleaned entries answers)
+  feed-runs : (b : Block) (m : List ℕ) (cleaned records answers : ℕ)
+      → Leads n side st (madeOf n side (recordAt side st) (st .store) (feed b m cleaned records answers))
+      (feeding.feed n side (recordAt side st) (st .store) b m cleaned records answers)
   unfolding feeding.feed ended
-  feed-runs b m cleaned entries answers =
-      let rows = feedRows (gate n side rec (length (st .store)) PIECE) (rec .waiting) (sizeOf b) cleaned entries answers in
+  feed-runs b m cleaned records answers =
+      let rows = feedRows (gate n side rec (length (st .store)) PIECE) (rec .waiting) (sizeOf b) cleaned records answers in
       let asks = madeOf n side rec (st .store) (take (samplesOf b) m ROOM answers) in
       let run : List Ask → State = λ xs. ended desks n st (map (on side) xs) in
       along (λ (o : Effect Answer). leaving st side (handedBack side (o .answer) ns) (o .kept)) (λ r. refusal (record { reply = Refused r; rec = rec }) (st .store))
-      (fedBy (rec .frame) (whole.take n side rec (st .store) (samplesOf b) m ROOM answers)) (λ _. st) (run asks) rows
+      (fedBy (sideOf side) (rec .frame) (whole.take n side rec (st .store) (samplesOf b) m ROOM answers)) (λ _. st) (run asks) rows
       (λ _. unmoved n side st) (λ _. take-runs (samplesOf b) m ROOM answers)
       ∙ sym (along run (λ _. []) asks (λ _. st) (run asks) rows (λ _. refl) (λ _. refl))
 

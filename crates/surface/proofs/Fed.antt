@@ -18,7 +18,7 @@ use Rattle.frame.specs.Reply.{passed}
 use Rattle.frame.specs.Share.{SHARE}
 use Rattle.pieces.specs.Pieces.{waitingIn}
 use Rattle.desk.specs.declared.Record.{Record}
-use Rattle.desk.specs.Gate.{PIECE, gate, shareOf}
+use Rattle.desk.specs.Gate.{PIECE, sideOf, gate, shareOf}
 use Rattle.desk.specs.Laws.{placed}
 use Rattle.desk.specs.Surface.{recordIn}
 use Rattle.dictation.proofs.Joins.{share-size}
@@ -47,13 +47,13 @@ gaveOf s ns g =
       rec = recordIn s (returned s ns g .numbers);
       share = get (shareOf s) (g .kept);
       cleaned = wholesIn (getD (g .written) 1 nothing);
-      entries = wholesIn (getD (g .written) 2 nothing);
+      records = wholesIn (getD (g .written) 2 nothing);
       answers = firstIn (g .written);
     }
 
 -- and of none
 abbrev pub bare : Record → List Float → Has
-bare b xs = record { rec = b; share = xs; cleaned = []; entries = []; answers = [] }
+bare b xs = record { rec = b; share = xs; cleaned = []; records = []; answers = [] }
 
 -- what a call is answered
 abbrev replyTo : ℕ → ℕ → List ℕ → List Float → Call → Reply
@@ -68,7 +68,7 @@ pub record Says (b : Record) (samples : List Float) : Type 0 where
   pub waits : b .waiting ≤ 479
   pub some : 1 ≤ length samples
 
-module _ (n s : ℕ) (inside : s < n) (ns : List ℕ) (store : List Float) (l : length store ≡ n * SHARE) (b : Block) (model : List ℕ) (cleaned entries answers : ℕ) where
+module _ (n s : ℕ) (inside : s < n) (ns : List ℕ) (store : List Float) (l : length store ≡ n * SHARE) (b : Block) (model : List ℕ) (cleaned records answers : ℕ) where
   abbrev rec : Record
   rec = recordIn s ns
 
@@ -79,14 +79,14 @@ module _ (n s : ℕ) (inside : s < n) (ns : List ℕ) (store : List Float) (l : 
   taken = whole.take n s rec store (samplesOf b) model ROOM answers
 
   -- where it is done, it is what comes of its take
-  fed-is : passed (feeding.feed n s rec store b model cleaned entries answers .answer .reply) ≡ true
-      → (feeding.feed n s rec store b model cleaned entries answers ≡ fedBy (rec .frame) taken)
+  fed-is : passed (feeding.feed n s rec store b model cleaned records answers .answer .reply) ≡ true
+      → (feeding.feed n s rec store b model cleaned records answers ≡ fedBy (sideOf s) (rec .frame) taken)
       × (passed (takeReply n s rec store (samplesOf b) model ROOM answers) ≡ true)
   unfolding feeding.feed
   fed-is =
-      by-rows (λ r. refusal (record { reply = Refused r; rec = rec }) store) (fedBy (rec .frame) taken)
-      (λ (o : Effect Answer). passed (o .answer .reply) ≡ true → (o ≡ fedBy (rec .frame) taken) × (passed (takeReply n s rec store (samplesOf b) model ROOM answers) ≡ true))
-      (feedRows (gate n s rec (length store) PIECE) (rec .waiting) (sizeOf b) cleaned entries answers) (λ _ p. absurd (false≢true p))
+      by-rows (λ r. refusal (record { reply = Refused r; rec = rec }) store) (fedBy (sideOf s) (rec .frame) taken)
+      (λ (o : Effect Answer). passed (o .answer .reply) ≡ true → (o ≡ fedBy (sideOf s) (rec .frame) taken) × (passed (takeReply n s rec store (samplesOf b) model ROOM answers) ≡ true))
+      (feedRows (gate n s rec (length store) PIECE) (rec .waiting) (sizeOf b) cleaned records answers) (λ _ p. absurd (false≢true p))
       (λ _ p. (
         refl,
         take-by n s (samplesOf b) model rec store ROOM answers
@@ -97,8 +97,8 @@ module _ (n s : ℕ) (inside : s < n) (ns : List ℕ) (store : List Float) (l : 
   unfolding whole.take
   taken-is p = rw p
 
-  gave-said : passed (feeding.feed n s rec store b model cleaned entries answers .answer .reply) ≡ true
-      → Says rec (samplesOf b) × (gaveOf s ns (feeding.feed n s rec store b model cleaned entries answers) ≡ hasSaid rec share (samplesOf b) model)
+  gave-said : passed (feeding.feed n s rec store b model cleaned records answers .answer .reply) ≡ true
+      → Says rec (samplesOf b) × (gaveOf s ns (feeding.feed n s rec store b model cleaned records answers) ≡ hasSaid (sideOf s) rec share (samplesOf b) model)
   gave-said p =
       let f = fed-is p in
       let d = said rec share (samplesOf b) model in
@@ -108,7 +108,7 @@ module _ (n s : ℕ) (inside : s < n) (ns : List ℕ) (store : List Float) (l : 
       get-put (shareOf s) store (d .kept) (omega arith)
       (share-size rec share (waitingIn (rec .waiting) share ++ samplesOf b) (lentToEach rec (samplesOf b) model) full) in (
         record { waits = sizes .0; some = sizes .1 },
-        ap (gaveOf s ns) (f .0) ∙ ap (λ (g : Effect Answer). gaveOf s ns (fedBy (rec .frame) g)) (taken-is (f .1)) ∙ rw (back, reads s (d .rec)),
+        ap (gaveOf s ns) (f .0) ∙ ap (λ (g : Effect Answer). gaveOf s ns (fedBy (sideOf s) (rec .frame) g)) (taken-is (f .1)) ∙ rw (back, reads s (d .rec)),
       )
 
 -- ---- calls that are done, one after the other
@@ -120,23 +120,23 @@ ahead h k =
       rec = k .rec;
       share = k .share;
       cleaned = h .cleaned ++ k .cleaned;
-      entries = h .entries ++ k .entries;
+      records = h .records ++ k .records;
       answers = h .answers ++ k .answers;
     }
 
--- from a record and a share, it has this of feeds; of other calls nothing is said
-unfoldable pub Comes : List Call → Record → List Float → Has → Type 0
-Comes [] b xs h = h ≡ bare b xs
-Comes (ask a ∷ more) b xs h = Unit
-Comes (frame x m o ∷ more) b xs h = Unit
-Comes (take x m o a ∷ more) b xs h = Unit
-Comes (feed k model c e a ∷ more) b xs h =
+-- on a side, from a record and a share, it has this of feeds; of other calls nothing is said
+unfoldable pub Comes : ℕ → List Call → Record → List Float → Has → Type 0
+Comes side [] b xs h = h ≡ bare b xs
+Comes side (ask a ∷ more) b xs h = Unit
+Comes side (frame x m o ∷ more) b xs h = Unit
+Comes side (take x m o a ∷ more) b xs h = Unit
+Comes side (feed k model c e a ∷ more) b xs h =
     (rest : Has) × Says b (samplesOf k)
-    × (let d = said b xs (samplesOf k) model in Comes more (d .rec) (d .kept) rest) × (h ≡ ahead (hasSaid b xs (samplesOf k) model) rest)
+    × (let d = said b xs (samplesOf k) model in Comes side more (d .rec) (d .kept) rest) × (h ≡ ahead (hasSaid side b xs (samplesOf k) model) rest)
 
 module _ (n s : ℕ) (inside : s < n) where
   abbrev Runs : List (On Call) → State → Type 0
-  Runs cs st = (b : Record) (xs : List Float) → recordAt s st ≡ b → get (shareOf s) (st .store) ≡ xs → Comes (done surface n s st cs) b xs (hasOf n s st cs)
+  Runs cs st = (b : Record) (xs : List Float) → recordAt s st ≡ b → get (shareOf s) (st .store) ≡ xs → Comes (sideOf s) (done surface n s st cs) b xs (hasOf n s st cs)
 
   -- a call of its own, and those that follow
   module _ (c : Call) (cs : List (On Call)) (st : State) where
@@ -161,14 +161,14 @@ module _ (n s : ℕ) (inside : s < n) where
     has-are = rw (eq-eqb s s refl)
 
   own-done : (c : Call) (rest : List Call) (h : Has) (ns : List ℕ) (store : List Float) → length store ≡ n * SHARE → passed (replyTo n s ns store c) ≡ true
-      → ((b : Record) (xs : List Float) → gaveOf s ns (surface n s ns store c) .rec ≡ b → gaveOf s ns (surface n s ns store c) .share ≡ xs → Comes rest b xs h)
-      → Comes (c ∷ rest) (recordIn s ns) (get (shareOf s) store) (ahead (gaveOf s ns (surface n s ns store c)) h)
+      → ((b : Record) (xs : List Float) → gaveOf s ns (surface n s ns store c) .rec ≡ b → gaveOf s ns (surface n s ns store c) .share ≡ xs → Comes (sideOf s) rest b xs h)
+      → Comes (sideOf s) (c ∷ rest) (recordIn s ns) (get (shareOf s) store) (ahead (gaveOf s ns (surface n s ns store c)) h)
   unfolding Comes hostedFeed
   own-done (ask a) rest h ns store l p ih = tt
   own-done (frame x m o) rest h ns store l p ih = tt
   own-done (take x m o a) rest h ns store l p ih = tt
-  own-done (feed k model cleaned entries answers) rest h ns store l p ih =
-      let t = gave-said n s inside ns store l k model cleaned entries answers p in
+  own-done (feed k model cleaned records answers) rest h ns store l p ih =
+      let t = gave-said n s inside ns store l k model cleaned records answers p in
       (h, t .0, ih _ _ (ap (λ (x : Has). x .rec) (t .1)) (ap (λ (x : Has). x .share) (t .1)), ap (λ (x : Has). ahead x h) (t .1))
 
   own-call : (c : Call) (cs : List (On Call)) (st : State) → length (st .store) ≡ n * SHARE → Runs cs (after surface n st (on s c)) → Runs (on s c ∷ cs) st
@@ -184,11 +184,11 @@ module _ (n s : ℕ) (inside : s < n) where
       mine = ap (recordIn s) (numbers-are c cs st)
 
       go : (t : Bool) → passed (reply c cs st) ≡ t
-          → Comes (cond t (c ∷ rest) rest) (recordIn s (st .numbers s)) (get (shareOf s) (st .store)) (ahead (gaveOf s (st .numbers s) (gave c cs st)) h)
+          → Comes (sideOf s) (cond t (c ∷ rest) rest) (recordIn s (st .numbers s)) (get (shareOf s) (st .store)) (ahead (gaveOf s (st .numbers s) (gave c cs st)) h)
       go true p = own-done c rest h (st .numbers s) (st .store) l p (λ b′ xs′ e′ f′. ih b′ xs′ (mine ∙ e′) f′)
       go false p =
           let k = gave-nothing n s (st .numbers s) (st .store) c p in
-          subst (λ (x : Has). Comes rest (recordIn s (st .numbers s)) (get (shareOf s) (st .store)) (ahead x h)) (sym k)
+          subst (λ (x : Has). Comes (sideOf s) rest (recordIn s (st .numbers s)) (get (shareOf s) (st .store)) (ahead x h)) (sym k)
           (ih (recordIn s (st .numbers s)) (get (shareOf s) (st .store)) (mine ∙ ap (λ (x : Has). x .rec) k) (ap (λ (x : Has). x .share) k))
 
   other-call : (side : ℕ) → eqb side s ≡ false → (c : Call) (cs : List (On Call)) (st : State) → length (st .store) ≡ n * SHARE

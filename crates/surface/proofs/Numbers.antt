@@ -35,7 +35,7 @@ use Rattle.pieces.specs.Pieces as pieces
 use Rattle.pieces.proofs.Kept.{further-reply}
 use Rattle.desk.specs.declared.Answer.{Answer}
 use Rattle.desk.specs.declared.Record.{Record}
-use Rattle.desk.specs.Gate.{PIECE, refusals, gate, shareOf}
+use Rattle.desk.specs.Gate.{PIECE, sideOf, refusals, gate, shareOf}
 use Rattle.desk.specs.Desk.{Ask, opening, call1, call2, call2Own, call3, call4, firstHalf, secondHalf, piece, resume, callOf, opened, onShare, admitted, desk}
 use Rattle.desk.specs.Laws.{placed}
 use Rattle.desk.specs.Surface.{recordIn, replyNumber, hosted}
@@ -288,10 +288,10 @@ of-take n side b store x model out answers =
     known-by n side b store PIECE (takeRows b share x model out answers) (takenOn b share x model)
     (row 5 five (not fits), (row 5 five (not room), ((λ _. checks (counted (b .hearing)) model), (row 9 nine (not (good (waitingIn (b .waiting) share ++ x))), tt)))) tt
 
-of-feed : (n side : ℕ) (b : Record) (store : List Float) (block : Block) (model : List ℕ) (cleaned entries answers : ℕ)
-    → Known (feeding.feed n side b store block model cleaned entries answers .answer .reply)
+of-feed : (n side : ℕ) (b : Record) (store : List Float) (block : Block) (model : List ℕ) (cleaned records answers : ℕ)
+    → Known (feeding.feed n side b store block model cleaned records answers .answer .reply)
 unfolding feeding.feed
-of-feed n side b store block model cleaned entries answers = go (eqb number 0) refl
+of-feed n side b store block model cleaned records answers = go (eqb number 0) refl
   where
     number : ℕ
     number = gate n side b (length store) PIECE
@@ -300,12 +300,12 @@ of-feed n side b store block model cleaned entries answers = go (eqb number 0) r
     unfed r = refusal (record { reply = Refused r; rec = b }) store
 
     right : Effect Answer
-    right = fedBy (b .frame) (whole.take n side b store (samplesOf block) model ROOM answers)
+    right = fedBy (sideOf side) (b .frame) (whole.take n side b store (samplesOf block) model ROOM answers)
 
     go : (t : Bool) → eqb number 0 ≡ t
-        → Known (cond (not t) (unfed number) (refusing (drop 1 (feedRows number (b .waiting) (sizeOf block) cleaned entries answers)) unfed right) .answer .reply)
+        → Known (cond (not t) (unfed number) (refusing (drop 1 (feedRows number (b .waiting) (sizeOf block) cleaned records answers)) unfed right) .answer .reply)
     go true e =
-        gates.by-each unfed right (λ (o : Effect Answer). Known (o .answer .reply)) (drop 1 (feedRows number (b .waiting) (sizeOf block) cleaned entries answers))
+        gates.by-each unfed right (λ (o : Effect Answer). Known (o .answer .reply)) (drop 1 (feedRows number (b .waiting) (sizeOf block) cleaned records answers))
         (five, (five, (five, (five, tt)))) (of-take n side b store (samplesOf block) model ROOM answers)
     go false e = of-gate n side b (length store) PIECE e
 

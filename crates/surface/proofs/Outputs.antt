@@ -21,7 +21,7 @@ use Rattle.frame.specs.Reply.{passed}
 use Rattle.pieces.specs.Pieces.{waitingIn, waits, completes, further}
 use Rattle.pieces.specs.Pieces as pieces
 use Rattle.desk.specs.declared.Record.{Record}
-use Rattle.desk.specs.Gate.{PIECE, gate, shareOf}
+use Rattle.desk.specs.Gate.{PIECE, sideOf, gate, shareOf}
 use Rattle.desk.specs.Desk.{Ask, opening, call1, call2, call2Own, call3, call4, firstHalf, secondHalf, piece, resume, desk}
 use Rattle.desk.specs.Laws.{placed}
 use Rattle.desk.specs.Surface.{numbersOf, recordIn, replyNumber, heardOf, besides, telling, hosted}
@@ -254,9 +254,9 @@ zero-back (Refused k) p = absurd (false≢true p)
 zero-back (Misread k l) p = absurd (false≢true p)
 
 -- a feed's answers are its take's
-fed-answers : (number : ℕ) (ws : List Written) → numbersIn (getD (fedOf number ws) 0 nothing) ≡ numbersIn (getD ws 1 nothing)
-fed-answers number [] = refl
-fed-answers number (w ∷ ws) = refl
+fed-answers : (side number : ℕ) (ws : List Written) → numbersIn (getD (fedOf side number ws) 0 nothing) ≡ numbersIn (getD ws 1 nothing)
+fed-answers side number [] = refl
+fed-answers side number (w ∷ ws) = refl
 
 split-own : (P : Call → Type 0) (t : Bool) (c : Call) (cs : List Call) → All P (cond t (c ∷ cs) cs) → All P cs × (t ≡ true → P c)
 split-own P true c cs k = (k .1, λ _. k .0)
@@ -269,8 +269,8 @@ module _ (P : Call → Type 0) (which : Call → ℕ) (k : ℕ) (asked : (a : As
     → let d = dictated side (recordAt side st) (st .store) x (lentToEach (recordAt side st) x m) in
     numbersIn (getD (from 0 (d .out) ∷ from 0 (answersOf (d .told)) ∷ []) (which (take x m o a)) nothing)
     ≡ column k n s st (map (on side) (piece x o 22 ∷ map (resumeFor x m o) (d .told))))
-    (feeds : (b : Block) (m : List ℕ) (c e a : ℕ) → P (feed b m c e a) → (number : ℕ) (ws : List Written)
-    → numbersIn (getD (fedOf number ws) (which (feed b m c e a)) nothing) ≡ numbersIn (getD ws (which (take (samplesOf b) m ROOM a)) nothing)) where
+    (feeds : (b : Block) (m : List ℕ) (c e a : ℕ) → P (feed b m c e a) → (side number : ℕ) (ws : List Written)
+    → numbersIn (getD (fedOf side number ws) (which (feed b m c e a)) nothing) ≡ numbersIn (getD ws (which (take (samplesOf b) m ROOM a)) nothing)) where
   module _ (side : ℕ) (mine : eqb side s ≡ true) (st : State) where
     abbrev ns : List ℕ
     ns = st .numbers side
@@ -323,8 +323,8 @@ module _ (P : Call → Type 0) (which : Call → ℕ) (k : ℕ) (asked : (a : As
         let t = whole.take n side rec (st .store) (samplesOf b) m ROOM a in
         let col : List Ask → List Float = λ xs. column k n s st (map (on side) xs) in
         by-gates.along (λ (o : Effect Answer). numbersIn (getD (o .written) (which (feed b m c e a)) nothing))
-        (λ r. refusal (record { reply = Refused r; rec = rec }) (st .store)) (fedBy (rec .frame) t) (λ _. []) (col asks) rows (λ _. refl)
-        (λ _. feeds b m c e a q (rec .frame) (t .written) ∙ taken (samplesOf b) m ROOM a)
+        (λ r. refusal (record { reply = Refused r; rec = rec }) (st .store)) (fedBy (sideOf side) (rec .frame) t) (λ _. []) (col asks) rows (λ _. refl)
+        (λ _. feeds b m c e a q (sideOf side) (rec .frame) (t .written) ∙ taken (samplesOf b) m ROOM a)
         ∙ sym (by-gates.along col (λ _. []) asks (λ _. []) (col asks) rows (λ _. refl) (λ _. refl))
 
   received-is : (calls : List (On Call)) (st : State) → All P (own s calls) → AllHands (done desks n s st (expand surface madeOf n st calls))
@@ -400,4 +400,4 @@ pub answers-are : (n s : ℕ) (calls : List (On Call)) (st : State) → AllHands
     → inBuffer surface answersAt n s st calls ≡ column 2 n s st (expand surface madeOf n st calls)
 answers-are n s calls st =
     received-is (λ _. Unit) answersAt 2 (λ a. refl) n s (λ side mine st x m o a p. take-answers n s side mine st x m o a p)
-    (λ b m c e a _ number ws. fed-answers number ws) calls st (any-call (own s calls))
+    (λ b m c e a _ side number ws. fed-answers side number ws) calls st (any-call (own s calls))

@@ -55,7 +55,7 @@ refused-leaves n side ns store (take x m out answers) e =
     let o = whole.take n side (recordIn side ns) store x m out answers in
     let same = take-leaves n side (recordIn side ns) store x m out answers e in
     (handed side (o .answer) ns e, ap (λ (g : Effect Answer). g .kept) same, ap (λ (g : Effect Answer). g .written) same)
-refused-leaves n side ns store (feed b m cleaned entries answers) e =
-    let o = feeding.feed n side (recordIn side ns) store b m cleaned entries answers in
-    let same = feed-leaves n side (recordIn side ns) store b m cleaned entries answers e in
+refused-leaves n side ns store (feed b m cleaned records answers) e =
+    let o = feeding.feed n side (recordIn side ns) store b m cleaned records answers in
+    let same = feed-leaves n side (recordIn side ns) store b m cleaned records answers e in
     (handed side (o .answer) ns e, ap (λ (g : Effect Answer). g .kept) same, ap (λ (g : Effect Answer). g .written) same)

@@ -27,7 +27,7 @@ use Rattle.pieces.proofs.Halved.{first-length, second-length}
 use Rattle.pieces.proofs.Shares.{part-length, frame-length}
 use Rattle.desk.specs.declared.Answer.{Answer}
 use Rattle.desk.specs.declared.Record.{Record}
-use Rattle.desk.specs.Gate.{BENCHES, PIECE, gate, shareOf}
+use Rattle.desk.specs.Gate.{BENCHES, PIECE, sideOf, gate, shareOf}
 use Rattle.desk.specs.Desk.{Ask, opening, call1, call2, call2Own, call3, call4, firstHalf, secondHalf, piece, resume, callOf, closed, answered, opened, onShare, desk}
 use Rattle.desk.specs.Surface.{numbersOf, recordIn, besides, telling, hosted}
 use Rattle.desk.specs.Laws.{placed, AnsweredAlike}
@@ -45,6 +45,7 @@ use Rattle.feed.specs.Surface.{hostedFeed}
 use Rattle.isolation.specs.Local.{Local, performed}
 use Rattle.isolation.specs.Isolation.{own, Owned}
 use Rattle.isolation.specs.Run.{on}
+use Rattle.isolation.proofs.Performed.{lonely, one-bench}
 use Rattle.isolation.proofs.Runs.{reads}
 use Rattle.isolation.proofs.Isolated.{alone-does, lone, next, in-any-run, alone-lone, isolated, undisturbed}
 use Rattle.surface.specs.Surface.{Call, ask, frame, take, feed, surface, OurSurface, Anew}
@@ -87,7 +88,7 @@ ask-blind (piece x o s) e b xs ys d = absurd (omega arith)
 ask-blind (resume x g m o s) e b xs ys d = absurd (omega arith)
 
 unfoldable asking : Ask → Local
-asking a = record { call = callOf a; work = askWork a; sized = λ b share k. admitted-kept b share a 0 .size k; blind = ask-blind a }
+asking a = record { call = callOf a; work = λ _. askWork a; sized = λ _ b share k. admitted-kept b share a 0 .size k; blind = λ e _. ask-blind a e }
 
 -- what the desk gives, with what a host is told besides
 abbrev withBesides : Ask → Effect Answer → Effect Answer
@@ -137,7 +138,7 @@ module _ (call : ℕ) (some : call ≡ 0 → ⊥) (rows : Record → List Float 
       go false = k
 
   unfoldable tabled : Local
-  tabled = record { call = call; work = tableWork; sized = table-sized; blind = λ z. absurd (some z) }
+  tabled = record { call = call; work = λ _. tableWork; sized = λ _. table-sized; blind = λ z. absurd (some z) }
 
   module _ (n side : ℕ) (b : Record) (store : List Float) where
     abbrev number : ℕ
@@ -225,27 +226,27 @@ module _ (samples : List Float) (model : List ℕ) (out answers : ℕ) where
 
 -- ---- a feed: its take, told otherwise
 
-module _ (block : Block) (model : List ℕ) (cleaned entries answers : ℕ) where
+module _ (block : Block) (model : List ℕ) (cleaned records answers : ℕ) where
   -- the rows behind the gate's
   abbrev feedBehind : Record → List Row
-  feedBehind b = feedRows 0 (b .waiting) (sizeOf block) cleaned entries answers
+  feedBehind b = feedRows 0 (b .waiting) (sizeOf block) cleaned records answers
 
-  abbrev feedTaken : Record → List Float → Effect Answer
-  feedTaken b share = fedBy (b .frame) (takeWork (samplesOf block) model ROOM answers b share)
+  abbrev feedTaken : ℕ → Record → List Float → Effect Answer
+  feedTaken parity b share = fedBy parity (b .frame) (takeWork (samplesOf block) model ROOM answers b share)
 
-  abbrev feedWork : Record → List Float → Effect Answer
-  feedWork b share = refusing (feedBehind b) (λ r. unchanged (Refused r) b share) (feedTaken b share)
+  abbrev feedWork : ℕ → Record → List Float → Effect Answer
+  feedWork parity b share = refusing (feedBehind b) (λ r. unchanged (Refused r) b share) (feedTaken parity b share)
 
-  feed-sized : (b : Record) (share : List Float) → length share ≡ SHARE → length (feedWork b share .kept) ≡ SHARE
-  feed-sized b share k =
-      by-rows (λ r. unchanged (Refused r) b share) (feedTaken b share) (λ (o : Effect Answer). length (o .kept) ≡ SHARE) (feedBehind b)
+  feed-sized : (parity : ℕ) (b : Record) (share : List Float) → length share ≡ SHARE → length (feedWork parity b share .kept) ≡ SHARE
+  feed-sized parity b share k =
+      by-rows (λ r. unchanged (Refused r) b share) (feedTaken parity b share) (λ (o : Effect Answer). length (o .kept) ≡ SHARE) (feedBehind b)
       (λ _. k) (λ _. take-sized (samplesOf block) model ROOM answers b share k)
 
   unfoldable feeding : Local
   feeding = record { call = PIECE; work = feedWork; sized = feed-sized; blind = λ z. absurd (omega arith) }
 
   feed-does : (n side : ℕ) (b : Record) (store : List Float)
-      → feeds.feed n side b store block model cleaned entries answers ≡ performed n side b store feeding
+      → feeds.feed n side b store block model cleaned records answers ≡ performed n side b store feeding
   unfolding feeds.feed performed feeding
   feed-does n side b store = go (eqb number 0) refl
     where
@@ -256,17 +257,17 @@ module _ (block : Block) (model : List ℕ) (cleaned entries answers : ℕ) wher
       share = get (shareOf side) store
 
       right : Effect Answer
-      right = fedBy (b .frame) (whole.take n side b store (samplesOf block) model ROOM answers)
+      right = fedBy (sideOf side) (b .frame) (whole.take n side b store (samplesOf block) model ROOM answers)
 
-      inside : number ≡ 0 → refusing (feedBehind b) (λ r. unchanged (Refused r) b store) right ≡ placed side store (feedWork b share)
+      inside : number ≡ 0 → refusing (feedBehind b) (λ r. unchanged (Refused r) b store) right ≡ placed side store (feedWork (sideOf side) b share)
       inside z =
-          sym (along (placed side store) (λ r. unchanged (Refused r) b share) (feedTaken b share) (λ r. unchanged (Refused r) b store) right (feedBehind b)
+          sym (along (placed side store) (λ r. unchanged (Refused r) b share) (feedTaken (sideOf side) b share) (λ r. unchanged (Refused r) b store) right (feedBehind b)
           (λ r. rw (put-get (shareOf side) store))
-          (λ _. ap (fedBy (b .frame)) (sym (take-inside (samplesOf block) model ROOM answers n side b store z))))
+          (λ _. ap (fedBy (sideOf side) (b .frame)) (sym (take-inside (samplesOf block) model ROOM answers n side b store z))))
 
       go : (t : Bool) → eqb number 0 ≡ t
           → cond (not t) (unchanged (Refused number) b store) (refusing (feedBehind b) (λ r. unchanged (Refused r) b store) right)
-          ≡ cond t (placed side store (feedWork b share)) (unchanged (Refused number) b store)
+          ≡ cond t (placed side store (feedWork (sideOf side) b share)) (unchanged (Refused number) b store)
       go true e = inside (eqb-true number 0 e)
       go false e = refl
 
@@ -291,22 +292,22 @@ owned = record { local = locals; does = does }
 pub our-surface : OurSurface
 our-surface = (isolated surface owned BENCHES, undisturbed surface owned BENCHES)
 
--- an opening on a desk of one bench
-opening-does : (rec : Record) (xs : List Float) (way : Way) (model : List ℕ)
-    → alone-does surface owned rec xs (ask (opening way model)) ≡ withBesides (opening way model) (desk 1 0 rec xs (opening way model))
-unfolding owned locals
-opening-does rec xs way model = sym (desk-does (opening way model) 1 0 rec xs)
+-- an opening on either side is that on a desk of one bench
+opening-does : (parity : ℕ) (rec : Record) (xs : List Float) (way : Way) (model : List ℕ) → length xs ≡ SHARE
+    → alone-does surface owned parity rec xs (ask (opening way model)) ≡ withBesides (opening way model) (desk 1 0 rec xs (opening way model))
+unfolding owned locals asking lonely
+opening-does parity rec xs way model l = sym (one-bench (asking (opening way model)) rec xs l) ∙ sym (desk-does (opening way model) 1 0 rec xs)
 
 -- what an opening gives that is done hangs neither on the record nor on the store
 opens-alike : (s : ℕ) (more : List Call) (rec : Record) (ns : List ℕ) (xs : List Float) (way : Way) (model : List ℕ) → length xs ≡ SHARE
     → passed (desk 1 0 rec xs (opening way model) .answer .reply) ≡ true
-    → next surface owned s more ns (alone-does surface owned rec xs (ask (opening way model)))
-    ≡ next surface owned s more (numbersOf s closed) (alone-does surface owned closed (zeros SHARE) (ask (opening way model)))
+    → next surface owned s more ns (alone-does surface owned (sideOf s) rec xs (ask (opening way model)))
+    ≡ next surface owned s more (numbersOf s closed) (alone-does surface owned (sideOf s) closed (zeros SHARE) (ask (opening way model)))
 opens-alike s more rec ns xs way model l p =
     let same = anew rec xs (zeros SHARE) l refl way model p in
-    ap (next surface owned s more ns) (opening-does rec xs way model)
+    ap (next surface owned s more ns) (opening-does (sideOf s) rec xs way model l)
     ∙ alike same
-    ∙ ap (next surface owned s more (numbersOf s closed)) (sym (opening-does closed (zeros SHARE) way model))
+    ∙ ap (next surface owned s more (numbersOf s closed)) (sym (opening-does (sideOf s) closed (zeros SHARE) way model refl))
   where
     alike : desk 1 0 rec xs (opening way model) ≡ desk 1 0 closed (zeros SHARE) (opening way model)
         → next surface owned s more ns (withBesides (opening way model) (desk 1 0 rec xs (opening way model)))
@@ -322,5 +323,5 @@ starts-anew n s h st l way model p calls =
     let done : passed (desk 1 0 mine xs (opening way model) .answer .reply) ≡ true = rw (its-own n s mine (st .store) (opening way model) l h) at p in
     in-any-run surface owned n s h (on s (ask (opening way model)) ∷ calls) st l
     ∙ rw (eq-eqb s s refl) (opens-alike s (own s calls) mine (st .numbers s) xs way model all done)
-    ∙ ap (λ (rec : Record). next surface owned s (own s calls) (numbersOf s closed) (alone-does surface owned rec (zeros SHARE) (ask (opening way model)))) (sym (reads s closed))
+    ∙ ap (λ (rec : Record). next surface owned s (own s calls) (numbersOf s closed) (alone-does surface owned (sideOf s) rec (zeros SHARE) (ask (opening way model)))) (sym (reads s closed))
     ∙ sym (alone-lone surface owned s (ask (opening way model) ∷ own s calls))

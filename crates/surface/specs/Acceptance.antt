@@ -58,7 +58,7 @@ takeAsks rec share x m o a =
     && (pieceFits (rec .waiting) (length x) o 22
     && (leb (3 * completes (rec .waiting) (length x)) a && (suits rec m && good (waitingIn (rec .waiting) share ++ x))))
 
--- a frame asks what its two halves ask, before either. A feed asks for room for its bytes and entries, and what the take of its channel asks: a block of a wrong
+-- a frame asks what its two halves ask, before either. A feed asks for room for its bytes and records, and what the take of its channel asks: a block of a wrong
 -- shape has no samples
 abbrev pub wants : Record → List Float → Call → Bool
 wants rec share (ask a) = asks rec share a
@@ -66,7 +66,7 @@ wants rec share (frame x m o) = mayAsk rec 1 && (eqb (length x) 480 && (eqb o 48
 wants rec share (take x m o a) = takeAsks rec share x m o a
 wants rec share (feed b m c e a) =
     leb (960 * completes (rec .waiting) (sizeOf b)) c
-    && (leb (completes (rec .waiting) (sizeOf b)) e && takeAsks rec share (samplesOf b) m ROOM a)
+    && (leb (8 * completes (rec .waiting) (sizeOf b)) e && takeAsks rec share (samplesOf b) m ROOM a)
 
 abbrev pub Acceptance : Type 0
 Acceptance =
@@ -85,10 +85,10 @@ TakeAsItsPiece =
     passed (surface n side ns store (take x m o a) .answer .reply)
     ≡ (passed (surface n side ns store (ask (piece x o 22)) .answer .reply) && (leb (3 * completes (rec .waiting) (length x)) a && suits rec m))
 
--- a feed is accepted exactly when the take of its channel is, and it has room for its bytes and its entries
+-- a feed is accepted exactly when the take of its channel is, and it has room for its bytes and its records
 abbrev pub FeedAsItsTake : Type 0
 FeedAsItsTake =
     (n side : ℕ) (ns : List ℕ) (store : List Float) (b : Block) (m : List ℕ) (c e a : ℕ)
     → let frames = completes (recordIn side ns .waiting) (sizeOf b) in
     passed (surface n side ns store (feed b m c e a) .answer .reply)
-    ≡ (passed (surface n side ns store (take (samplesOf b) m ROOM a) .answer .reply) && (leb (960 * frames) c && leb frames e))
+    ≡ (passed (surface n side ns store (take (samplesOf b) m ROOM a) .answer .reply) && (leb (960 * frames) c && leb (8 * frames) e))

@@ -1,7 +1,7 @@
 -- From bytes to bytes: what is claimed. The proof is in proofs/Bytes.antt.
 --
 -- Calls come on any benches in any order, feeds among them, in which a bench has a channel of a block of recorded bytes. What a bench receives, its cleaned
--- bytes, entries and answers among it, is what its own calls alone would give it; and of a block it is made of the bench's own channel. So no byte of another
+-- bytes, records and answers among it, is what its own calls alone would give it; and of a block it is made of the bench's own channel. So no byte of another
 -- channel, and nothing that another bench does, is ever heard in it.
 use Rattle.rules.specs.Common.{ℕ, _*_, _<_, List, [], _∷_, _≡_, length, Float}
 use Rattle.frame.specs.Share.{SHARE}

@@ -26,7 +26,7 @@ pub data Call : Type 0 where
   ask : Ask → Call
   frame : (samples : List Float) (model : List ℕ) (out : ℕ) → Call
   take : (samples : List Float) (model : List ℕ) (out answers : ℕ) → Call
-  feed : (block : Block) (model : List ℕ) (cleaned entries answers : ℕ) → Call
+  feed : (block : Block) (model : List ℕ) (cleaned records answers : ℕ) → Call
 
 abbrev pub surface : Kind Call
 surface n side ns store (ask a) = hosted n side ns store a

@@ -202,7 +202,7 @@ impl Sink for Files {
         for (bench, frames) in self.benches.iter_mut().zip(frames) {
             for frame in frames {
                 bench.summary.frame(frame);
-                bench.records.push(frame.entry)?;
+                bench.records.push(frame.record)?;
             }
             bench.records.put()?;
         }

@@ -1,7 +1,7 @@
 //! The records of a side sheet as they come: they lie in a file of their own until the audio in front of them is at
 //! its end.
 
-use crate::cleaning::recorder::Side;
+use crate::cleaning::recorder::{Side, NOTE};
 use crate::error::{At, Result};
 use crate::recording::seal::{self, Seal};
 use crate::telling::refusal::{done, Refusal};
@@ -9,25 +9,24 @@ use std::fs::File;
 use std::io::{self, Read, Seek, SeekFrom, Write};
 use std::path::PathBuf;
 
-/// So many entries are written at a time.
-const ENTRIES: usize = 1_024;
+/// So many records are written at a time.
+const AT_A_TIME: usize = 1_024;
 /// The bytes of a record, of a trailer, and of a chunk's name and size.
-pub const RECORD: u64 = 8;
+pub const RECORD: u64 = NOTE as u64;
 pub const TRAILER: usize = 16;
 pub const CHUNK: u64 = 8;
 /// The chunk behind the audio: a seal, records and their trailer.
 pub const NAME: &[u8; 4] = b"side";
 
-/// How many records there are so far, and the sum of their bytes, as the library carries them on.
+/// How many records there are so far, and the sum of their bytes, of 32 bits, as the trailer notes them.
 pub type Tally = [u64; 2];
 
-/// The library writes each part, and carries their number and their sum on to the trailer.
+/// The library wrote each record; here they are counted and their bytes added up for the trailer.
 /// In front of them stand the seal's first words, so that the file says by itself which side it is.
 pub struct Records {
     path: PathBuf,
     file: File,
-    side: Side,
-    entries: Vec<u64>,
+    records: Vec<[u8; NOTE]>,
     tally: Tally,
 }
 
@@ -35,17 +34,17 @@ impl Records {
     /// In a new file.
     pub fn new(path: PathBuf, mut file: File, side: Side) -> Result<Records> {
         file.write_all(&seal::under_way(side)).at(&path)?;
-        Ok(Records::of(path, file, side, [0; 2]))
+        Ok(Records::of(path, file, [0; 2]))
     }
 
     /// Those that lie in a file already.
-    pub fn of(path: PathBuf, file: File, side: Side, tally: Tally) -> Records {
-        Records { path, file, side, entries: Vec::new(), tally }
+    pub fn of(path: PathBuf, file: File, tally: Tally) -> Records {
+        Records { path, file, records: Vec::new(), tally }
     }
 
-    pub fn push(&mut self, entry: u64) -> Result<()> {
-        self.entries.push(entry);
-        if self.entries.len() == ENTRIES {
+    pub fn push(&mut self, record: [u8; NOTE]) -> Result<()> {
+        self.records.push(record);
+        if self.records.len() == AT_A_TIME {
             self.put()?;
         }
         Ok(())
@@ -53,11 +52,13 @@ impl Records {
 
     /// Lays down what there is.
     pub fn put(&mut self) -> Result<()> {
-        let mut records = vec![0; RECORD as usize * self.entries.len()];
-        let refused = tuppence::sheet_records(&mut self.tally, &mut records, self.side as u32, &self.entries);
-        done(refused).at(&self.path)?;
-        self.entries.clear();
-        self.file.write_all(&records).at(&self.path)
+        let bytes = self.records.as_flattened();
+        let sum: u64 = bytes.iter().map(|byte| u64::from(*byte)).sum();
+        let [count, before] = self.tally;
+        self.tally = [count + self.records.len() as u64, (before + sum) % (1 << 32)];
+        self.file.write_all(bytes).at(&self.path)?;
+        self.records.clear();
+        Ok(())
     }
 
     pub fn inner(&self) -> &File {
@@ -66,7 +67,7 @@ impl Records {
 
     /// How many bytes the chunk has that `finish` writes.
     pub fn behind(&self) -> u32 {
-        behind(self.tally[0] + self.entries.len() as u64)
+        behind(self.tally[0] + self.records.len() as u64)
     }
 
     /// Writes the chunk behind the audio.
@@ -112,8 +113,8 @@ mod tests {
     /// The sheet in parts is the one that the library writes at once, whatever is left over at the end.
     #[test]
     fn parts_are_the_whole() {
-        for (count, side) in [(0, Side::Left), (1, Side::Right), (ENTRIES, Side::Left), (3 * ENTRIES + 5, Side::Right)]
-        {
+        let more = 3 * AT_A_TIME + 5;
+        for (count, side) in [(0, Side::Left), (1, Side::Right), (AT_A_TIME, Side::Left), (more, Side::Right)] {
             let path = std::env::temp_dir().join(format!("records-{}-{count}", std::process::id()));
             let mut records =
                 Records::new(path.clone(), crate::recording::place::new_file(&path).unwrap(), side).unwrap();
@@ -121,7 +122,8 @@ mod tests {
             for i in 0..count as u32 {
                 let (number, heard) = (i.wrapping_mul(0x9e37_79b9), i % 3 == 0);
                 entries.push(u64::from(number) | u64::from(heard) << 32);
-                records.push(entries[i as usize]).unwrap();
+                let [a, b, c, d] = number.to_le_bytes();
+                records.push([a, b, c, d, u8::from(heard), side as u8, 0, 0]).unwrap();
             }
             let seal = Seal { side, bytes: 960, checksum: 7 };
             let (mut chunk, mut whole, behind) = (vec![], vec![0; 8 * count + 16], records.behind());

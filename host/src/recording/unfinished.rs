@@ -140,7 +140,7 @@ impl Unfinished {
     pub fn close(self, part: &Path, sheet: &Path) -> Result<()> {
         let size = 2 * self.kept as u32;
         let audio = Writer::resume(self.audio, RATE, size).at(part)?;
-        let records = Records::of(sheet.to_owned(), self.sheet, self.side, self.row.tally);
+        let records = Records::of(sheet.to_owned(), self.sheet, self.row.tally);
         let seal = audio.seal(self.side);
         let mut file = audio.finish(records.behind()).at(part)?;
         sync_data(&file).and_then(|()| file.set_len(wav::HEAD as u64 + u64::from(size))).at(part)?;

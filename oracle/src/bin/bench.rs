@@ -581,12 +581,12 @@ fn of_blocks(rng: &mut Rng) -> Vec<Row> {
     let pieces: Vec<Vec<f32>> = blocks.iter().map(|block| plain_pcm::unpack(block, layout).unwrap()).collect();
     let (blocks, pieces): (&'static [_], &'static [_]) = (blocks.leak(), pieces.leak());
     let (mut blocks, mut pieces) = (blocks.iter().cycle(), pieces.iter().cycle());
-    let (mut cleaned, mut entries) = ([0; 8_640], [0; 9]);
+    let (mut cleaned, mut records) = ([0; 8_640], [0; 72]);
     let feed = move || {
         let Bench { record, store, model, answers, .. } = &mut one;
         let block = blocks.next().unwrap();
-        let refused = tuppence::feed(record, store, 1, block, 16, 2, 1, model, &mut cleaned, &mut entries, answers);
-        assert!(refused == 0 && entries[0] >> 32 == 1, "the frames are heard");
+        let refused = tuppence::feed(record, store, 1, block, 16, 2, 1, model, &mut cleaned, &mut records, answers);
+        assert!(refused == 0 && records[4] == 1, "the frames are heard");
     };
     vec![row("4,096 stereo samples fed; taken", feed, move || other.take(pieces.next().unwrap()))]
 }

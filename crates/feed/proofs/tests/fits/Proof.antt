@@ -20,13 +20,14 @@ fits-spec =
     (λ c.
     let a = c .before .before .before .args in
     rw (answered-yes (c .before .before .piece-fits .ensures) (c .before .if1 .left), lt-leb (960 * completes (a .waiting) (a .n)) (a .cleaned) (c .if2 .taken)))  -- returns-2
+    (λ c. omega (arith, fits-sizes _ _ 4320 22 (answered-yes (c .before .before .piece-fits .ensures) (c .before .if1 .left))))  -- mul-if3
     (λ c.
     let o = c .before in
     let a = o .before .before .before .args in
     rw (
       answered-yes (o .before .before .piece-fits .ensures) (o .before .if1 .left),
       le-leb (960 * completes (a .waiting) (a .n)) (a .cleaned) (o .if2 .left),
-      lt-leb (completes (a .waiting) (a .n)) (a .entries) (c .if3 .taken),
+      lt-leb (8 * completes (a .waiting) (a .n)) (a .records) (c .if3 .taken),
     ))  -- returns-3
     (λ c. omega (arith, fits-sizes _ _ 4320 22 (answered-yes (c .before .before .before .piece-fits .ensures) (c .before .before .if1 .left))))  -- mul-result
     (λ c.
@@ -35,5 +36,5 @@ fits-spec =
     rw (
       answered-yes (o .before .before .piece-fits .ensures) (o .before .if1 .left),
       le-leb (960 * completes (a .waiting) (a .n)) (a .cleaned) (o .if2 .left),
-      le-leb (completes (a .waiting) (a .n)) (a .entries) (c .if3 .left),
+      le-leb (8 * completes (a .waiting) (a .n)) (a .records) (c .if3 .left),
     )))  -- returns-4
