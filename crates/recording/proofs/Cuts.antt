@@ -23,7 +23,7 @@ entries-alike i j (h ∷ hs) e =
     let rest = entries-alike (i + 1) (j + 1) hs (omega arith) in
     ap (λ (x : ℕ). x ∷ entriesFrom (i + 1) hs) first ∙ ap (λ (l : List ℕ). entry j h ∷ l) rest
 
-entries-append : (i : ℕ) (xs ys : List Bool) → entriesFrom i (xs ++ ys) ≡ entriesFrom i xs ++ entriesFrom (i + length xs) ys
+pub entries-append : (i : ℕ) (xs ys : List Bool) → entriesFrom i (xs ++ ys) ≡ entriesFrom i xs ++ entriesFrom (i + length xs) ys
 entries-append i [] ys = ap (λ (n : ℕ). entriesFrom n ys) (sym (add-zero i))
 entries-append i (x ∷ xs) ys =
     let place : i + 1 + length xs ≡ i + suc (length xs) = omega arith in
