@@ -39,6 +39,7 @@ pub const COMMANDS: &[Command] = &[
             Opt::of("--out", Takes::Place("DIR"), "Where the files are written. Of several FILEs each has a folder there."),
             Opt::of("--name", Takes::Text("NAME"), "Call what is written NAME-left.wav and so on."),
             Opt::of("--model", Takes::There("FILE"), "The model: .rnn, .rnnn or rnn_data.c. The house model where none is named."),
+            Opt::flag("--or-house", "Clean with the house model if the library refuses the one that --model names."),
             LAG,
             FORCE,
             Opt::flag("--anyway", "Clean a recording although its name or its seal says the other side, or both benches' are identical."),
