@@ -272,6 +272,17 @@ uint32_t tuppence_logs(float *logs, size_t logs_len, const float *sums, size_t s
 uint32_t tuppence_model(uint32_t *numbers, size_t numbers_len,
     const uint8_t *model, size_t model_len);
 
+/* Where an array of a model is. `place` has two numbers: the place of the array's first byte in
+   `model`, and how many bytes it has. `layer` is 0 to 5, and `array` 0 for the input weights, 1 for
+   the recurrent ones, 2 for the biases. An array that the file does not have is told as 0 bytes. */
+uint32_t tuppence_model_array(uint32_t *place, size_t place_len,
+    const uint8_t *model, size_t model_len, uint32_t layer, uint32_t array);
+
+/* Which of two model files is taken: 0 is `trial`, if it reads; 1 is `house`, if only that reads; 2
+   is neither. */
+uint32_t tuppence_model_choose(const uint8_t *trial, size_t trial_len,
+    const uint8_t *house, size_t house_len);
+
 
 /* ---- network: a dense layer, a GRU layer, and all six layers of a model for one frame. Refusals: 5, a
    slice has a wrong length; and if the model does not read, 7 + 256 times the model's refusal +

@@ -58,6 +58,8 @@ surface! {
 // is r + 65,536 l.
 surface! {
     tuppence_model as model(numbers: &mut [u32], model: &[u8]) -> u32;
+    tuppence_model_array as model_array(place: &mut [u32], model: &[u8], layer: u32, array: u32) -> u32;
+    tuppence_model_choose as model_choose(trial: &[u8], house: &[u8]) -> u32;
     tuppence_write_model as write_model(
         out: &mut [u8], shapes: &[u32],
         w0: &[u8], b0: &[u8], w1: &[u8], r1: &[u8], b1: &[u8], w2: &[u8], r2: &[u8], b2: &[u8],

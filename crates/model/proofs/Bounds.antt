@@ -14,13 +14,13 @@ use Rattle.model.specs.declared.Reading.{Reading}
 use Rattle.model.specs.declared.Reading.the-variants.{Good, Refused}
 use Rattle.model.specs.Layer.{lengths, sizeOf, Layer, faultsOf, restOf}
 use Rattle.model.specs.Model.{kinds, headersAt, modelOf, countsIn, matchFaults, matchedWith, readLayers, refusingLayers, readOf}
-use Rattle.model.specs.Array.{foundIn, lineIn}
+use Rattle.model.specs.Array.{foundIn, arrayIn, lineIn}
 use Rattle.model.specs.Laws.{layersRead, LiesIn, Shaped, Largest, RefusedIn}
 use Rattle.model.proofs.Layer.{product}
 use Rattle.model.specs.Writer.{fileOf}
 use Rattle.model.proofs.Inverse.{length-joined, number-small, FitAll}
 use Rattle.model.proofs.File.{Written, writes-back}
-use Rattle.model.proofs.Places.{within}
+use Rattle.model.proofs.Places.{within, place-within}
 use Rattle.model.proofs.Shapes.{shape}
 
 -- ---- the largest file
@@ -96,6 +96,14 @@ line-small s j n = rw (add-one n) (of (foundIn (readOf s) j) refl n)
     of (At k h) e (suc (suc (suc zero))) = let w = found-small s j e in omega arith
     of (At k h) e (suc (suc (suc (suc zero)))) = let w = found-small s j e in omega arith
     of (At k h) e (suc (suc (suc (suc (suc n))))) = omega arith
+
+-- the place of an array and its length
+pub array-small : (s : List ℕ) (j w : ℕ) → let p = arrayIn (foundIn (readOf s) j) w in p .at + p .size ≤ 157285
+array-small s j w = of (foundIn (readOf s) j) refl
+  where
+    of : (f : Found) → f ≡ foundIn (readOf s) j → arrayIn f w .at + arrayIn f w .size ≤ 157285
+    of (At k h) e = place-within k h (found-small s j e) w
+    of Nothing e = omega arith
 
 -- ---- refusals
 

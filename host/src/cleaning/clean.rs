@@ -21,6 +21,8 @@ pub struct Job {
     pub inputs: Inputs,
     /// The house model where none is named.
     pub model: Option<PathBuf>,
+    /// Whether the house model is used if the named one is refused.
+    pub or_house: bool,
     pub way: Way,
     /// Whether no progress is told.
     pub quiet: bool,
@@ -39,10 +41,6 @@ pub struct Job {
 }
 
 impl Job {
-    fn model_name(&self) -> &Path {
-        self.model.as_deref().unwrap_or(HOUSE_NAME.as_ref())
-    }
-
     /// Where a bench's recording comes to stand.
     pub fn place(&self, side: Side) -> PathBuf {
         self.out.join(self.prefix.clone() + &recording(side))
@@ -120,6 +118,8 @@ fn called(file: &Path) -> &Path {
 /// What was cleaned.
 pub struct Report {
     pub benches: [Summary; 2],
+    /// What the model is called that was used.
+    pub model: PathBuf,
     /// What of it is missing: one error for each bench or recording that ended before its time.
     pub lost: Vec<Error>,
     /// What was not as it should be, if nothing is lost by it.
@@ -133,12 +133,37 @@ fn is_in_the_way(file: &Path, job: &Job) -> bool {
     names.iter().filter_map(|name| name.file_name()).any(|name| file == out.join(name))
 }
 
-/// The model, which the library must take.
-pub fn model_of_job(job: &Job) -> Result<Vec<u8>> {
-    let Some(path) = &job.model else { return Ok(HOUSE.into()) };
-    let model = import::read_model(path)?;
-    Recorder::new(job.way).open(Side::Left, &model).at(path)?;
-    Ok(model)
+/// A model that the library takes.
+pub struct Model {
+    pub bytes: Vec<u8>,
+    pub name: PathBuf,
+    /// Why it is not the model that was named.
+    pub note: Option<String>,
+}
+
+impl Model {
+    fn house(note: Option<String>) -> Model {
+        Model { bytes: HOUSE.into(), name: HOUSE_NAME.into(), note }
+    }
+
+    fn in_place_of(refused: &Error) -> Model {
+        Model::house(Some(format!("{refused}; the house model is used instead")))
+    }
+}
+
+/// The model of a job. With `--or-house`, a named model that is refused gives way to the house model. Which of the two
+/// is used, the library says.
+pub fn model_of_job(job: &Job) -> Result<Model> {
+    let Some(path) = &job.model else { return Ok(Model::house(None)) };
+    let trial = match import::read_model(path) {
+        // a text whose layers the writer refuses
+        Err(error) if job.or_house && error.refusal().is_some() => return Ok(Model::in_place_of(&error)),
+        trial => trial?,
+    };
+    match Recorder::new(job.way).open(Side::Left, &trial).at(path) {
+        Err(error) if job.or_house && tuppence::model_choose(&trial, HOUSE) == 1 => Ok(Model::in_place_of(&error)),
+        opened => opened.map(|()| Model { bytes: trial, name: path.clone(), note: None }),
+    }
 }
 
 /// A bench that had to end, and when.
@@ -162,15 +187,16 @@ pub fn clean(job: &Job) -> Result<Report> {
         return Err(Error::undone("this would be written over; name another folder with --out").at(file));
     }
     let mut notes = mix::check(&job.inputs, job.anyway)?;
+    notes.extend(model.note);
     let (out, prefix, once) = (&*job.out, &*job.prefix, job.inputs.come_once());
     let mut files = Files::new(&Place { out, prefix, more: &[], force: job.force, once, csv: job.csv })?;
     let mut recordings = job.inputs.recordings(job.how)?;
-    Side::BOTH.into_iter().for_each(|side| files.about(side, job.inputs.about(side, job.model_name())));
+    Side::BOTH.into_iter().for_each(|side| files.about(side, job.inputs.about(side, &model.name)));
     let length = recordings.length();
     let is_raw = job.how.raw && matches!(job.inputs, Inputs::Stereo(_));
     let mut apart = Apart::new(&mut recordings, job.inputs.are_both(), job.anyway).in_turns(is_raw);
     let mut watched = Watched::new(&mut files, length, job.quiet);
-    let outcome = run(&mut apart, [&model; 2], job.way, &mut watched, |_| ());
+    let outcome = run(&mut apart, [&model.bytes; 2], job.way, &mut watched, |_| ());
     drop(watched);
     notes.extend(apart.found(job.inputs.named(Side::Left))?);
     notes.extend(recordings.notes());
@@ -184,7 +210,7 @@ pub fn clean(job: &Job) -> Result<Report> {
     if files.is_empty() {
         return Err(nothing(lost));
     }
-    Ok(Report { benches: files.keep(None)?, lost, notes })
+    Ok(Report { benches: files.keep(None)?, model: model.name, lost, notes })
 }
 
 /// Why nothing is written.

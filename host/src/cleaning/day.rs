@@ -56,7 +56,7 @@ pub fn clean_in_dictations(job: &Job, split: &Split, tell: Tell) -> Result<Ended
     let is_raw = job.how.raw && matches!(job.inputs, Inputs::Stereo(_));
     let mut apart = Apart::new(&mut recordings, job.inputs.are_both(), job.anyway).in_turns(is_raw);
     let mut watched = Watched::new(&mut day, length, job.quiet);
-    let outcome = run(&mut apart, [&model; 2], job.way, &mut watched, |_| ());
+    let outcome = run(&mut apart, [&model.bytes; 2], job.way, &mut watched, |_| ());
     drop(watched);
     match apart.found(job.inputs.named(Side::Left)) {
         Ok(found) => notes.extend(found),

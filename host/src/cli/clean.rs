@@ -59,7 +59,11 @@ fn job(given: &Given, inputs: Inputs, out: PathBuf) -> Result<Job> {
     let how = How { raw: given.has("--raw"), to_the_end: given.has("--to-the-end") };
     let (way, csv, prefix) = (way(given), given.has("--csv"), prefix(given)?);
     let split = dictations::split(given)?;
-    Ok(Job { inputs, model, way, quiet, force, anyway, how, csv, out, prefix, split })
+    let or_house = given.has("--or-house");
+    if or_house && model.is_none() {
+        return Err(given.wrong("--or-house is for a model that --model names"));
+    }
+    Ok(Job { inputs, model, or_house, way, quiet, force, anyway, how, csv, out, prefix, split })
 }
 
 /// Refuses `--raw` and `--channels` where they say nothing, or something else than the benches that are asked for.
@@ -153,7 +157,8 @@ fn written(report: &Report) -> impl Iterator<Item = &Summary> {
 
 /// An object for each recording that was written, and for each that was read if nothing came of it.
 fn as_json(job: &Job, outcome: &Result<Report>) -> Vec<String> {
-    let model = &job.model.as_deref().map_or(HOUSE_NAME.into(), shown);
+    let named = job.model.as_deref().unwrap_or(HOUSE_NAME.as_ref());
+    let model = &shown(outcome.as_ref().map_or(named, |report| &report.model));
     match outcome {
         Ok(report) => {
             let asked = report.benches.iter().filter(|bench| !bench.about.absent);

@@ -51,6 +51,7 @@ pub const COMMANDS: &[Command] = &[
             Opt::flag("--keep-before", "Keep each dictation as it was before cleaning, too. For --split."),
             Opt::of("--name", Takes::Text("NAME"), "Call what is written NAME-left.wav and so on."),
             Opt::of("--model", Takes::There("FILE"), "The model: .rnn, .rnnn or rnn_data.c. The house model where none is named."),
+            Opt::flag("--or-house", "Clean with the house model if the library refuses the one that --model names."),
             LAG,
             Opt::of("--jobs", Takes::Text("N"), "Clean so many of several FILEs at a time; without it as many as there are cores."),
             FORCE,
