@@ -48,6 +48,7 @@ pub fn clean_in_dictations(job: &Job, split: &Split, tell: Tell) -> Result<Ended
     signals::listen();
     let model = model_of_job(job)?;
     let mut notes = mix::check(&job.inputs, job.anyway)?;
+    notes.extend(model.note.clone());
     let (out, keep_before) = (&*job.out, split.keep_before);
     let mut day = Day::new(&Plan { out, split: split.seconds, keep_before, force: job.force }, tell)?;
     let mut recordings = job.inputs.recordings(job.how)?;

@@ -1,6 +1,6 @@
 //! `box clean --split`, from the words, told in words or as JSON as each dictation is closed.
 
-use crate::cleaning::clean::Job;
+use crate::cleaning::clean::{model_of_job, Job};
 use crate::cleaning::day::{clean_in_dictations, Ended, Split};
 use crate::cleaning::demo::HOUSE_NAME;
 use crate::cleaning::recorder::Side;
@@ -90,7 +90,8 @@ fn json(closed: &Closed, recording: &Path, model: &str) -> Json {
 /// Tells of each dictation as it is closed: in a line, as JSON, or not at all.
 fn teller(given: &Given, job: &Job) -> Tell {
     let names: [PathBuf; 2] = Side::BOTH.map(|side| job.inputs.named(side).to_owned());
-    let model = job.model.as_deref().map_or(HOUSE_NAME.into(), shown);
+    // the model that is used; with --or-house that may be another than the one that is named
+    let model = model_of_job(job).map_or(HOUSE_NAME.into(), |model| shown(&model.name));
     match (given.has("--json"), job.quiet) {
         (true, _) => Box::new(move |closed| {
             crate::say!("{}", json(closed, &names[closed.told.front.side as usize], &model));
