@@ -40,7 +40,7 @@ pub const COMMANDS: &[Command] = &[
             Opt::of("--name", Takes::Text("NAME"), "Call what is written NAME-left.wav and so on."),
             Opt::of("--model", Takes::There("FILE"), "The model: .rnn, .rnnn or rnn_data.c. The house model where none is named."),
             LAG,
-            Opt::of("--jobs", Takes::Text("N"), "Clean so many of several FILEs at a time; without it as many as there are cores."),
+            Opt::of("--jobs", Takes::Text("N"), "Clean N of several FILEs at a time; else as many as there are cores."),
             FORCE,
             Opt::flag("--anyway", "Clean a recording although its name or its seal says the other side, or both benches' are identical."),
             CSV,
