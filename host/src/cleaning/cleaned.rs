@@ -1,7 +1,7 @@
 //! What cleaning a recording gave.
 
 use crate::cleaning::first_voice::FirstVoice;
-use crate::cleaning::measured::{parts, Measured};
+use crate::cleaning::measured::{within_frames, Measured};
 use crate::cleaning::pauses::Pauses;
 use crate::cleaning::recorder::{Frame, Heard, Side};
 use crate::page::about::About;
@@ -98,7 +98,7 @@ impl Summary {
 
     /// Samples as they were recorded.
     pub fn before(&mut self, samples: &[f32]) {
-        for (place, part) in parts(self.taken, samples.len()) {
+        for (place, part) in within_frames(self.taken, samples.len()) {
             let measured = Measured::of(&samples[part.clone()]);
             let [low, high] = measured.ends;
             self.peak = self.peak.max(-low).max(high);
@@ -114,7 +114,7 @@ impl Summary {
     /// Samples as they came out: the bytes that the library packs.
     pub fn after(&mut self, bytes: &[u8]) {
         let size = Layout::CLEANED.size();
-        for (place, part) in parts(self.samples, bytes.len() / size) {
+        for (place, part) in within_frames(self.samples, bytes.len() / size) {
             let measured = Measured::of_bytes(&bytes[size * part.start..size * part.end]);
             self.pauses.after(&measured);
             self.overview.part(place, &measured, |column| &mut column.after);

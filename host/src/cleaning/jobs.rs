@@ -32,7 +32,7 @@ pub fn in_order<T: Sync, A: Send>(
         for _ in 0..jobs.min(items.len()) {
             let (to, next, work) = (to.clone(), &next, &work);
             scope.spawn(move || {
-                while let Some((place, item)) = taken(next, items) {
+                while let Some((place, item)) = next_item(next, items) {
                     // this can't fail: who listens waits for all answers
                     let _ = to.send((place, work(item)));
                 }
@@ -52,7 +52,7 @@ pub fn in_order<T: Sync, A: Send>(
 }
 
 /// The next item that nobody works on yet, and its place.
-fn taken<'a, T>(next: &AtomicUsize, items: &'a [T]) -> Option<(usize, &'a T)> {
+fn next_item<'a, T>(next: &AtomicUsize, items: &'a [T]) -> Option<(usize, &'a T)> {
     let place = next.fetch_add(1, Ordering::Relaxed);
     Some((place, items.get(place)?))
 }

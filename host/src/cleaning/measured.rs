@@ -57,7 +57,7 @@ impl Measured {
 }
 
 /// So many samples from a place on, cut where a frame ends: the place of each part, and which of them it is.
-pub fn parts(place: u64, length: usize) -> impl Iterator<Item = (u64, Range<usize>)> {
+pub fn within_frames(place: u64, length: usize) -> impl Iterator<Item = (u64, Range<usize>)> {
     let mut from = 0;
     std::iter::from_fn(move || {
         let at = place + from as u64;
@@ -91,8 +91,8 @@ mod tests {
     }
 
     #[test]
-    fn parts_lie_within_frames() {
-        let all = |place, length| parts(place, length).collect::<Vec<_>>();
+    fn cut_where_frames_end() {
+        let all = |place, length| within_frames(place, length).collect::<Vec<_>>();
         assert_eq!(all(0, 1_000), [(0, 0..480), (480, 480..960), (960, 960..1_000)]);
         assert_eq!(all(470, 11), [(470, 0..10), (480, 10..11)]);
         assert_eq!((all(7, 0), all(479, 1), all(480, 480)), (vec![], vec![(479, 0..1)], vec![(480, 0..480)]));

@@ -30,7 +30,7 @@ impl Powers {
 
 /// A sum, and the squares of these samples behind the high-pass filter added to it. It is in f64 throughout: this is
 /// for measuring alone.
-fn filtered(mut sum: f64, [mut m0, mut m1]: [f64; 2], samples: &[f32]) -> (f64, [f64; 2]) {
+fn high_passed(mut sum: f64, [mut m0, mut m1]: [f64; 2], samples: &[f32]) -> (f64, [f64; 2]) {
     let [a0, a1, b0, b1] = HIGH_PASS.map(f64::from);
     for x in samples {
         let x = f64::from(*x);
@@ -66,7 +66,7 @@ impl Default for Pauses {
 impl Pauses {
     /// Samples of one frame as they were recorded.
     pub fn before(&mut self, samples: &[f32]) {
-        let (sum, memory) = filtered(self.before.sum, self.memory, samples);
+        let (sum, memory) = high_passed(self.before.sum, self.memory, samples);
         self.before.add(samples.len(), sum);
         self.memory = memory;
     }

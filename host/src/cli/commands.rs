@@ -53,7 +53,7 @@ pub const COMMANDS: &[Command] = &[
             Opt::of("--model", Takes::There("FILE"), "The model: .rnn, .rnnn or rnn_data.c. The house model where none is named."),
             Opt::flag("--or-house", "Clean with the house model if the library refuses the one that --model names."),
             LAG,
-            Opt::of("--jobs", Takes::Text("N"), "Clean so many of several FILEs at a time; without it as many as there are cores."),
+            Opt::of("--jobs", Takes::Text("N"), "Clean N of several FILEs at a time; else as many as there are cores."),
             FORCE,
             Opt::flag("--anyway", "Clean a recording although its name or its seal says the other side, or both benches' are identical."),
             CSV,

@@ -136,11 +136,12 @@ impl Overview {
 #[cfg(test)]
 mod tests {
     use super::*;
-    use crate::cleaning::measured::parts;
+    use crate::cleaning::measured::within_frames;
 
     /// Samples from a place on, into either strip.
     fn add(overview: &mut Overview, place: u64, samples: &[f32], strip: fn(&mut Column) -> &mut Loudness) {
-        parts(place, samples.len()).for_each(|(at, part)| overview.part(at, &Measured::of(&samples[part]), strip));
+        within_frames(place, samples.len())
+            .for_each(|(at, part)| overview.part(at, &Measured::of(&samples[part]), strip));
     }
 
     fn voice(entry: u64) -> Frame {
