@@ -35,7 +35,8 @@ pub fn compare(options: &Options) -> Tally {
 
 /// The bytes of an array as the Rust has it, in a file that both read. Of a layer or an array that there is not: none.
 fn in_the_rust(file: &[u8], layer: u32, array: u32) -> Vec<i8> {
-    let layers = rnn::layers(&RnnModel::from_bytes(file).unwrap());
+    let model = RnnModel::from_bytes(file).unwrap();
+    let layers = rnn::layers(&model);
     match (layers.get(layer as usize), array) {
         (Some(layer), 0) => layer.weights.to_vec(),
         (Some(layer), 1) => layer.recurrent.to_vec(),
@@ -49,12 +50,13 @@ fn array(tally: &mut Tally, rng: &mut Rng, file: &[u8]) {
     let place: Vec<u32> = (0..rng.near(2)).map(|_| rng.bits() as u32).collect();
     let (layer, array) = (rng.below(7) as u32, rng.below(4) as u32);
     let bytes = file.to_vec();
-    let given = Given::new(named![place, bytes, layer, array]);
+    let named = named![place, bytes, layer, array];
+    let given = Given::new(named);
     let mut ours = place.clone();
     let number = tuppence::model_array(&mut ours, &bytes, layer, array);
     let (want, wanted) = match agreed(file) {
-        _ if place.len() != 2 => (5, place),
-        Err(Refusal { number, layer }) => (number + 65_536 * layer, place),
+        _ if place.len() != 2 => (5, place.clone()),
+        Err(Refusal { number, layer }) => (number + 65_536 * layer, place.clone()),
         Ok(layers) => (0, placed(&layers, layer, array)),
     };
     if want == 0 {
@@ -77,7 +79,8 @@ fn placed(layers: &[reader::Layer; 6], layer: u32, array: u32) -> Vec<u32> {
 /// Which of two files is taken: the first that the Rust reads, 15 apart.
 fn choose(tally: &mut Tally, trial: &[u8], house: &[u8]) {
     let (trial, house) = (trial.to_vec(), house.to_vec());
-    let given = Given::new(named![trial, house]);
+    let named = named![trial, house];
+    let given = Given::new(named);
     let number = tuppence::model_choose(&trial, &house);
     let want = [&trial, &house].iter().position(|file| agreed(file).is_ok()).unwrap_or(2) as u32;
     tally.judge("model_choose", given, values![number], values![want]);

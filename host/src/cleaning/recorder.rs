@@ -99,6 +99,14 @@ pub struct Frame {
 }
 
 impl Frame {
+    /// A frame of a side with this number. The library writes its record.
+    pub fn of(side: Side, number: u32, heard: Heard, heard_so_far: u32) -> Frame {
+        let (mut record, entry) = ([0; NOTE], u64::from(number) | u64::from(heard.is_heard()) << 32);
+        let refused = tuppence::sheet_records(&mut [0; 2], &mut record, side as u32, &[entry]);
+        assert_eq!(refused, 0, "a side, and one entry");
+        Frame { record, heard, heard_so_far }
+    }
+
     /// From 0 at the opening.
     pub fn number(&self) -> u32 {
         let [a, b, c, d, ..] = self.record;

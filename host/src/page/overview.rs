@@ -137,6 +137,7 @@ impl Overview {
 mod tests {
     use super::*;
     use crate::cleaning::measured::within_frames;
+    use crate::cleaning::recorder::Side;
 
     /// Samples from a place on, into either strip.
     fn add(overview: &mut Overview, place: u64, samples: &[f32], strip: fn(&mut Column) -> &mut Loudness) {
@@ -144,17 +145,17 @@ mod tests {
             .for_each(|(at, part)| overview.part(at, &Measured::of(&samples[part]), strip));
     }
 
-    fn voice(entry: u64) -> Frame {
-        Frame { entry, heard: Heard::Voice { probability: 0.9, energy: 1.0 }, heard_so_far: 0 }
+    fn voice(number: u32) -> Frame {
+        Frame::of(Side::Left, number, Heard::Voice { probability: 0.9, energy: 1.0 }, 0)
     }
 
     /// Ten hours take no more columns than ten seconds, and nothing that happened once is lost.
     #[test]
     fn ten_hours_in_a_thousand_columns() {
         let mut overview = Overview::default();
-        for entry in 0..3_600_000 {
-            let heard = if entry % 3_600 < 1_200 { voice(0).heard } else { Heard::Silent };
-            overview.frame(&Frame { entry, heard, heard_so_far: 0 }, entry == 77_777);
+        for number in 0..3_600_000 {
+            let heard = if number % 3_600 < 1_200 { voice(0).heard } else { Heard::Silent };
+            overview.frame(&Frame::of(Side::Left, number, heard, 0), number == 77_777);
             assert!(overview.columns.len() <= MOST);
         }
         add(&mut overview, 1_000_000_320, &[-5.0, 9.0], |column| &mut column.after);
@@ -172,7 +173,7 @@ mod tests {
     fn a_short_recording_is_exact() {
         let mut overview = Overview::default();
         overview.frame(&voice(0), false);
-        overview.frame(&Frame { entry: 1, heard: Heard::Silent, heard_so_far: 1 }, false);
+        overview.frame(&Frame::of(Side::Left, 1, Heard::Silent, 1), false);
         add(&mut overview, 0, &[0.0; 470], |column| &mut column.before);
         let more = [1.0, -1.0, 2.0, 3.0, 4.0, 5.0, 6.0, 7.0, 8.0, 9.0, -2.0];
         add(&mut overview, 470, &more, |column| &mut column.before);

@@ -8,7 +8,6 @@ use crate::cleaning::run::Sink;
 use crate::cleaning::split::Cutter;
 use crate::error::{At, Error, Result};
 use crate::page::day::{html, BEGINS};
-use crate::reading::block::Layout;
 use crate::recording::closing::Closer;
 use crate::recording::files::PAGE;
 use crate::recording::folder::Folder;
@@ -399,6 +398,7 @@ impl Sink for Day {
 mod tests {
     use super::*;
     use crate::cleaning::recorder::Heard;
+    use crate::reading::block::Layout;
     use crate::recording::times::read_moment;
     use std::ops::Range;
     use std::sync::{Arc, Mutex};
@@ -423,7 +423,7 @@ mod tests {
             let frame = |side: Side, number: u64| {
                 let voice = voices[side as usize].iter().any(|voice| voice.contains(&number));
                 let heard = Heard::Voice { probability: if voice { 0.9 } else { 0.1 }, energy: 1.0 };
-                Frame { entry: number | 1 << 32, heard, heard_so_far: 0 }
+                Frame::of(side, number as u32, heard, 0)
             };
             for side in Side::BOTH {
                 day.before(side, &samples(side, 480 * numbers.start..480 * numbers.end)).unwrap();
