@@ -14,14 +14,14 @@ use Rattle.recording.specs.Recording.{entriesFrom, bytesOf}
 use Rattle.recording.proofs.SaidBack.{length-entries}
 use Rattle.recording.proofs.Told.{told-only}
 use Rattle.recorder.specs.Recorder.{beginning, roomOf}
-use Rattle.recorder.specs.Laws.{recordingOf, IsGood, audioOf, recordsIn, Frames, takenIn, cleanedOf}
+use Rattle.recorder.specs.Laws.{recordingOf, IsGood, audioOf, givenRecords, Frames, takenIn, cleanedOf}
 use Rattle.recorder.proofs.Goods.{always-good, as-defined}
 use Rattle.recorder.proofs.Whole.{however-given}
 use Rattle.feed.specs.Feed.{Block, blockOf, samplesOf, entriesOf}
 use Rattle.surface.specs.Cutting.{Has, hasOf, hasSaid}
 use Rattle.surface.proofs.Bytes.{samples-alike}
 use Rattle.surface.proofs.Cuts.{bytes-in-a-row}
-use Rattle.clerk.specs.Clerk.{frontOf, File, inARow, Stream, Recorded, dictation, Delivered, SameStream}
+use Rattle.clerk.specs.Clerk.{openingFront, File, inARow, Stream, RecordedRun, dictation, Delivered, SameStream}
 use Rattle.clerk.specs.Clerk.{FromMicrophoneToClerk}
 
 -- the sixth byte of a record is its side
@@ -30,20 +30,20 @@ unfolding recordOf four
 sixth side [] h = absurd (omega arith)
 sixth side (e ∷ es) h = refl
 
-module _ (n s side began : ℕ) (x : Stream) (time : began < 2 ^ 64) (k : Recorded n s side began x) where
+module _ (n s side began : ℕ) (x : Stream) (time : began < 2 ^ 64) (k : RecordedRun n s side began x) where
   abbrev f : File
   f = x .file
 
   abbrev has : Has
   has = hasOf n s (x .start) (x .calls)
 
-  good : IsGood (frontOf side began) (x .file .audio) (x .file .records) (inARow (x .file))
+  good : IsGood (openingFront side began) (x .file .audio) (x .file .records) (inARow (x .file))
   good =
       always-good side began 0 (x .given) (f .audio) (f .records) (f .head) (f .chunk) (f .trailer) time (omega arith)
       (k .bytes) (k .written)
 
-  defined : (x .file .audio ≡ audioOf (beginning (frontOf side began)) (x .given))
-      × (x .file .records ≡ recordsIn (x .given)) × Frames (x .given)
+  defined : (x .file .audio ≡ audioOf (beginning (openingFront side began)) (x .given))
+      × (x .file .records ≡ givenRecords (x .given)) × Frames (x .given)
   defined =
       as-defined side began 0 (x .given) (f .audio) (f .records) (f .head) (f .chunk) (f .trailer) (omega arith)
       (k .bytes) (k .written)
@@ -56,26 +56,27 @@ module _ (n s side began : ℕ) (x : Stream) (time : began < 2 ^ 64) (k : Record
 
   audio-has : x .file .audio ≡ take (2 * takenIn (x .given)) (drop 960 (hasOf n s (x .start) (x .calls) .cleaned))
   audio-has =
-      let room : roomOf (beginning (frontOf side began)) (takenIn (x .given)) ≡ 2 * takenIn (x .given) = omega arith in
+      let room : roomOf (beginning (openingFront side began)) (takenIn (x .given)) ≡ 2 * takenIn (x .given) = omega
+      arith in
       defined .0
-      ∙ however-given (beginning (frontOf side began)) (x .given) (omega arith) (defined .2) (k .inTime)
+      ∙ however-given (beginning (openingFront side began)) (x .given) (omega arith) (defined .2) (k .inTime)
       ∙ ap₂ (λ (a : ℕ) (l : List ℕ). take a (drop 960 l)) room (k .handed)
 
   records-has : x .file .records ≡ hasOf n s (x .start) (x .calls) .records
   records-has = defined .1 ∙ k .noted
 
   abbrev theirs : List ℕ
-  theirs = entriesFrom 0 (recordingOf (frontOf side began) (f .audio) (f .records) .heard)
+  theirs = entriesFrom 0 (recordingOf (openingFront side began) (f .audio) (f .records) .heard)
 
   abbrev ours : List ℕ
   ours = entriesOf (recordAt s (x .start) .frame) (answersOf (dictation s x .told))
 
-  some : 0 < length (entriesFrom 0 (recordingOf (frontOf side began) (x .file .audio) (x .file .records) .heard))
+  some : 0 < length (entriesFrom 0 (recordingOf (openingFront side began) (x .file .audio) (x .file .records) .heard))
   some =
-      let heard = recordingOf (frontOf side began) (f .audio) (f .records) .heard in
+      let heard = recordingOf (openingFront side began) (f .audio) (f .records) .heard in
       omega (arith, length-entries 0 heard, good .good .frames)
 
-  both : recordsOf (numberOf (frontOf side began .side)) theirs ≡ recordsOf (sideOf s) ours
+  both : recordsOf (numberOf (openingFront side began .side)) theirs ≡ recordsOf (sideOf s) ours
   both = sym (good .noted) ∙ records-has ∙ ap (λ (h : Has). h .records) row
 
   many : length theirs ≡ length ours
@@ -83,14 +84,14 @@ module _ (n s side began : ℕ) (x : Stream) (time : began < 2 ^ 64) (k : Record
       omega (
         arith,
         ap length both,
-        length-records (numberOf (frontOf side began .side)) theirs,
+        length-records (numberOf (openingFront side began .side)) theirs,
         length-records (sideOf
             s) ours,
       )
 
-  side-is : numberOf (frontOf side began .side) ≡ sideOf s
+  side-is : numberOf (openingFront side began .side) ≡ sideOf s
   side-is =
-      sym (sixth (numberOf (frontOf side began .side)) theirs some)
+      sym (sixth (numberOf (openingFront side began .side)) theirs some)
       ∙ ap (λ (l : List ℕ). getD l 5 0) both
       ∙ sixth (sideOf s) ours (omega (arith, some, many))
 
@@ -101,8 +102,8 @@ module _ (n s side began : ℕ) (x : Stream) (time : began < 2 ^ 64) (k : Record
     audio = audio-has ∙ ap (λ (h : Has). take (2 * takenIn (x .given)) (drop 960 (h .cleaned))) row;
   }
 
-module _ (n s side began : ℕ) (x y : Stream) (time : began < 2 ^ 64) (k : Recorded n s side began x)
-    (l : Recorded n s side began y) (e : SameStream s x y) where
+module _ (n s side began : ℕ) (x y : Stream) (time : began < 2 ^ 64) (k : RecordedRun n s side began x)
+    (l : RecordedRun n s side began y) (e : SameStream s x y) where
   abbrev block : Stream → Block
   block z = blockOf (z .bytes) (z .format) (z .channels) (z .channel)
 
@@ -134,7 +135,7 @@ module _ (n s side began : ℕ) (x y : Stream) (time : began < 2 ^ 64) (k : Reco
   same-file : inARow (x .file) ≡ inARow (y .file)
   same-file =
       good n s side began x time k .bytes
-      ∙ ap₂ (λ (a r : List ℕ). bytesOf (recordingOf (frontOf side began) a r)) same-audio same-records
+      ∙ ap₂ (λ (a r : List ℕ). bytesOf (recordingOf (openingFront side began) a r)) same-audio same-records
       ∙ sym (good n s side began y time l .bytes)
 
 pub from-microphone-to-clerk : FromMicrophoneToClerk

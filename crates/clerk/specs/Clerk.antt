@@ -15,15 +15,15 @@ use Rattle.recording.specs.Laws.{ToldOnly}
 use Rattle.recording.specs.Numbers.{sideAt}
 use Rattle.recording.specs.declared.Front.{Front}
 use Rattle.recorder.specs.Recorder.{beginning}
-use Rattle.recorder.specs.Laws.{Given, GivenBytes, WrittenWhole, IsGood, takenIn, cleanedOf, recordsIn, InTime}
+use Rattle.recorder.specs.Laws.{Given, GivenBytes, WrittenWhole, IsGood, takenIn, cleanedOf, givenRecords, InTime}
 use Rattle.feed.specs.Feed.{blockOf, samplesOf}
 use Rattle.surface.specs.Surface.{Call}
 use Rattle.surface.specs.Cutting.{hasOf, said, Streams}
 use Rattle.surface.specs.Bytes.{SameChannel}
 
 -- the front of a recording that begins with an opening's first frame
-abbrev pub frontOf : ℕ → ℕ → Front
-frontOf side began = record { side = sideAt side; began = began; first = 0 }
+abbrev pub openingFront : ℕ → ℕ → Front
+openingFront side began = record { side = sideAt side; began = began; first = 0 }
 
 -- what a host writes in a row
 pub record File : Type 0 where
@@ -52,17 +52,17 @@ pub record Stream : Type 0 where
   pub file : File
 
 -- what the host does, for bench s: `side` is the number that it begins the recorder with
-pub record Recorded (n s side began : ℕ) (x : Stream) : Type 0 where
+pub record RecordedRun (n s side began : ℕ) (x : Stream) : Type 0 where
   -- all calls of the bench that are done are feeds of the stream
   pub streams : Streams n s (x .start) (x .calls) (x .format) (x .channels) (x .channel) (x .model) (x .bytes)
   -- the bench was just opened: its next frame has number 0
   pub opened : recordAt s (x .start) .frame ≡ 0
   -- all bytes and all records that the bench's calls returned are handed in, in order, cut in any way
   pub handed : cleanedOf (x .given) ≡ hasOf n s (x .start) (x .calls) .cleaned
-  pub noted : recordsIn (x .given) ≡ hasOf n s (x .start) (x .calls) .records
+  pub noted : givenRecords (x .given) ≡ hasOf n s (x .start) (x .calls) .records
   pub bytes : GivenBytes (x .given)
   -- samples are counted no later than their output is handed in
-  pub inTime : InTime (beginning (frontOf side began)) (x .given)
+  pub inTime : InTime (beginning (openingFront side began)) (x .given)
   -- none of the recorder's calls was refused, and this is what was written
   pub written : let f = x .file in WrittenWhole side began 0 (x .given) (f .audio) (f .records) (f .head) (f .chunk) (f
       .trailer)
@@ -76,9 +76,9 @@ dictation s x =
 -- what the clerk has
 pub record Delivered (s side began : ℕ) (x : Stream) : Type 0 where
   -- the file is, byte for byte, a good recording, and so it is told: its side, when it began, how many frames
-  pub good : IsGood (frontOf side began) (x .file .audio) (x .file .records) (inARow (x .file))
+  pub good : IsGood (openingFront side began) (x .file .audio) (x .file .records) (inARow (x .file))
   -- the side that is told is the bench's own. (If the host named the other side, a call was refused.)
-  pub sided : numberOf (frontOf side began .side) ≡ sideOf s
+  pub sided : numberOf (openingFront side began .side) ≡ sideOf s
   -- the audio is what comes out of the bench's own channel: without the first frame's 480 samples, of two bytes each,
   -- and as
   -- many samples as were taken in
@@ -97,10 +97,11 @@ pub record SameStream (s : ℕ) (x y : Stream) : Type 0 where
 -- the whole claim
 pub record FromMicrophoneToClerk : Type 0 where
   -- what is recorded is delivered
-  pub delivered : (n s side began : ℕ) (x : Stream) → began < 2 ^ 64 → Recorded n s side began x → Delivered s side
+  pub delivered : (n s side began : ℕ) (x : Stream) → began < 2 ^ 64 → RecordedRun n s side began x → Delivered s side
       began x
   -- nothing that another bench does, and no choice of blocks, changes a byte of it
-  pub undisturbed : (n s side began : ℕ) (x y : Stream) → began < 2 ^ 64 → Recorded n s side began x → Recorded n s side
+  pub undisturbed : (n s side began : ℕ) (x y : Stream) → began < 2 ^ 64 → RecordedRun n s side began x → RecordedRun n
+      s side
       began y
       → SameStream s x y → inARow (x .file) ≡ inARow (y .file)
   -- and any file that is told as a side is, byte for byte, a good recording of that side
