@@ -38,7 +38,7 @@ use Rattle.recorder.specs.Recorder.{areRecords, withFeed, tooLong, moreR
 use Rattle.recorder.specs.Recorder.{LONGEST, FRAMES, closeRows}
 use Rattle.recorder.specs.Numbers.{recorderIn, recorderNumbers, begunOn, begunLaid, moreLaid, finishLaid}
 use Rattle.recorder.specs.Laws.{Given, GivenBytes, Calls, none, more, WrittenWhole, IsGood, AlwaysGood, audioOf}
-use Rattle.recorder.specs.Laws.{recordsIn, Frames, AsDefined}
+use Rattle.recorder.specs.Laws.{givenRecords, Frames, AsDefined}
 use Rattle.recorder.specs.declared.Recorder.{Recorder}
 use Rattle.recorder.proofs.Answers.{part-is, part-size}
 use Rattle.recorder.proofs.GoesOn.{part-few}
@@ -389,7 +389,7 @@ always-good side began first gs audio records head chunk trailer time small byte
 as-given : (f : Front) (small : f .first < 2 ^ 32) {ns : List ℕ} {gs : List Given} {audio′ records′ end : List ℕ}
     → Calls ns gs audio′ records′ end → (r : Recorder) (audio records : List ℕ) (heard : List Bool)
     → So f r audio records heard → ns ≡ recorderNumbers r → GivenBytes gs
-    → (audio′ ≡ audioOf r gs) × (records′ ≡ recordsIn gs) × Frames gs
+    → (audio′ ≡ audioOf r gs) × (records′ ≡ givenRecords gs) × Frames gs
 as-given f small (none ns) r audio records heard so held b = (refl, refl, tt)
 as-given f small (more g ns lent ns′ place e rest) r audio records heard so held b =
     let clear-rows = rows-clear f small r audio records heard so g ns lent ns′ place held e in

@@ -95,9 +95,9 @@ abbrev pub cleanedOf : List Given → List ℕ
 cleanedOf [] = []
 cleanedOf (g ∷ gs) = g .cleaned ++ cleanedOf gs
 
-abbrev pub recordsIn : List Given → List ℕ
-recordsIn [] = []
-recordsIn (g ∷ gs) = g .records ++ recordsIn gs
+abbrev pub givenRecords : List Given → List ℕ
+givenRecords [] = []
+givenRecords (g ∷ gs) = g .records ++ givenRecords gs
 
 -- each call has 960 bytes for each record
 abbrev pub Frames : List Given → Type 0
@@ -111,7 +111,7 @@ AsDefined =
     gs
     → WrittenWhole side began first gs audio records head chunk trailer
     → (audio ≡ audioOf (beginning (record { side = sideAt side; began = began; first = first })) gs) × (records ≡
-    recordsIn gs) × Frames gs
+    givenRecords gs) × Frames gs
 
 -- a bench that goes on in a next recording: the audio of both, in a row, is that of one recording
 abbrev pub CutGoesOn : Type 0
