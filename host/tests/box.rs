@@ -203,7 +203,7 @@ fn an_installed_program_runs_alone() {
         (&["box", "clean", "--l"], "--left --lag"),
         (&["box", "clean", "--lag", ""], "crate own"),
         (&["box", "export", "--as", ""], "rnnn"),
-        (&["box", "side", "-"], "--quick --json --help"),
+        (&["box", "side", "-"], "--json --help"),
         (&["box", "side", "again/l"], "again/left.wav"),
         (&["box", "clean", "--name", ""], ""),
         (&["box", "help", "de"], "demo"),

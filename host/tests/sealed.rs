@@ -243,6 +243,9 @@ fn the_other_bench() {
     refused(&["--left", "old.wav", "--right", "b.wav"], &given("old.wav: its side sheet", "right", "left"));
     fs::write(path.join("torn.wav"), &right[..records]).unwrap();
     refused(&["--left", "torn.wav", "--right", "b.wav"], &given("torn.wav: its seal", "right", "left"));
+    // one that was cut: its front says it
+    fs::write(path.join("cut.wav"), &right[..HEAD + 2_000]).unwrap();
+    refused(&["--left", "cut.wav", "--right", "b.wav"], &given("cut.wav: its seal", "right", "left"));
     // one recording for both, by whatever name
     fs::hard_link(path.join("a.wav"), path.join("c.wav")).unwrap();
     for other in ["a.wav", "./a.wav", "c.wav"] {

@@ -161,7 +161,7 @@ fn a_disk_that_turns_a_bit() {
     fs::write(&part, [&front.open_head()[..], &raw(1.0)].concat()).unwrap();
     fs::write(path.join("left/left.wav.sheet"), front.seal()).unwrap();
     let ended = run(failing(host(&path, &["mend", "left"]), "write"));
-    let records = "the records of its frames are damaged or missing (refusal 64)";
+    let records = "the end of its records is damaged or missing (refusal 65)";
     assert_eq!((ended.status, ended.why), (Some(1), not("left/left.wav.part", "left", records)));
     assert!(part.exists() && !path.join("left/left.wav").exists());
     assert_eq!(run(host(&path, &["mend", "left"])).status, Some(0));

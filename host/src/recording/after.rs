@@ -17,14 +17,14 @@ pub const HEARD: u64 = 1 << 32;
 type Tally = [u64; 2];
 
 /// These frames' records, as the library writes them.
-fn written(tally: &mut Tally, front: Front, entries: &[u64]) -> Result<Vec<u8>, Refusal> {
+fn records_by_library(tally: &mut Tally, front: Front, entries: &[u64]) -> Result<Vec<u8>, Refusal> {
     let mut records = vec![0; RECORD * entries.len()];
     done(tuppence::sheet_records(tally, &mut records, front.side as u32, entries)).map(|()| records)
 }
 
 /// The records of frames that have these entries.
 pub fn records_of(front: Front, entries: &[u64]) -> Result<Vec<u8>, Refusal> {
-    written(&mut [0; 2], front, entries)
+    records_by_library(&mut [0; 2], front, entries)
 }
 
 /// What was found where the records of a recording should be.
@@ -73,7 +73,7 @@ impl Rebuilding {
             }
         }
         self.next = self.next.wrapping_add(frames as u32);
-        written(&mut self.tally, self.front, &entries)
+        records_by_library(&mut self.tally, self.front, &entries)
     }
 }
 

@@ -49,7 +49,7 @@ impl Judge {
 }
 
 /// Fills these bytes as far as the file goes. How many there are.
-fn fill(from: &mut impl Read, bytes: &mut [u8]) -> io::Result<usize> {
+fn read_fully(from: &mut impl Read, bytes: &mut [u8]) -> io::Result<usize> {
     let mut filled = 0;
     while filled < bytes.len() {
         match from.read(&mut bytes[filled..]) {
@@ -67,13 +67,13 @@ fn fill(from: &mut impl Read, bytes: &mut [u8]) -> io::Result<usize> {
 pub fn judged(from: &mut impl Read) -> io::Result<Result<Told, Refusal>> {
     let (mut judge, mut from) = (Judge::new(), from.take(MOST + 1));
     let mut bytes = vec![0; PART];
-    let head = fill(&mut from, &mut bytes[..HEAD])?;
+    let head = read_fully(&mut from, &mut bytes[..HEAD])?;
     judge.more(&bytes[..head]);
     if judge.verdict() == Err(Refusal(61)) {
         return Ok(Err(Refusal(61)));
     }
     loop {
-        let more = fill(&mut from, &mut bytes)?;
+        let more = read_fully(&mut from, &mut bytes)?;
         judge.more(&bytes[..more]);
         if more < PART {
             return Ok(judge.verdict());

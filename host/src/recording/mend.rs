@@ -316,7 +316,7 @@ impl Mended {
 }
 
 /// Writes a mended recording beside its place. It gets its place if the judge accepts it as it is on the disk.
-fn put(plan: &Plan, from: &mut File, out: &Path) -> Result<Told> {
+fn write_and_place(plan: &Plan, from: &mut File, out: &Path) -> Result<Told> {
     if is_taken(out) {
         return Err(io::Error::from(ErrorKind::AlreadyExists).into());
     }
@@ -347,6 +347,6 @@ pub fn mend_file(path: &Path, out: &Path, said: Option<Side>) -> Result<Mended> 
         return Err(Error::wrong(format!("{why}; choose another --out")).at(out));
     }
     let zeros = zeros(&mut file, plan.audio.place, plan.audio.size).at(path)?;
-    let told = put(&plan, &mut file, out).at(out)?;
+    let told = write_and_place(&plan, &mut file, out).at(out)?;
     Ok(Mended { plan, told, zeros })
 }

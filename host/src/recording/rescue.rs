@@ -63,7 +63,7 @@ fn left(place: &Path) -> Result<Left> {
 }
 
 /// Closes a recording and puts it in its place.
-fn close(place: &Path, mut unfinished: Unfinished) -> Result<Closed> {
+fn close_and_place(place: &Path, mut unfinished: Unfinished) -> Result<Closed> {
     let (part, sheet) = (beside(place, PART), beside(place, SHEET));
     let kept = unfinished.kept().at(&part)?;
     let told = unfinished.close(&part)?;
@@ -85,7 +85,7 @@ fn is_placed(place: &Path, sheet: &Path) -> Result<bool> {
 fn mend_recording(place: &Path, left: Left) -> Result<Option<Closed>> {
     let (part, sheet) = (beside(place, PART), beside(place, SHEET));
     match left {
-        Left::Recording(unfinished) => close(place, *unfinished).map(Some),
+        Left::Recording(unfinished) => close_and_place(place, *unfinished).map(Some),
         Left::Empty => remove(&part).and_then(|()| remove(&sheet)).map(|()| None),
         Left::Records if is_placed(place, &sheet)? => remove(&sheet).map(|()| None),
         Left::Records => Err(Error::undone("there is no recording beside it").at(&sheet)),

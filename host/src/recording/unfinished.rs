@@ -95,10 +95,10 @@ pub fn zeros(file: &mut File, place: u64, size: u64) -> io::Result<f64> {
     file.seek(SeekFrom::Start(place + size - looked))?;
     file.read_exact(&mut bytes)?;
     let zeros = bytes.chunks_exact(2).rev().take_while(|sample| **sample == [0, 0]).count();
-    Ok(if zeros >= FRAME { seconds(2 * zeros as u64) } else { 0.0 })
+    Ok(if zeros >= FRAME { seconds_of(2 * zeros as u64) } else { 0.0 })
 }
 
-fn seconds(bytes: u64) -> f64 {
+fn seconds_of(bytes: u64) -> f64 {
     bytes as f64 / 2.0 / f64::from(RATE)
 }
 
@@ -242,7 +242,7 @@ impl Unfinished {
     /// What a clerk is told of it, besides what it became.
     pub fn kept(&mut self) -> io::Result<Kept> {
         let zeros = zeros(&mut self.audio, HEAD as u64, self.size.into())?;
-        Ok(Kept { seconds: seconds(self.size.into()), rewritten: self.found.lost, zeros })
+        Ok(Kept { seconds: seconds_of(self.size.into()), rewritten: self.found.lost, zeros })
     }
 }
 

@@ -2,14 +2,14 @@
 
 /// A moment, so many seconds after 1970 began: `2026-11-16 04:30:00 UTC`.
 pub fn moment(seconds: u64) -> String {
-    let ([year, month, day], within) = (date(seconds / 86_400), seconds % 86_400);
+    let ([year, month, day], within) = (calendar_day(seconds / 86_400), seconds % 86_400);
     let (hour, minute, second) = (within / 3_600, within / 60 % 60, within % 60);
     format!("{year:04}-{month:02}-{day:02} {hour:02}:{minute:02}:{second:02} UTC")
 }
 
 /// Year, month and day, so many days after 1 January 1970. The calendar repeats every 400 years, which are 146,097
 /// days, and a year is counted from March, so that the leap day is its last.
-fn date(days: u64) -> [u64; 3] {
+fn calendar_day(days: u64) -> [u64; 3] {
     let days = days + 719_468;
     let (era, day) = (days / 146_097, days % 146_097);
     let year = (day - day / 1_460 + day / 36_524 - day / 146_096) / 365;
