@@ -1,4 +1,5 @@
--- The 22 sums of the DCT, row by row: none has a product yet, each gets its next one, and all are scaled. Assumes nothing.
+-- The 22 sums of the DCT, row by row: none has a product yet, each gets its next one, and all are scaled.
+-- Assumes nothing.
 use Rattle.rules.proofs.Common.{ℕ, _+_, _*_, _<_, List, _≡_, refl, sym, ap, _∙_, length, Float, nan}
 use native.Mathlib.Omega.{arith}
 use Rattle.rules.specs.Loop.{loop}
@@ -23,11 +24,12 @@ module _ (table x : List Float) where
   sum-at j i h = getD-tab 22 (λ k. loop j (dctStep table x k) (f32 0)) i nan h
 
   -- the next product of sum i
-  pub sum-more : (j i : ℕ) {sum next : Float} → i < 22 → sum ≡ at (sumsAfter table x j) i → next ≡ dctStep table x i j sum
-      → next ≡ loop (j + 1) (dctStep table x i) (f32 0)
+  pub sum-more : (j i : ℕ) {sum next : Float} → i < 22 → sum ≡ at (sumsAfter table x j) i
+      → next ≡ dctStep table x i j sum → next ≡ loop (j + 1) (dctStep table x i) (f32 0)
   sum-more j i h e turn = more (dctStep table x i) (f32 0) j (e ∙ sum-at j i h) turn
 
   pub sums-scaled : tab 22 (λ i. dctScaled (at (sumsAfter table x 22) i)) ≡ dctIn table x
   unfolding dctIn
   sums-scaled =
-      tab-same 22 (λ i. dctScaled (at (sumsAfter table x 22) i)) (λ i. dctScaled (dctSum table x i)) (λ i h. ap dctScaled (sum-at 22 i h))
+      tab-same 22 (λ i. dctScaled (at (sumsAfter table x 22) i)) (λ i. dctScaled (dctSum table x i))
+      (λ i h. ap dctScaled (sum-at 22 i h))

@@ -144,7 +144,7 @@ pub fn compute_band_corr(out: &mut [f32], x: &[f32], p: &[f32]) -> u32
     0
 }
 
-// The bins of band i, between its gain and the next band's. The processor makes floats of four numbers of 16 bits at a time, and of a `usize` not.
+// The bins of band i, between its gain and the next band's. Floats are made of four numbers of 16 bits at a time.
 fn fill_band(out: &mut [f32], table: &[usize; 22], bands: &[f32], i: usize)
     requires { ⌜ GainFits (length (now out)) (length (now bands)) ⌝ }
     requires { ⌜ (now table ≡ edges) × (i < 21) ⌝ }
@@ -189,7 +189,7 @@ pub fn interp_band_gain(out: &mut [f32], bands: &[f32]) -> u32
     0
 }
 
-// Row j of the table: each of the 22 sums gets its next product. The sums do not wait for each other, so that four are added at a time.
+// Row j of the table: each of the 22 sums gets its next product. No sum waits for another: so four are added at a time.
 fn add_row(sums: &mut [f32], table: &[f32; 484], x: &[f32], j: usize)
     requires { ⌜ (length (now x) ≡ 22) × (j < 22) × (now sums ≡ sumsAfter (now table) (now x) j) ⌝ }
     ensures { λ _. ⌜ now (sums .exit) ≡ sumsAfter (now (table .entry)) (now (x .entry)) (j + 1) ⌝ }

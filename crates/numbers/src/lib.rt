@@ -211,8 +211,8 @@ const INFINITY: u64 = 0x7f80_0000;
 // The pattern of 2^48: what is added to it counts sixteenths.
 const SIXTEENTHS: u64 = 0x42f0_0000_0000_0000;
 
-// x as an `f32`: the nearest one, and of two that are as near the one whose last digit is even. Past the largest it is an infinity,
-// and a NaN stays one. The language has a cast for an `f64` that is an `f32` already, so x is rounded in front of it.
+// x as an `f32`: the nearest one, and of two that are as near the one whose last digit is even. Past the largest it is
+// an infinity, and a NaN stays one. The language can cast an `f64` that is an `f32` already; so x is rounded first.
 pub fn narrow(x: f64) -> f32
     ensures { λ r. ⌜ r ≡ narrowed x ⌝ }
 {

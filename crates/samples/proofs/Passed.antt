@@ -1,4 +1,4 @@
--- The loop over the samples: the samples are good exactly if those that it has passed are and the rest is. Assumes nothing.
+-- The loop over the samples: they are good exactly if those that it has passed are and the rest is. Assumes nothing.
 use Rattle.rules.proofs.Common.{ℕ, suc, _+_, _≤_, _<_, Bool, true, false, _&&_, List, _∷_, _≡_, refl, sym, ap, _∙_, length, drop, Float, nan}
 use native.Mathlib.Numerals.{add-one}
 use lib.ListN.{drop-of-length-le}

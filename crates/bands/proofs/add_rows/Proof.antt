@@ -24,10 +24,14 @@ add-rows-spec =
     (λ c κs. search turns)  -- clear-requires
     (λ c.
     let start = c .before .before .before .before .before .before in
-    (omega arith, c .before .before .clear .kept .0 ∙ start .pre .into, c .before .before .clear .ensures ∙ zeros-of (now (start .args .sums)) 22 (start .pre .into) ∙ sums-none _ _))  -- loop-holds
+    let cleared = c .before .before .clear in
+    let zeroed = cleared .ensures ∙ zeros-of (now (start .args .sums)) 22 (start .pre .into) ∙ sums-none _ _ in
+    (omega arith, cleared .kept .0 ∙ start .pre .into, zeroed))  -- loop-holds
     (λ c κs. (search turns, omega arith, c .before .before .loop .inv .2))  -- add-row-requires
     (λ c. search turns)  -- add-j
     (λ c. search turns)  -- loop-less
-    (λ c. (omega arith, c .before .before .add-row .kept .0 ∙ c .before .before .before .before .before .loop .inv .1, c .before .before .add-row .ensures))  -- loop-again
+    (λ c.
+    let row = c .before .before .add-row in
+    (omega arith, row .kept .0 ∙ c .before .before .before .before .before .loop .inv .1, row .ensures))  -- loop-again
     (λ c. search turns)  -- same-length
     (λ c. c .before .loop .inv .2 ∙ ap (sumsAfter _ _) (omega arith)))  -- returns

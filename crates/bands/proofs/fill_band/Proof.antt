@@ -14,7 +14,8 @@ use Rattle.bands.proofs.fill_band.Tie as tie
 abbrev Inv-loop : tie.InvT-loop
 Inv-loop out₀ table bands i start size low high bins j₀ out j =
     (j ≤ size) × (length out ≡ 481) × (start ≡ edge i) × (size ≡ edge (i + 1) - edge i) × (start + size ≤ 400) × (size ≤ 88)
-    × (low ≡ at bands i) × (high ≡ at bands (i + 1)) × (bins ≡ ofInt binary32 (pos size)) × (out ≡ loop j (gainStep bands i) out₀)
+    × (low ≡ at bands i) × (high ≡ at bands (i + 1)) × (bins ≡ ofInt binary32 (pos size))
+    × (out ≡ loop j (gainStep bands i) out₀)
 
 abbrev μ-loop : tie.MeasureT-loop
 μ-loop out₀ table bands i start size low high bins j₀ out j = size - j

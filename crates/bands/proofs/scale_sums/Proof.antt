@@ -10,7 +10,8 @@ use Rattle.bands.proofs.scale_sums.Statement.{statement}
 use Rattle.bands.proofs.scale_sums.Tie as tie
 
 abbrev Inv-loop : tie.InvT-loop
-Inv-loop sums₀ i₀ sums i = (i ≤ 22) × (length sums ≡ 22) × (length sums₀ ≡ 22) × (sums ≡ tab i (λ k. dctScaled (at sums₀ k)) ++ drop i sums₀)
+Inv-loop sums₀ i₀ sums i =
+    (i ≤ 22) × (length sums ≡ 22) × (length sums₀ ≡ 22) × (sums ≡ tab i (λ k. dctScaled (at sums₀ k)) ++ drop i sums₀)
 
 abbrev μ-loop : tie.MeasureT-loop
 μ-loop sums₀ i₀ sums i = 22 - i
@@ -31,6 +32,9 @@ scale-sums-spec =
     (λ c. search turns)  -- loop-less
     (λ c.
     let l = c .before .before .before .loop in
-    (omega arith, simp length-set (l .inv .1), l .inv .2, tab-more _ _ _ _ _ (l .inv .3) (c .dct-scaled .ensures ∙ ap dctScaled (tab-still _ _ _ (l .i) (l .i) _ (l .inv .3) (omega arith))) (omega arith)))  -- loop-again
+    let still = tab-still _ _ _ (l .i) (l .i) _ (l .inv .3) (omega arith) in
+    let scaled = c .dct-scaled .ensures ∙ ap dctScaled still in
+    let next = tab-more _ _ _ _ _ (l .inv .3) scaled (omega arith) in
+    (omega arith, simp length-set (l .inv .1), l .inv .2, next))  -- loop-again
     (λ c. search turns)  -- same-length
     (λ c. c .before .loop .inv .3 ∙ tab-done _ _ (c .before .loop .i) 22 (omega arith) (omega arith)))  -- returns
