@@ -119,7 +119,7 @@ fn errors_name_what_is_wrong() {
         (vec!["help", "claen"], 2, "unknown command claen; did you mean clean?"),
         (vec!["demo"], 2, "demo: DIR is missing"),
         (vec!["demo", "out", "more"], 2, "demo: more is one word too many"),
-        (vec!["side"], 2, "side: FILE is missing"),
+        (vec!["side"], 2, "side: FILE or DIR is missing"),
         (vec!["mend", "l.wav"], 2, "mend: --out FILE2 is missing"),
         (vec!["mend", ".", "--out", "out"], 2, "mend: --out is for a file; a folder is mended where it is"),
         (vec!["export", "house.rnn", "--as", "c", "--out", "out"], 2, "export: --as c: rnnn is wanted"),
