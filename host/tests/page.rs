@@ -86,7 +86,7 @@ fn benches() -> [Summary; 2] {
         for number in (0..201).filter(|number| side == Side::Left || *number != 150) {
             let probability = if number >= 100 { 0.9 } else { 0.1 };
             let heard = Heard::Voice { probability, energy: 1.0 };
-            summary.frame(&Frame { entry: number.into(), heard, heard_so_far: number });
+            summary.frame(&Frame::of(number, side, heard, number));
         }
         summary.about = About::stream(&format!("{} <1> & \"2\".wav", side.name()), "models/house.rnn".as_ref());
         summary
@@ -367,9 +367,9 @@ fn a_long_recording_has_as_large_a_page() {
                 let sound: Vec<f32> = (0..48_000).map(|i| ((i * 7 + second * 131) % 2_001) as f32 - 1_000.0).collect();
                 summary.before(&sound);
                 summary.after(&sound);
-                for entry in 100 * second as u64..100 * second as u64 + 100 {
-                    let probability = (entry % 7) as f32 / 7.0;
-                    summary.frame(&Frame { entry, heard: Heard::Voice { probability, energy: 1.0 }, heard_so_far: 0 });
+                for number in 100 * second as u32..100 * second as u32 + 100 {
+                    let probability = (number % 7) as f32 / 7.0;
+                    summary.frame(&Frame::of(number, side, Heard::Voice { probability, energy: 1.0 }, 0));
                 }
             }
             summary

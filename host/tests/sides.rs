@@ -266,7 +266,7 @@ fn benches() -> [Summary; 2] {
         for number in (0..81).filter(|number| side == Side::Right || *number != 5) {
             let probability = if side == Side::Left && number >= 40 { 0.9 } else { 0.1 };
             let heard = Heard::Voice { probability, energy: 1.0 };
-            summary.frame(&Frame { entry: number.into(), heard, heard_so_far: number });
+            summary.frame(&Frame::of(number, side, heard, number));
         }
         summary.about.name = ["one.wav", "two.wav"][side as usize].into();
         summary

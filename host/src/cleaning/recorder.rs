@@ -92,6 +92,12 @@ pub struct Frame {
 }
 
 impl Frame {
+    /// A frame with this number, for the developers' program and for tests, which have no record from the library.
+    pub fn of(number: u32, side: Side, heard: Heard, heard_so_far: u32) -> Frame {
+        let [a, b, c, d] = number.to_le_bytes();
+        Frame { record: [a, b, c, d, u8::from(heard.is_heard()), side as u8, 0, 0], heard, heard_so_far }
+    }
+
     /// From 0 at the opening.
     pub fn number(&self) -> u32 {
         let [a, b, c, d, ..] = self.record;

@@ -140,18 +140,19 @@ impl Overview {
 #[cfg(test)]
 mod tests {
     use super::*;
+    use crate::cleaning::recorder::Side;
 
-    fn voice(entry: u64) -> Frame {
-        Frame { entry, heard: Heard::Voice { probability: 0.9, energy: 1.0 }, heard_so_far: 0 }
+    fn voice(number: u32) -> Frame {
+        Frame::of(number, Side::Left, Heard::Voice { probability: 0.9, energy: 1.0 }, 0)
     }
 
     /// Ten hours take no more columns than ten seconds, and nothing that happened once is lost.
     #[test]
     fn ten_hours_in_a_thousand_columns() {
         let mut overview = Overview::default();
-        for entry in 0..3_600_000 {
-            let heard = if entry % 3_600 < 1_200 { voice(0).heard } else { Heard::Silent };
-            overview.frame(&Frame { entry, heard, heard_so_far: 0 }, entry == 77_777);
+        for number in 0..3_600_000 {
+            let heard = if number % 3_600 < 1_200 { voice(0).heard } else { Heard::Silent };
+            overview.frame(&Frame::of(number, Side::Left, heard, 0), number == 77_777);
             assert!(overview.columns.len() <= MOST);
         }
         overview.samples(1_000_000_320, &[-5.0, 9.0], |column| &mut column.after);
@@ -169,7 +170,7 @@ mod tests {
     fn a_short_recording_is_exact() {
         let mut overview = Overview::default();
         overview.frame(&voice(0), false);
-        overview.frame(&Frame { entry: 1, heard: Heard::Silent, heard_so_far: 1 }, false);
+        overview.frame(&Frame::of(1, Side::Left, Heard::Silent, 1), false);
         overview.samples(0, &[0.0; 470], |column| &mut column.before);
         overview.samples(470, &[1.0, -1.0, 2.0, 3.0, 4.0, 5.0, 6.0, 7.0, 8.0, 9.0, -2.0], |column| &mut column.before);
         assert_eq!(overview.columns[0].likelihood(), f64::from(0.9f32));

@@ -236,7 +236,7 @@ mod tests {
             summary.after(&[50.0; 24_000]);
             for number in (0..51).filter(|number| side == Side::Right || !(20..30).contains(number)) {
                 let heard = Heard::Voice { probability: 0.25, energy: 1.0 };
-                summary.frame(&Frame { entry: number.into(), heard, heard_so_far: number + 1 });
+                summary.frame(&Frame::of(number, side, heard, number + 1));
             }
             summary
         })
