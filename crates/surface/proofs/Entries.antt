@@ -118,3 +118,7 @@ records-tell bench frame told =
 -- even benches are left, odd ones right
 sides : map sideOf (0 ∷ 1 ∷ 2 ∷ 3 ∷ 14 ∷ 15 ∷ []) ≡ 0 ∷ 1 ∷ 0 ∷ 1 ∷ 0 ∷ 1 ∷ []
 sides = refl
+
+-- and the three answers of a heard frame: 1, its voice and its energy
+answers : (voice energy : Float) → heardOf (Heard voice energy) ≡ f32 0x3F80_0000 ∷ voice ∷ energy ∷ []
+answers voice energy = refl
