@@ -87,11 +87,7 @@ fn benches() -> [Summary; 2] {
         for number in (0..201).filter(|number| side == Side::Left || *number != 150) {
             let probability = if number >= 100 { 0.9 } else { 0.1 };
             let heard = Heard::Voice { probability, energy: 1.0 };
-<<<<<<< HEAD
             summary.frame(&Frame::of(side, number, heard, number));
-=======
-            summary.frame(&Frame::of(number, side, heard, number));
->>>>>>> theorem
         }
         summary.about = About::stream(&format!("{} <1> & \"2\".wav", side.name()), "models/house.rnn".as_ref());
         summary
@@ -371,17 +367,10 @@ fn a_long_recording_has_as_large_a_page() {
             for second in 0..seconds {
                 let sound: Vec<f32> = (0..48_000).map(|i| ((i * 7 + second * 131) % 2_001) as f32 - 1_000.0).collect();
                 summary.before(&sound);
-<<<<<<< HEAD
                 summary.after(&packed(&sound));
                 for number in 100 * second as u32..100 * second as u32 + 100 {
                     let probability = (number % 7) as f32 / 7.0;
                     summary.frame(&Frame::of(side, number, Heard::Voice { probability, energy: 1.0 }, 0));
-=======
-                summary.after(&sound);
-                for number in 100 * second as u32..100 * second as u32 + 100 {
-                    let probability = (number % 7) as f32 / 7.0;
-                    summary.frame(&Frame::of(number, side, Heard::Voice { probability, energy: 1.0 }, 0));
->>>>>>> theorem
                 }
             }
             summary

@@ -268,11 +268,7 @@ fn benches() -> [Summary; 2] {
         for number in (0..81).filter(|number| side == Side::Right || *number != 5) {
             let probability = if side == Side::Left && number >= 40 { 0.9 } else { 0.1 };
             let heard = Heard::Voice { probability, energy: 1.0 };
-<<<<<<< HEAD
             summary.frame(&Frame::of(side, number, heard, number));
-=======
-            summary.frame(&Frame::of(number, side, heard, number));
->>>>>>> theorem
         }
         summary.about.name = ["one.wav", "two.wav"][side as usize].into();
         summary

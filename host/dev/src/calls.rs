@@ -78,11 +78,7 @@ impl Calls {
     pub fn frame(&mut self, side: Side, samples: &[f32], model: &[u8], out: &mut [f32]) -> Result<Frame, Refusal> {
         let number = self.records[side as usize][FRAMES];
         let heard = Heard::of(self.calls(side, samples, model, out)?);
-<<<<<<< HEAD
         Ok(Frame::of(side, number, heard, self.records[side as usize][HEARD]))
-=======
-        Ok(Frame::of(number, side, heard, self.records[side as usize][HEARD]))
->>>>>>> theorem
     }
 
     fn calls(&mut self, side: Side, samples: &[f32], model: &[u8], out: &mut [f32]) -> Result<[f32; 3], Refusal> {

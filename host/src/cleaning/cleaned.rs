@@ -153,11 +153,7 @@ mod tests {
         let noise = Heard::Voice { probability: 0.5, energy: 1.0 };
         let voice = Heard::Voice { probability: 0.6, energy: 1.0 };
         for (number, heard) in [(7, Heard::Silent), (8, noise), (20, voice), (21, Heard::Silent), (23, voice)] {
-<<<<<<< HEAD
             summary.frame(&Frame::of(Side::Left, number, heard, 0));
-=======
-            summary.frame(&Frame::of(number, Side::Left, heard, 0));
->>>>>>> theorem
         }
         summary.before(&[1.0; 25_000]);
         summary.before(&[-32_768.0, 32_767.0, 32_766.0]);
@@ -165,11 +161,7 @@ mod tests {
         assert_eq!((summary.frames, summary.heard, summary.gaps, summary.seconds()), (5, 3, 2, 0.5));
         // two likely frames are no voice
         assert_eq!((summary.voices, summary.voice_at()), (2, None));
-<<<<<<< HEAD
         (0..45).for_each(|number| summary.frame(&Frame::of(Side::Left, number, voice, 0)));
-=======
-        (0..45).for_each(|number| summary.frame(&Frame::of(number, Side::Left, voice, 0)));
->>>>>>> theorem
         assert_eq!((summary.voices, summary.voice_at()), (47, Some(0.0)));
         assert_eq!((summary.peak, summary.clipped), (32_768.0, 2));
     }

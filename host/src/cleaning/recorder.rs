@@ -99,19 +99,12 @@ pub struct Frame {
 }
 
 impl Frame {
-<<<<<<< HEAD
     /// A frame of a side with this number. The library writes its record.
     pub fn of(side: Side, number: u32, heard: Heard, heard_so_far: u32) -> Frame {
         let (mut record, entry) = ([0; NOTE], u64::from(number) | u64::from(heard.is_heard()) << 32);
         let refused = tuppence::sheet_records(&mut [0; 2], &mut record, side as u32, &[entry]);
         assert_eq!(refused, 0, "a side, and one entry");
         Frame { record, heard, heard_so_far }
-=======
-    /// A frame with this number, for the developers' program and for tests, which have no record from the library.
-    pub fn of(number: u32, side: Side, heard: Heard, heard_so_far: u32) -> Frame {
-        let [a, b, c, d] = number.to_le_bytes();
-        Frame { record: [a, b, c, d, u8::from(heard.is_heard()), side as u8, 0, 0], heard, heard_so_far }
->>>>>>> theorem
     }
 
     /// From 0 at the opening.

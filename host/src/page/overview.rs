@@ -136,7 +136,6 @@ impl Overview {
 #[cfg(test)]
 mod tests {
     use super::*;
-<<<<<<< HEAD
     use crate::cleaning::measured::within_frames;
     use crate::cleaning::recorder::Side;
 
@@ -148,12 +147,6 @@ mod tests {
 
     fn voice(number: u32) -> Frame {
         Frame::of(Side::Left, number, Heard::Voice { probability: 0.9, energy: 1.0 }, 0)
-=======
-    use crate::cleaning::recorder::Side;
-
-    fn voice(number: u32) -> Frame {
-        Frame::of(number, Side::Left, Heard::Voice { probability: 0.9, energy: 1.0 }, 0)
->>>>>>> theorem
     }
 
     /// Ten hours take no more columns than ten seconds, and nothing that happened once is lost.
@@ -162,11 +155,7 @@ mod tests {
         let mut overview = Overview::default();
         for number in 0..3_600_000 {
             let heard = if number % 3_600 < 1_200 { voice(0).heard } else { Heard::Silent };
-<<<<<<< HEAD
             overview.frame(&Frame::of(Side::Left, number, heard, 0), number == 77_777);
-=======
-            overview.frame(&Frame::of(number, Side::Left, heard, 0), number == 77_777);
->>>>>>> theorem
             assert!(overview.columns.len() <= MOST);
         }
         add(&mut overview, 1_000_000_320, &[-5.0, 9.0], |column| &mut column.after);
@@ -184,16 +173,10 @@ mod tests {
     fn a_short_recording_is_exact() {
         let mut overview = Overview::default();
         overview.frame(&voice(0), false);
-<<<<<<< HEAD
         overview.frame(&Frame::of(Side::Left, 1, Heard::Silent, 1), false);
         add(&mut overview, 0, &[0.0; 470], |column| &mut column.before);
         let more = [1.0, -1.0, 2.0, 3.0, 4.0, 5.0, 6.0, 7.0, 8.0, 9.0, -2.0];
         add(&mut overview, 470, &more, |column| &mut column.before);
-=======
-        overview.frame(&Frame::of(1, Side::Left, Heard::Silent, 1), false);
-        overview.samples(0, &[0.0; 470], |column| &mut column.before);
-        overview.samples(470, &[1.0, -1.0, 2.0, 3.0, 4.0, 5.0, 6.0, 7.0, 8.0, 9.0, -2.0], |column| &mut column.before);
->>>>>>> theorem
         assert_eq!(overview.columns[0].likelihood(), f64::from(0.9f32));
         assert_eq!((overview.columns[1].likelihood(), overview.columns[1].is_heard()), (0.0, false));
         assert_eq!((overview.columns[0].before.peak(), overview.columns[1].before.peak()), ([-1.0, 9.0], [-2.0, 0.0]));

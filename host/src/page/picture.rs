@@ -244,11 +244,7 @@ mod tests {
             summary.after(&packed(&[50.0; 24_000]));
             for number in (0..51).filter(|number| side == Side::Right || !(20..30).contains(number)) {
                 let heard = Heard::Voice { probability: 0.25, energy: 1.0 };
-<<<<<<< HEAD
                 summary.frame(&Frame::of(side, number, heard, number + 1));
-=======
-                summary.frame(&Frame::of(number, side, heard, number + 1));
->>>>>>> theorem
             }
             summary
         })
