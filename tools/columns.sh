@@ -1,8 +1,8 @@
 #!/usr/bin/env bash
 # Counts the lines of code and comments with more than 120 columns, and fails if there are more than tools/columns.txt
-# says. That number is to go down to 0: lower it when you have shortened lines. Not counted are the pages of docs/, where
-# a row of a table may be as wide as it needs, and the `old:` and `new:` of a must-fail edit, which are one line each by
-# the format. --list prints the file and the number of each such line, and --count how many there are.
+# says. That number is to go down to 0: lower it when you have shortened lines. Not counted are the pages of docs/,
+# where a row of a table may be as wide as it needs, and the `old:` and `new:` of a must-fail edit, which are one line
+# each by the format. --list prints the file and the number of each such line, and --count how many there are.
 set -euo pipefail
 cd "$(dirname "$0")/.."
 list=$(mktemp)

@@ -1,5 +1,6 @@
 #!/usr/bin/env bash
-# Puts the program in its place: tools/install.sh PROGRAM install [PREFIX], or tools/install.sh PROGRAM package. `./box install` and `./box package` build it first.
+# Puts the program in its place: tools/install.sh PROGRAM install [PREFIX], or tools/install.sh PROGRAM package.
+# `./box install` and `./box package` build it first.
 # What is installed needs neither this repository nor rt nor cargo.
 set -euo pipefail
 root=$(cd "$(dirname "$0")/.." && pwd)

@@ -1,8 +1,9 @@
 #!/usr/bin/env bash
-# The static library of what the crates hold: tools/library.sh proves and writes target/staticlib/libexport.a where that is not it already.
-# Beside it stands made-of: the checksum of what the crates hold, the kit that proved it, and the archive's own checksum. A file that was merely touched
-# is none that has changed. An archive that `rt staticlib export` wrote by hand has no such note, or that of another: if it is newer than all crates it is
-# of them, and is noted.
+# The static library of what the crates hold: tools/library.sh proves and writes target/staticlib/libexport.a where that
+# is not it already.
+# Beside it stands made-of: the checksum of what the crates hold, the kit that proved it, and the archive's own
+# checksum. A file that was merely touched is none that has changed. An archive that `rt staticlib export` wrote by hand
+# has no such note, or that of another: if it is newer than all crates it is of them, and is noted.
 #   tools/library.sh           proves what is not proved, and tells each crate
 #   tools/library.sh --kit     the kit that proved the library
 set -euo pipefail
@@ -46,7 +47,8 @@ needs() {
     for below in $(sed -n "s/^$1://p" crates.txt); do needs "$below"; done
 }
 
-# The crates are proved first, as many at a time as there are processors; then the library, which proves one at a time what is not proved yet.
+# The crates are proved first, as many at a time as there are processors; then the library, which proves one at a time
+# what is not proved yet.
 prove() {
     rt check export 2>&1 && rt staticlib export 2>&1
 }

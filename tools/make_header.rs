@@ -134,7 +134,8 @@ fn constant(file: &str, name: &str, wrong: &mut Wrong) -> usize {
 
 // ---- what must be there
 
-/// Every module says what it is, every function too, and one of the two what each slice must be, by its name in backticks.
+/// Every module says what it is, every function too, and one of the two what each slice must be, by its name in
+/// backticks.
 fn explained(module: &Module, wrong: &mut Wrong) {
     if module.comment.is_empty() {
         wrong.note(&module.file, "its first line is no comment, which is to say what the module is".into());
@@ -340,7 +341,8 @@ fn header(modules: &[Module], store: usize, record: usize, wrong: &mut Wrong) ->
     let mut text = String::from(HEAD);
     write!(
         text,
-        "\n/* The numbers of the store, which serves all benches, and of a bench's record: zeros before its first opening. */\n\
+        "\n/* The numbers of the store, which serves all benches, and of a bench's record: zeros before its first \
+         opening. */\n\
          #define TUPPENCE_STORE {store}\n#define TUPPENCE_RECORD {record}\n\n\
          /* The version of this header and of the library. */\n#define TUPPENCE_VERSION \"{}\"\n",
         version(wrong)

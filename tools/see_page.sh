@@ -1,9 +1,11 @@
 #!/usr/bin/env bash
 # The page in a browser, on a desk and on a phone, light and dark: tools/see_page.sh FOLDER [MINUTES]
-# Writes into FOLDER a PNG of each (demo-desk-light.png and so on): of the demo, of a recording of so many minutes, 20 where none are named, and of one that
-# breaks off and is silent on the left, and of a day. It looks whether text has 12 px, nothing is wider than the screen and the players are in sight, and
-# presses in the picture and on keys to hear from there; exit status 1 where something is not so. Not part of the gate.
-# Needs the box built (./box --version does it), Python, and Chromium, which Debian has as the package `chromium`; with `pngquant` the PNGs are small.
+# Writes into FOLDER a PNG of each (demo-desk-light.png and so on): of the demo, of a recording of so many minutes, 20
+# where none are named, and of one that breaks off and is silent on the left, and of a day. It looks whether text has 12
+# px, nothing is wider than the screen and the players are in sight, and presses in the picture and on keys to hear from
+# there; exit status 1 where something is not so. Not part of the gate.
+# Needs the box built (./box --version does it), Python, and Chromium, which Debian has as the package `chromium`; with
+# `pngquant` the PNGs are small.
 set -euo pipefail
 root=$(cd "$(dirname "$0")/.." && pwd)
 host=$root/target/host/release/tuppencehop model=$root/host/model/house.rnn

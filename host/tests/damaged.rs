@@ -1,4 +1,5 @@
-//! Randomly damaged recordings, sheets and models through the readers: each is read or refused, and none ends in a panic.
+//! Randomly damaged recordings, sheets and models through the readers: each is read or refused, and none ends in a
+//! panic.
 
 use std::io::Cursor;
 use tuppencehop::cleaning::demo::{Rng, HOUSE};
@@ -38,7 +39,8 @@ fn recordings() -> Vec<Vec<u8>> {
     forms
 }
 
-/// A byte changed, a few bytes of a number set to an end, the file cut or lengthened; mostly one of these, sometimes several.
+/// A byte changed, a few bytes of a number set to an end, the file cut or lengthened; mostly one of these, sometimes
+/// several.
 fn damage(rng: &mut Rng, file: &mut Vec<u8>) {
     for _ in 0..1 + rng.draw() % 3 {
         let at = rng.draw() as usize % (file.len() + 1);

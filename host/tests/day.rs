@@ -186,7 +186,7 @@ fn a_full_recording_goes_on_in_the_next() {
         let out = path.join(out);
         let place = Place { out: &out, prefix: "", more: &[], force: false, once: true, csv: false };
         let mut files = Files::new(&place).unwrap().at_most(most);
-        run_benches(&mut Memory([&both[0], &both[1]]), [HOUSE; 2], Way::Crate, &mut files, |_| ()).unwrap();
+        run_benches(&mut Memory([&both[0], &both[1]]), [HOUSE; 2], Way::Nnnoiseless, &mut files, |_| ()).unwrap();
         files.keep(None).unwrap();
         SIDES.map(|side| dictations(&out, side))
     };

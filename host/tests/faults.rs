@@ -233,7 +233,8 @@ fn a_model_that_is_refused_for_one() {
     let both = [0, 1].map(|bench| dictations()[bench][..48_000].to_vec());
     let run = |models: [&[u8]; 2]| {
         let mut benches = Side::BOTH.map(Cleaned::of);
-        let refused = run_benches(&mut Memory([&both[0], &both[1]]), models, Way::Crate, &mut benches, |_| ()).unwrap();
+        let refused =
+            run_benches(&mut Memory([&both[0], &both[1]]), models, Way::Nnnoiseless, &mut benches, |_| ()).unwrap();
         (refused, benches.map(|bench| bench.after))
     };
     let (refused, whole) = run([HOUSE; 2]);

@@ -1,6 +1,6 @@
 //! What the box writes of a recording of each format, held against fixed checksums, of either way. Those of `--lag own`
-//! were taken when the box still made samples of bytes, and bytes of samples, by itself. Where the library's own numbers
-//! move, they are to be taken anew; tests/bytes.rs goes along by itself.
+//! were taken when the box still made samples of bytes, and bytes of samples, by itself. Where the library's own
+//! numbers move, they are to be taken anew; tests/bytes.rs goes along by itself.
 
 mod common;
 

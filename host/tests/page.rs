@@ -1,5 +1,5 @@
-//! The page's structure, read without a browser: names, roles, references, the contrasts of its colours, and what it says of recordings that are not
-//! whole. (How it looks is seen by tools/see_page.sh.)
+//! The page's structure, read without a browser: names, roles, references, the contrasts of its colours, and what it
+//! says of recordings that are not whole. (How it looks is seen by tools/see_page.sh.)
 
 use std::collections::HashMap;
 use std::fs;
@@ -73,7 +73,8 @@ fn attributes(mut text: &str) -> HashMap<String, String> {
     }
 }
 
-/// Two seconds of either side: noise, then a voice; frames of the right one are missing, and samples of it stood at full scale.
+/// Two seconds of either side: noise, then a voice; frames of the right one are missing, and samples of it stood at
+/// full scale.
 fn benches() -> [Summary; 2] {
     Side::BOTH.map(|side| {
         let mut summary = Summary::of(side);
@@ -250,8 +251,8 @@ const GROUND: [&str; 2] = ["card", "paper"];
 const SIDES: [&str; 2] = ["left", "right"];
 const SEEN: [&str; 8] = ["edge", "peak-before", "rms-before", "peak-after", "rms-after", "voice", "heard", "gap"];
 
-/// Text has 4.5 to 1 on every ground, what must be seen 3 to 1 on its card, and the RMS as much on the peak. A gap's stroke has the card's colour on
-/// either side.
+/// Text has 4.5 to 1 on every ground, what must be seen 3 to 1 on its card, and the RMS as much on the peak. A gap's
+/// stroke has the card's colour on either side.
 #[test]
 fn contrasts() {
     assert_eq!(format!("{:.2} {:.2}", contrast("#000000", "#ffffff"), contrast("#1f6f8b", "#d00000")), "21.00 1.01");
@@ -275,7 +276,8 @@ fn contrasts() {
     assert!(page.contains("color-scheme: light dark"));
 }
 
-/// The style sheet names no colour but by those variables, text only in the text's and grounds only in the grounds'; and no text is under 12 px.
+/// The style sheet names no colour but by those variables, text only in the text's and grounds only in the grounds';
+/// and no text is under 12 px.
 #[test]
 fn the_style_sheet() {
     let page = the_page();

@@ -1,4 +1,5 @@
-//! Every command of the box that the README and docs/BOX.md show is run here, with files in the place of the names that stand there.
+//! Every command of the box that the README and docs/BOX.md show is run here, with files in the place of the names that
+//! stand there.
 
 mod models;
 

@@ -286,8 +286,14 @@ fn each_card_is_of_its_own_bench() {
         assert!(!words.contains(other) && !words.contains(&other.to_uppercase()), "{side}: {words}");
         for text in [
             format!("<h2 id=\"{side}\">{}</h2>", side.to_uppercase()),
-            format!("<audio id=\"{side}-before\" controls preload=\"metadata\" aria-label=\"{side} bench, before cleaning\" src=\"{side}-before.wav\">"),
-            format!("<audio id=\"{side}-after\" controls preload=\"metadata\" aria-label=\"{side} bench, after cleaning\" src=\"{side}.wav\">"),
+            format!(
+                "<audio id=\"{side}-before\" controls preload=\"metadata\" aria-label=\"{side} bench, before \
+                 cleaning\" src=\"{side}-before.wav\">"
+            ),
+            format!(
+                "<audio id=\"{side}-after\" controls preload=\"metadata\" aria-label=\"{side} bench, after \
+                 cleaning\" src=\"{side}.wav\">"
+            ),
             format!("<caption>The {side} recording</caption>"),
             format!("data-player=\"{side}-before\""),
             format!("data-player=\"{side}-after\""),

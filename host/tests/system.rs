@@ -1,5 +1,6 @@
-//! What the system may refuse: a disk that fails, a file system without locks or without `renameat2`, and bytes that come
-//! back otherwise. (The calls are made to fail by a small library in front of the system's own, tests/shim/shim.c.)
+//! What the system may refuse: a disk that fails, a file system without locks or without `renameat2`, and bytes that
+//! come back otherwise. (The calls are made to fail by a small library in front of the system's own,
+//! tests/shim/shim.c.)
 
 mod common;
 

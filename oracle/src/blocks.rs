@@ -1,5 +1,6 @@
-//! Blocks of recorded bytes in one call, the library's `feed`, beside what it is by definition: a channel unpacked in plain Rust (`plain_pcm`), a take, and
-//! plain packing and records, on a second store. (The package `feed` of this folder is another thing: it hands the text its transforms and logarithms.)
+//! Blocks of recorded bytes in one call, the library's `feed`, beside what it is by definition: a channel unpacked in
+//! plain Rust (`plain_pcm`), a take, and plain packing and records, on a second store. (The package `feed` of this
+//! folder is another thing: it hands the text its transforms and logarithms.)
 
 use crate::answers::Answers;
 use crate::beside::another_bench;
@@ -109,7 +110,8 @@ impl Case {
         [numbers.into(), record.into(), floats(store), out.into(), records.into(), floats(answers)]
     }
 
-    /// A feed beside its definition, and its number, if it is known, beside the lowest of the faults. What the feed left.
+    /// A feed beside its definition, and its number, if it is known, beside the lowest of the faults. What the feed
+    /// left.
     fn judge(&self, tally: &mut Tally, feed: Feed, lowest: Option<u32>) -> (u32, Case) {
         let Layout { format, channels, channel } = self.layout;
         let numbers = [self.side, format, channels, channel];
@@ -132,7 +134,8 @@ impl Case {
     }
 }
 
-/// A block: of the bench's own channel silence, or sound of some loudness, and now and then a float that is no sample; of the others anything.
+/// A block: of the bench's own channel silence, or sound of some loudness, and now and then a float that is no sample;
+/// of the others anything.
 fn recorded(rng: &mut Rng, Layout { format, channels, channel }: Layout, samples: usize) -> Vec<u8> {
     let width = plain::width(format).unwrap_or(2);
     let mut bytes = rng.bytes(samples * channels as usize * width);
@@ -182,7 +185,8 @@ impl Met {
     }
 }
 
-/// Blocks on sixteen interleaved benches, until they completed so many frames; now and then a number, a length or the record is another.
+/// Blocks on sixteen interleaved benches, until they completed so many frames; now and then a number, a length or the
+/// record is another.
 fn interleaved(tally: &mut Tally, rng: &mut Rng, feed: Feed, frames: u64) -> Met {
     let mut store = rng.list(STORE);
     let mut benches: Vec<Option<Case>> = vec![None; BENCHES];
@@ -338,7 +342,8 @@ fn every_two_faults(tally: &mut Tally, rng: &mut Rng, feed: Feed) {
     }
 }
 
-/// What two blocks give the left bench, each with a right channel or alone: numbers, bytes, records, answers and the bench's own record.
+/// What two blocks give the left bench, each with a right channel or alone: numbers, bytes, records, answers and the
+/// bench's own record.
 fn received(
     rng: &mut Rng,
     feed: Feed,
@@ -371,7 +376,8 @@ fn received(
     received
 }
 
-/// The left bench beside so many random right channels, whose bench is fed in between, receives what it receives where its channel is all there is.
+/// The left bench beside so many random right channels, whose bench is fed in between, receives what it receives where
+/// its channel is all there is.
 fn beside_any_right(tally: &mut Tally, rng: &mut Rng, feed: Feed, times: u64) {
     let store = rng.list(STORE);
     let left = Case::opened(rng, 0, store, SHAPE);
@@ -420,7 +426,8 @@ fn in_blocks(rng: &mut Rng, feed: Feed, bench: &Case, layout: Layout, stream: &[
     (numbers, Case { out: all.out, records: all.records, answers: all.answers, ..case })
 }
 
-/// However a stream is cut into blocks, its bytes, records and answers in a row are the same, and so is the bench at the end.
+/// However a stream is cut into blocks, its bytes, records and answers in a row are the same, and so is the bench at
+/// the end.
 fn cut_in_two_ways(tally: &mut Tally, rng: &mut Rng, feed: Feed, times: u64) {
     let store = rng.list(STORE);
     for _ in 0..times {

@@ -109,7 +109,8 @@ fn one(tally: &mut Tally, rng: &mut Rng, file: &[u8]) {
     tally.judge("model", given, values![number, ours], values![want, wanted]);
 }
 
-/// The table's answer, once it is seen that the Rust accepts the same files, 15 apart, and finds the same layers in them.
+/// The table's answer, once it is seen that the Rust accepts the same files, 15 apart, and finds the same layers in
+/// them.
 pub fn agreed(file: &[u8]) -> Result<[reader::Layer; 6], Refusal> {
     let answer = reader::read(file, true);
     let without = reader::read(file, false);

@@ -1,4 +1,5 @@
-//! A record is of use to its own bench alone: every other bench refuses it with 2, whatever is asked, and nothing changes.
+//! A record is of use to its own bench alone: every other bench refuses it with 2, whatever is asked, and nothing
+//! changes.
 
 use oracle::desk::{BENCH, BENCHES, DUE, RECORD, STORE};
 

@@ -8,7 +8,7 @@ use Rattle.rules.specs.Tab.{tab}
 use Rattle.rules.proofs.Loops.{more}
 use Rattle.rules.proofs.Lists.{length-tab, getD-tab, tab-const, tab-same}
 use Rattle.bands.specs.Dct.{dctStep, dctSum, dctScaled, dctIn}
-use Rattle.bands.specs.Parts.{sumsAfter}
+use Rattle.bands.specs.Private.{sumsAfter}
 
 module _ (table x : List Float) where
   pub sums-none : zeros 22 ≡ sumsAfter table x 0

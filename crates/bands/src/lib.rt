@@ -8,10 +8,11 @@ ghost use Rattle.rules.specs.F32.{at, zeros};
 ghost use Rattle.rules.specs.Leaf.{Leaf, _leaving_};
 ghost use Rattle.rules.specs.Loop.{loop, range};
 ghost use Rattle.rules.specs.Tab.{tab};
-ghost use Rattle.bands.specs.Bands.{edges, edge, binCorr, inBand, corrStep, bandCorr, BandFits, gainStep, bandGain, GainFits};
+ghost use Rattle.bands.specs.Bands.{edges, edge, binCorr, inBand, corrStep, bandCorr, BandFits, gainStep};
+ghost use Rattle.bands.specs.Bands.{bandGain, GainFits};
 ghost use Rattle.bands.specs.Dct.{dctScaled, dctIn, dctOf, DctFits};
 ghost use Rattle.bands.specs.Norm.{wnorm};
-ghost use Rattle.bands.specs.Parts.{sumsAfter};
+ghost use Rattle.bands.specs.Private.{sumsAfter};
 ghost use Rattle.bands.specs.Windowed.{windowedBy, windowed, WindowFits};
 
 mod dct_table;

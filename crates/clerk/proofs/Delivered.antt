@@ -4,20 +4,20 @@ use Rattle.rules.proofs.Common.{getD, take, drop, Float}
 use native.Mathlib.Omega.{arith}
 use Rattle.rules.specs.Place.{get}
 use Rattle.sides.specs.Sides.{numberOf}
-use Rattle.sheet.specs.Sheet.{four, recordOf, recordsOf}
+use Rattle.sheet.specs.Sheet.{four, recordBytes, recordsOf}
 use Rattle.sheet.proofs.Laying.{length-records}
 use Rattle.desk.specs.Gate.{sideOf, shareOf}
 use Rattle.desk.specs.Surface.{recordIn}
 use Rattle.isolation.specs.Run.{recordAt}
 use Rattle.whole.specs.Whole.{answersOf}
-use Rattle.recording.specs.Recording.{entriesFrom, bytesOf}
+use Rattle.recording.specs.Recording.{entriesFrom, recordingBytes}
 use Rattle.recording.proofs.SaidBack.{length-entries}
 use Rattle.recording.proofs.Told.{told-only}
 use Rattle.recorder.specs.Recorder.{beginning, roomOf}
 use Rattle.recorder.specs.Laws.{recordingOf, IsGood, audioOf, givenRecords, Frames, takenIn, cleanedOf}
 use Rattle.recorder.proofs.Goods.{always-good, as-defined}
 use Rattle.recorder.proofs.Whole.{however-given}
-use Rattle.feed.specs.Feed.{Block, blockOf, samplesOf, entriesOf}
+use Rattle.feed.specs.Feed.{Block, blockOf, samplesOf, frameEntries}
 use Rattle.surface.specs.Cutting.{Has, hasOf, hasSaid}
 use Rattle.surface.proofs.Bytes.{samples-alike}
 use Rattle.surface.proofs.Cuts.{bytes-in-a-row}
@@ -26,7 +26,7 @@ use Rattle.clerk.specs.Clerk.{FromMicrophoneToClerk}
 
 -- the sixth byte of a record is its side
 sixth : (side : ℕ) (es : List ℕ) → 0 < length es → getD (recordsOf side es) 5 0 ≡ side
-unfolding recordOf four
+unfolding recordBytes four
 sixth side [] h = absurd (omega arith)
 sixth side (e ∷ es) h = refl
 
@@ -69,7 +69,7 @@ module _ (n s side began : ℕ) (x : Stream) (time : began < 2 ^ 64) (k : Record
   theirs = entriesFrom 0 (recordingOf (openingFront side began) (f .audio) (f .records) .heard)
 
   abbrev ours : List ℕ
-  ours = entriesOf (recordAt s (x .start) .frame) (answersOf (dictation s x .told))
+  ours = frameEntries (recordAt s (x .start) .frame) (answersOf (dictation s x .told))
 
   some : 0 < length (entriesFrom 0 (recordingOf (openingFront side began) (x .file .audio) (x .file .records) .heard))
   some =
@@ -135,7 +135,7 @@ module _ (n s side began : ℕ) (x y : Stream) (time : began < 2 ^ 64) (k : Reco
   same-file : inARow (x .file) ≡ inARow (y .file)
   same-file =
       good n s side began x time k .bytes
-      ∙ ap₂ (λ (a r : List ℕ). bytesOf (recordingOf (openingFront side began) a r)) same-audio same-records
+      ∙ ap₂ (λ (a r : List ℕ). recordingBytes (recordingOf (openingFront side began) a r)) same-audio same-records
       ∙ sym (good n s side began y time l .bytes)
 
 pub from-microphone-to-clerk : FromMicrophoneToClerk

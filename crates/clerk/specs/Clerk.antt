@@ -18,7 +18,7 @@ use Rattle.recorder.specs.Recorder.{beginning}
 use Rattle.recorder.specs.Laws.{Given, GivenBytes, WrittenWhole, IsGood, takenIn, cleanedOf, givenRecords, InTime}
 use Rattle.feed.specs.Feed.{blockOf, samplesOf}
 use Rattle.surface.specs.Surface.{Call}
-use Rattle.surface.specs.Cutting.{hasOf, said, Streams}
+use Rattle.surface.specs.Cutting.{hasOf, dictationOf, Streams}
 use Rattle.surface.specs.Bytes.{SameChannel}
 
 -- the front of a recording that begins with an opening's first frame
@@ -70,7 +70,7 @@ pub record RecordedRun (n s side began : ℕ) (x : Stream) : Type 0 where
 -- the dictation of the bench's own channel
 abbrev pub dictation : ℕ → Stream → Dictated
 dictation s x =
-    said (recordAt s (x .start)) (get (shareOf s) (x .start .store))
+    dictationOf (recordAt s (x .start)) (get (shareOf s) (x .start .store))
     (samplesOf (blockOf (x .bytes) (x .format) (x .channels) (x .channel))) (x .model)
 
 -- what the clerk has

@@ -17,7 +17,7 @@ use Rattle.frame.specs.declared.Hearing.{Hearing}
 use Rattle.frame.specs.declared.Reply.{Reply}
 use Rattle.frame.specs.declared.Reply.the-variants.{Done, Numbered, Refused, Misread}
 use Rattle.frame.specs.declared.Way.{Way}
-use Rattle.frame.specs.declared.Way.the-variants.{Asked}
+use Rattle.frame.specs.declared.Way.the-variants.{Own}
 use Rattle.desk.specs.Gate.{PIECE, RESUME, gate, shareOf}
 use Rattle.desk.specs.declared.Record.{Record}
 use Rattle.desk.specs.declared.Answer.{Answer}
@@ -75,7 +75,7 @@ holding due rec waiting size progress =
 
 -- What a bench is noted with before any opening.
 abbrev pub noHearing : Hearing
-noHearing = record { index = 0; vad = 0; noise = 0; denoise = 0; way = Asked }
+noHearing = record { index = 0; vad = 0; noise = 0; denoise = 0; way = Own }
 
 abbrev pub closed : Record
 closed = recordOf 0 noHearing 0 0
@@ -104,7 +104,8 @@ abbrev pub nextHeard : ℕ → Reply → ℕ
 nextHeard n reply = cond (isHeard reply) (oneMore n) n
 
 abbrev pub advanced : Record → Reply → Record
-advanced rec reply = recordOf (nextDue (rec .due)) (nextHearing (rec .hearing) reply) (rec .frame) (nextHeard (rec .heard) reply)
+advanced rec reply =
+    recordOf (nextDue (rec .due)) (nextHearing (rec .hearing) reply) (rec .frame) (nextHeard (rec .heard) reply)
 
 -- The record after call 4, which ends a frame and counts it.
 abbrev pub numbered : Record → Record
@@ -120,7 +121,13 @@ carried rec rest size progress = cond (ltb rest 480) (holding 1 rec rest 0 0) (h
 abbrev pub started : Record → Way → Reading → Record
 started rec way (Good m) =
     recordOf 1
-    (record { index = 0; vad = m .«vad_gru» .neurons; noise = m .«noise_gru» .neurons; denoise = m .«denoise_gru» .neurons; way = way }) 0 0
+    (record {
+      index = 0;
+      vad = m .«vad_gru» .neurons;
+      noise = m .«noise_gru» .neurons;
+      denoise = m .«denoise_gru» .neurons;
+      way = way;
+    }) 0 0
 started rec way (Unread n l) = rec
 
 -- The record after a call that was not refused. A half is two calls: the first moves it on twice, the second
@@ -135,7 +142,8 @@ recorded rec (call4 x o) reply = numbered rec
 recorded rec (firstHalf x s) reply = advanced (advanced rec reply) reply
 recorded rec (secondHalf l m o) reply = numbered (advanced rec reply)
 recorded rec (piece x o s) reply = carried rec (rec .waiting + length x) (length x) (480 - rec .waiting)
-recorded rec (resume x l m o s) reply = carried (numbered (advanced rec reply)) (length x - rec .progress) (length x) (rec .progress + 480)
+recorded rec (resume x l m o s) reply =
+    carried (numbered (advanced rec reply)) (length x - rec .progress) (length x) (rec .progress + 480)
 
 -- The reply to a call. Call 4 is answered with the number of frames and of heard frames, after the call
 -- (request 07).
@@ -144,7 +152,8 @@ replyTo rec ask reply = cond (eqb (callOf ask) 4 && passed reply) (Numbered (one
 
 -- The answer, given what the call on the share replied. A refusal leaves the record.
 abbrev pub answered : Record → Ask → Reply → Answer
-answered rec ask reply = record { reply = replyTo rec ask reply; rec = cond (passed reply) (recorded rec ask reply) rec }
+answered rec ask reply =
+    record { reply = replyTo rec ask reply; rec = cond (passed reply) (recorded rec ask reply) rec }
 
 -- ---- one side's share
 

@@ -4,7 +4,7 @@ use Rattle.rules.specs.Refusals.{Row, _when_, refusing}
 use Rattle.rules.specs.Place.{Place}
 use Rattle.frame.specs.Share.{SHARE}
 use Rattle.frame.specs.declared.Way.{Way}
-use Rattle.frame.specs.declared.Way.the-variants.{Asked, Crate}
+use Rattle.frame.specs.declared.Way.the-variants.{Own, Nnnoiseless}
 use Rattle.desk.specs.declared.Record.{Record}
 
 abbrev pub BENCHES : ℕ
@@ -24,15 +24,16 @@ idle rec = eqb (rec .waiting) 0 && eqb (rec .piece) 0
 
 -- The number of a way: 0 for our own lag and plain sums, 1 for nnnoiseless's finder and fast transforms.
 abbrev pub wayNumber : Way → ℕ
-wayNumber Asked = 0
-wayNumber Crate = 1
+wayNumber Own = 0
+wayNumber Nnnoiseless = 1
 
 -- Every number of the record but `due` is 0: the cepstral index, the GRU sizes, both frame counts, what a
 -- piece leaves, and the way.
 unfoldable pub allZero : Record → Bool
 allZero rec =
     eqb (rec .hearing .index) 0
-    && (eqb (rec .hearing .vad) 0 && (eqb (rec .hearing .noise) 0 && (eqb (rec .hearing .denoise) 0 && (eqb (rec .frame) 0 && (eqb (rec .heard) 0
+    && (eqb (rec .hearing .vad) 0
+    && (eqb (rec .hearing .noise) 0 && (eqb (rec .hearing .denoise) 0 && (eqb (rec .frame) 0 && (eqb (rec .heard) 0
     && (idle rec && (eqb (rec .progress) 0 && eqb (wayNumber (rec .hearing .way)) 0)))))))
 
 -- A GRU size is 1 to 127.
@@ -58,7 +59,9 @@ inPieces rec = cond (eqb (rec .piece) 0) (resting rec) (underWay rec)
 
 -- A record is in range if it is closed and all zeros, or open and within its limits.
 unfoldable pub inRange : Record → Bool
-inRange rec = cond (eqb (rec .due) 0) (allZero rec) (leb (rec .due) 4 && (leb (rec .hearing .index) 7 && (inCounts rec && inPieces rec)))
+inRange rec =
+    cond (eqb (rec .due) 0) (allZero rec)
+    (leb (rec .due) 4 && (leb (rec .hearing .index) 7 && (inCounts rec && inPieces rec)))
 
 -- The numbers of calls: an opening is 0, the calls of a frame are 1 to 4, then come a piece and a resume.
 abbrev pub PIECE : ℕ
@@ -75,7 +78,8 @@ notOpening call = not (eqb call 0)
 -- the record names it and nothing waits or is unfinished.
 unfoldable pub isDue : Record → ℕ → Bool
 isDue rec call =
-    cond (eqb call PIECE) (eqb (rec .due) 1) (cond (eqb call RESUME) (not (eqb (rec .piece) 0)) (eqb (rec .due) call && idle rec))
+    cond (eqb call PIECE) (eqb (rec .due) 1)
+    (cond (eqb call RESUME) (not (eqb (rec .piece) 0)) (eqb (rec .due) call && idle rec))
 
 -- The table of refusals for a call on this side, with this record and a store of this length.
 abbrev pub refusals : ℕ → ℕ → Record → ℕ → ℕ → List Row

@@ -15,12 +15,13 @@ use Rattle.frame.specs.declared.Hearing.{Hearing}
 use Rattle.frame.specs.declared.Reply.{Reply}
 use Rattle.frame.specs.declared.Reply.the-variants.{Done, Silent, Heard, Numbered, Refused, Misread}
 use Rattle.frame.specs.declared.Way.{Way}
-use Rattle.frame.specs.declared.Way.the-variants.{Asked}
+use Rattle.frame.specs.declared.Way.the-variants.{Own}
 use Rattle.halves.specs.Halves.{lookedBack}
 use Rattle.halves.specs.Ways.{forwardBy, inverseBy}
 use Rattle.pieces.specs.Pieces.{framePart, waitingIn, paddedTo}
 use Rattle.desk.specs.Gate.{shareOf, inRange}
-use Rattle.desk.specs.Desk.{Ask, opening, call1, call2, call2Own, call3, call4, firstHalf, secondHalf, piece, resume, callOf, closed, desk}
+use Rattle.desk.specs.Desk.{Ask, opening, call1, call2, call2Own, call3, call4, firstHalf, secondHalf, piece}
+use Rattle.desk.specs.Desk.{resume, callOf, closed, desk}
 use Rattle.desk.specs.declared.Answer.{Answer}
 use Rattle.desk.specs.declared.Record.{Record}
 
@@ -60,7 +61,8 @@ SmallSeven (Numbered f h) = Unit
 SmallSeven (Refused n) = Unit
 
 abbrev pub SmallReplies : Type 0
-SmallReplies = (n side : ℕ) (rec : Record) (store : List Float) (ask : Ask) → SmallSeven (desk n side rec store ask .answer .reply)
+SmallReplies = (n side : ℕ) (rec : Record) (store : List Float) (ask : Ask)
+    → SmallSeven (desk n side rec store ask .answer .reply)
 
 -- The number of answer buffers that a call is lent. A call that is done writes to each, a refused one to
 -- none.
@@ -91,7 +93,8 @@ Opens =
     → side < n → length store ≡ n * SHARE → inRange rec ≡ true → readOf model ≡ Good m
     → desk n side rec store (opening way model) .answer .reply ≡ Done)
 
--- ---- request 08: accepted, a half is its two calls in turn, the second handed the record and the store as the first left them
+-- ---- request 08: accepted, a half is its two calls in turn, the second handed the record and the store as the first
+--      left them
 
 -- A half is two calls of the desk: both are done, the half leaves the record and the store of the second, and
 -- this is its reply and what it writes.
@@ -110,7 +113,8 @@ FirstInTurn =
     → let one = desk n side rec store (call1 samples 960) in
     let two = desk n side (one .answer .rec) (one .kept) (call2Own (forwardOf (firstIn (one .written))) 960 sums) in
     let half = desk n side rec store (firstHalf samples sums) in
-    rec .hearing .way ≡ Asked → passed (half .answer .reply) ≡ true → InTurn one two half (two .answer .reply) (drop 1 (two .written))
+    rec .hearing .way ≡ Own → passed (half .answer .reply) ≡ true
+    → InTurn one two half (two .answer .reply) (drop 1 (two .written))
 
 -- In either way the second half is call 3 and call 4; and the record has call 4's two numbers.
 abbrev pub SecondInTurn : Type 0
@@ -130,7 +134,8 @@ SecondInTurn =
 -- The shares of two sides have no place in common.
 abbrev pub SharesApart : Type 0
 SharesApart =
-    (a b : ℕ) → (a ≡ b → ⊥) → let p = shareOf a in let q = shareOf b in (p .at + p .size ≤ q .at) ⊎ (q .at + q .size ≤ p .at)
+    (a b : ℕ) → (a ≡ b → ⊥) → let p = shareOf a in let q = shareOf b in
+    (p .at + p .size ≤ q .at) ⊎ (q .at + q .size ≤ p .at)
 
 -- An outcome on the share of a side alone, put back into the store.
 abbrev pub placed : ℕ → List Float → Effect Answer → Effect Answer
@@ -184,11 +189,13 @@ ZerosBehind side rec store =
 pub data Reached (n side : ℕ) : Record → List Float → Type 0 where
   opened : (rec : Record) (store : List Float) (way : Way) (model : List ℕ)
       → passed (desk n side rec store (opening way model) .answer .reply) ≡ true
-      → Reached n side (desk n side rec store (opening way model) .answer .rec) (desk n side rec store (opening way model) .kept)
+      → Reached n side (desk n side rec store (opening way model) .answer .rec)
+      (desk n side rec store (opening way model) .kept)
   asked : {rec : Record} {store : List Float} → Reached n side rec store
       → (ask : Ask) → Reached n side (desk n side rec store ask .answer .rec) (desk n side rec store ask .kept)
   beside : {rec : Record} {store : List Float} → Reached n side rec store
-      → (other : ℕ) → (other ≡ side → ⊥) → (its : Record) (ask : Ask) → Reached n side rec (desk n other its store ask .kept)
+      → (other : ℕ) → (other ≡ side → ⊥) → (its : Record) (ask : Ask)
+      → Reached n side rec (desk n other its store ask .kept)
 
 abbrev pub UnusedZero : Type 0
 UnusedZero = (n side : ℕ) (rec : Record) (store : List Float) → Reached n side rec store → ZerosBehind side rec store

@@ -8,9 +8,10 @@ use Rattle.frame.specs.declared.Hearing.{Hearing}
 use Rattle.frame.specs.declared.Reply.{Reply}
 use Rattle.frame.specs.declared.Reply.the-variants.{Done, Silent, Heard, Numbered, Refused, Misread}
 use Rattle.frame.specs.declared.Way.{Way}
-use Rattle.frame.specs.declared.Way.the-variants.{Asked, Crate}
+use Rattle.frame.specs.declared.Way.the-variants.{Own, Nnnoiseless}
 use Rattle.desk.specs.Gate.{wayNumber}
-use Rattle.desk.specs.Desk.{Ask, opening, call1, call2, call2Own, call3, call4, firstHalf, secondHalf, piece, resume, recordOf, holding, noHearing, desk}
+use Rattle.desk.specs.Desk.{Ask, opening, call1, call2, call2Own, call3, call4, firstHalf, secondHalf, piece}
+use Rattle.desk.specs.Desk.{resume, recordOf, holding, noHearing, desk}
 use Rattle.desk.specs.declared.Record.{Record}
 use Rattle.desk.specs.declared.Answer.{Answer}
 
@@ -26,21 +27,30 @@ benchNumber side due = cond (eqb due 0) 0 (side + 1)
 abbrev pub numbersOf : ℕ → Record → List ℕ
 numbersOf side rec =
     let h = rec .hearing in
-    rec .due ∷ h .index ∷ h .vad ∷ h .noise ∷ h .denoise ∷ rec .frame ∷ rec .heard ∷ rec .waiting ∷ rec .piece ∷ rec .progress ∷ wayNumber (h .way)
+    rec .due ∷ h .index ∷ h .vad ∷ h .noise ∷ h .denoise ∷ rec .frame ∷ rec .heard ∷ rec .waiting ∷ rec .piece
+    ∷ rec .progress ∷ wayNumber (h .way)
     ∷ benchNumber side (rec .due) ∷ []
 
 abbrev pub wayIn : ℕ → Way
-wayIn n = cond (eqb n 0) Asked Crate
+wayIn n = cond (eqb n 0) Own Nnnoiseless
 
 abbrev pub hearingIn : List ℕ → Hearing
-hearingIn ns = record { index = getD ns 1 0; vad = getD ns 2 0; noise = getD ns 3 0; denoise = getD ns 4 0; way = wayIn (getD ns 10 0) }
+hearingIn ns =
+    record {
+      index = getD ns 1 0;
+      vad = getD ns 2 0;
+      noise = getD ns 3 0;
+      denoise = getD ns 4 0;
+      way = wayIn (getD ns 10 0);
+    }
 
 -- The record of this bench, from its numbers. If there are not twelve, or one of them is no way, or they are
 -- another bench's, the record is out of range.
 unfoldable pub recordIn : ℕ → List ℕ → Record
 recordIn side ns =
     cond (eqb (length ns) RECORD && (leb (getD ns 10 0) 1 && eqb (getD ns 11 0) (benchNumber side (getD ns 0 0))))
-    (holding (getD ns 0 0) (recordOf 0 (hearingIn ns) (getD ns 5 0) (getD ns 6 0)) (getD ns 7 0) (getD ns 8 0) (getD ns 9 0))
+    (holding (getD ns 0 0) (recordOf 0 (hearingIn ns) (getD ns 5 0) (getD ns 6 0)) (getD ns 7 0) (getD ns 8 0)
+    (getD ns 9 0))
     (recordOf 5 noHearing 0 0)
 
 -- The number of a reply: 0, or the refusal. A 7 also has the model's own refusal and layer.
@@ -101,4 +111,9 @@ handedBack side answer ns = cond (passed (answer .reply)) (numbersOf side (answe
 
 -- What a host is handed: the number and the record take the place of the answer.
 abbrev pub handed : ℕ → List ℕ → Effect Answer → Effect (ℕ × List ℕ)
-handed side ns o = record { answer = (replyNumber (o .answer .reply), handedBack side (o .answer) ns); kept = o .kept; written = o .written }
+handed side ns o =
+    record {
+      answer = (replyNumber (o .answer .reply), handedBack side (o .answer) ns);
+      kept = o .kept;
+      written = o .written;
+    }

@@ -39,7 +39,11 @@ frameOn rec share xs l =
     let f = firstHalf (get framePart share) (rec .hearing .way) xs 22 in
     let s = secondHalf (f .kept) (rec .hearing) (l .logs (sumsOf rec share xs)) (l .model) 480 in
     let after = numbered (advanced (holding 3 rec 0 0 0) (s .answer)) in
-    record { answer = record { reply = s .answer; rec = after }; kept = put framePart share (s .kept); written = s .written }
+    record {
+      answer = record { reply = s .answer; rec = after };
+      kept = put framePart share (s .kept);
+      written = s .written;
+    }
 
 -- As many frames as something is lent to. What is left of the samples waits.
 unfoldable pub dictate : Record → List Float → List Float → List Lent → Dictated

@@ -47,7 +47,8 @@ FillsFront =
 abbrev pub Fitting : Record → List Lent → Type 0
 Fitting rec [] = Unit
 Fitting rec (l ∷ more) =
-    ((sums : List Float) → length (l .logs sums) ≡ 22) × (checked (counted (rec .hearing)) (readOf (l .model)) ≡ Done) × Fitting rec more
+    ((sums : List Float) → length (l .logs sums) ≡ 22) × (checked (counted (rec .hearing)) (readOf (l .model)) ≡ Done)
+    × Fitting rec more
 
 -- A piece that is accepted comes to its end: with the same samples and output, and what fits each frame, no
 -- resume is refused. So it is a cut, by `last`, and what the law of cutting asks for can be met.

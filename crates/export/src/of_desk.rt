@@ -17,17 +17,19 @@ ghost use lib.ListN.{length, getD};
 ghost use Prim.Native.Nat.{_<_};
 ghost use lib.Dec.{eqb};
 ghost use Rattle.frame.specs.Reply.{passed};
-ghost use Rattle.frame.specs.declared.Way.the-variants.{Asked, Crate};
+ghost use Rattle.frame.specs.declared.Way.the-variants.{Own, Nnnoiseless};
 ghost use Rattle.desk.specs.Gate.{BENCHES, sideOf};
-ghost use Rattle.desk.specs.Desk.{recordOf, noHearing, opening, call1, call2, call2Own, call3, call4, firstHalf, secondHalf, piece, resume};
+ghost use Rattle.desk.specs.Desk.{recordOf, noHearing, opening, call1, call2, call2Own, call3, call4, firstHalf};
+ghost use Rattle.desk.specs.Desk.{secondHalf, piece, resume};
 ghost use Rattle.frame.specs.Effect.{Worked};
-ghost use Rattle.desk.specs.Surface.{RECORD, benchNumber, numbersOf, wayIn, hearingIn, recordIn, replyNumber, heardOf, outOf, hosted, handed};
+ghost use Rattle.desk.specs.Surface.{RECORD, benchNumber, numbersOf, wayIn, hearingIn, recordIn, replyNumber, heardOf};
+ghost use Rattle.desk.specs.Surface.{outOf, hosted, handed};
 ghost use Rattle.desk.proofs.Ranged.{Bounded};
 ghost use Rattle.desk.proofs.Replies.{SmallSeven};
-ghost use Rattle.export.specs.Parts.{HandsBack};
+ghost use Rattle.export.specs.Private.{HandsBack};
 use desk::Answer;
+use desk::Bench;
 use desk::Record;
-use desk::Side;
 use frame::Hearing;
 use frame::Lag;
 use frame::Reply;
@@ -47,9 +49,9 @@ fn way_in(number: u32) -> Way
     ensures { λ r. ⌜ r ≡ wayIn number ⌝ }
 {
     if number == 0 {
-        return Way::Asked;
+        return Way::Own;
     }
-    Way::Crate
+    Way::Nnnoiseless
 }
 
 // What a bench needs to hear a frame, from a record's numbers.
@@ -75,7 +77,7 @@ fn no_record() -> Record
         vad: 0,
         noise: 0,
         denoise: 0,
-        way: Way::Asked,
+        way: Way::Own,
     };
     desk::record_of(5, hearing, 0, 0)
 }
@@ -93,7 +95,8 @@ fn bench_number(side: u32, due: usize) -> usize
 // Whether the last number of a record is the one of this bench.
 fn belongs(side: u32, record: &[u32]) -> bool
     requires { ⌜ length (now «record») ≡ RECORD ⌝ }
-    ensures { λ r. ⌜ r ≡ eqb (getD (now («record» .entry)) 11 0) (benchNumber side (getD (now («record» .entry)) 0 0)) ⌝ }
+    ensures { λ r. ⌜ r ≡ eqb (getD (now («record» .entry)) 11 0)
+        (benchNumber side (getD (now («record» .entry)) 0 0)) ⌝ }
 {
     let due = wide(record[0]);
     wide(record[11]) == bench_number(side, due)
@@ -163,7 +166,8 @@ fn number_of(reply: Reply) -> u32
 pub(crate) fn hand_back(side: u32, record: &mut [u32], given: Answer) -> u32
     requires { ⌜ HandsBack side (now «record») given ⌝ }
     ensures { λ r. ⌜ (r ≡ replyNumber (given .reply))
-        × (now («record» .exit) ≡ cond (passed (given .reply)) (numbersOf side (given .rec)) (now («record» .entry))) ⌝ }
+        × (now («record» .exit) ≡ cond (passed (given .reply)) (numbersOf side (given .rec))
+        (now («record» .entry))) ⌝ }
 {
     let reply = given.reply;
     if !frame::passed(reply) {
@@ -178,7 +182,7 @@ pub(crate) fn hand_back(side: u32, record: &mut [u32], given: Answer) -> u32
 pub extern "C" fn tuppence_side_of(bench: u32) -> u32
     ensures { λ r. ⌜ r ≡ sideOf bench ⌝ }
 {
-    desk::side_of(Side(bench as usize)) as u32
+    desk::side_of(Bench(bench as usize)) as u32
 }
 
 // Opens a bench, at any time. Its share is wiped, and call 1 is due. It finds the lag by our own rule and uses plain
@@ -192,14 +196,14 @@ pub extern "C" fn tuppence_open(
 ) -> u32
     ensures { λ r. ⌜ Worked
         (handed side (now («record» .entry))
-        (hosted BENCHES side (now («record» .entry)) (now (store .entry)) (opening Asked (now (model .entry)))))
+        (hosted BENCHES side (now («record» .entry)) (now (store .entry)) (opening Own (now (model .entry)))))
         (r, now («record» .exit)) (now (store .exit)) [] [] ⌝ }
 {
     let given = desk::open(
-        Side(side as usize),
+        Bench(side as usize),
         record_in(side, record),
         store,
-        Way::Asked,
+        Way::Own,
         model,
     );
     hand_back(side, record, given)
@@ -216,14 +220,14 @@ pub extern "C" fn tuppence_open_crate(
 ) -> u32
     ensures { λ r. ⌜ Worked
         (handed side (now («record» .entry))
-        (hosted BENCHES side (now («record» .entry)) (now (store .entry)) (opening Crate (now (model .entry)))))
+        (hosted BENCHES side (now («record» .entry)) (now (store .entry)) (opening Nnnoiseless (now (model .entry)))))
         (r, now («record» .exit)) (now (store .exit)) [] [] ⌝ }
 {
     let given = desk::open(
-        Side(side as usize),
+        Bench(side as usize),
         record_in(side, record),
         store,
-        Way::Crate,
+        Way::Nnnoiseless,
         model,
     );
     hand_back(side, record, given)
@@ -245,7 +249,7 @@ pub extern "C" fn tuppence_call1(
         (r, now («record» .exit)) (now (store .exit)) (now (window .entry) ∷ []) (now (window .exit) ∷ []) ⌝ }
 {
     let given = desk::call1(
-        Side(side as usize),
+        Bench(side as usize),
         record_in(side, record),
         store,
         samples,
@@ -274,7 +278,7 @@ pub extern "C" fn tuppence_call2(
         (now (window .entry) ∷ now (sums .entry) ∷ []) (now (window .exit) ∷ now (sums .exit) ∷ []) ⌝ }
 {
     let given = desk::call2(
-        Side(side as usize),
+        Bench(side as usize),
         record_in(side, record),
         store,
         spectrum,
@@ -303,7 +307,7 @@ pub extern "C" fn tuppence_call2_own(
         (now (window .entry) ∷ now (sums .entry) ∷ []) (now (window .exit) ∷ now (sums .exit) ∷ []) ⌝ }
 {
     let given = desk::call2_own(
-        Side(side as usize),
+        Bench(side as usize),
         record_in(side, record),
         store,
         spectrum,
@@ -361,7 +365,7 @@ pub extern "C" fn tuppence_call3(
 {
     let end = places(answer.len(), out.len());
     let given = desk::call3(
-        Side(side as usize),
+        Bench(side as usize),
         record_in(side, record),
         store,
         spectrum,
@@ -390,7 +394,7 @@ pub extern "C" fn tuppence_call4(
         (r, now («record» .exit)) (now (store .exit)) (now (out .entry) ∷ []) (now (out .exit) ∷ []) ⌝ }
 {
     let given = desk::call4(
-        Side(side as usize),
+        Bench(side as usize),
         record_in(side, record),
         store,
         inverse,
@@ -416,7 +420,7 @@ pub extern "C" fn tuppence_first_half(
         (r, now («record» .exit)) (now (store .exit)) (now (sums .entry) ∷ []) (now (sums .exit) ∷ []) ⌝ }
 {
     let given = desk::first_half(
-        Side(side as usize),
+        Bench(side as usize),
         record_in(side, record),
         store,
         samples,
@@ -440,13 +444,14 @@ pub extern "C" fn tuppence_second_half(
     ensures { λ r. ⌜ Worked
         (handed side (now («record» .entry))
         (hosted BENCHES side (now («record» .entry)) (now (store .entry))
-        (secondHalf (now (logs .entry)) (now (model .entry)) (outOf (length (now (answer .entry))) (length (now (out .entry)))))))
+        (secondHalf (now (logs .entry)) (now (model .entry))
+        (outOf (length (now (answer .entry))) (length (now (out .entry)))))))
         (r, now («record» .exit)) (now (store .exit))
         (now (out .entry) ∷ now (answer .entry) ∷ []) (now (out .exit) ∷ now (answer .exit) ∷ []) ⌝ }
 {
     let end = places(answer.len(), out.len());
     let given = desk::second_half(
-        Side(side as usize),
+        Bench(side as usize),
         record_in(side, record),
         store,
         logs,
@@ -477,7 +482,7 @@ pub extern "C" fn tuppence_piece(
         (now (out .entry) ∷ now (sums .entry) ∷ []) (now (out .exit) ∷ now (sums .exit) ∷ []) ⌝ }
 {
     let given = desk::piece(
-        Side(side as usize),
+        Bench(side as usize),
         record_in(side, record),
         store,
         samples,
@@ -507,11 +512,12 @@ pub extern "C" fn tuppence_resume(
         (resume (now (samples .entry)) (now (logs .entry)) (now (model .entry))
         (outOf (length (now (answer .entry))) (length (now (out .entry)))) (length (now (sums .entry))))))
         (r, now («record» .exit)) (now (store .exit))
-        (now (out .entry) ∷ now (sums .entry) ∷ now (answer .entry) ∷ []) (now (out .exit) ∷ now (sums .exit) ∷ now (answer .exit) ∷ []) ⌝ }
+        (now (out .entry) ∷ now (sums .entry) ∷ now (answer .entry) ∷ [])
+        (now (out .exit) ∷ now (sums .exit) ∷ now (answer .exit) ∷ []) ⌝ }
 {
     let end = places(answer.len(), out.len());
     let given = desk::resume(
-        Side(side as usize),
+        Bench(side as usize),
         record_in(side, record),
         store,
         samples,

@@ -8,7 +8,8 @@ ghost use Rattle.export.specs.OfFinder.{FindFits, foundAfter, keptNumber
 // period, 60 to 767. `input_mem` has the last 1,728 filtered samples.
 #[no_mangle]
 pub extern "C" fn tuppence_find(numbers: &mut [f32], place: &mut [u32], input_mem: &[f32]) -> u32
-    ensures { λ r. ⌜ Leaf (FindFits (length (now (numbers .entry))) (length (now (place .entry))) (length (now («input_mem» .entry))))
+    ensures { λ r. ⌜ Leaf (FindFits (length (now (numbers .entry))) (length (now (place .entry)))
+        (length (now («input_mem» .entry))))
         (r leaving now (numbers .exit) leaving now (place .exit))
         (0 leaving keptNumbers (foundAfter (now (numbers .entry)) (now («input_mem» .entry)))
         leaving foundAfter (now (numbers .entry)) (now («input_mem» .entry)) .period ∷ [])

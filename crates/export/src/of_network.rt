@@ -7,7 +7,7 @@ ghost use Rattle.model.specs.Layer.{activationOf};
 ghost use Rattle.network.specs.Layers.{denseOf, DenseFits, gruOf, GruFits};
 ghost use Rattle.network.specs.Compute.{layeredOf, computed};
 ghost use Rattle.network.proofs.Callers.{Answered};
-ghost use Rattle.export.specs.OfNetwork.{Known, computedNumber, computedTold};
+ghost use Rattle.export.specs.OfNetwork.{KnownActivation, computedNumber, computedTold};
 use model::Activation;
 use network::Computed;
 
@@ -32,8 +32,9 @@ pub extern "C" fn tuppence_dense(
     input: &[f32],
 ) -> u32
     ensures { λ r. ⌜ Leaf
-        (Known activation (DenseFits
-        (length (now (output .entry))) (length (now (weights .entry))) (length (now (bias .entry))) (length (now (input .entry)))))
+        (KnownActivation activation (DenseFits
+        (length (now (output .entry))) (length (now (weights .entry))) (length (now (bias .entry)))
+        (length (now (input .entry)))))
         (r leaving now (output .exit))
         (0 leaving denseOf (now (weights .entry)) (now (bias .entry)) (activationOf activation) (now (input .entry)))
         (5 leaving now (output .entry)) ⌝ }
@@ -56,8 +57,9 @@ pub extern "C" fn tuppence_gru(
     input: &[f32],
 ) -> u32
     ensures { λ r. ⌜ Leaf
-        (Known activation (GruFits
-        (length (now (state .entry))) (length (now (weights .entry))) (length (now (recurrent .entry))) (length (now (bias .entry)))
+        (KnownActivation activation (GruFits
+        (length (now (state .entry))) (length (now (weights .entry))) (length (now (recurrent .entry)))
+        (length (now (bias .entry)))
         (length (now (input .entry)))))
         (r leaving now (state .exit))
         (0 leaving gruOf

@@ -86,10 +86,12 @@ pub extern "C" fn tuppence_filter(
 ) -> u32
     ensures { λ r. ⌜ Leaf
         (BiquadFits
-        (length (now (output .entry))) (length (now (memory .entry))) (length (now (coefficients .entry))) (length (now (input .entry))))
+        (length (now (output .entry))) (length (now (memory .entry))) (length (now (coefficients .entry)))
+        (length (now (input .entry))))
         (r leaving now (output .exit) leaving now (memory .exit))
         (0 leaving outputs (biquadOf (now (coefficients .entry))) (memoryOf (now (memory .entry))) (now (input .entry))
-        leaving memoryList (memoryAfter (biquadOf (now (coefficients .entry))) (memoryOf (now (memory .entry))) (now (input .entry))))
+        leaving memoryList (memoryAfter (biquadOf (now (coefficients .entry))) (memoryOf (now (memory .entry)))
+        (now (input .entry))))
         (5 leaving now (output .entry) leaving now (memory .entry)) ⌝ }
 {
     if memory.len() != 2 {

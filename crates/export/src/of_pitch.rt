@@ -49,7 +49,8 @@ pub extern "C" fn tuppence_lpc(lpc: &mut [f32], ac: &[f32]) -> u32
 // two others together less 1, and as both lengths rounded down to a multiple of 4.
 #[no_mangle]
 pub extern "C" fn tuppence_pitch_xcorr(xcorr: &mut [f32], xs: &[f32], ys: &[f32]) -> u32
-    ensures { λ r. ⌜ Leaf (XcorrFits (length (now (xs .entry))) (length (now (ys .entry))) (length (now (xcorr .entry))))
+    ensures { λ r. ⌜ Leaf (XcorrFits (length (now (xs .entry))) (length (now (ys .entry)))
+        (length (now (xcorr .entry))))
         (r leaving now (xcorr .exit))
         (0 leaving pitchXcorr (now (xs .entry)) (now (ys .entry)) (length (now (xcorr .entry))))
         (5 leaving now (xcorr .entry)) ⌝ }
@@ -65,9 +66,11 @@ pub extern "C" fn tuppence_find_best_pitch(
     ys: &[f32],
     len: usize,
 ) -> u32
-    ensures { λ r. ⌜ Leaf (PitchesFit (length (now (pitches .entry))) (length (now (xcorr .entry))) (length (now (ys .entry))) len)
+    ensures { λ r. ⌜ Leaf (PitchesFit (length (now (pitches .entry))) (length (now (xcorr .entry)))
+        (length (now (ys .entry))) len)
         (r leaving now (pitches .exit))
-        (0 leaving best (now (xcorr .entry)) (now (ys .entry)) len .bestPitch ∷ best (now (xcorr .entry)) (now (ys .entry)) len .secondBestPitch ∷ [])
+        (0 leaving best (now (xcorr .entry)) (now (ys .entry)) len .bestPitch
+        ∷ best (now (xcorr .entry)) (now (ys .entry)) len .secondBestPitch ∷ [])
         (5 leaving now (pitches .entry)) ⌝ }
 {
     if pitches.len() != 2 {

@@ -6,7 +6,7 @@
 // there is no record to keep.
 ghost use mathlib.Core.Path.{_≡_};
 ghost use Rattle.rules.specs.Leaf.{_leaving_};
-ghost use Rattle.sheet.specs.Asked.{summaryOf, entryAt};
+ghost use Rattle.sheet.specs.Asked.{sheetSummary, entryAt};
 ghost use Rattle.sheet.specs.Mended.{mendOf};
 ghost use Rattle.sheet.specs.Rows.{recordsLaid, trailerLaid};
 ghost use Rattle.sheet.specs.Written.{writtenOf};
@@ -15,7 +15,8 @@ ghost use Rattle.sheet.specs.Written.{writtenOf};
 // beyond that stays. `side` is 0 for left, 1 for right.
 #[no_mangle]
 pub extern "C" fn tuppence_sheet_write(out: &mut [u8], side: u32, entries: &[u64]) -> u32
-    ensures { λ r. ⌜ (r leaving now (out .exit)) ≡ writtenOf (record { side = side; entries = now (entries .entry) }) (now (out .entry)) ⌝ }
+    ensures { λ r. ⌜ (r leaving now (out .exit))
+        ≡ writtenOf (record { side = side; entries = now (entries .entry) }) (now (out .entry)) ⌝ }
 {
     sheet::write(out, side, entries)
 }
@@ -47,7 +48,7 @@ pub extern "C" fn tuppence_sheet_trailer(out: &mut [u8], side: u32, count: u64, 
 // the bytes of a recording, or its last ones from the first record on.
 #[no_mangle]
 pub extern "C" fn tuppence_sheet_read(numbers: &mut [u64], file: &[u8]) -> u32
-    ensures { λ r. ⌜ (r leaving now (numbers .exit)) ≡ summaryOf (now (file .entry)) (now (numbers .entry)) ⌝ }
+    ensures { λ r. ⌜ (r leaving now (numbers .exit)) ≡ sheetSummary (now (file .entry)) (now (numbers .entry)) ⌝ }
 {
     sheet::summary(numbers, file)
 }

@@ -6,7 +6,7 @@ ghost use Rattle.desk.specs.Gate.{BENCHES};
 ghost use Rattle.frame.specs.Effect.{Worked};
 ghost use Rattle.desk.specs.Surface.{outOf, handed};
 ghost use Rattle.whole.specs.Surface.{hostedFrame, hostedTake};
-use desk::Side;
+use desk::Bench;
 
 // Cleans one frame. `samples` are its 480, `out` gets 480, and `answer` three numbers: heard (1 or 0), voice,
 // energy.
@@ -22,14 +22,15 @@ pub extern "C" fn tuppence_frame(
 ) -> u32
     ensures { λ r. ⌜ Worked
         (handed side (now («record» .entry))
-        (hostedFrame BENCHES side (now («record» .entry)) (now (store .entry)) (now (samples .entry)) (now (model .entry))
+        (hostedFrame BENCHES side (now («record» .entry)) (now (store .entry)) (now (samples .entry))
+        (now (model .entry))
         (outOf (length (now (answer .entry))) (length (now (out .entry))))))
         (r, now («record» .exit)) (now (store .exit))
         (now (out .entry) ∷ now (answer .entry) ∷ []) (now (out .exit) ∷ now (answer .exit) ∷ []) ⌝ }
 {
     let end = crate::of_desk::places(answer.len(), out.len());
     let given = whole::frame(
-        Side(side as usize),
+        Bench(side as usize),
         crate::of_desk::record_in(side, record),
         store,
         samples,
@@ -62,7 +63,7 @@ pub extern "C" fn tuppence_take(
         (now (out .entry) ∷ now (answers .entry) ∷ []) (now (out .exit) ∷ now (answers .exit) ∷ []) ⌝ }
 {
     let given = whole::take(
-        Side(side as usize),
+        Bench(side as usize),
         crate::of_desk::record_in(side, record),
         store,
         piece,

@@ -79,12 +79,12 @@ abbrev pub distStep : List Float → ℕ → ℕ → ℕ → Float → Float
 distStep mem i j k dist = let tmp = cell mem i k ⊖ cell mem j k in dist ⊕ tmp ⊗ tmp
 
 -- The squared distance of rows i and j.
-unfoldable pub distance : List Float → ℕ → ℕ → Float
-distance mem i j = loop 22 (distStep mem i j) (f32 0)
+unfoldable pub cepstralDistance : List Float → ℕ → ℕ → Float
+cepstralDistance mem i j = loop 22 (distStep mem i j) (f32 0)
 
 -- Rust: if j != i { min_dist = min_dist.min(dist) }.
 abbrev pub nearestStep : List Float → ℕ → ℕ → Float → Float
-nearestStep mem i j least = cond (eqb j i) least (smaller least (distance mem i j))
+nearestStep mem i j least = cond (eqb j i) least (smaller least (cepstralDistance mem i j))
 
 -- The smallest distance of row i from another row. It starts at 1e15.
 unfoldable pub nearest : List Float → ℕ → Float

@@ -44,7 +44,8 @@ laid ceps pitch mem index =
 
 -- The features of a frame. Its cepstrum is remembered before the differences are taken.
 unfoldable pub featuresOf : List Float → Float → List Float → List Float → ℕ → List Float
-featuresOf exp lag logs mem index = laid (drop 6 (cepstrum logs)) (pitchFeatures exp lag) (withCepstrum logs mem index) index
+featuresOf exp lag logs mem index =
+    laid (drop 6 (cepstrum logs)) (pitchFeatures exp lag) (withCepstrum logs mem index) index
 
 -- All lengths fit, and the index is that of a row.
 pub record FeaturesFit (features exp mem index x p ex ep logs : ℕ) : Type 0 where

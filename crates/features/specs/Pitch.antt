@@ -20,12 +20,12 @@ unfoldable pub ratio : Float → Float → Float
 ratio ex e = root binary32 (ex ⊘ (f32 0x322BCC77 ⊕ e))
 
 -- Rust: r.clamp(0.0, 1.0).sqrt() * (ex / (1e-8 + ep)).sqrt().
-unfoldable pub pitchGain : Float → Float → Float → Float → Float
-pitchGain gain exp ex ep = root binary32 (clamped (strength gain exp) (f32 0) one) ⊗ ratio ex ep
+unfoldable pub bandPitchGain : Float → Float → Float → Float → Float
+bandPitchGain gain exp ex ep = root binary32 (clamped (strength gain exp) (f32 0) one) ⊗ ratio ex ep
 
 -- Rust: r[i] of each band, from the gain of the network, the correlation and both energies.
 unfoldable pub pitchGains : List Float → List Float → List Float → List Float → List Float
-pitchGains gains exp ex ep = tab 22 (λ i. pitchGain (at gains i) (at exp i) (at ex i) (at ep i))
+pitchGains gains exp ex ep = tab 22 (λ i. bandPitchGain (at gains i) (at exp i) (at ex i) (at ep i))
 
 -- Rust: r[i] = (ex[i] / (1e-8 + new_e[i])).sqrt(). `after` is new_e.
 unfoldable pub renormalised : List Float → List Float → List Float

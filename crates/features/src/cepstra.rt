@@ -5,8 +5,9 @@ ghost use lib.ListN.{length};
 ghost use Rattle.rules.specs.Place.{put};
 ghost use Rattle.rules.specs.F32.{part};
 ghost use Rattle.features.specs.Features.{laid};
-ghost use Rattle.features.specs.Cepstra.{followLogs, cepstrum, row, back, deltas, distance, nearestStep, nearest, variability};
-ghost use Rattle.features.specs.Parts.{deltaOf};
+ghost use Rattle.features.specs.Cepstra.{followLogs, cepstrum, row, back, deltas, cepstralDistance, nearestStep};
+ghost use Rattle.features.specs.Cepstra.{nearest, variability};
+ghost use Rattle.features.specs.Private.{deltaOf};
 
 // Smooths the logarithms: none is more than 7 below the largest before it, and from band to band they fall by at most
 // 1.5.
@@ -93,7 +94,7 @@ fn delta_rows(out: &mut [f32], kind: Delta, mem: &[f32], c0: usize, c1: usize, c
 // The squared distance of two rows.
 fn row_distance(mem: &[f32], i: usize, j: usize) -> f32
     requires { ⌜ (length (now mem) ≡ 176) × (i ≤ 7) × (j ≤ 7) ⌝ }
-    ensures { λ r. ⌜ r ≡ distance (now (mem .entry)) i j ⌝ }
+    ensures { λ r. ⌜ r ≡ cepstralDistance (now (mem .entry)) i j ⌝ }
 {
     let mut dist = 0.0f32;
     for k in 0..22 {

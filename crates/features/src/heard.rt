@@ -18,7 +18,8 @@ fn normalise(exp: &mut [f32], ex: &[f32], ep: &[f32])
 pub(crate) fn correlate(exp: &mut [f32], x: &[f32], p: &[f32], ex: &[f32], ep: &[f32])
     requires { ⌜ (length (now exp) ≡ 22) × (length (now x) ≡ 961) × (length (now p) ≡ 961) × (length (now ex) ≡ 22)
         × (length (now ep) ≡ 22) ⌝ }
-    ensures { λ _. ⌜ now (exp .exit) ≡ normalisedCorr (now (x .entry)) (now (p .entry)) (now (ex .entry)) (now (ep .entry)) ⌝ }
+    ensures { λ _. ⌜ now (exp .exit)
+        ≡ normalisedCorr (now (x .entry)) (now (p .entry)) (now (ex .entry)) (now (ep .entry)) ⌝ }
 {
     bands::compute_band_corr(exp, x, p);
     normalise(exp, ex, ep);
@@ -51,7 +52,8 @@ pub(crate) fn fill_features(
 )
     requires { ⌜ (length (now features) ≡ 42) × (length (now mem) ≡ 176) × (index ≤ 7) × (length (now exp) ≡ 22)
         × (length (now logs) ≡ 22) ⌝ }
-    ensures { λ _. ⌜ now (features .exit) ≡ featuresOf (now (exp .entry)) lag (now (logs .entry)) (now (mem .entry)) index ⌝ }
+    ensures { λ _. ⌜ now (features .exit)
+        ≡ featuresOf (now (exp .entry)) lag (now (logs .entry)) (now (mem .entry)) index ⌝ }
     ensures { λ _. ⌜ now (mem .exit) ≡ withCepstrum (now (logs .entry)) (now (mem .entry)) index ⌝ }
 {
     pitch_features(&mut features[34..41], exp, lag);

@@ -60,7 +60,8 @@ pub fn compute_features(
     lag: f32,
     logs: &[f32],
 ) -> u32
-    ensures { λ r. ⌜ Leaf (FeaturesFit (length (now (features .entry))) (length (now (exp .entry))) (length (now (mem .entry))) index
+    ensures { λ r. ⌜ Leaf (FeaturesFit (length (now (features .entry))) (length (now (exp .entry)))
+        (length (now (mem .entry))) index
         (length (now (x .entry))) (length (now (p .entry))) (length (now (ex .entry))) (length (now (ep .entry)))
         (length (now (logs .entry))))
         (r leaving now (features .exit) leaving now (exp .exit) leaving now (mem .exit))
@@ -153,10 +154,12 @@ pub fn pitch_filter(
     ex: &[f32],
     ep: &[f32],
 ) -> u32
-    ensures { λ r. ⌜ Leaf (PitchFilterFits (length (now (x .entry))) (length (now (p .entry))) (length (now (gains .entry)))
+    ensures { λ r. ⌜ Leaf (PitchFilterFits (length (now (x .entry))) (length (now (p .entry)))
+        (length (now (gains .entry)))
         (length (now (exp .entry))) (length (now (ex .entry))) (length (now (ep .entry))))
         (r leaving now (x .exit))
-        (0 leaving pitchFiltered (now (x .entry)) (now (p .entry)) (now (gains .entry)) (now (exp .entry)) (now (ex .entry))
+        (0 leaving pitchFiltered (now (x .entry)) (now (p .entry)) (now (gains .entry)) (now (exp .entry))
+        (now (ex .entry))
         (now (ep .entry)))
         (5 leaving now (x .entry)) ⌝ }
 {

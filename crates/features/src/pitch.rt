@@ -1,7 +1,8 @@
 // The steps of `pitch_filter`.
 ghost use mathlib.Core.Path.{_≡_};
 ghost use lib.ListN.{length};
-ghost use Rattle.features.specs.Pitch.{strength, ratio, pitchGain, pitchGains, renormalised, pitchAdded, restored};
+ghost use Rattle.features.specs.Pitch.{strength, ratio, bandPitchGain, pitchGains, renormalised, pitchAdded};
+ghost use Rattle.features.specs.Pitch.{restored};
 ghost use Rattle.features.specs.Pitch.{pitchFiltered, PitchFilterFits};
 
 // How much of a band is pitch, by its correlation and its gain.
@@ -25,7 +26,7 @@ fn energy_ratio(ex: f32, e: f32) -> f32
 
 // How much of the lagged signal is added in a band.
 fn gain_of(exp: f32, gain: f32, ex: f32, ep: f32) -> f32
-    ensures { λ r. ⌜ r ≡ pitchGain gain exp ex ep ⌝ }
+    ensures { λ r. ⌜ r ≡ bandPitchGain gain exp ex ep ⌝ }
 {
     numbers::sqrt(numbers::clamp(strength_of(exp, gain), 0.0, 1.0)) * energy_ratio(ex, ep)
 }
@@ -34,7 +35,8 @@ fn gain_of(exp: f32, gain: f32, ex: f32, ep: f32) -> f32
 fn gains_of(r: &mut [f32], exp: &[f32], gains: &[f32], ex: &[f32], ep: &[f32])
     requires { ⌜ (length (now r) ≡ 22) × (length (now exp) ≡ 22) × (length (now gains) ≡ 22) × (length (now ex) ≡ 22)
         × (length (now ep) ≡ 22) ⌝ }
-    ensures { λ _. ⌜ now (r .exit) ≡ pitchGains (now (gains .entry)) (now (exp .entry)) (now (ex .entry)) (now (ep .entry)) ⌝ }
+    ensures { λ _. ⌜ now (r .exit)
+        ≡ pitchGains (now (gains .entry)) (now (exp .entry)) (now (ex .entry)) (now (ep .entry)) ⌝ }
 {
     for i in 0..22 {
         r[i] = gain_of(exp[i], gains[i], ex[i], ep[i]);
@@ -83,10 +85,12 @@ pub(crate) fn filter(
     r: &mut [f32],
     rf: &mut [f32],
 )
-    requires { ⌜ PitchFilterFits (length (now x)) (length (now p)) (length (now gains)) (length (now exp)) (length (now ex))
+    requires { ⌜ PitchFilterFits (length (now x)) (length (now p)) (length (now gains)) (length (now exp))
+        (length (now ex))
         (length (now ep)) ⌝ }
     requires { ⌜ (length (now r) ≡ 22) × (length (now rf) ≡ 481) ⌝ }
-    ensures { λ _. ⌜ now (x .exit) ≡ pitchFiltered (now (x .entry)) (now (p .entry)) (now (gains .entry)) (now (exp .entry))
+    ensures { λ _. ⌜ now (x .exit)
+        ≡ pitchFiltered (now (x .entry)) (now (p .entry)) (now (gains .entry)) (now (exp .entry))
         (now (ex .entry)) (now (ep .entry)) ⌝ }
 {
     gains_of(r, exp, gains, ex, ep);

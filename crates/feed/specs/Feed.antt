@@ -32,20 +32,20 @@ blockOf bytes format channels channel =
     record { bytes = bytes; format = format; channels = channels; channel = channel }
 
 -- whole samples of all channels, and such a channel among them
-abbrev pub even : ℕ → ℕ → ℕ → ℕ → Bool
-even bytes format channels channel =
+abbrev pub wholeSamples : ℕ → ℕ → ℕ → ℕ → Bool
+wholeSamples bytes format channels channel =
     ltb 0 (width format) && (leb channels 65535 && (ltb channel channels && eqb (bytes % (channels * width format)) 0))
 
 -- how many samples of a channel there are in so many bytes; none where they are no block
 unfoldable pub samplesIn : ℕ → ℕ → ℕ → ℕ → ℕ
 samplesIn bytes format channels channel =
-    cond (even bytes format channels channel) (bytes / (channels * width format)) 0
+    cond (wholeSamples bytes format channels channel) (bytes / (channels * width format)) 0
 
-abbrev pub sizeOf : Block → ℕ
-sizeOf b = samplesIn (length (b .bytes)) (b .format) (b .channels) (b .channel)
+abbrev pub blockSize : Block → ℕ
+blockSize b = samplesIn (length (b .bytes)) (b .format) (b .channels) (b .channel)
 
 abbrev pub samplesOf : Block → List Float
-samplesOf b = unpacked (sizeOf b) (b .bytes) (b .format) (b .channels) (b .channel)
+samplesOf b = unpacked (blockSize b) (b .bytes) (b .format) (b .channels) (b .channel)
 
 -- ---- what refuses it
 
@@ -68,16 +68,16 @@ feedRows number waiting size cleaned records answers =
 -- ---- what it gives
 
 -- a frame's entry in the side sheet: its number, from 0 at the opening, and 2^32 more where it was heard
-abbrev pub entryOf : ℕ → ℕ → Float → ℕ
-entryOf frame j heard = (frame + j) % 4294967296 + cond (eq heard (f32 0)) 0 4294967296
+abbrev pub frameEntry : ℕ → ℕ → Float → ℕ
+frameEntry frame j heard = (frame + j) % 4294967296 + cond (eq heard (f32 0)) 0 4294967296
 
 -- those of frames in a row, the first of them with this number, by the three answers of each
-abbrev pub entriesOf : ℕ → List Float → List ℕ
-entriesOf frame answers = tab (length answers / 3) (λ j. entryOf frame j (at answers (3 * j)))
+abbrev pub frameEntries : ℕ → List Float → List ℕ
+frameEntries frame answers = tab (length answers / 3) (λ j. frameEntry frame j (at answers (3 * j)))
 
 -- and their records in the side sheet, 8 bytes each, on this side
 abbrev pub notedOf : ℕ → ℕ → List Float → List ℕ
-notedOf side frame answers = recordsOf side (entriesOf frame answers)
+notedOf side frame answers = recordsOf side (frameEntries frame answers)
 
 -- of what a take writes, samples and answers: the answers, the samples packed, and a record for each frame; of nothing,
 -- nothing
@@ -91,6 +91,6 @@ fedBy side frame t = record { answer = t .answer; kept = t .kept; written = fedO
 
 unfoldable pub feed : ℕ → ℕ → Record → List Float → Block → List ℕ → ℕ → ℕ → ℕ → Effect Answer
 feed n bench rec store b model cleaned records answers =
-    refusing (feedRows (gate n bench rec (length store) PIECE) (rec .waiting) (sizeOf b) cleaned records answers)
+    refusing (feedRows (gate n bench rec (length store) PIECE) (rec .waiting) (blockSize b) cleaned records answers)
     (λ r. refusal (record { reply = Refused r; rec = rec }) store)
     (fedBy (sideOf bench) (rec .frame) (take n bench rec store (samplesOf b) model ROOM answers))

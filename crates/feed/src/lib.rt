@@ -1,24 +1,24 @@
-// A block of recorded bytes in one call: a bench's own channel of it is unpacked, taken, and packed again, with a record
-// of the side sheet for each frame, which carries the bench's own side. What may refuse it is tested before anything
-// changes.
+// A block of recorded bytes in one call: a bench's own channel of it is unpacked, taken, and packed again, with a
+// record of the side sheet for each frame, which carries the bench's own side. What may refuse it is tested before
+// anything changes.
 ghost use mathlib.Core.List.{[], _∷_};
 ghost use lib.ListN.{length};
 ghost use Rattle.desk.specs.Gate.{BENCHES, sideOf};
 ghost use Rattle.frame.specs.Effect.{WorkedBoth};
 ghost use Rattle.whole.specs.Whole.{take};
 ghost use Rattle.feed.specs.Feed.{ROOM, blockOf, fedBy, feed};
-ghost use Rattle.feed.specs.Parts.{Ready};
+ghost use Rattle.feed.specs.Private.{Ready};
 use desk::Answer;
+use desk::Bench;
 use desk::Record;
-use desk::Side;
 use frame::Reply;
 
 mod out;
-mod tests;
+mod refusals;
 
 // What comes of the samples of a channel is handed out, where their take is not refused.
 fn clean(
-    side: Side,
+    side: Bench,
     rec: Record,
     store: &mut [f32],
     samples: &[f32],
@@ -50,7 +50,7 @@ fn clean(
 // A block and the model in. For each frame that its samples complete this writes 960 bytes, a record of 8 bytes, and
 // three answers: heard or not, voice, energy.
 pub fn feed(
-    side: Side,
+    side: Bench,
     rec: Record,
     store: &mut [f32],
     block: &[u8],
@@ -76,8 +76,8 @@ pub fn feed(
             rec,
         };
     }
-    let n = tests::samples_in(block.len(), format, channels, channel);
-    if !tests::fits(rec.waiting, n, cleaned.len(), records.len(), answers.len()) {
+    let n = refusals::samples_in(block.len(), format, channels, channel);
+    if !refusals::fits(rec.waiting, n, cleaned.len(), records.len(), answers.len()) {
         return Answer {
             reply: Reply::Refused(5),
             rec,

@@ -3,7 +3,7 @@
 -- are a list of 960 numbers: their real parts, and then their imaginary parts.
 use Rattle.rules.specs.Common.{ℕ, zero, suc, _+_, _-_, _*_, _/_, _%_, cond, List, eqb, ltb}
 use Rattle.rules.specs.Tab.{tab}
-use Rattle.fft.specs.Ops.{Ops, Complex, numberAt}
+use Rattle.fft.specs.Ops.{Ops, Complex, elementAt}
 
 -- The list of 480 complex numbers.
 unfoldable pub complexes : {A : Type 0} → (ℕ → Complex A) → List A
@@ -59,7 +59,7 @@ module _ {A : Type 0} (o : Ops A) where
 
   -- Number i of a list of complex numbers.
   abbrev pub complexAt : List A → ℕ → Complex A
-  complexAt xs i = record { re = numberAt o xs i; im = numberAt o xs (480 + i) }
+  complexAt xs i = record { re = elementAt o xs i; im = elementAt o xs (480 + i) }
 
   -- ---- what needs no cosine
   -- Bin k of the transform of two numbers.
@@ -76,22 +76,22 @@ module _ {A : Type 0} (o : Ops A) where
 
   -- Two samples as a complex number: the even one is the real part, the odd one the imaginary part.
   abbrev pub pair : List A → ℕ → Complex A
-  pair x i = record { re = numberAt o x (2 * i); im = numberAt o x (2 * i + 1) }
+  pair x i = record { re = elementAt o x (2 * i); im = elementAt o x (2 * i + 1) }
 
   -- All samples like that, for the forward transform.
-  unfoldable pub packed : List A → List A
-  packed x = complexes (pair x)
+  unfoldable pub asComplex : List A → List A
+  asComplex x = complexes (pair x)
 
   -- Bin k of a spectrum, for the inverse transform. Bins 0 and 480 are real.
   unfoldable pub binIn : List A → ℕ → Complex A
   binIn x k =
-      cond (eqb k 0) (record { re = numberAt o x 0; im = o .nought })
-      (cond (eqb k 480) (record { re = numberAt o x 959; im = o .nought })
-      (record { re = numberAt o x (2 * k - 1); im = numberAt o x (2 * k) }))
+      cond (eqb k 0) (record { re = elementAt o x 0; im = o .nought })
+      (cond (eqb k 480) (record { re = elementAt o x 959; im = o .nought })
+      (record { re = elementAt o x (2 * k - 1); im = elementAt o x (2 * k) }))
 
   -- Sample n of the inverse transform. Its parts are swapped, so the even samples are imaginary parts.
   unfoldable pub sampleOut : List A → ℕ → A
-  sampleOut z n = cond (eqb (n % 2) 0) (numberAt o z (480 + n / 2)) (numberAt o z (n / 2))
+  sampleOut z n = cond (eqb (n % 2) 0) (elementAt o z (480 + n / 2)) (elementAt o z (n / 2))
 
   module _ (c : ℕ → A) where
     -- x turned back by t/960 of a turn.
@@ -108,24 +108,31 @@ module _ {A : Type 0} (o : Ops A) where
     abbrev pub ofFive : Complex A → Complex A → Complex A → Complex A → Complex A → ℕ → Complex A
     ofFive a b d e f zero = a +ᶜ (b +ᶜ f +ᶜ (d +ᶜ e))
     ofFive a b d e f (suc zero) = a +ᶜ (c 192 · (b +ᶜ f) +ᶜ c 384 · (d +ᶜ e)) +ⁱ (c 432 · (b -ᶜ f) +ᶜ c 624 · (d -ᶜ e))
-    ofFive a b d e f (suc (suc zero)) = a +ᶜ (c 384 · (b +ᶜ f) +ᶜ c 192 · (d +ᶜ e)) +ⁱ (c 624 · (b -ᶜ f) -ᶜ c 432 · (d -ᶜ e))
-    ofFive a b d e f (suc (suc (suc zero))) = a +ᶜ (c 384 · (b +ᶜ f) +ᶜ c 192 · (d +ᶜ e)) -ⁱ (c 624 · (b -ᶜ f) -ᶜ c 432 · (d -ᶜ e))
-    ofFive a b d e f (suc (suc (suc (suc k)))) = a +ᶜ (c 192 · (b +ᶜ f) +ᶜ c 384 · (d +ᶜ e)) -ⁱ (c 432 · (b -ᶜ f) +ᶜ c 624 · (d -ᶜ e))
+    ofFive a b d e f (suc (suc zero)) =
+        a +ᶜ (c 384 · (b +ᶜ f) +ᶜ c 192 · (d +ᶜ e)) +ⁱ (c 624 · (b -ᶜ f) -ᶜ c 432 · (d -ᶜ e))
+    ofFive a b d e f (suc (suc (suc zero))) =
+        a +ᶜ (c 384 · (b +ᶜ f) +ᶜ c 192 · (d +ᶜ e)) -ⁱ (c 624 · (b -ᶜ f) -ᶜ c 432 · (d -ᶜ e))
+    ofFive a b d e f (suc (suc (suc (suc k)))) =
+        a +ᶜ (c 192 · (b +ᶜ f) +ᶜ c 384 · (d +ᶜ e)) -ⁱ (c 432 · (b -ᶜ f) +ᶜ c 624 · (d -ᶜ e))
 
     -- ---- stages: bin q of lane i
     -- The first stage, in which nothing is turned.
     unfoldable pub row5 : List A → ℕ → ℕ → Complex A
-    row5 xs i = ofFive (complexAt xs i) (complexAt xs (i + 96)) (complexAt xs (i + 192)) (complexAt xs (i + 288)) (complexAt xs (i + 384))
+    row5 xs i =
+        ofFive (complexAt xs i) (complexAt xs (i + 96)) (complexAt xs (i + 192)) (complexAt xs (i + 288))
+        (complexAt xs (i + 384))
 
     -- Bin q of lane i in a stage of threes.
     unfoldable pub row3 : ℕ → List A → ℕ → ℕ → Complex A
     row3 m xs i =
-        ofThree (complexAt xs (first 3 m i)) (turnedBack (angle m i) (complexAt xs (first 3 m i + m))) (turnedBack (2 * angle m i) (complexAt xs (first 3 m i + 2 * m)))
+        ofThree (complexAt xs (first 3 m i)) (turnedBack (angle m i) (complexAt xs (first 3 m i + m)))
+        (turnedBack (2 * angle m i) (complexAt xs (first 3 m i + 2 * m)))
 
     -- Bin q of lane i in a stage of fours.
     unfoldable pub row4 : ℕ → List A → ℕ → ℕ → Complex A
     row4 m xs i =
-        ofFour (complexAt xs (first 4 m i)) (turnedBack (angle m i) (complexAt xs (first 4 m i + m))) (turnedBack (2 * angle m i) (complexAt xs (first 4 m i + 2 * m)))
+        ofFour (complexAt xs (first 4 m i)) (turnedBack (angle m i) (complexAt xs (first 4 m i + m)))
+        (turnedBack (2 * angle m i) (complexAt xs (first 4 m i + 2 * m)))
         (turnedBack (3 * angle m i) (complexAt xs (first 4 m i + 3 * m)))
 
     -- Bin q of lane i in a stage of twos.
@@ -134,7 +141,8 @@ module _ {A : Type 0} (o : Ops A) where
 
     -- The five stages: 480 = 5 * 3 * 4 * 2 * 4.
     unfoldable pub transformed : List A → List A
-    transformed z = stage 120 (row4 1 (stage 240 (row2 4 (stage 120 (row4 8 (stage 160 (row3 32 (stage 96 (row5 z)))))))))
+    transformed z =
+        stage 120 (row4 1 (stage 240 (row2 4 (stage 120 (row4 8 (stage 160 (row3 32 (stage 96 (row5 z)))))))))
 
     -- ---- forward
     -- The transform of the even samples, from bins a = k and b = 480 - k of the pairs. (c 160 is a half.)
@@ -156,11 +164,12 @@ module _ {A : Type 0} (o : Ops A) where
     -- Number j of a spectrum.
     unfoldable pub numberOut : List A → ℕ → A
     numberOut z j =
-        cond (eqb j 0) (numberAt o z 0 ⊕ numberAt o z 480) (cond (eqb (j % 2) 1) (binOut z ((j + 1) / 2) .re) (binOut z (j / 2) .im))
+        cond (eqb j 0) (elementAt o z 0 ⊕ elementAt o z 480)
+        (cond (eqb (j % 2) 1) (binOut z ((j + 1) / 2) .re) (binOut z (j / 2) .im))
 
     -- The forward transform.
     unfoldable pub forwardOver : List A → List A
-    forwardOver x = tab 961 (numberOut (transformed (packed x)))
+    forwardOver x = tab 961 (numberOut (transformed (asComplex x)))
 
     -- ---- inverse
     -- Bin k of the pairs, from bins a = k and b = 480 - k of the samples. Its parts are swapped, so that the stages of

@@ -11,11 +11,13 @@ use Rattle.fft.specs.Single.{single, of}
 
 -- Forward, in every commutative ring, with anything for cosines that obeys their laws.
 abbrev pub ForwardIsPlain : Type 1
-ForwardIsPlain = (A : Type 0) (o : Ops A) (R : Ring o) (c : ℕ → A) → Cosines o (R .one) c → (x : List A) → forwardOver o c x ≡ plainForward o c x
+ForwardIsPlain = (A : Type 0) (o : Ops A) (R : Ring o) (c : ℕ → A) → Cosines o (R .one) c → (x : List A)
+    → forwardOver o c x ≡ plainForward o c x
 
 -- The same for the inverse.
 abbrev pub InverseIsPlain : Type 1
-InverseIsPlain = (A : Type 0) (o : Ops A) (R : Ring o) (c : ℕ → A) → Cosines o (R .one) c → (x : List A) → inverseOver o c x ≡ plainInverse o c x
+InverseIsPlain = (A : Type 0) (o : Ops A) (R : Ring o) (c : ℕ → A) → Cosines o (R .one) c → (x : List A)
+    → inverseOver o c x ≡ plainInverse o c x
 
 -- With the operations of f32 and its table, these plain sums are those of `transforms`.
 abbrev pub SameForward : Type 0

@@ -2,7 +2,7 @@
 ghost use mathlib.Core.Path.{_≡_};
 ghost use Rattle.fft.specs.Fast.{ofTwo, ofThree, ofFour, ofFive};
 ghost use Rattle.fft.specs.Single.{single, of};
-ghost use Rattle.fft.specs.Parts.{complexOf, twos, threes, fours, fives};
+ghost use Rattle.fft.specs.Private.{complexOf, twos, threes, fours, fives};
 use crate::complex::Cx;
 
 pub(crate) struct Twos {
@@ -109,7 +109,8 @@ pub(crate) fn four(a: Cx, b: Cx, d: Cx, e: Cx) -> Fours
 
 // The transform of five numbers.
 pub(crate) fn five(c: &[f32; 960], a: Cx, b: Cx, d: Cx, e: Cx, f: Cx) -> Fives
-    ensures { λ r. ⌜ r ≡ fives (ofFive single (of (now (c .entry))) (complexOf a) (complexOf b) (complexOf d) (complexOf e) (complexOf f)) ⌝ }
+    ensures { λ r. ⌜ r ≡ fives
+        (ofFive single (of (now (c .entry))) (complexOf a) (complexOf b) (complexOf d) (complexOf e) (complexOf f)) ⌝ }
 {
     let pr = b.re + f.re;
     let pi = b.im + f.im;

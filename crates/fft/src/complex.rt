@@ -4,7 +4,7 @@ ghost use Prim.Native.Nat.{_+_, _≤_, _<_};
 ghost use lib.ListN.{length};
 ghost use Rattle.fft.specs.Fast.{complexAt, turnedBack};
 ghost use Rattle.fft.specs.Single.{single, of};
-ghost use Rattle.fft.specs.Parts.{cx, putFour, putComplex};
+ghost use Rattle.fft.specs.Private.{cx, putFour, putComplex};
 
 pub(crate) struct Cx {
     pub re: f32,

@@ -3,9 +3,9 @@ ghost use mathlib.Core.Path.{_≡_};
 ghost use Prim.Native.Nat.{_+_, _*_, _-_, _≤_, _<_};
 ghost use lib.ListN.{length};
 ghost use Rattle.rules.specs.Tab.{tab};
-ghost use Rattle.fft.specs.Fast.{pair, packed, split, binOut, numberOut};
+ghost use Rattle.fft.specs.Fast.{pair, asComplex, split, binOut, numberOut};
 ghost use Rattle.fft.specs.Single.{single, of};
-ghost use Rattle.fft.specs.Parts.{cx, complexOf, Laid, Filled};
+ghost use Rattle.fft.specs.Private.{cx, complexOf, Laid, Filled};
 use crate::complex::Cx;
 use crate::complex::entry;
 use crate::complex::put;
@@ -38,7 +38,7 @@ fn pack_block(out: &mut [f32], x: &[f32], i: usize)
 // All samples as complex numbers.
 pub(crate) fn pack(out: &mut [f32], x: &[f32])
     requires { ⌜ (length (now out) ≡ 960) × (length (now x) ≡ 960) ⌝ }
-    ensures { λ _. ⌜ now (out .exit) ≡ packed single (now (x .entry)) ⌝ }
+    ensures { λ _. ⌜ now (out .exit) ≡ asComplex single (now (x .entry)) ⌝ }
 {
     for b in 0..120 {
         pack_block(out, x, 4 * b);
@@ -87,7 +87,8 @@ fn any_bin(c: &[f32; 960], z: &[f32; 960], k: usize) -> Cx
 fn four_bins(out: &mut [f32], c: &[f32; 960], z: &[f32; 960], k: usize)
     requires { ⌜ Filled 961 (numberOut single (of (now c)) (now z)) (2 * k - 1) (now out) ⌝ }
     requires { ⌜ (0 < k) × (k + 4 ≤ 480) ⌝ }
-    ensures { λ _. ⌜ Filled 961 (numberOut single (of (now (c .entry))) (now (z .entry))) (2 * k + 7) (now (out .exit)) ⌝ }
+    ensures { λ _. ⌜ Filled 961 (numberOut single (of (now (c .entry))) (now (z .entry))) (2 * k + 7)
+        (now (out .exit)) ⌝ }
 {
     let w = bin(c, z, k);
     let x = bin(c, z, k + 1);

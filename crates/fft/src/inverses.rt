@@ -5,7 +5,7 @@ ghost use lib.ListN.{length};
 ghost use Rattle.rules.specs.Tab.{tab};
 ghost use Rattle.fft.specs.Fast.{binIn, merged, mergedAt, mergedOf, sampleOut};
 ghost use Rattle.fft.specs.Single.{single, of};
-ghost use Rattle.fft.specs.Parts.{cx, complexOf, Laid};
+ghost use Rattle.fft.specs.Private.{cx, complexOf, Laid};
 use crate::complex::Cx;
 use crate::complex::put;
 
@@ -76,7 +76,8 @@ fn any_merged(c: &[f32; 960], x: &[f32], k: usize) -> Cx
 fn merge_block(out: &mut [f32], c: &[f32; 960], x: &[f32], i: usize)
     requires { ⌜ Laid 1 480 (λ b a. mergedAt single (of (now c)) (now x) b) i (now out) ⌝ }
     requires { ⌜ (length (now x) ≡ 961) × (0 < i) × (i + 4 ≤ 480) ⌝ }
-    ensures { λ _. ⌜ Laid 1 480 (λ b a. mergedAt single (of (now (c .entry))) (now (x .entry)) b) (i + 4) (now (out .exit)) ⌝ }
+    ensures { λ _. ⌜ Laid 1 480 (λ b a. mergedAt single (of (now (c .entry))) (now (x .entry)) b) (i + 4)
+        (now (out .exit)) ⌝ }
 {
     let w = merged(c, x, i);
     let y = merged(c, x, i + 1);
@@ -88,7 +89,8 @@ fn merge_block(out: &mut [f32], c: &[f32; 960], x: &[f32], i: usize)
 // Stores the first four.
 fn first_block(out: &mut [f32], c: &[f32; 960], x: &[f32])
     requires { ⌜ (length (now out) ≡ 960) × (length (now x) ≡ 961) ⌝ }
-    ensures { λ _. ⌜ Laid 1 480 (λ b a. mergedAt single (of (now (c .entry))) (now (x .entry)) b) 4 (now (out .exit)) ⌝ }
+    ensures { λ _. ⌜ Laid 1 480 (λ b a. mergedAt single (of (now (c .entry))) (now (x .entry)) b) 4
+        (now (out .exit)) ⌝ }
 {
     let w = any_merged(c, x, 0);
     let y = any_merged(c, x, 1);

@@ -7,7 +7,7 @@ ghost use Prim.Native.Nat.{_+_, _*_, _/_, _%_, _≤_, _<_};
 ghost use lib.ListN.{length};
 ghost use Rattle.fft.specs.Fast.{complexAt, turnedBack, ofFour, row2, row3, row4, row5, stage, transformed};
 ghost use Rattle.fft.specs.Single.{single, of};
-ghost use Rattle.fft.specs.Parts.{twos, threes, fours, fives, Laid};
+ghost use Rattle.fft.specs.Private.{twos, threes, fours, fives, Laid};
 use crate::bins::Fives;
 use crate::bins::Fours;
 use crate::bins::Threes;

@@ -21,14 +21,16 @@ unless rows share f = let reply = firstRefusal rows in cond (passed reply) f (re
 
 -- What a contract says about a call: it answers, leaves and writes what f says. `held` is what the answer
 -- buffers held before.
-pub record Worked {A : Type 0} (f : Effect A) (answer : A) (kept : List Float) (held out : List (List Float)) : Type 0 where
+pub record Worked {A : Type 0} (f : Effect A) (answer : A) (kept : List Float)
+    (held out : List (List Float)) : Type 0 where
   pub answers : answer ≡ f .answer
   pub keeps : kept ≡ f .kept
   pub writes : out ≡ onto (f .written) held
 
 -- The same for a call that is also lent buffers of whole numbers (bytes, entries). In f these come after the
 -- buffers of floats.
-pub record WorkedBoth {A : Type 0} (f : Effect A) (answer : A) (kept : List Float) (held out : List (List Float)) (wholes wholes′ : List (List ℕ)) : Type 0 where
+pub record WorkedBoth {A : Type 0} (f : Effect A) (answer : A) (kept : List Float) (held out : List (List Float))
+    (wholes wholes′ : List (List ℕ)) : Type 0 where
   pub floats : Worked f answer kept held out
   pub notes : wholes′ ≡ fronts (drop (length held) (f .written)) wholes
 
@@ -41,6 +43,7 @@ Settled A =
 
 abbrev pub SettledBoth : Type 0 → Type 0
 SettledBoth A =
-    (f : Effect A) (answer answer′ : A) (kept kept′ : List Float) (held out out′ : List (List Float)) (wholes noted noted′ : List (List ℕ))
+    (f : Effect A) (answer answer′ : A) (kept kept′ : List Float) (held out out′ : List (List Float))
+    (wholes noted noted′ : List (List ℕ))
     → WorkedBoth f answer kept held out wholes noted → WorkedBoth f answer′ kept′ held out′ wholes noted′
     → (answer ≡ answer′) × (kept ≡ kept′) × (out ≡ out′) × (noted ≡ noted′)

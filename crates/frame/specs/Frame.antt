@@ -1,6 +1,7 @@
 -- The four calls of a frame on one share. The contracts of `frame` cite these definitions. A share does not
 -- know to which bench it belongs.
-use Rattle.rules.specs.Common.{ℕ, _+_, _-_, Bool, cond, not, _&&_, List, [], _∷_, _++_, eqb, ltb, length, pos, Float, binary32, ofInt}
+use Rattle.rules.specs.Common.{ℕ, _+_, _-_, Bool, cond, not, _&&_, List, [], _∷_, _++_, eqb, ltb, length, pos, Float}
+use Rattle.rules.specs.Common.{binary32, ofInt}
 use Rattle.rules.specs.F32.{_⊕_, _⊘_, at, f32}
 use Rattle.rules.specs.Place.{Place, get, put}
 pub use Rattle.rules.specs.Refusals.{wrong}
@@ -15,7 +16,7 @@ use Rattle.model.specs.declared.Reading.{Reading}
 use Rattle.model.specs.declared.Reading.the-variants.{Good, Refused as Unread}
 use Rattle.features.specs.Silence.{energy, isSilent}
 use Rattle.frame.specs.Effect.{Effect, refusal, unless}
-use Rattle.frame.specs.Reply.{_when_}
+use Rattle.frame.specs.Reply.{_refusedIf_}
 pub use Rattle.frame.specs.Share.{PART}
 use Rattle.frame.specs.Share.{inputMem, synthesisMem, keptX, keptEx, keptLag, memHpX}
 use Rattle.frame.specs.Heard.{scaled, energies, Spoken, spoken}
@@ -48,7 +49,8 @@ done1 share samples =
 unfoldable pub call1 : List Float → List Float → ℕ → Effect Reply
 call1 share samples window =
     unless
-    (5 when wrong ((length share, PART) ∷ (length samples, 480) ∷ (window, 960) ∷ []) ∷ 9 when not (good samples) ∷ []) share
+    (5 refusedIf wrong ((length share, PART) ∷ (length samples, 480) ∷ (window, 960) ∷ [])
+    ∷ 9 refusedIf not (good samples) ∷ []) share
     (done1 share samples)
 
 -- ---- call 2, from `transform_input` and `compute_frame_features`
@@ -73,7 +75,8 @@ done2 share spectrum lag =
 unfoldable pub call2 : List Float → List Float → ℕ → ℕ → ℕ → Effect Reply
 call2 share spectrum lag window sums =
     unless
-    (5 when wrong ((length share, PART) ∷ (length spectrum, 961) ∷ (window, 960) ∷ (sums, 22) ∷ []) ∷ 6 when ltb 768 lag ∷ []) share
+    (5 refusedIf wrong ((length share, PART) ∷ (length spectrum, 961) ∷ (window, 960) ∷ (sums, 22) ∷ [])
+    ∷ 6 refusedIf ltb 768 lag ∷ []) share
     (done2 share spectrum lag)
 
 -- ---- call 3, from `compute_frame_features` and `process_frame` of denoise.rs
@@ -88,7 +91,8 @@ heard e s = record { answer = Heard (s .voice) e; kept = s .share; written = all
 -- The sum of the band energies decides whether a frame is silent.
 unfoldable pub done3 : List Float → ℕ → List Float → List Float → List ℕ → Model → Effect Reply
 done3 share index spectrum logs bytes m =
-    let e = energy (get keptEx share) in cond (isSilent e) (silent share) (heard e (spoken share index spectrum logs bytes m))
+    let e = energy (get keptEx share) in
+    cond (isSilent e) (silent share) (heard e (spoken share index spectrum logs bytes m))
 
 -- Whether the model has the GRU sizes that the opening noted.
 abbrev pub counted : Hearing → Model → Bool
@@ -111,7 +115,8 @@ modelled same (Good m) share f = cond (same m) (f m) (refusal (Refused 8) share)
 unfoldable pub call3 : List Float → Hearing → List Float → List Float → List ℕ → ℕ → Effect Reply
 call3 share hearing spectrum logs model out =
     unless
-    (5 when wrong ((length share, PART) ∷ (length spectrum, 961) ∷ (length logs, 22) ∷ (out, 961) ∷ []) ∷ 5 when ltb 7 (hearing .index) ∷ []) share
+    (5 refusedIf wrong ((length share, PART) ∷ (length spectrum, 961) ∷ (length logs, 22) ∷ (out, 961) ∷ [])
+    ∷ 5 refusedIf ltb 7 (hearing .index) ∷ []) share
     (modelled (counted hearing) (readOf model) share (done3 share (hearing .index) spectrum logs model))
 
 -- ---- call 4, from `frame_synthesis` of features.rs
@@ -139,4 +144,5 @@ done4 share inverse =
 
 unfoldable pub call4 : List Float → List Float → ℕ → Effect Reply
 call4 share inverse out =
-    unless (5 when wrong ((length share, PART) ∷ (length inverse, 960) ∷ (out, 480) ∷ []) ∷ []) share (done4 share inverse)
+    unless (5 refusedIf wrong ((length share, PART) ∷ (length inverse, 960) ∷ (out, 480) ∷ []) ∷ []) share
+    (done4 share inverse)

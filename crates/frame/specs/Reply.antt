@@ -27,9 +27,9 @@ oneMore number = cond (ltb number 4294967295) (number + 1) 0
 
 -- A table of refusals for a call is a list of replies, tried in order. A row refuses, or is Done. This row is
 -- a number and the test for it.
-infix 70 _when_
-abbrev pub _when_ : ℕ → Bool → Reply
-n when t = cond t (Refused n) Done
+infix 70 _refusedIf_
+abbrev pub _refusedIf_ : ℕ → Bool → Reply
+n refusedIf t = cond t (Refused n) Done
 
 -- The first reply that refuses; if there is none, Done.
 abbrev pub firstRefusal : List Reply → Reply

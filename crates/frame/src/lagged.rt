@@ -63,7 +63,8 @@ fn keep(share: &mut [f32], ex: &[f32], lag: Lag)
 
 // What call 2 does after its window is written.
 pub(crate) fn note(share: &mut [f32], spectrum: &[f32], lag: Lag, sums: &mut [f32])
-    requires { ⌜ (length (now share) ≡ 3778) × (length (now spectrum) ≡ 961) × (length (now sums) ≡ 22) × (lag .0 ≤ 768) ⌝ }
+    requires { ⌜ (length (now share) ≡ 3778) × (length (now spectrum) ≡ 961) × (length (now sums) ≡ 22)
+        × (lag .0 ≤ 768) ⌝ }
     ensures { λ _. ⌜ now (share .exit) ≡ putKept (now (share .entry)) (now (spectrum .entry)) (lag .0) ⌝ }
     ensures { λ _. ⌜ now (sums .exit) ≡ plusHundredth (energies (now (spectrum .entry))) ⌝ }
 {

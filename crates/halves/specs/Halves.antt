@@ -10,7 +10,7 @@ use Rattle.bands.specs.Windowed.{windowed}
 use Rattle.finder.specs.Kept.{wholeLag}
 use Rattle.frame.specs.Share.{PART, inputMem, keptLag}
 use Rattle.frame.specs.Effect.{Effect, unless}
-use Rattle.frame.specs.Reply.{passed, _when_}
+use Rattle.frame.specs.Reply.{passed, _refusedIf_}
 use Rattle.frame.specs.declared.Hearing.{Hearing}
 use Rattle.frame.specs.declared.Reply.{Reply}
 use Rattle.frame.specs.declared.Way.{Way}
@@ -32,10 +32,11 @@ analysed share way window sums =
 
 unfoldable pub firstHalf : List Float → Way → List Float → ℕ → Effect Reply
 firstHalf share way samples sums =
-    unless (5 when wrong ((length share, PART) ∷ (length samples, 480) ∷ (sums, 22) ∷ []) ∷ []) share
+    unless (5 refusedIf wrong ((length share, PART) ∷ (length samples, 480) ∷ (sums, 22) ∷ []) ∷ []) share
     (onward (call1 share samples 960) (λ a. analysed (a .kept) way (firstIn (a .written)) sums))
 
--- ---- the second half: call 3 with the spectrum of the window that call 2 gave, and call 4 with the inverse of what call 3 wrote
+-- ---- the second half: call 3 with the spectrum of the window that call 2 gave, and call 4 with the inverse of what
+--      call 3 wrote
 
 -- The window of call 2 for the lag that is kept in the share, whoever made that call.
 unfoldable pub lookedBack : List Float → List Float
@@ -49,6 +50,7 @@ synthesised answer share way spectrum out =
 
 unfoldable pub secondHalf : List Float → Hearing → List Float → List ℕ → ℕ → Effect Reply
 secondHalf share hearing logs model out =
-    unless (5 when wrong ((length share, PART) ∷ (length logs, 22) ∷ (out, 480) ∷ []) ∷ 5 when ltb 7 (hearing .index) ∷ []) share
+    unless (5 refusedIf wrong ((length share, PART) ∷ (length logs, 22) ∷ (out, 480) ∷ [])
+    ∷ 5 refusedIf ltb 7 (hearing .index) ∷ []) share
     (onward (call3 share hearing (forwardBy (hearing .way) (lookedBack share)) logs model 961)
     (λ a. synthesised (a .answer) (a .kept) (hearing .way) (firstIn (a .written)) out))

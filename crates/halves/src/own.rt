@@ -9,8 +9,10 @@ use frame::Reply;
 // Call 2 with our own lag. Takes the first spectrum and writes 960 windowed numbers and 22 sums.
 pub fn call2_own(share: &mut [f32], spectrum: &[f32], window: &mut [f32], sums: &mut [f32]) -> Reply
     ensures { λ r. ⌜ Worked
-        (call2Own (now (share .entry)) (now (spectrum .entry)) (length (now (window .entry))) (length (now (sums .entry))))
-        r (now (share .exit)) (now (window .entry) ∷ now (sums .entry) ∷ []) (now (window .exit) ∷ now (sums .exit) ∷ []) ⌝ }
+        (call2Own (now (share .entry)) (now (spectrum .entry)) (length (now (window .entry)))
+        (length (now (sums .entry))))
+        r (now (share .exit)) (now (window .entry) ∷ now (sums .entry) ∷ [])
+        (now (window .exit) ∷ now (sums .exit) ∷ []) ⌝ }
 {
     if share.len() != frame::PART {
         return Reply::Refused(5);

@@ -1,4 +1,5 @@
-// The second half of a frame: call 3 with the spectrum of the window that call 2 gave, and call 4 with the inverse of what call 3 wrote.
+// The second half of a frame: call 3 with the spectrum of the window that call 2 gave, and call 4 with the inverse of
+// what call 3 wrote.
 ghost use mathlib.Core.List.{[], _∷_};
 ghost use mathlib.Core.Path.{_≡_};
 ghost use lib.ListN.{length};
@@ -26,7 +27,8 @@ fn look_back(spectrum: &mut [f32], share: &[f32], way: Way)
 // Call 4 with the inverse of what call 3 wrote.
 fn synthesise(share: &mut [f32], way: Way, spectrum: &[f32], out: &mut [f32]) -> Reply
     requires { ⌜ length (now spectrum) ≡ 961 ⌝ }
-    ensures { λ r. ⌜ Worked (call4 (now (share .entry)) (inverseBy way (now (spectrum .entry))) (length (now (out .entry))))
+    ensures { λ r. ⌜ Worked (call4 (now (share .entry)) (inverseBy way (now (spectrum .entry)))
+        (length (now (out .entry))))
         r (now (share .exit)) (now (out .entry) ∷ []) (now (out .exit) ∷ []) ⌝ }
 {
     let mut samples = [0.0f32; 960];

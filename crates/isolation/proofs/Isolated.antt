@@ -6,7 +6,8 @@
 --     isolated, undisturbed     the two laws, of a kind of calls that is owned
 --     owned-is-apart            what specs/Isolation.antt claims
 -- Assumes nothing.
-use Rattle.rules.proofs.Common.{ℕ, _+_, _*_, _<_, Bool, true, false, cond, List, [], _∷_, map, _≡_, refl, sym, ap, ap₂, _∙_, eqb, ltb, length, Float}
+use Rattle.rules.proofs.Common.{ℕ, _+_, _*_, _<_, Bool, true, false, cond, List, [], _∷_, map, _≡_, refl, sym, ap, ap₂}
+use Rattle.rules.proofs.Common.{_∙_, eqb, ltb, length, Float}
 use native.Mathlib.Omega.{arith}
 use mathlib.Core.Logic.{_⊎_, inl, inr, ⊎-elim}
 use borrow.Author.Tests.{ne-eqb, eq-eqb, eqb-true, eqb-false, ltb-true, ltb-false}
@@ -25,7 +26,8 @@ use Rattle.desk.specs.Surface.{numbersOf, recordIn, replyNumber, handedBack}
 use Rattle.desk.specs.Laws.{placed}
 use Rattle.desk.proofs.Apart.{apart}
 use Rattle.isolation.specs.Run.{Returned, returned, Kind, On, on, State, recordAt, given, gets, after, received}
-use Rattle.isolation.specs.Isolation.{ofBench, asBench, allZeros, own, alone, Isolated, Undisturbed, Owned, OwnedIsApart}
+use Rattle.isolation.specs.Isolation.{ofBench, asBench, allZeros, own, alone, Isolated, Undisturbed, Owned}
+use Rattle.isolation.specs.Isolation.{OwnedIsApart}
 use Rattle.isolation.proofs.Performed.{lonely, sized, its-own, no-side, unseen}
 use Rattle.isolation.proofs.Runs.{reads}
 
@@ -38,7 +40,9 @@ of-bench s k rec = go (eqb (rec .due) 0)
 
     -- with this as the last number
     ending : ℕ → List ℕ
-    ending j = rec .due ∷ h .index ∷ h .vad ∷ h .noise ∷ h .denoise ∷ rec .frame ∷ rec .heard ∷ rec .waiting ∷ rec .piece ∷ rec .progress ∷ wayNumber (h .way) ∷ j ∷ []
+    ending j =
+        rec .due ∷ h .index ∷ h .vad ∷ h .noise ∷ h .denoise ∷ rec .frame ∷ rec .heard ∷ rec .waiting ∷ rec .piece
+        ∷ rec .progress ∷ wayNumber (h .way) ∷ j ∷ []
 
     go : (t : Bool) → ending (cond (eqb (cond t 0 (k + 1)) 0) 0 (s + 1)) ≡ ending (cond t 0 (s + 1))
     go true = refl
@@ -55,7 +59,8 @@ module _ {C : Type 0} (serve : Kind C) (owned : Owned serve) where
       → serve n s ns store c ≡ placed s store (alone-does (sideOf s) (recordIn s ns) (get (shareOf s) store) c)
   mine n s ns store c h l = owned .does n s ns store c ∙ its-own (owned .local c) n s store h l (recordIn s ns)
 
-  kept : (side : ℕ) (rec : Record) (xs : List Float) (c : C) → length xs ≡ SHARE → length (alone-does side rec xs c .kept) ≡ SHARE
+  kept : (side : ℕ) (rec : Record) (xs : List Float) (c : C) → length xs ≡ SHARE
+      → length (alone-does side rec xs c .kept) ≡ SHARE
   kept side rec xs c l = sized (owned .local c) side rec xs l
 
   -- every other share stays, and the length of the store
@@ -78,7 +83,8 @@ module _ {C : Type 0} (serve : Kind C) (owned : Owned serve) where
           )
       go false e =
           let o : serve n side ns store c .kept ≡ store =
-          ap (λ (g : Effect Answer). g .kept) (owned .does n side ns store c) ∙ no-side (owned .local c) n side (ltb-false side n e) (recordIn side ns) store in
+          ap (λ (g : Effect Answer). g .kept) (owned .does n side ns store c)
+          ∙ no-side (owned .local c) n side (ltb-false side n e) (recordIn side ns) store in
           rw o (l, λ s ne. refl)
 
   -- what the share of a closed side held is not told
@@ -107,7 +113,8 @@ module _ {C : Type 0} (serve : Kind C) (owned : Owned serve) where
   -- what bench s receives, from its record and share
   unfoldable pub lone : ℕ → List ℕ → List Float → List C → List Returned
   lone s ns xs [] = []
-  lone s ns xs (c ∷ more) = let o = alone-does (sideOf s) (recordIn s ns) xs c in let r = returned s ns o in r ∷ lone s (r .numbers) (o .kept) more
+  lone s ns xs (c ∷ more) = let o = alone-does (sideOf s) (recordIn s ns) xs c in let r = returned s ns o in
+      r ∷ lone s (r .numbers) (o .kept) more
 
   -- and what comes after a call
   abbrev pub next : ℕ → List C → List ℕ → Effect Answer → List Returned
@@ -124,27 +131,33 @@ module _ {C : Type 0} (serve : Kind C) (owned : Owned serve) where
       where
         go : (t : Bool) → eqb (c .side) s ≡ t
             → ((c .side ≡ s → ⊥) → get (shareOf s) (after serve n st c .store) ≡ get (shareOf s) (st .store))
-            → received serve n s (after serve n st c) cs ≡ lone s (after serve n st c .numbers s) (get (shareOf s) (after serve n st c .store)) (own s cs)
+            → received serve n s (after serve n st c) cs
+            ≡ lone s (after serve n st c .numbers s) (get (shareOf s) (after serve n st c .store)) (own s cs)
             → received serve n s st (c ∷ cs) ≡ lone s (st .numbers s) (get (shareOf s) (st .store)) (own s (c ∷ cs))
         go true e others rest =
             let same = eqb-true (c .side) s e in
             let xs = get (shareOf s) (st .store) in
             let k = kept (sideOf s) (recordAt s st) xs (c .call) (length-get (shareOf s) (st .store) (omega arith)) in
             let one = alone-does (sideOf s) (recordAt s st) xs (c .call) in
-            let here : given serve n st c ≡ placed s (st .store) one = rw same (mine n s (st .numbers s) (st .store) (c .call) h l) in
+            let here : given serve n st c ≡ placed s (st .store) one =
+            rw same (mine n s (st .numbers s) (st .store) (c .call) h l) in
             let share : get (shareOf s) (given serve n st c .kept) ≡ one .kept =
-            ap (λ (g : Effect Answer). get (shareOf s) (g .kept)) here ∙ get-put (shareOf s) (st .store) (one .kept) (omega arith) k in
+            ap (λ (g : Effect Answer). get (shareOf s) (g .kept)) here
+            ∙ get-put (shareOf s) (st .store) (one .kept) (omega arith) k in
             let told : gets serve n st c ≡ returned s (st .numbers s) one =
-            ap (λ (k : ℕ). returned k (st .numbers k) (given serve n st c)) same ∙ ap (returned s (st .numbers s)) here in
+            ap (λ (k : ℕ). returned k (st .numbers k) (given serve n st c)) same
+            ∙ ap (returned s (st .numbers s)) here in
             rw e
             (ap₂ {C = List Returned} (λ (x : Returned) (more : List Returned). x ∷ more) told
             ((rw e at rest) ∙ ap₂ (λ (r : Returned) (x : List Float). lone s (r .numbers) x (own s cs)) told share))
         go false e others rest =
-            rw e ((rw e at rest) ∙ ap (λ (x : List Float). lone s (st .numbers s) x (own s cs)) (others (eqb-false (c .side) s e)))
+            rw e ((rw e at rest) ∙ ap (λ (x : List Float). lone s (st .numbers s) x (own s cs))
+            (others (eqb-false (c .side) s e)))
 
   -- ---- from closed
 
-  closed-same : (cs : List C) (s : ℕ) (ns : List ℕ) (xs ys : List Float) → length xs ≡ SHARE → length ys ≡ SHARE → recordIn s ns .due ≡ 0
+  closed-same : (cs : List C) (s : ℕ) (ns : List ℕ) (xs ys : List Float) → length xs ≡ SHARE → length ys ≡ SHARE
+      → recordIn s ns .due ≡ 0
       → lone s ns xs cs ≡ lone s ns ys cs
   unfolding lone
   closed-same [] s ns xs ys l k z = refl
@@ -156,7 +169,8 @@ module _ {C : Type 0} (serve : Kind C) (owned : Owned serve) where
       (⊎-elim
       (λ e. ap₂ (λ (r : Returned) (x : List Float). lone s (r .numbers) x more) (like .back) e)
       (λ d.
-      closed-same more s (returned s ns o .numbers) (o .kept) (u .kept) (kept (sideOf s) (recordIn s ns) xs c l) (kept (sideOf s) (recordIn s ns) ys c k) d
+      closed-same more s (returned s ns o .numbers) (o .kept) (u .kept) (kept (sideOf s) (recordIn s ns) xs c l)
+      (kept (sideOf s) (recordIn s ns) ys c k) d
       ∙ ap (λ (r : Returned). lone s (r .numbers) (u .kept) more) (like .back))
       (like .store))
 
@@ -173,7 +187,8 @@ module _ {C : Type 0} (serve : Kind C) (owned : Owned serve) where
     back : (k : ℕ) → handedBack k (gives .answer) (numbersOf k rec) ≡ numbersOf k then
     back k = go (passed (gives .answer .reply))
       where
-        go : (t : Bool) → cond t (numbersOf k (gives .answer .rec)) (numbersOf k rec) ≡ numbersOf k (cond t (gives .answer .rec) rec)
+        go : (t : Bool) → cond t (numbersOf k (gives .answer .rec)) (numbersOf k rec)
+            ≡ numbersOf k (cond t (gives .answer .rec) rec)
         go true = refl
         go false = refl
 
@@ -189,13 +204,17 @@ module _ {C : Type 0} (serve : Kind C) (owned : Owned serve) where
   named (c ∷ more) s k same rec xs =
       let o = gives (sideOf s) rec xs c in
       let r = then (sideOf s) rec xs c in
-      let told : ℕ → Returned = λ j. record { number = replyNumber (o .answer .reply); numbers = numbersOf j r; written = o .written } in
-      let from : (j : ℕ) → sideOf j ≡ sideOf s → lone j (numbersOf j rec) xs (c ∷ more) ≡ told j ∷ lone j (numbersOf j r) (o .kept) more =
-      λ j e. ap₂ {C = List Returned} (λ (x : Returned) (left : List Float). x ∷ lone j (x .numbers) left more) (gives-back (sideOf s) rec xs c j e)
+      let told : ℕ → Returned =
+      λ j. record { number = replyNumber (o .answer .reply); numbers = numbersOf j r; written = o .written } in
+      let from : (j : ℕ) → sideOf j ≡ sideOf s
+      → lone j (numbersOf j rec) xs (c ∷ more) ≡ told j ∷ lone j (numbersOf j r) (o .kept) more =
+      λ j e. ap₂ {C = List Returned} (λ (x : Returned) (left : List Float). x ∷ lone j (x .numbers) left more)
+      (gives-back (sideOf s) rec xs c j e)
       (ap₂ (λ (side : ℕ) (b : Record). alone-does side b xs c .kept) e (reads j rec)) in
       from s refl
       ∙ ap₂ {C = List Returned} (λ (x : Returned) (rest : List Returned). x ∷ rest)
-      (ap (λ (ns : List ℕ). record { number = replyNumber (o .answer .reply); numbers = ns; written = o .written }) (sym (of-bench s k r)))
+      (ap (λ (ns : List ℕ). record { number = replyNumber (o .answer .reply); numbers = ns; written = o .written })
+      (sym (of-bench s k r)))
       (named more s k same r (o .kept))
       ∙ ap (map (asBench s)) (sym (from k same))
 
@@ -214,7 +233,8 @@ module _ {C : Type 0} (serve : Kind C) (owned : Owned serve) where
       ap (map (asBench s))
       (in-any-run 2 k low (map (on k) cs) (allZeros two) refl
       ∙ ap (lone k (numbersOf k closed) (get (shareOf k) two)) (own-lonely k cs)
-      ∙ closed-same cs k (numbersOf k closed) (get (shareOf k) two) (zeros SHARE) (length-get (shareOf k) two (omega arith)) refl refl)
+      ∙ closed-same cs k (numbersOf k closed) (get (shareOf k) two) (zeros SHARE)
+      (length-get (shareOf k) two (omega arith)) refl refl)
       ∙ sym (named cs s k same closed (zeros SHARE))
 
   -- ---- what is claimed
@@ -223,7 +243,8 @@ module _ {C : Type 0} (serve : Kind C) (owned : Owned serve) where
   unfolding recordIn
   isolated n s h store l calls =
       in-any-run n s h calls (allZeros store) l
-      ∙ closed-same (own s calls) s (numbersOf s closed) (get (shareOf s) store) (zeros SHARE) (length-get (shareOf s) store (omega arith)) refl refl
+      ∙ closed-same (own s calls) s (numbersOf s closed) (get (shareOf s) store) (zeros SHARE)
+      (length-get (shareOf s) store (omega arith)) refl refl
       ∙ sym (alone-lone s (own s calls))
 
   pub undisturbed : (n : ℕ) → Undisturbed serve n

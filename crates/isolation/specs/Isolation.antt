@@ -32,9 +32,9 @@ abbrev pub asBench : ℕ → Returned → Returned
 asBench s r = record { number = r .number; numbers = ofBench s (r .numbers); written = r .written }
 
 module _ {C : Type 0} (serve : Kind C) where
-  -- What these calls give bench s when it is alone. They are made on a desk of two benches, one left and one right, whose
-  -- store starts as zeros: by the bench of the same side as s. The other bench makes no call. Each record gets the number
-  -- of bench s.
+  -- What these calls give bench s when it is alone. They are made on a desk of two benches, one left and one right,
+  -- whose store starts as zeros: by the bench of the same side as s. The other bench makes no call. Each record gets
+  -- the number of bench s.
   unfoldable pub alone : ℕ → List C → List Returned
   alone s calls =
       map (asBench s) (received serve 2 (sideOf s) (allZeros (zeros (2 * SHARE))) (map (on (sideOf s)) calls))

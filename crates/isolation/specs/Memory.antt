@@ -63,7 +63,8 @@ module _ {C : Type 0} (serve : Kind C) (asksOf : Made C) (n : ℕ) where
       Unopened n s st asks
       → let k = length (framesHeard n s st asks) in
       let last = recalled s (ended serve n st calls) in
-      ((i : ℕ) → i < 22 → le (faded k (at (recalled s st .gains) i)) (at (last .gains) i) ≡ true) × (k ≡ 0 → last ≡ recalled s st)
+      ((i : ℕ) → i < 22 → le (faded k (at (recalled s st .gains) i)) (at (last .gains) i) ≡ true)
+      × (k ≡ 0 → last ≡ recalled s st)
 
   -- No remembered gain is ever NaN.
   abbrev pub NeverNan : Type 0
@@ -95,4 +96,5 @@ DeskCounts n = Counts desks itself n
 
 -- All of these for every kind of calls that is made of the desk's, and for any number of benches.
 abbrev pub ExpandedCounts : Type 1
-ExpandedCounts = (C : Type 0) (serve : Kind C) (asksOf : Made C) (n : ℕ) → Expands serve asksOf n → Counts serve asksOf n
+ExpandedCounts = (C : Type 0) (serve : Kind C) (asksOf : Made C) (n : ℕ) → Expands serve asksOf n
+    → Counts serve asksOf n

@@ -75,4 +75,5 @@ module _ {C : Type 0} (serve : Kind C) (asksOf : Made C) (n : ℕ) where
       → let asks = expand serve asksOf n st calls in
       let last = recordAt s (ended serve n st calls) in
       Unopened n s st asks
-      → (last .frame ≡ framesEnded (callsIn n s st asks) % 4294967296) × (last .heard ≡ length (framesHeard n s st asks) % 4294967296)
+      → (last .frame ≡ framesEnded (callsIn n s st asks) % 4294967296)
+      × (last .heard ≡ length (framesHeard n s st asks) % 4294967296)

@@ -20,7 +20,8 @@ pub record Returned : Type 0 where
 -- What a host receives of a call on this bench, which had these numbers as its record. A refused call leaves the record
 -- unchanged.
 abbrev pub returned : ℕ → List ℕ → Effect Answer → Returned
-returned side ns o = record { number = replyNumber (o .answer .reply); numbers = handedBack side (o .answer) ns; written = o .written }
+returned side ns o =
+    record { number = replyNumber (o .answer .reply); numbers = handedBack side (o .answer) ns; written = o .written }
 
 -- A kind of calls: what a call gives on one of n benches, with the bench's record and the store.
 abbrev pub Kind : Type 0 → Type 0
@@ -59,7 +60,8 @@ module _ {C : Type 0} (serve : Kind C) (n : ℕ) where
 
   -- The state after a call: its bench has a new record, and the store is what the call left.
   abbrev pub after : State → On C → State
-  after st c = record { numbers = λ s. cond (eqb (c .side) s) (gets st c .numbers) (st .numbers s); store = given st c .kept }
+  after st c =
+      record { numbers = λ s. cond (eqb (c .side) s) (gets st c .numbers) (st .numbers s); store = given st c .kept }
 
   -- The state at the end of a run.
   unfoldable pub ended : State → List (On C) → State
@@ -91,7 +93,9 @@ module _ {C : Type 0} (serve : Kind C) (asksOf : Made C) (n : ℕ) where
   -- A run with each call replaced by the desk's calls that it is made of.
   unfoldable pub expand : State → List (On C) → List (On Ask)
   expand st [] = []
-  expand st (c ∷ cs) = map (on (c .side)) (asksOf n (c .side) (recordAt (c .side) st) (st .store) (c .call)) ++ expand (after serve n st c) cs
+  expand st (c ∷ cs) =
+      map (on (c .side)) (asksOf n (c .side) (recordAt (c .side) st) (st .store) (c .call))
+      ++ expand (after serve n st c) cs
 
   -- A run ends in the same state as the run of the desk's calls that it is made of. So what holds for any run of the
   -- desk's calls holds for any run of this kind.

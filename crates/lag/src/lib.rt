@@ -65,7 +65,8 @@ fn lag_core(input_mem: &[f32]) -> usize
 
 // The lag of the 1,728 samples that a bench remembers of its input. Refuses another length with 5.
 pub fn lag_of(input_mem: &[f32]) -> OwnLag
-    ensures { λ r. ⌜ Leaf (length (now («input_mem» .entry)) ≡ 1728) r (OwnLag.Lag (ownLag (now («input_mem» .entry)))) (OwnLag.Refused 5) ⌝ }
+    ensures { λ r. ⌜ Leaf (length (now («input_mem» .entry)) ≡ 1728) r (OwnLag.Lag (ownLag (now («input_mem» .entry))))
+        (OwnLag.Refused 5) ⌝ }
 {
     if input_mem.len() != 1728 {
         return OwnLag::Refused(5);

@@ -1,6 +1,7 @@
 -- The rule of the constants, and the steps of `log10` that lose nothing. An f64 is written exactly as z / c with a
 -- whole number z; zero is +0.
-use Rattle.rules.specs.Common.{ℕ, suc, _+_, _*_, _/_, _%_, _^_, _≤_, _<_, true, false, pos, Float, binary32, binary64, nan, inf, fin, up, down}
+use Rattle.rules.specs.Common.{ℕ, suc, _+_, _*_, _/_, _%_, _^_, _≤_, _<_, true, false, pos, Float, binary32, binary64}
+use Rattle.rules.specs.Common.{nan, inf, fin, up, down}
 use lib.Dec.{T}
 use lib.IntN.{ℤ, negsuc, _+ℤ_, _-ℤ_, _*ℤ_}
 use lib.Ieee.{fits, toBits}
@@ -43,12 +44,14 @@ digitsOf bits = 2 ^ 23 + bits % 2 ^ 52 / 2 ^ 29
 
 -- m * centre - 1 is exact if m has 24 digits.
 abbrev pub RestExact : ℕ → Type 0
-RestExact bits = Exactly (offCentre bits) (pos (digitsOf bits * wholes 20 (rowAt (rowOf bits) .centre)) -ℤ pos (2 ^ 43)) (2 ^ 43)
+RestExact bits =
+    Exactly (offCentre bits) (pos (digitsOf bits * wholes 20 (rowAt (rowOf bits) .centre)) -ℤ pos (2 ^ 43)) (2 ^ 43)
 
 -- e * two_high + high is exact.
 abbrev pub HighExact : ℕ → Type 0
 HighExact bits =
-    Exactly (highOf bits) ((pos (bits / 2 ^ 52) -ℤ pos 1023) *ℤ pos (wholes 40 twoHigh) +ℤ pos (wholes 40 (rowAt (rowOf bits) .high))) (2 ^ 40)
+    Exactly (highOf bits) ((pos (bits / 2 ^ 52) -ℤ pos 1023) *ℤ pos (wholes 40 twoHigh) +ℤ pos
+    (wholes 40 (rowAt (rowOf bits) .high))) (2 ^ 40)
 
 -- Both steps are exact for one f32.
 pub record Exact (x : Float) : Type 0 where

@@ -2,7 +2,8 @@
 -- and the result rounded to an f32. That this is the nearest f32 to the true logarithm was tried for every f32
 -- (docs/BENCHMARKS.md), and is not proved: there is no logarithm of real numbers here. proofs/Exact.antt shows which
 -- steps lose nothing.
-use Rattle.rules.specs.Common.{ℕ, zero, suc, _+_, _-_, _/_, _%_, _^_, true, false, cond, _&&_, List, _≡_, eqb, pos, Float, binary64, nan, inf, fin}
+use Rattle.rules.specs.Common.{ℕ, zero, suc, _+_, _-_, _/_, _%_, _^_, true, false, cond, _&&_, List, _≡_, eqb, pos}
+use Rattle.rules.specs.Common.{Float, binary64, nan, inf, fin}
 use Rattle.rules.specs.Common.{ofInt, lt}
 use mathlib.Core.Bool.{Bool·beq}
 use lib.Ieee.{toBits, ne}
@@ -10,7 +11,8 @@ use Rattle.rules.specs.F32.{at}
 use Rattle.rules.specs.Tab.{tab}
 use Rattle.numbers.specs.Narrowed.{narrowed}
 use Rattle.rules.specs.F64.{f64, _+₆₄_, _-₆₄_, _*₆₄_}
-use Rattle.logs.specs.Tables.{rowAt, twoHigh, twoLow, slopeHigh, slopeLow, series2, series3, series4, series5, series6, series7}
+use Rattle.logs.specs.Tables.{rowAt, twoHigh, twoLow, slopeHigh, slopeLow, series2, series3, series4, series5}
+use Rattle.logs.specs.Tables.{series6, series7}
 
 -- ---- x = 2^e * m, by its bits as an f64: every f32 above 0 is a normal f64
 
@@ -42,7 +44,9 @@ lowOf bits = exponentOf bits *₆₄ twoLow +₆₄ rowAt (rowOf bits) .low
 
 -- The series of log10(1 + r), from r^2 on.
 unfoldable pub series : Float → Float
-series r = r *₆₄ r *₆₄ (series2 +₆₄ r *₆₄ (series3 +₆₄ r *₆₄ (series4 +₆₄ r *₆₄ (series5 +₆₄ r *₆₄ (series6 +₆₄ r *₆₄ series7)))))
+series r =
+    r *₆₄ r *₆₄ (series2 +₆₄ r *₆₄
+    (series3 +₆₄ r *₆₄ (series4 +₆₄ r *₆₄ (series5 +₆₄ r *₆₄ (series6 +₆₄ r *₆₄ series7)))))
 
 -- What rounding lost in s = hi + p.
 unfoldable pub lostOf : Float → Float → Float → Float
@@ -53,7 +57,8 @@ lostOf hi p s = let back = s -₆₄ hi in (hi -₆₄ (s -₆₄ back)) +₆₄
 unfoldable pub nudged : Float → Float → Float
 nudged t z =
     let bits = toBits binary64 t in
-    cond (eqb (bits % 2 ^ 29) (2 ^ 28) && ne z (f64 0)) (f64 (cond (Bool·beq (lt (f64 0) z) (lt (f64 0) t)) (bits + 1) (bits - 1))) t
+    cond (eqb (bits % 2 ^ 29) (2 ^ 28) && ne z (f64 0))
+    (f64 (cond (Bool·beq (lt (f64 0) z) (lt (f64 0) t)) (bits + 1) (bits - 1))) t
 
 -- hi + lo + log10(1 + r).
 unfoldable pub summed : Float → Float → Float → Float

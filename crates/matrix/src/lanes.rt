@@ -7,8 +7,8 @@ ghost use lib.ListN.{length};
 ghost use Rattle.rules.specs.F32.{at, natAt};
 ghost use Rattle.rules.specs.Tab.{tab};
 ghost use Rattle.matrix.specs.Sums.{ofByte};
-ghost use Rattle.matrix.specs.Parts.{Bytes, plusFour, plusSixteen, fourAt, sixteenAt, sixteenSums};
-ghost use Rattle.matrix.specs.Parts.{neuron, spot, storeFour, Rows, Blocks};
+ghost use Rattle.matrix.specs.Private.{Bytes, plusFour, plusSixteen, fourAt, sixteenAt, sixteenSums};
+ghost use Rattle.matrix.specs.Private.{neuron, spot, storeFour, Rows, Blocks};
 use crate::sums::weight;
 
 // Four neighbouring sums.
@@ -107,7 +107,8 @@ fn step(s: Sixteen, weights: &[u8], place: usize, x: f32) -> Sixteen
 // Sixteen sums over all inputs, in order.
 fn sums(s: Sixteen, weights: &[u8], stride: usize, place: usize, input: &[f32]) -> Sixteen
     requires { ⌜ Rows (length (now weights)) stride place (length (now input)) ⌝ }
-    ensures { λ r. ⌜ r ≡ sixteenSums (now (weights .entry)) stride place (now (input .entry)) (length (now (input .entry))) s ⌝ }
+    ensures { λ r. ⌜ r ≡ sixteenSums (now (weights .entry)) stride place (now (input .entry))
+        (length (now (input .entry))) s ⌝ }
 {
     let mut r = s;
     for i in 0..input.len() {
@@ -164,9 +165,11 @@ fn blocks(
     offset: usize,
     input: &[f32],
 )
-    requires { ⌜ Blocks (length (now kept)) (length (now out)) (length (now weights)) stride offset (length (now input)) ⌝ }
+    requires { ⌜ Blocks (length (now kept)) (length (now out)) (length (now weights)) stride offset
+        (length (now input)) ⌝ }
     ensures { λ _. ⌜ now (kept .exit)
-        ≡ tab (length (now (out .entry))) (λ i. neuron (now (out .entry)) (now (weights .entry)) stride offset (now (input .entry))
+        ≡ tab (length (now (out .entry)))
+        (λ i. neuron (now (out .entry)) (now (weights .entry)) stride offset (now (input .entry))
         (spot i)) ⌝ }
 {
     let mut a = 0usize;
@@ -188,7 +191,8 @@ fn blocks(
 // Puts four of them in order again: they are four places apart.
 fn back(out: &mut [f32], place: usize, kept: &[f32], from: usize)
     requires { ⌜ (place + 4 ≤ length (now out)) × (from + 13 ≤ length (now kept)) ⌝ }
-    ensures { λ _. ⌜ now (out .exit) ≡ storeFour (now (out .entry)) place (at (now (kept .entry)) from) (at (now (kept .entry)) (from + 4))
+    ensures { λ _. ⌜ now (out .exit)
+        ≡ storeFour (now (out .entry)) place (at (now (kept .entry)) from) (at (now (kept .entry)) (from + 4))
         (at (now (kept .entry)) (from + 8)) (at (now (kept .entry)) (from + 12)) ⌝ }
 {
     give(
@@ -228,9 +232,11 @@ pub(crate) fn wide(
     offset: usize,
     input: &[f32],
 )
-    requires { ⌜ Blocks (length (now kept)) (length (now out)) (length (now weights)) stride offset (length (now input)) ⌝ }
+    requires { ⌜ Blocks (length (now kept)) (length (now out)) (length (now weights)) stride offset
+        (length (now input)) ⌝ }
     ensures { λ _. ⌜ now (out .exit)
-        ≡ tab (length (now (out .entry))) (neuron (now (out .entry)) (now (weights .entry)) stride offset (now (input .entry))) ⌝ }
+        ≡ tab (length (now (out .entry)))
+        (neuron (now (out .entry)) (now (weights .entry)) stride offset (now (input .entry))) ⌝ }
 {
     blocks(kept, &out[..], weights, stride, offset, input);
     ordered(out, &kept[..]);

@@ -33,7 +33,8 @@ impl<'a> SubMatrix<'a> {
     // output[j] += data[i * stride + offset + j] * input[i], for each i in order. Refuses with 5, and leaves the output
     // unchanged, if the lengths do not fit.
     pub fn mul_add(self, output: &mut [f32], input: &[f32]) -> u32
-        ensures { λ r. ⌜ MulAdd (now (output .entry)) (now (self .entry .data)) (self .entry .stride) (self .entry .offset)
+        ensures { λ r. ⌜ MulAdd (now (output .entry)) (now (self .entry .data)) (self .entry .stride)
+            (self .entry .offset)
             (now (input .entry))
             r (now (output .exit)) ⌝ }
     {
@@ -49,7 +50,8 @@ pub fn mul_add_at(
     output: &mut [f32],
     input: &[f32],
 ) -> u32
-    ensures { λ r. ⌜ MulAdd (now (output .entry)) (now (weights .entry)) stride offset (now (input .entry)) r (now (output .exit)) ⌝ }
+    ensures { λ r. ⌜ MulAdd (now (output .entry)) (now (weights .entry)) stride offset (now (input .entry)) r
+        (now (output .exit)) ⌝ }
 {
     matrix(weights, stride, offset).mul_add(output, input)
 }

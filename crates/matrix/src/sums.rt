@@ -25,7 +25,8 @@ fn add_column(out: &mut [f32], col: &[u8], x: f32)
 // Two columns of `mul_add` in one pass: at each place first the one, then the other.
 fn add_two(out: &mut [f32], first: &[u8], x: f32, second: &[u8], y: f32)
     requires { ⌜ (length (now out) ≤ length (now first)) × (length (now out) ≤ length (now second)) ⌝ }
-    ensures { λ _. ⌜ now (out .exit) ≡ addColumn (addColumn (now (out .entry)) (now (first .entry)) x) (now (second .entry)) y ⌝ }
+    ensures { λ _. ⌜ now (out .exit)
+        ≡ addColumn (addColumn (now (out .entry)) (now (first .entry)) x) (now (second .entry)) y ⌝ }
 {
     for j in 0..out.len() {
         out[j] = out[j] + weight(first[j]) * x + weight(second[j]) * y;
@@ -35,7 +36,8 @@ fn add_two(out: &mut [f32], first: &[u8], x: f32, second: &[u8], y: f32)
 // `mul_add` column by column, for lengths that fit.
 fn columns(out: &mut [f32], weights: &[u8], stride: usize, offset: usize, input: &[f32])
     requires { ⌜ MulAddFits (length (now out)) (length (now weights)) stride offset (length (now input)) ⌝ }
-    ensures { λ _. ⌜ now (out .exit) ≡ mulAdd (now (out .entry)) (now (weights .entry)) stride offset (now (input .entry)) ⌝ }
+    ensures { λ _. ⌜ now (out .exit)
+        ≡ mulAdd (now (out .entry)) (now (weights .entry)) stride offset (now (input .entry)) ⌝ }
 {
     let mut i = 0usize;
     while i + 1 < input.len() {
@@ -77,7 +79,8 @@ fn both(
 )
     requires { ⌜ (length (now kept) ≤ length (now out)) × (length (now kept) % 16 ≡ 0)
         × MulAddFits (length (now out)) (length (now weights)) stride offset (length (now input)) ⌝ }
-    ensures { λ _. ⌜ now (out .exit) ≡ mulAdd (now (out .entry)) (now (weights .entry)) stride offset (now (input .entry)) ⌝ }
+    ensures { λ _. ⌜ now (out .exit)
+        ≡ mulAdd (now (out .entry)) (now (weights .entry)) stride offset (now (input .entry)) ⌝ }
 {
     let n = out.len();
     let m = kept.len();
@@ -91,7 +94,8 @@ fn both(
 // `mul_add` for lengths that fit.
 fn mul_add_core(out: &mut [f32], weights: &[u8], stride: usize, offset: usize, input: &[f32])
     requires { ⌜ MulAddFits (length (now out)) (length (now weights)) stride offset (length (now input)) ⌝ }
-    ensures { λ _. ⌜ now (out .exit) ≡ mulAdd (now (out .entry)) (now (weights .entry)) stride offset (now (input .entry)) ⌝ }
+    ensures { λ _. ⌜ now (out .exit)
+        ≡ mulAdd (now (out .entry)) (now (weights .entry)) stride offset (now (input .entry)) ⌝ }
 {
     let m = wide_of(out.len());
     let mut kept = [0.0f32; 128];
@@ -114,7 +118,8 @@ fn is_product(len: usize, a: usize, b: usize) -> bool
 // out[j] += weights[i * stride + offset + j] * input[i], for each i in order. Refuses with 5, and leaves out unchanged,
 // if the lengths do not fit.
 pub fn mul_add(out: &mut [f32], weights: &[u8], stride: usize, offset: usize, input: &[f32]) -> u32
-    ensures { λ r. ⌜ MulAdd (now (out .entry)) (now (weights .entry)) stride offset (now (input .entry)) r (now (out .exit)) ⌝ }
+    ensures { λ r. ⌜ MulAdd (now (out .entry)) (now (weights .entry)) stride offset (now (input .entry)) r
+        (now (out .exit)) ⌝ }
 {
     if stride < offset {
         return 5;

@@ -42,7 +42,12 @@ noting spectrum lag = record { x = scaled spectrum; ex = energies spectrum; lag 
 -- by the energies of both.
 abbrev pub heardFrame : Noted → List Float → List Float → List ℕ → HeardFrame
 heardFrame k p logs model =
-    record { logs = logs; correlations = normalisedCorr (k .x) (scaled p) (k .ex) (energies p); lag = k .lag; model = model }
+    record {
+      logs = logs;
+      correlations = normalisedCorr (k .x) (scaled p) (k .ex) (energies p);
+      lag = k .lag;
+      model = model;
+    }
 
 -- The heard frames that calls bring, in order, if the last call 2 before them noted k.
 unfoldable pub brought : Noted → List FrameCall → List HeardFrame

@@ -29,7 +29,8 @@ pub data FrameCall : Type 0 where
 
 -- The calls of a first half, in the bench's way. `part` is the part of the share that belongs to a frame.
 abbrev pub firstCalls : Way → List Float → List Float → List FrameCall
-firstCalls way part x = let a = done1 part x in one ∷ two (forwardBy way (firstIn (a .written))) (lagBy way (a .kept)) ∷ []
+firstCalls way part x = let a = done1 part x in
+    one ∷ two (forwardBy way (firstIn (a .written))) (lagBy way (a .kept)) ∷ []
 
 -- The calls of a second half.
 abbrev pub secondCalls : Way → List Float → Bool → List Float → List ℕ → List FrameCall
@@ -50,7 +51,8 @@ callsOf rec share (call3 x logs m o) heard = three heard x logs m ∷ []
 callsOf rec share (call4 x o) heard = four ∷ []
 callsOf rec share (firstHalf x s) heard = firstCalls (rec .hearing .way) (get framePart share) x
 callsOf rec share (secondHalf logs m o) heard = secondCalls (rec .hearing .way) (get framePart share) heard logs m
-callsOf rec share (piece x o s) heard = restCalls (rec .hearing .way) (get framePart share) (waitingIn (rec .waiting) share ++ x)
+callsOf rec share (piece x o s) heard =
+    restCalls (rec .hearing .way) (get framePart share) (waitingIn (rec .waiting) share ++ x)
 callsOf rec share (resume x logs m o s) heard =
     let part = get framePart share in
     let way = rec .hearing .way in

@@ -23,7 +23,8 @@ pub record Recalled : Type 0 where
 
 -- What an opening leaves: zeros.
 abbrev pub blank : Recalled
-blank = record { gains = zeros 22; cepstra = zeros 176; index = 0; vad = zeros 128; noise = zeros 128; denoise = zeros 128 }
+blank =
+    record { gains = zeros 22; cepstra = zeros 176; index = 0; vad = zeros 128; noise = zeros 128; denoise = zeros 128 }
 
 -- What a heard frame brings.
 pub record HeardFrame : Type 0 where

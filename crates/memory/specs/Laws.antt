@@ -9,4 +9,5 @@ abbrev pub HeldGains : Type 0
 HeldGains =
     (i : ℕ) → i < 22
     → (fs : List HeardFrame) (m : Recalled) → isNan (at (m .gains) i) ≡ false
-    → let last = at (heardAll m fs .gains) i in (isNan last ≡ false) × (le (faded (length fs) (at (m .gains) i)) last ≡ true)
+    → let last = at (heardAll m fs .gains) i in
+    (isNan last ≡ false) × (le (faded (length fs) (at (m .gains) i)) last ≡ true)

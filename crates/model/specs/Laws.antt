@@ -11,7 +11,8 @@ use Rattle.model.specs.declared.Kind.the-variants.{Dense, Gru}
 use Rattle.model.specs.declared.Model.{Model}
 use Rattle.model.specs.declared.Reading.the-variants.{Good, Refused}
 use Rattle.model.specs.Array.{foundIn, arrayIn}
-use Rattle.model.specs.Layer.{sizeOf, activationNumber, Layer, bytesOf, layerOf, faultsOf, stepNumber, stepValues, stepAt}
+use Rattle.model.specs.Layer.{sizeOf, activationNumber, Layer, bytesOf, layerOf, faultsOf, stepNumber, stepValues}
+use Rattle.model.specs.Layer.{stepAt}
 use Rattle.model.specs.Model.{kinds, readLayers, headersAt, modelOf, readOf}
 use Rattle.model.specs.Writer.{layersGiven, fileOf, writeModel}
 
@@ -46,9 +47,11 @@ WritesBack =
 -- Two models that differ in a count, an activation, a weight or a bias never have the same file.
 abbrev pub NoneShared : Type 0
 NoneShared =
-    (shapes shapes′ : List ℕ) (arrays arrays′ : List (List ℕ)) (out out′ after after′ : List ℕ) → length arrays ≡ 18 → length arrays′ ≡ 18
+    (shapes shapes′ : List ℕ) (arrays arrays′ : List (List ℕ)) (out out′ after after′ : List ℕ) → length arrays ≡ 18
+    → length arrays′ ≡ 18
     → (0 leaving after) ≡ writeModel shapes arrays out → (0 leaving after′) ≡ writeModel shapes′ arrays′ out′
-    → fileOf (layersGiven kinds shapes arrays) ≡ fileOf (layersGiven kinds shapes′ arrays′) → (shapes ≡ shapes′) × (arrays ≡ arrays′)
+    → fileOf (layersGiven kinds shapes arrays) ≡ fileOf (layersGiven kinds shapes′ arrays′)
+    → (shapes ≡ shapes′) × (arrays ≡ arrays′)
 
 -- ---- what reads
 
@@ -61,7 +64,8 @@ StepInPaper =
     let rows = faultsOf k (drop at s) in
     (stepNumber (stepAt k s at) ≡ refusing rows (λ n. n) 0)
     × (stepValues (stepAt k s at)
-    ≡ refusing rows (λ n. []) (l .inputs ∷ l .neurons ∷ activationNumber (l .activation) ∷ (at + 3) ∷ (at + length (bytesOf l)) ∷ []))
+    ≡ refusing rows (λ n. [])
+    (l .inputs ∷ l .neurons ∷ activationNumber (l .activation) ∷ (at + 3) ∷ (at + length (bytesOf l)) ∷ []))
 
 -- Layer j of some layers; after the last, a layer without arrays.
 abbrev pub layerIn : List Layer → ℕ → Layer

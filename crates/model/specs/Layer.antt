@@ -105,4 +105,5 @@ stepValues (step.Refused n) = []
 unfoldable pub stepAt : Kind → List ℕ → ℕ → Step
 stepAt k s at =
     let l = layerOf k (drop at s) in
-    refusing (faultsOf k (drop at s)) step.Refused (step.Layer (headerAt at l) (record { at = at + length (bytesOf l) }))
+    refusing (faultsOf k (drop at s)) step.Refused
+    (step.Layer (headerAt at l) (record { at = at + length (bytesOf l) }))

@@ -23,7 +23,8 @@ readLayers (k ∷ ks) s = let r = readLayers ks (restOf k s) in (layerOf k s ∷
 -- The first refusal of these layers, of which the first is layer j; or `right` if there is none.
 unfoldable pub refusingLayers : ℕ → List Kind → List ℕ → Reading → Reading
 refusingLayers j [] s right = right
-refusingLayers j (k ∷ ks) s right = refusing (faultsOf k s) (λ n. Refused n j) (refusingLayers (suc j) ks (restOf k s) right)
+refusingLayers j (k ∷ ks) s right =
+    refusing (faultsOf k s) (λ n. Refused n j) (refusingLayers (suc j) ks (restOf k s) right)
 
 -- The headers of these layers, of which the first starts at this place of the file.
 abbrev pub headersAt : ℕ → List Layer → List Header
@@ -74,7 +75,8 @@ modelOf hs =
 
 -- The six headers of a model.
 abbrev pub headersIn : Model → List Header
-headersIn m = m .«input_dense» ∷ m .«vad_gru» ∷ m .«noise_gru» ∷ m .«denoise_gru» ∷ m .«denoise_output» ∷ m .«vad_output» ∷ []
+headersIn m =
+    m .«input_dense» ∷ m .«vad_gru» ∷ m .«noise_gru» ∷ m .«denoise_gru» ∷ m .«denoise_output» ∷ m .«vad_output» ∷ []
 
 -- The counts in a header.
 abbrev pub countsOf : Header → Counts
@@ -90,4 +92,5 @@ matchedWith m left = refusing (matchFaults (countsIn m) left) (λ n. Refused n 6
 
 -- What reading a file gives.
 unfoldable pub readOf : List ℕ → Reading
-readOf s = let r = readLayers kinds s in refusingLayers 0 kinds s (matchedWith (modelOf (headersAt 0 (r .0))) (length (r .1)))
+readOf s = let r = readLayers kinds s in
+    refusingLayers 0 kinds s (matchedWith (modelOf (headersAt 0 (r .0))) (length (r .1)))

@@ -1,5 +1,6 @@
 -- The writer of a model file (request 01): counts, activations and arrays of six layers become the bytes of the file.
-use Rattle.rules.specs.Common.{ℕ, suc, _+_, _*_, Bool, true, false, _||_, List, [], _∷_, _++_, map, ltb, length, getD, take, drop}
+use Rattle.rules.specs.Common.{ℕ, suc, _+_, _*_, Bool, true, false, _||_, List, [], _∷_, _++_, map, ltb, length, getD}
+use Rattle.rules.specs.Common.{take, drop}
 use Rattle.rules.specs.Leaf.{_leaving_}
 use Rattle.rules.specs.Refusals.{Row, _when_, refusing}
 use Rattle.model.specs.Layer.{lengths, activationOf, Layer, joined, bytesOf, headerFaults}
@@ -17,7 +18,12 @@ arraysOf w0 b0 w1 r1 b1 w2 r2 b2 w3 r3 b3 w4 b4 w5 b5 =
 abbrev pub layersGiven : List Kind → List ℕ → List (List ℕ) → List Layer
 layersGiven [] shapes arrays = []
 layersGiven (k ∷ ks) shapes arrays =
-    record { inputs = getD shapes 0 0; neurons = getD shapes 1 0; activation = activationOf (getD shapes 2 0); arrays = take 3 arrays }
+    record {
+      inputs = getD shapes 0 0;
+      neurons = getD shapes 1 0;
+      activation = activationOf (getD shapes 2 0);
+      arrays = take 3 arrays;
+    }
     ∷ layersGiven ks (drop 3 shapes) (drop 3 arrays)
 
 -- These layers as a file.
@@ -52,13 +58,15 @@ rowFaults j (k ∷ ks) shapes given =
 -- The counts of the layers that a caller gives.
 unfoldable pub countsGiven : List Kind → List ℕ → List Counts
 countsGiven [] shapes = []
-countsGiven (k ∷ ks) shapes = record { inputs = getD shapes 0 0; neurons = getD shapes 1 0 } ∷ countsGiven ks (drop 3 shapes)
+countsGiven (k ∷ ks) shapes =
+    record { inputs = getD shapes 0 0; neurons = getD shapes 1 0 } ∷ countsGiven ks (drop 3 shapes)
 
 -- All refusals in order: those of each layer, those of the layers together, and that of a buffer that is shorter than
 -- the file.
 unfoldable pub writerFaults : List ℕ → List ℕ → ℕ → ℕ → List Row
 writerFaults shapes given file buffer =
-    rowFaults 0 kinds shapes given ++ inLayer 6 (matchFaults (countsGiven kinds shapes) 0 ++ 24 when ltb buffer file ∷ [])
+    rowFaults 0 kinds shapes given
+    ++ inLayer 6 (matchFaults (countsGiven kinds shapes) 0 ++ 24 when ltb buffer file ∷ [])
 
 -- ---- what is returned, and what the buffer then holds
 
@@ -66,5 +74,6 @@ writerFaults shapes given file buffer =
 unfoldable pub writeModel : List ℕ → List (List ℕ) → List ℕ → ℕ × List ℕ
 writeModel shapes arrays out =
     let file = fileOf (layersGiven kinds shapes arrays) in
-    refusing (5 when (length shapes ≠ 18) ∷ writerFaults shapes (map length arrays) (length file) (length out)) (λ n. n leaving out)
+    refusing (5 when (length shapes ≠ 18) ∷ writerFaults shapes (map length arrays) (length file) (length out))
+    (λ n. n leaving out)
     (0 leaving file ++ drop (length file) out)

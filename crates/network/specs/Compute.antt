@@ -24,7 +24,8 @@ denseAt bytes h input = denseOf (array bytes Dense h 0) (array bytes Dense h 2) 
 
 -- Rust: layer.compute(state, input), for a GRU layer.
 unfoldable pub gruAt : List ℕ → Header → List Float → List Float → List Float
-gruAt bytes h input state = gruOf (array bytes Gru h 0) (array bytes Gru h 1) (array bytes Gru h 2) (h .activation) input state
+gruAt bytes h input state =
+    gruOf (array bytes Gru h 0) (array bytes Gru h 1) (array bytes Gru h 2) (h .activation) input state
 
 -- What the layers leave.
 pub record Layered : Type 0 where
@@ -41,7 +42,8 @@ pub record Layered : Type 0 where
 
 -- The same from its five parts.
 abbrev pub layeredOf : List Float → List Float → List Float → List Float → List Float → Layered
-layeredOf gains voice vad noise denoise = record { gains = gains; voice = voice; vad = vad; noise = noise; denoise = denoise }
+layeredOf gains voice vad noise denoise =
+    record { gains = gains; voice = voice; vad = vad; noise = noise; denoise = denoise }
 
 -- The six layers, on states with one place for each neuron.
 unfoldable pub sixLayers : List ℕ → Model → List Float → List Float → List Float → List Float → Layered

@@ -6,9 +6,10 @@ ghost use lib.ListN.{length};
 ghost use Rattle.rules.specs.F32.{_⊗_};
 ghost use Rattle.rules.specs.Loop.{loop};
 ghost use Rattle.numbers.specs.Tansig.{tansig};
-ghost use Rattle.network.specs.Layers.{weightsScale, copied, activated, updateStep, resetStep, blendStep, gateSums};
+ghost use Rattle.network.specs.Layers.{weightsScale, copied, activated, updateStep, resetStep, blendStep};
+ghost use Rattle.network.specs.Layers.{gateSums};
 ghost use Rattle.network.specs.Layers.{denseOf, DenseArrays, gruOf, GruArrays};
-ghost use Rattle.network.specs.Parts.{timesStep, mixStep, GateFits, ScratchFits};
+ghost use Rattle.network.specs.Private.{timesStep, mixStep, GateFits, ScratchFits};
 use model::Activation;
 
 const WEIGHTS_SCALE: f32 = 1.0 / 256.0;
@@ -56,7 +57,8 @@ pub(crate) fn dense(
 )
     requires { ⌜ (now table ≡ tansig) × DenseArrays (length (now output)) (length (now weights)) (length (now bias))
         (length (now input)) ⌝ }
-    ensures { λ _. ⌜ now (output .exit) ≡ denseOf (now (weights .entry)) (now (bias .entry)) activation (now (input .entry)) ⌝ }
+    ensures { λ _. ⌜ now (output .exit)
+        ≡ denseOf (now (weights .entry)) (now (bias .entry)) activation (now (input .entry)) ⌝ }
 {
     let n = output.len();
     copy_weights(output, bias);
@@ -76,7 +78,8 @@ fn update(gates: &mut [f32], table: &[f32; 201])
 // Multiplies each reset gate by the old state.
 fn times(gates: &mut [f32], state: &[f32])
     requires { ⌜ length (now gates) ≡ length (now state) ⌝ }
-    ensures { λ _. ⌜ now (gates .exit) ≡ loop (length (now (gates .entry))) (timesStep (now (state .entry))) (now (gates .entry)) ⌝ }
+    ensures { λ _. ⌜ now (gates .exit)
+        ≡ loop (length (now (gates .entry))) (timesStep (now (state .entry))) (now (gates .entry)) ⌝ }
 {
     for j in 0..gates.len() {
         gates[j] = state[j] * gates[j];
@@ -86,7 +89,8 @@ fn times(gates: &mut [f32], state: &[f32])
 // Turns sums into reset gates, each multiplied by the old state.
 fn reset(r: &mut [f32], state: &[f32], table: &[f32; 201])
     requires { ⌜ (length (now r) ≡ length (now state)) × (now table ≡ tansig) ⌝ }
-    ensures { λ _. ⌜ now (r .exit) ≡ loop (length (now (r .entry))) (resetStep (now (state .entry))) (now (r .entry)) ⌝ }
+    ensures { λ _. ⌜ now (r .exit)
+        ≡ loop (length (now (r .entry))) (resetStep (now (state .entry))) (now (r .entry)) ⌝ }
 {
     update(r, table);
     times(r, state);
@@ -95,7 +99,8 @@ fn reset(r: &mut [f32], state: &[f32], table: &[f32; 201])
 // The new state, from the update gates and the candidates.
 fn mix(state: &mut [f32], z: &[f32], new: &[f32])
     requires { ⌜ (length (now z) ≡ length (now state)) × (length (now new) ≡ length (now state)) ⌝ }
-    ensures { λ _. ⌜ now (state .exit) ≡ loop (length (now (state .entry))) (mixStep (now (z .entry)) (now (new .entry))) (now (state .entry)) ⌝ }
+    ensures { λ _. ⌜ now (state .exit)
+        ≡ loop (length (now (state .entry))) (mixStep (now (z .entry)) (now (new .entry))) (now (state .entry)) ⌝ }
 {
     for j in 0..state.len() {
         let keep = z[j];
@@ -105,8 +110,10 @@ fn mix(state: &mut [f32], z: &[f32], new: &[f32])
 
 // The new state, from the update gates and the sums of the candidates; these become the candidates.
 fn blend(state: &mut [f32], z: &[f32], h: &mut [f32], activation: Activation, table: &[f32; 201])
-    requires { ⌜ (length (now z) ≡ length (now state)) × (length (now h) ≡ length (now state)) × (now table ≡ tansig) ⌝ }
-    ensures { λ _. ⌜ now (state .exit) ≡ loop (length (now (state .entry))) (blendStep activation (now (z .entry)) (now (h .entry)))
+    requires { ⌜ (length (now z) ≡ length (now state)) × (length (now h) ≡ length (now state))
+        × (now table ≡ tansig) ⌝ }
+    ensures { λ _. ⌜ now (state .exit)
+        ≡ loop (length (now (state .entry))) (blendStep activation (now (z .entry)) (now (h .entry)))
         (now (state .entry)) ⌝ }
 {
     activate(h, table, activation);
@@ -125,7 +132,8 @@ fn gate_sums(
 )
     requires { ⌜ GateFits (length (now out)) (length (now weights)) (length (now recurrent)) (length (now bias)) offset
         (length (now input)) (length (now state)) ⌝ }
-    ensures { λ _. ⌜ now (out .exit) ≡ gateSums (now (weights .entry)) (now (recurrent .entry)) (now (bias .entry)) (now (input .entry))
+    ensures { λ _. ⌜ now (out .exit)
+        ≡ gateSums (now (weights .entry)) (now (recurrent .entry)) (now (bias .entry)) (now (input .entry))
         (length (now (out .entry))) offset (now (state .entry)) ⌝ }
 {
     let n = out.len();
@@ -151,8 +159,10 @@ pub(crate) fn gru(
 )
     requires { ⌜ GruArrays (length (now state)) (length (now weights)) (length (now recurrent)) (length (now bias))
         (length (now input)) ⌝ }
-    requires { ⌜ (now table ≡ tansig) × ScratchFits (length (now state)) (length (now z)) (length (now r)) (length (now h)) ⌝ }
-    ensures { λ _. ⌜ now (state .exit) ≡ gruOf (now (weights .entry)) (now (recurrent .entry)) (now (bias .entry)) activation
+    requires { ⌜ (now table ≡ tansig)
+        × ScratchFits (length (now state)) (length (now z)) (length (now r)) (length (now h)) ⌝ }
+    ensures { λ _. ⌜ now (state .exit)
+        ≡ gruOf (now (weights .entry)) (now (recurrent .entry)) (now (bias .entry)) activation
         (now (input .entry)) (now (state .entry)) ⌝ }
 {
     let n = state.len();
@@ -176,8 +186,10 @@ pub(crate) fn gru_alone(
     input: &[f32],
 )
     requires { ⌜ (now table ≡ tansig) × (length (now state) ≤ 128)
-        × GruArrays (length (now state)) (length (now weights)) (length (now recurrent)) (length (now bias)) (length (now input)) ⌝ }
-    ensures { λ _. ⌜ now (state .exit) ≡ gruOf (now (weights .entry)) (now (recurrent .entry)) (now (bias .entry)) activation
+        × GruArrays (length (now state)) (length (now weights)) (length (now recurrent)) (length (now bias))
+        (length (now input)) ⌝ }
+    ensures { λ _. ⌜ now (state .exit)
+        ≡ gruOf (now (weights .entry)) (now (recurrent .entry)) (now (bias .entry)) activation
         (now (input .entry)) (now (state .entry)) ⌝ }
 {
     let n = state.len();

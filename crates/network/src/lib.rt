@@ -20,7 +20,8 @@ pub fn dense(
     activation: Activation,
     input: &[f32],
 ) -> u32
-    ensures { λ r. ⌜ Leaf (DenseFits (length (now (output .entry))) (length (now (weights .entry))) (length (now (bias .entry)))
+    ensures { λ r. ⌜ Leaf (DenseFits (length (now (output .entry))) (length (now (weights .entry)))
+        (length (now (bias .entry)))
         (length (now (input .entry))))
         (r leaving now (output .exit))
         (0 leaving denseOf (now (weights .entry)) (now (bias .entry)) activation (now (input .entry)))
@@ -60,10 +61,12 @@ pub fn gru(
     activation: Activation,
     input: &[f32],
 ) -> u32
-    ensures { λ r. ⌜ Leaf (GruFits (length (now (state .entry))) (length (now (weights .entry))) (length (now (recurrent .entry)))
+    ensures { λ r. ⌜ Leaf (GruFits (length (now (state .entry))) (length (now (weights .entry)))
+        (length (now (recurrent .entry)))
         (length (now (bias .entry))) (length (now (input .entry))))
         (r leaving now (state .exit))
-        (0 leaving gruOf (now (weights .entry)) (now (recurrent .entry)) (now (bias .entry)) activation (now (input .entry))
+        (0 leaving gruOf (now (weights .entry)) (now (recurrent .entry)) (now (bias .entry)) activation
+        (now (input .entry))
         (now (state .entry)))
         (5 leaving now (state .entry)) ⌝ }
 {
@@ -113,7 +116,8 @@ pub fn compute_on(
     features: &[f32],
 ) -> Computed
     ensures { λ r. ⌜ outcomeOn r (now (gains .exit)) (now (voice .exit)) (now (states .exit))
-        ≡ computed (now (gains .entry)) (now (voice .entry)) (vadIn (now (states .entry))) (noiseIn (now (states .entry)))
+        ≡ computed (now (gains .entry)) (now (voice .entry)) (vadIn (now (states .entry)))
+        (noiseIn (now (states .entry)))
         (denoiseIn (now (states .entry))) (now (model .entry)) (now (features .entry)) ⌝ }
 {
     if gains.len() != 22 {
@@ -147,8 +151,10 @@ pub fn compute(
     model: &[u8],
     features: &[f32],
 ) -> Computed
-    ensures { λ r. ⌜ outcomeOf r (now (gains .exit)) (now (voice .exit)) (now (vad .exit)) (now (noise .exit)) (now (denoise .exit))
-        ≡ computed (now (gains .entry)) (now (voice .entry)) (now (vad .entry)) (now (noise .entry)) (now (denoise .entry))
+    ensures { λ r. ⌜ outcomeOf r (now (gains .exit)) (now (voice .exit)) (now (vad .exit)) (now (noise .exit))
+        (now (denoise .exit))
+        ≡ computed (now (gains .entry)) (now (voice .entry)) (now (vad .entry)) (now (noise .entry))
+        (now (denoise .entry))
         (now (model .entry)) (now (features .entry)) ⌝ }
 {
     if vad.len() != 128 {

@@ -10,7 +10,7 @@ ghost use Rattle.model.specs.declared.Reading.the-variants.{Good};
 ghost use Rattle.model.specs.Model.{readOf};
 ghost use Rattle.rules.specs.Place.{get, put};
 ghost use Rattle.network.specs.Compute.{denseAt, gruAt, layeredOn, layersInPlace, vadIn, noiseIn, denoiseIn};
-ghost use Rattle.network.specs.Parts.{stateAt, LayerFits, VoiceFits, DenoiseFits};
+ghost use Rattle.network.specs.Private.{stateAt, LayerFits, VoiceFits, DenoiseFits};
 use crate::layers;
 use model::Header;
 use model::Kind;
@@ -19,7 +19,8 @@ use model::Model;
 // Stores src from this place on; what comes before it stays.
 fn put(buf: &mut [f32], at: usize, src: &[f32])
     requires { ⌜ at + length (now src) ≤ length (now buf) ⌝ }
-    ensures { λ _. ⌜ take (at + length (now (src .entry))) (now (buf .exit)) ≡ take at (now (buf .entry)) ++ now (src .entry) ⌝ }
+    ensures { λ _. ⌜ take (at + length (now (src .entry))) (now (buf .exit))
+        ≡ take at (now (buf .entry)) ++ now (src .entry) ⌝ }
 {
     for i in 0..src.len() {
         buf[at + i] = src[i];
@@ -29,7 +30,8 @@ fn put(buf: &mut [f32], at: usize, src: &[f32])
 // Stores three slices, one after the other, at the front of buf.
 pub(crate) fn join(buf: &mut [f32], first: &[f32], second: &[f32], third: &[f32])
     requires { ⌜ length (now first) + length (now second) + length (now third) ≤ length (now buf) ⌝ }
-    ensures { λ _. ⌜ take (length (now (first .entry)) + length (now (second .entry)) + length (now (third .entry))) (now (buf .exit))
+    ensures { λ _. ⌜ take (length (now (first .entry)) + length (now (second .entry)) + length (now (third .entry)))
+        (now (buf .exit))
         ≡ now (first .entry) ++ now (second .entry) ++ now (third .entry) ⌝ }
 {
     let a = first.len();
@@ -41,7 +43,8 @@ pub(crate) fn join(buf: &mut [f32], first: &[f32], second: &[f32], third: &[f32]
 
 // The dense layer with this header.
 fn dense(output: &mut [f32], table: &[f32; 201], bytes: &[u8], h: Header, input: &[f32])
-    requires { ⌜ (now table ≡ tansig) × LayerFits Dense h (length (now bytes)) (length (now output)) (length (now input)) ⌝ }
+    requires { ⌜ (now table ≡ tansig)
+        × LayerFits Dense h (length (now bytes)) (length (now output)) (length (now input)) ⌝ }
     ensures { λ _. ⌜ now (output .exit) ≡ denseAt (now (bytes .entry)) h (now (input .entry)) ⌝ }
 {
     let weights = model::place_in(bytes.len(), Kind::Dense, h, 0);
@@ -71,8 +74,10 @@ fn dense_on(
     at: usize,
     n: usize,
 )
-    requires { ⌜ (now table ≡ tansig) × (at + n ≤ length (now states)) × LayerFits Dense h (length (now bytes)) (length (now output)) n ⌝ }
-    ensures { λ _. ⌜ now (output .exit) ≡ denseAt (now (bytes .entry)) h (get (record { at = at; size = n }) (now (states .entry))) ⌝ }
+    requires { ⌜ (now table ≡ tansig) × (at + n ≤ length (now states))
+        × LayerFits Dense h (length (now bytes)) (length (now output)) n ⌝ }
+    ensures { λ _. ⌜ now (output .exit)
+        ≡ denseAt (now (bytes .entry)) h (get (record { at = at; size = n }) (now (states .entry))) ⌝ }
 {
     let end = at + n;
     dense(output, table, bytes, h, &states[at..end]);
@@ -121,8 +126,10 @@ fn voice_of(
         × VoiceFits m (length (now bytes)) (length (now hidden)) (length (now voice)) (length (now features)) ⌝ }
     ensures { λ _. ⌜ (now (hidden .exit) ≡ denseAt (now (bytes .entry)) (m .«input_dense») (now (features .entry)))
         × (now (states .exit) ≡ put (stateAt 0 (m .«vad_gru»)) (now (states .entry))
-        (gruAt (now (bytes .entry)) (m .«vad_gru») (now (hidden .exit)) (get (stateAt 0 (m .«vad_gru»)) (now (states .entry)))))
-        × (now (voice .exit) ≡ denseAt (now (bytes .entry)) (m .«vad_output») (get (stateAt 0 (m .«vad_gru»)) (now (states .exit)))) ⌝ }
+        (gruAt (now (bytes .entry)) (m .«vad_gru») (now (hidden .exit))
+        (get (stateAt 0 (m .«vad_gru»)) (now (states .entry)))))
+        × (now (voice .exit) ≡ denseAt (now (bytes .entry)) (m .«vad_output»)
+        (get (stateAt 0 (m .«vad_gru»)) (now (states .exit)))) ⌝ }
 {
     let input_dense = m.input_dense;
     let vad_gru = m.vad_gru;
@@ -142,7 +149,8 @@ fn noise_of(
     hidden: &[f32],
     features: &[f32],
 )
-    requires { ⌜ (now table ≡ tansig) × (length (now states) ≡ 384) × LayerFits Gru (m .«noise_gru») (length (now bytes)) (m .«noise_gru» .neurons)
+    requires { ⌜ (now table ≡ tansig) × (length (now states) ≡ 384)
+        × LayerFits Gru (m .«noise_gru») (length (now bytes)) (m .«noise_gru» .neurons)
         (length (now hidden) + m .«vad_gru» .neurons + length (now features)) ⌝ }
     ensures { λ _. ⌜ now (states .exit) ≡ put (stateAt 128 (m .«noise_gru»)) (now (states .entry))
         (gruAt (now (bytes .entry)) (m .«noise_gru»)
@@ -164,7 +172,8 @@ fn denoise_of(states: &mut [f32], table: &[f32; 201], bytes: &[u8], m: Model, fe
         (m .«vad_gru» .neurons + m .«noise_gru» .neurons + length (now features)) ⌝ }
     ensures { λ _. ⌜ now (states .exit) ≡ put (stateAt 256 (m .«denoise_gru»)) (now (states .entry))
         (gruAt (now (bytes .entry)) (m .«denoise_gru»)
-        (get (stateAt 0 (m .«vad_gru»)) (now (states .entry)) ++ get (stateAt 128 (m .«noise_gru»)) (now (states .entry)) ++ now (features .entry))
+        (get (stateAt 0 (m .«vad_gru»)) (now (states .entry))
+        ++ get (stateAt 128 (m .«noise_gru»)) (now (states .entry)) ++ now (features .entry))
         (get (stateAt 256 (m .«denoise_gru»)) (now (states .entry)))) ⌝ }
 {
     let denoise_gru = m.denoise_gru;
@@ -189,9 +198,11 @@ fn gains_of(
         × DenoiseFits m (length (now bytes)) (length (now gains)) (length (now features)) ⌝ }
     ensures { λ _. ⌜ (now (states .exit) ≡ put (stateAt 256 (m .«denoise_gru»)) (now (states .entry))
         (gruAt (now (bytes .entry)) (m .«denoise_gru»)
-        (get (stateAt 0 (m .«vad_gru»)) (now (states .entry)) ++ get (stateAt 128 (m .«noise_gru»)) (now (states .entry)) ++ now (features .entry))
+        (get (stateAt 0 (m .«vad_gru»)) (now (states .entry))
+        ++ get (stateAt 128 (m .«noise_gru»)) (now (states .entry)) ++ now (features .entry))
         (get (stateAt 256 (m .«denoise_gru»)) (now (states .entry)))))
-        × (now (gains .exit) ≡ denseAt (now (bytes .entry)) (m .«denoise_output») (get (stateAt 256 (m .«denoise_gru»)) (now (states .exit)))) ⌝ }
+        × (now (gains .exit) ≡ denseAt (now (bytes .entry)) (m .«denoise_output»)
+        (get (stateAt 256 (m .«denoise_gru»)) (now (states .exit)))) ⌝ }
 {
     let denoise_output = m.denoise_output;
     let n = m.denoise_gru.neurons;
@@ -210,7 +221,8 @@ fn frame_in(
     features: &[f32],
 )
     requires { ⌜ (readOf (now bytes) ≡ Good m) × (length (now hidden) ≡ m .«input_dense» .neurons)
-        × (length (now gains) ≡ 22) × (length (now voice) ≡ 1) × (length (now states) ≡ 384) × (length (now features) ≡ 42) ⌝ }
+        × (length (now gains) ≡ 22) × (length (now voice) ≡ 1) × (length (now states) ≡ 384)
+        × (length (now features) ≡ 42) ⌝ }
     ensures { λ _. ⌜ layeredOn (now (gains .exit)) (now (voice .exit)) (now (states .exit))
         ≡ layersInPlace (now (bytes .entry)) m (vadIn (now (states .entry))) (noiseIn (now (states .entry)))
         (denoiseIn (now (states .entry))) (now (features .entry)) ⌝ }
@@ -231,7 +243,8 @@ pub(crate) fn frame(
     features: &[f32],
 )
     requires { ⌜ (readOf (now bytes) ≡ Good m)
-        × (length (now gains) ≡ 22) × (length (now voice) ≡ 1) × (length (now states) ≡ 384) × (length (now features) ≡ 42) ⌝ }
+        × (length (now gains) ≡ 22) × (length (now voice) ≡ 1) × (length (now states) ≡ 384)
+        × (length (now features) ≡ 42) ⌝ }
     ensures { λ _. ⌜ layeredOn (now (gains .exit)) (now (voice .exit)) (now (states .exit))
         ≡ layersInPlace (now (bytes .entry)) m (vadIn (now (states .entry))) (noiseIn (now (states .entry)))
         (denoiseIn (now (states .entry))) (now (features .entry)) ⌝ }

@@ -38,7 +38,9 @@ near table x = curve (at table (place x)) (x ⊖ f32 0x3D23D70A ⊗ ofInt binary
 
 -- tansig_approx with any table of 201 numbers. A NaN gives 0.0 (request 09); in the Rust it gives 1.0.
 unfoldable pub tansigIn : List Float → Float → Float
-tansigIn table x = cond (isNan x) (f32 0) (cond (lt x eight) (cond (lt (neg eight) x) (signOf x ⊗ near table (magnitude x)) (neg one)) one)
+tansigIn table x =
+    cond (isNan x) (f32 0) (cond (lt x eight)
+    (cond (lt (neg eight) x) (signOf x ⊗ near table (magnitude x)) (neg one)) one)
 
 -- sigmoid_approx with any table of 201 numbers.
 unfoldable pub sigmoidIn : List Float → Float → Float

@@ -1,5 +1,6 @@
 -- What is claimed of the numbers. The proofs are in proofs/Larger, proofs/NarrowCorrect and proofs/RootCorrect.
-use Rattle.rules.specs.Common.{ℕ, zero, suc, _+_, _-_, _*_, _%_, _^_, _≤_, _<_, Bool, true, false, cond, _≡_, Float, binary32, nan, inf, fin, lt}
+use Rattle.rules.specs.Common.{ℕ, zero, suc, _+_, _-_, _*_, _%_, _^_, _≤_, _<_, Bool, true, false, cond, _≡_, Float}
+use Rattle.rules.specs.Common.{binary32, nan, inf, fin, lt}
 use Rattle.rules.specs.Common.{isNan, up, down, round}
 use mathlib.Core.Bool.{Bool·beq}
 use lib.IntN.{ℤ}

@@ -1,7 +1,8 @@
 -- Recorded bytes as samples, and samples as bytes, as a WAV file has them: the low byte first, and the channels in
 -- turn. A sample is a number from -32768 to 32767. A format is named by its bits: 16 and 24 are whole numbers, 32 is a
 -- float, and 33 is a whole number of 32 bits.
-use Rattle.rules.specs.Common.{ℕ, _+_, _-_, _*_, _/_, _%_, min, _≤_, _<_, Bool, cond, _&&_, List, _≡_, eqb, ltb, length, pos, Float, binary32, nan}
+use Rattle.rules.specs.Common.{ℕ, _+_, _-_, _*_, _/_, _%_, min, _≤_, _<_, Bool, cond, _&&_, List, _≡_, eqb, ltb, length}
+use Rattle.rules.specs.Common.{pos, Float, binary32, nan}
 use Rattle.rules.specs.Common.{inf, fin, ofInt, le, neg, up, down, ofBits}
 use Rattle.rules.specs.F32.{_⊕_, _⊗_, _⊘_, f32, at, natAt}
 use Rattle.rules.specs.Tab.{tab}
@@ -14,16 +15,16 @@ abbrev pub width : ℕ → ℕ
 width format = cond (eqb format 16) 2 (cond (eqb format 24) 3 (cond (eqb format 33) 4 (cond (eqb format 32) 4 0)))
 
 -- Two bytes from place a on, the low byte first.
-abbrev pub two : List ℕ → ℕ → ℕ
-two bytes a = natAt bytes a + 256 * natAt bytes (a + 1)
+abbrev pub twoBytesAt : List ℕ → ℕ → ℕ
+twoBytesAt bytes a = natAt bytes a + 256 * natAt bytes (a + 1)
 
 -- Three bytes from place a on, the low byte first.
-abbrev pub three : List ℕ → ℕ → ℕ
-three bytes a = two bytes a + 65536 * natAt bytes (a + 2)
+abbrev pub threeBytesAt : List ℕ → ℕ → ℕ
+threeBytesAt bytes a = twoBytesAt bytes a + 65536 * natAt bytes (a + 2)
 
 -- Four bytes from place a on, the low byte first.
-abbrev pub four : List ℕ → ℕ → ℕ
-four bytes a = three bytes a + 16777216 * natAt bytes (a + 3)
+abbrev pub fourBytesAt : List ℕ → ℕ → ℕ
+fourBytesAt bytes a = threeBytesAt bytes a + 16777216 * natAt bytes (a + 3)
 
 -- Two's complement: n if it is below `half`, and otherwise n minus twice `half`.
 unfoldable pub signed : ℕ → ℕ → Float
@@ -46,26 +47,26 @@ asSample y = clipped (neg (f32 0x47000000)) (f32 0x46FFFE00) y
 -- Each part is exact, so the sum is rounded only once.
 unfoldable pub halves : List ℕ → ℕ → Float
 unfolding signed
-halves bytes a = signed 32768 (two bytes (a + 2)) ⊕ ofInt binary32 (pos (two bytes a)) ⊘ f32 0x47800000
+halves bytes a = signed 32768 (twoBytesAt bytes (a + 2)) ⊕ ofInt binary32 (pos (twoBytesAt bytes a)) ⊘ f32 0x47800000
 
 -- The sample whose bytes begin at place a. With 24 bits the lowest byte is a fraction. A float has full scale at 1: it
 -- is clipped to -1 and 32767 / 32768, and then scaled.
 unfoldable pub numberAt : ℕ → List ℕ → ℕ → Float
 unfolding signed clipped halves
 numberAt format bytes a =
-    cond (eqb format 16) (signed 32768 (two bytes a))
-    (cond (eqb format 24) (asSample (signed 8388608 (three bytes a) ⊘ f32 0x43800000))
+    cond (eqb format 16) (signed 32768 (twoBytesAt bytes a))
+    (cond (eqb format 24) (asSample (signed 8388608 (threeBytesAt bytes a) ⊘ f32 0x43800000))
     (cond (eqb format 33) (asSample (halves bytes a))
-    (f32 0x47000000 ⊗ clipped (neg (f32 0x3F800000)) (f32 0x3F7FFE00) (ofBits binary32 (four bytes a)))))
+    (f32 0x47000000 ⊗ clipped (neg (f32 0x3F800000)) (f32 0x3F7FFE00) (ofBits binary32 (fourBytesAt bytes a)))))
 
 -- The place of sample i of a channel, if `channels` channels take turns.
-abbrev pub placeOf : ℕ → ℕ → ℕ → ℕ → ℕ
-placeOf format channels channel i = (i * channels + channel) * width format
+abbrev pub samplePlace : ℕ → ℕ → ℕ → ℕ → ℕ
+samplePlace format channels channel i = (i * channels + channel) * width format
 
 -- The first n samples of one channel.
 unfoldable pub unpacked : ℕ → List ℕ → ℕ → ℕ → ℕ → List Float
 unfolding numberAt
-unpacked n bytes format channels channel = tab n (λ i. numberAt format bytes (placeOf format channels channel i))
+unpacked n bytes format channels channel = tab n (λ i. numberAt format bytes (samplePlace format channels channel i))
 
 -- The arguments fit.
 pub record UnpackFits (out bytes format channels channel : ℕ) : Type 0 where

@@ -7,7 +7,8 @@ ghost use Rattle.pcm.specs.Pcm.{UnpackFits, unpacked, PackFits, packed};
 // `unpack` for lengths that fit.
 fn unpack_core(out: &mut [f32], bytes: &[u8], format: u32, channels: usize, channel: usize)
     requires { ⌜ UnpackFits (length (now out)) (length (now bytes)) format channels channel ⌝ }
-    ensures { λ _. ⌜ now (out .exit) ≡ unpacked (length (now (out .entry))) (now (bytes .entry)) format channels channel ⌝ }
+    ensures { λ _. ⌜ now (out .exit)
+        ≡ unpacked (length (now (out .entry))) (now (bytes .entry)) format channels channel ⌝ }
 {
     let width = crate::number::width_of(format);
     for i in 0..out.len() {

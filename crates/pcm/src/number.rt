@@ -3,7 +3,7 @@ ghost use mathlib.Core.Path.{_≡_};
 ghost use Prim.Native.Nat.{_+_, _*_, _<_, _≤_};
 ghost use lib.ListN.{length};
 ghost use lib.Ieee.{binary32, ofBits};
-ghost use Rattle.pcm.specs.Pcm.{width, two, three, four, signed, clipped, halves, numberAt};
+ghost use Rattle.pcm.specs.Pcm.{width, twoBytesAt, threeBytesAt, fourBytesAt, signed, clipped, halves, numberAt};
 
 // The bytes of a sample in this format, or 0 if there is no such format.
 pub fn width_of(format: u32) -> usize
@@ -31,7 +31,7 @@ fn wide(b: u8) -> u32
 // Two bytes from place a on, the low byte first.
 fn two(bytes: &[u8], a: usize) -> u32
     requires { ⌜ a + 2 ≤ length (now bytes) ⌝ }
-    ensures { λ r. ⌜ (r ≡ two (now (bytes .entry)) a) × (r < 65536) ⌝ }
+    ensures { λ r. ⌜ (r ≡ twoBytesAt (now (bytes .entry)) a) × (r < 65536) ⌝ }
 {
     wide(bytes[a]) + 256 * wide(bytes[a + 1])
 }
@@ -39,7 +39,7 @@ fn two(bytes: &[u8], a: usize) -> u32
 // Three bytes from place a on, the low byte first.
 fn three(bytes: &[u8], a: usize) -> u32
     requires { ⌜ a + 3 ≤ length (now bytes) ⌝ }
-    ensures { λ r. ⌜ (r ≡ three (now (bytes .entry)) a) × (r < 16777216) ⌝ }
+    ensures { λ r. ⌜ (r ≡ threeBytesAt (now (bytes .entry)) a) × (r < 16777216) ⌝ }
 {
     two(bytes, a) + 65536 * wide(bytes[a + 2])
 }
@@ -47,7 +47,7 @@ fn three(bytes: &[u8], a: usize) -> u32
 // Four bytes from place a on, the low byte first.
 fn four(bytes: &[u8], a: usize) -> u32
     requires { ⌜ a + 4 ≤ length (now bytes) ⌝ }
-    ensures { λ r. ⌜ r ≡ four (now (bytes .entry)) a ⌝ }
+    ensures { λ r. ⌜ r ≡ fourBytesAt (now (bytes .entry)) a ⌝ }
 {
     three(bytes, a) + 16777216 * wide(bytes[a + 3])
 }

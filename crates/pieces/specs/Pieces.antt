@@ -1,7 +1,8 @@
 -- Dictation in pieces (request 12), on one share: a frame's part, followed by 479 places for samples that
 -- wait. A piece continues with the waiting samples and its own. A resume finishes the frame under way and
 -- continues with what is left of the piece.
-use Rattle.rules.specs.Common.{ℕ, _+_, _-_, _*_, _/_, Bool, cond, not, _&&_, List, [], _∷_, _++_, eqb, leb, ltb, length, getD, take, drop, Float}
+use Rattle.rules.specs.Common.{ℕ, _+_, _-_, _*_, _/_, Bool, cond, not, _&&_, List, [], _∷_, _++_, eqb, leb, ltb, length}
+use Rattle.rules.specs.Common.{getD, take, drop, Float}
 use Rattle.rules.specs.F32.{f32}
 use Rattle.rules.specs.Place.{Place, get, put}
 use Rattle.rules.specs.Tab.{tab}
@@ -10,7 +11,7 @@ use Rattle.samples.specs.Samples.{good}
 use Rattle.model.specs.Model.{readOf}
 use Rattle.frame.specs.Share.{SHARE, PART}
 use Rattle.frame.specs.Effect.{Effect, unless}
-use Rattle.frame.specs.Reply.{_when_}
+use Rattle.frame.specs.Reply.{_refusedIf_}
 use Rattle.frame.specs.declared.Hearing.{Hearing}
 use Rattle.frame.specs.declared.Reply.{Reply}
 use Rattle.frame.specs.declared.Reply.the-variants.{Done}
@@ -42,7 +43,8 @@ waits share xs = put (waitingPlace 479) share (paddedTo 479 xs)
 abbrev pub inPart : List Float → Effect Reply → Effect Reply
 inPart share f = record { answer = f .answer; kept = put framePart share (f .kept); written = f .written }
 
--- ---- what becomes of the rest of a piece, its samples that are in no frame yet; the buffers are its output and 22 sums
+-- ---- what becomes of the rest of a piece, its samples that are in no frame yet; the buffers are its output and 22
+--      sums
 
 -- The rest waits, and the piece is finished.
 abbrev pub atEnd : Reply → List Float → List Float → Written → Effect Reply
@@ -55,7 +57,8 @@ paused reply share way rest out =
     record { answer = reply; kept = put framePart share (f .kept); written = out ∷ all (firstIn (f .written)) ∷ [] }
 
 unfoldable pub further : Reply → List Float → Way → List Float → Written → Effect Reply
-further reply share way rest out = cond (ltb (length rest) 480) (atEnd reply share rest out) (paused reply share way rest out)
+further reply share way rest out =
+    cond (ltb (length rest) 480) (atEnd reply share rest out) (paused reply share way rest out)
 
 -- ---- a piece
 
@@ -70,17 +73,18 @@ pieceFits waiting size out sums =
 
 abbrev pub pieceRows : List Float → ℕ → List Float → ℕ → ℕ → List Reply
 pieceRows share waiting samples out sums =
-    5 when not (eqb (length share) SHARE)
-    ∷ 5 when not (pieceFits waiting (length samples) out sums)
-    ∷ 9 when not (good (waitingIn waiting share))
-    ∷ 9 when not (good samples)
+    5 refusedIf not (eqb (length share) SHARE)
+    ∷ 5 refusedIf not (pieceFits waiting (length samples) out sums)
+    ∷ 9 refusedIf not (good (waitingIn waiting share))
+    ∷ 9 refusedIf not (good samples)
     ∷ []
 
 abbrev pub begun : List Float → Way → ℕ → List Float → Effect Reply
 begun share way waiting samples = further Done (waits share []) way (waitingIn waiting share ++ samples) nothing
 
 unfoldable pub piece : List Float → Way → ℕ → List Float → ℕ → ℕ → Effect Reply
-piece share way waiting samples out sums = unless (pieceRows share waiting samples out sums) share (begun share way waiting samples)
+piece share way waiting samples out sums =
+    unless (pieceRows share waiting samples out sums) share (begun share way waiting samples)
 
 -- ---- a resume, of the frame under way
 
@@ -102,10 +106,10 @@ resumeFits index piece progress size logs out sums =
 -- After the lengths comes the model (7 and 8), and the samples last.
 abbrev pub resumeRows : List Float → Hearing → ℕ → ℕ → List Float → List Float → List ℕ → ℕ → ℕ → List Reply
 resumeRows share hearing piece progress samples logs model out sums =
-    5 when not (eqb (length share) SHARE)
-    ∷ 5 when not (resumeFits (hearing .index) piece progress (length samples) (length logs) out sums)
+    5 refusedIf not (eqb (length share) SHARE)
+    ∷ 5 refusedIf not (resumeFits (hearing .index) piece progress (length samples) (length logs) out sums)
     ∷ checked (counted hearing) (readOf model)
-    ∷ 9 when not (good samples)
+    ∷ 9 refusedIf not (good samples)
     ∷ []
 
 abbrev pub resumed : List Float → Hearing → ℕ → List Float → List Float → List ℕ → Effect Reply

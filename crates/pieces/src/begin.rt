@@ -4,7 +4,7 @@ ghost use mathlib.Core.List.{[], _∷_};
 ghost use lib.ListN.{length};
 ghost use Rattle.frame.specs.Effect.{Worked};
 ghost use Rattle.pieces.specs.Pieces.{pieceFits, piece};
-ghost use Rattle.pieces.specs.Parts.{pieceReply};
+ghost use Rattle.pieces.specs.Private.{pieceReply};
 use frame::Reply;
 use frame::Way;
 
@@ -57,7 +57,8 @@ pub fn piece(
     sums: &mut [f32],
 ) -> Reply
     ensures { λ r. ⌜ Worked
-        (piece (now (share .entry)) way waiting (now (samples .entry)) (length (now (out .entry))) (length (now (sums .entry))))
+        (piece (now (share .entry)) way waiting (now (samples .entry)) (length (now (out .entry)))
+        (length (now (sums .entry))))
         r (now (share .exit)) (now (out .entry) ∷ now (sums .entry) ∷ []) (now (out .exit) ∷ now (sums .exit) ∷ []) ⌝ }
 {
     let reply = piece_reply(share, waiting, samples, out.len(), sums.len());

@@ -9,10 +9,10 @@ ghost use Rattle.samples.specs.Samples.{good};
 ghost use Rattle.model.specs.Model.{readOf};
 ghost use Rattle.frame.specs.declared.Reply.the-variants.{Done};
 ghost use Rattle.frame.specs.Effect.{Worked};
-ghost use Rattle.frame.specs.Reply.{_when_, firstRefusal};
+ghost use Rattle.frame.specs.Reply.{_refusedIf_, firstRefusal};
 ghost use Rattle.frame.specs.Frame.{counted, checked};
 ghost use Rattle.pieces.specs.Pieces.{further, resumeFits, resume};
-ghost use Rattle.pieces.specs.Parts.{resumeReply};
+ghost use Rattle.pieces.specs.Private.{resumeReply};
 use frame::Hearing;
 use frame::Reply;
 use frame::Way;
@@ -56,7 +56,8 @@ fn resume_fits(
 
 // The tests after the lengths: refusals 7 to 9, or Done.
 pub fn last_tests(hearing: Hearing, model: &[u8], fine: bool) -> Reply
-    ensures { λ r. ⌜ r ≡ firstRefusal (checked (counted hearing) (readOf (now (model .entry))) ∷ 9 when not fine ∷ []) ⌝ }
+    ensures { λ r. ⌜ r ≡ firstRefusal
+        (checked (counted hearing) (readOf (now (model .entry))) ∷ 9 refusedIf not fine ∷ []) ⌝ }
 {
     let reply = frame::check(model, hearing);
     if !frame::passed(reply) {
@@ -103,7 +104,8 @@ fn resume_reply(
 
 // The samples from `from` on wait, or the first 480 of them begin a frame and 22 sums are written.
 fn go_on(share: &mut [f32], way: Way, samples: &[f32], from: usize, sums: &mut [f32])
-    requires { ⌜ (length (now share) ≡ 6144) × (from ≤ length (now samples)) × (good (now samples) ≡ true) × (length (now sums) ≡ 22) ⌝ }
+    requires { ⌜ (length (now share) ≡ 6144) × (from ≤ length (now samples)) × (good (now samples) ≡ true)
+        × (length (now sums) ≡ 22) ⌝ }
     ensures { λ _. ⌜ Worked (further Done (now (share .entry)) way (drop from (now (samples .entry))) nothing)
         Done (now (share .exit)) ([] ∷ now (sums .entry) ∷ []) ([] ∷ now (sums .exit) ∷ []) ⌝ }
 {
@@ -131,7 +133,8 @@ pub fn resume(
 ) -> Reply
     ensures { λ r. ⌜ Worked
         (resume (now (share .entry)) hearing piece progress
-        (now (samples .entry)) (now (logs .entry)) (now (model .entry)) (length (now (out .entry))) (length (now (sums .entry))))
+        (now (samples .entry)) (now (logs .entry)) (now (model .entry)) (length (now (out .entry)))
+        (length (now (sums .entry))))
         r (now (share .exit)) (now (out .entry) ∷ now (sums .entry) ∷ []) (now (out .exit) ∷ now (sums .exit) ∷ []) ⌝ }
 {
     let reply = resume_reply(

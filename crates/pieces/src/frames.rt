@@ -19,10 +19,13 @@ use frame::Way;
 
 // Begins a frame with 480 samples, and writes its sums.
 pub(crate) fn enter(share: &mut [f32], way: Way, samples: &[f32], sums: &mut [f32])
-    requires { ⌜ (length (now share) ≡ 6144) × (length (now samples) ≡ 480) × (good (now samples) ≡ true) × (length (now sums) ≡ 22) ⌝ }
+    requires { ⌜ (length (now share) ≡ 6144) × (length (now samples) ≡ 480) × (good (now samples) ≡ true)
+        × (length (now sums) ≡ 22) ⌝ }
     ensures { λ _. ⌜ now (share .exit)
-        ≡ put framePart (now (share .entry)) (firstHalf (get framePart (now (share .entry))) way (now (samples .entry)) 22 .kept) ⌝ }
-    ensures { λ _. ⌜ now (sums .exit) ≡ firstIn (firstHalf (get framePart (now (share .entry))) way (now (samples .entry)) 22 .written) ⌝ }
+        ≡ put framePart (now (share .entry))
+        (firstHalf (get framePart (now (share .entry))) way (now (samples .entry)) 22 .kept) ⌝ }
+    ensures { λ _. ⌜ now (sums .exit)
+        ≡ firstIn (firstHalf (get framePart (now (share .entry))) way (now (samples .entry)) 22 .written) ⌝ }
 {
     halves::first_half(&mut share[0..PART], way, samples, sums);
 }
@@ -36,16 +39,19 @@ pub(crate) fn leave(
     out: &mut [f32],
     start: usize,
 ) -> Reply
-    requires { ⌜ (length (now share) ≡ 6144) × (hearing .index ≤ 7) × (length (now logs) ≡ 22) × (start + 480 ≤ length (now out)) ⌝ }
+    requires { ⌜ (length (now share) ≡ 6144) × (hearing .index ≤ 7) × (length (now logs) ≡ 22)
+        × (start + 480 ≤ length (now out)) ⌝ }
     requires { ⌜ passed (checked (counted hearing) (readOf (now model))) ≡ true ⌝ }
     ensures { λ r. ⌜ r
-        ≡ secondHalf (get framePart (now (share .entry))) hearing (now (logs .entry)) (now (model .entry)) 480 .answer ⌝ }
+        ≡ secondHalf (get framePart (now (share .entry))) hearing (now (logs .entry))
+        (now (model .entry)) 480 .answer ⌝ }
     ensures { λ _. ⌜ now (share .exit)
         ≡ put framePart (now (share .entry))
         (secondHalf (get framePart (now (share .entry))) hearing (now (logs .entry)) (now (model .entry)) 480 .kept) ⌝ }
     ensures { λ _. ⌜ now (out .exit)
         ≡ over (from start
-        (firstIn (secondHalf (get framePart (now (share .entry))) hearing (now (logs .entry)) (now (model .entry)) 480 .written)))
+        (firstIn (secondHalf (get framePart (now (share .entry))) hearing (now (logs .entry))
+        (now (model .entry)) 480 .written)))
         (now (out .entry)) ⌝ }
 {
     let end = start + 480;

@@ -29,7 +29,8 @@ fn pick(front: &[f32], rest: &[f32], i: usize) -> f32
 
 // `out` becomes the front followed by the rest, as far as it has room, filled up with zeros.
 pub fn join(out: &mut [f32], front: &[f32], rest: &[f32])
-    ensures { λ _. ⌜ now (out .exit) ≡ paddedTo (length (now (out .entry))) (now (front .entry) ++ now (rest .entry)) ⌝ }
+    ensures { λ _. ⌜ now (out .exit)
+        ≡ paddedTo (length (now (out .entry))) (now (front .entry) ++ now (rest .entry)) ⌝ }
 {
     for i in 0..out.len() {
         out[i] = pick(front, rest, i);

@@ -9,7 +9,8 @@ use Rattle.pitch.specs.Lpc.{lpcOf}
 
 -- Rust: x_lp[i] = ((x[2 * i - 1] + x[2 * i + 1]) / 2.0 + x[2 * i]) / 2.0, and x_lp[0] = (x[1] / 2.0 + x[0]) / 2.0.
 abbrev pub halvedAt : List Float → ℕ → Float
-halvedAt x i = cond (eqb i 0) ((at x 1 ⊘ two ⊕ at x 0) ⊘ two) (((at x (2 * i - 1) ⊕ at x (2 * i + 1)) ⊘ two ⊕ at x (2 * i)) ⊘ two)
+halvedAt x i =
+    cond (eqb i 0) ((at x 1 ⊘ two ⊕ at x 0) ⊘ two) (((at x (2 * i - 1) ⊕ at x (2 * i + 1)) ⊘ two ⊕ at x (2 * i)) ⊘ two)
 
 -- All 864 of them.
 unfoldable pub halved : List Float → List Float
@@ -44,7 +45,8 @@ fadedLpc lpc = tab 4 (λ i. at lpc i ⊗ fade (i + 1))
 abbrev pub withZero : List Float → List Float
 withZero lpc =
     let w = f32 0x3F4CCCCD in
-    (at lpc 0 ⊕ w) ∷ (at lpc 1 ⊕ w ⊗ at lpc 0) ∷ (at lpc 2 ⊕ w ⊗ at lpc 1) ∷ (at lpc 3 ⊕ w ⊗ at lpc 2) ∷ w ⊗ at lpc 3 ∷ []
+    (at lpc 0 ⊕ w) ∷ (at lpc 1 ⊕ w ⊗ at lpc 0) ∷ (at lpc 2 ⊕ w ⊗ at lpc 1) ∷ (at lpc 3 ⊕ w ⊗ at lpc 2) ∷ w ⊗ at lpc 3
+    ∷ []
 
 -- The five coefficients of the flattening filter.
 unfoldable pub coefficients : List Float → List Float

@@ -4,7 +4,7 @@
 ghost use mathlib.Core.Path.{_≡_};
 ghost use Prim.Native.Nat.{_+_, _≤_};
 ghost use lib.ListN.{length};
-ghost use Rattle.pitch.specs.Parts.{addFour, fourLags, sixteenLags, storeFour, storeSixteen};
+ghost use Rattle.pitch.specs.Private.{addFour, fourLags, sixteenLags, storeFour, storeSixteen};
 
 // A number for each of four lags in a row.
 pub(crate) struct Four {

@@ -9,10 +9,11 @@ ghost use Rattle.rules.specs.Leaf.{Leaf, _leaving_};
 ghost use Rattle.rules.specs.Tab.{tab};
 ghost use Rattle.pitch.specs.Autocorr.{tailOf, addTails, celtAutocorr, AutocorrFits};
 ghost use Rattle.pitch.specs.Fir.{fir5};
-ghost use Rattle.pitch.specs.Downsample.{halvedAt, halved, flooredAt, floored, fadedLpc, coefficients, downsampled, DownsampleFits};
+ghost use Rattle.pitch.specs.Downsample.{halvedAt, halved, flooredAt, floored, fadedLpc, coefficients};
+ghost use Rattle.pitch.specs.Downsample.{downsampled, DownsampleFits};
 ghost use Rattle.pitch.specs.Lpc.{recurrence, mirror, state, lagNext, lagsOf, lpcOf};
 ghost use Rattle.pitch.specs.Xcorr.{corr, wholeFours, lagOf, pitchXcorr, XcorrFits};
-ghost use Rattle.pitch.specs.Parts.{wholeSixteens};
+ghost use Rattle.pitch.specs.Private.{wholeSixteens};
 
 mod lanes;
 
@@ -150,7 +151,8 @@ fn corr1(xs: &[f32], ys: &[f32], i: usize) -> f32
 fn xcorr_sixteens(xs: &[f32], ys: &[f32], xcorr: &mut [f32])
     requires { ⌜ XcorrFits (length (now xs)) (length (now ys)) (length (now xcorr)) ⌝ }
     ensures { λ _. ⌜ take (wholeSixteens (length (now (xcorr .entry)))) (now (xcorr .exit))
-        ≡ tab (wholeSixteens (length (now (xcorr .entry)))) (lagOf (now (xs .entry)) (now (ys .entry)) (length (now (xcorr .entry)))) ⌝ }
+        ≡ tab (wholeSixteens (length (now (xcorr .entry))))
+        (lagOf (now (xs .entry)) (now (ys .entry)) (length (now (xcorr .entry)))) ⌝ }
 {
     for k in 0..xcorr.len() / 16 {
         let i = 16 * k;
@@ -164,7 +166,8 @@ fn xcorr_fours_left(xs: &[f32], ys: &[f32], xcorr: &mut [f32])
     requires { ⌜ take (wholeSixteens (length (now xcorr))) (now xcorr)
         ≡ tab (wholeSixteens (length (now xcorr))) (lagOf (now xs) (now ys) (length (now xcorr))) ⌝ }
     ensures { λ _. ⌜ take (wholeFours (length (now (xcorr .entry)))) (now (xcorr .exit))
-        ≡ tab (wholeFours (length (now (xcorr .entry)))) (lagOf (now (xs .entry)) (now (ys .entry)) (length (now (xcorr .entry)))) ⌝ }
+        ≡ tab (wholeFours (length (now (xcorr .entry))))
+        (lagOf (now (xs .entry)) (now (ys .entry)) (length (now (xcorr .entry)))) ⌝ }
 {
     let n = xcorr.len();
     for k in n / 16 * 4..n / 4 {
@@ -177,7 +180,8 @@ fn xcorr_fours_left(xs: &[f32], ys: &[f32], xcorr: &mut [f32])
 fn xcorr_fours(xs: &[f32], ys: &[f32], xcorr: &mut [f32])
     requires { ⌜ XcorrFits (length (now xs)) (length (now ys)) (length (now xcorr)) ⌝ }
     ensures { λ _. ⌜ take (wholeFours (length (now (xcorr .entry)))) (now (xcorr .exit))
-        ≡ tab (wholeFours (length (now (xcorr .entry)))) (lagOf (now (xs .entry)) (now (ys .entry)) (length (now (xcorr .entry)))) ⌝ }
+        ≡ tab (wholeFours (length (now (xcorr .entry))))
+        (lagOf (now (xs .entry)) (now (ys .entry)) (length (now (xcorr .entry)))) ⌝ }
 {
     xcorr_sixteens(xs, ys, xcorr);
     xcorr_fours_left(xs, ys, xcorr);
@@ -188,7 +192,8 @@ fn xcorr_rest(xs: &[f32], ys: &[f32], xcorr: &mut [f32])
     requires { ⌜ XcorrFits (length (now xs)) (length (now ys)) (length (now xcorr)) ⌝ }
     requires { ⌜ take (wholeFours (length (now xcorr))) (now xcorr)
         ≡ tab (wholeFours (length (now xcorr))) (lagOf (now xs) (now ys) (length (now xcorr))) ⌝ }
-    ensures { λ _. ⌜ now (xcorr .exit) ≡ pitchXcorr (now (xs .entry)) (now (ys .entry)) (length (now (xcorr .entry))) ⌝ }
+    ensures { λ _. ⌜ now (xcorr .exit)
+        ≡ pitchXcorr (now (xs .entry)) (now (ys .entry)) (length (now (xcorr .entry))) ⌝ }
 {
     let n = xcorr.len();
     for i in n - n % 4..n {
@@ -199,7 +204,8 @@ fn xcorr_rest(xs: &[f32], ys: &[f32], xcorr: &mut [f32])
 // `pitch_xcorr` for lengths that fit.
 fn pitch_xcorr_core(xs: &[f32], ys: &[f32], xcorr: &mut [f32])
     requires { ⌜ XcorrFits (length (now xs)) (length (now ys)) (length (now xcorr)) ⌝ }
-    ensures { λ _. ⌜ now (xcorr .exit) ≡ pitchXcorr (now (xs .entry)) (now (ys .entry)) (length (now (xcorr .entry))) ⌝ }
+    ensures { λ _. ⌜ now (xcorr .exit)
+        ≡ pitchXcorr (now (xs .entry)) (now (ys .entry)) (length (now (xcorr .entry))) ⌝ }
 {
     xcorr_fours(xs, ys, xcorr);
     xcorr_rest(xs, ys, xcorr);
@@ -207,7 +213,8 @@ fn pitch_xcorr_core(xs: &[f32], ys: &[f32], xcorr: &mut [f32])
 
 // The correlations of xs with ys, at as many lags as xcorr has places.
 pub fn pitch_xcorr(xs: &[f32], ys: &[f32], xcorr: &mut [f32]) -> u32
-    ensures { λ r. ⌜ Leaf (XcorrFits (length (now (xs .entry))) (length (now (ys .entry))) (length (now (xcorr .entry))))
+    ensures { λ r. ⌜ Leaf (XcorrFits (length (now (xs .entry))) (length (now (ys .entry)))
+        (length (now (xcorr .entry))))
         (r leaving now (xcorr .exit))
         (0 leaving pitchXcorr (now (xs .entry)) (now (ys .entry)) (length (now (xcorr .entry))))
         (5 leaving now (xcorr .entry)) ⌝ }

@@ -26,7 +26,15 @@ pub record Search : Type 0 where
 -- The same from its seven values.
 abbrev pub searched : Float → Float → Float → Float → ℕ → ℕ → Float → Search
 searched bn sn bd sd bp sp norm =
-    record { bestNum = bn; secondBestNum = sn; bestDen = bd; secondBestDen = sd; bestPitch = bp; secondBestPitch = sp; ySqNorm = norm }
+    record {
+      bestNum = bn;
+      secondBestNum = sn;
+      bestDen = bd;
+      secondBestDen = sd;
+      bestPitch = bp;
+      secondBestPitch = sp;
+      ySqNorm = norm;
+    }
 
 -- Rust: y_sq_norm += y * y, for the numbers of ys[0..len].
 abbrev pub normStep : List Float → ℕ → Float → Float
@@ -45,7 +53,8 @@ considered corr i s =
     let isBest = searched num (s .bestNum) norm (s .bestDen) i (s .bestPitch) norm in
     let isSecond = searched (s .bestNum) num (s .bestDen) norm (s .bestPitch) i norm in
     cond (lt (f32 0) corr)
-    (cond (lt (s .secondBestNum ⊗ norm) (num ⊗ s .secondBestDen)) (cond (lt (s .bestNum ⊗ norm) (num ⊗ s .bestDen)) isBest isSecond) s)
+    (cond (lt (s .secondBestNum ⊗ norm) (num ⊗ s .secondBestDen))
+    (cond (lt (s .bestNum ⊗ norm) (num ⊗ s .bestDen)) isBest isSecond) s)
     s
 
 -- The energy at the next lag. Rust: y_sq_norm += ys[i + len] * ys[i + len] - ys[i] * ys[i]; y_sq_norm =
@@ -61,7 +70,8 @@ pitchStep xcorr ys len i s = slid ys len i (considered (at xcorr i) i s)
 
 -- The whole loop, over a correlation for each lag.
 unfoldable pub best : List Float → List Float → ℕ → Search
-best xcorr ys len = loop (length xcorr) (pitchStep xcorr ys len) (searched (neg one) (neg one) (f32 0) (f32 0) 0 1 (startNorm ys len))
+best xcorr ys len =
+    loop (length xcorr) (pitchStep xcorr ys len) (searched (neg one) (neg one) (f32 0) (f32 0) 0 1 (startNorm ys len))
 
 -- Rust: (best_pitch, second_best_pitch).
 abbrev pub bestOf : List Float → List Float → ℕ → Pitches

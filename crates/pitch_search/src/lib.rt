@@ -4,9 +4,10 @@ ghost use mathlib.Core.Path.{_≡_};
 ghost use Prim.Native.Nat.{_+_, _<_, _≤_};
 ghost use lib.ListN.{length};
 ghost use Rattle.rules.specs.Leaf.{Leaf};
-ghost use Rattle.pitch_search.specs.Best.{startNorm, considered, slid, best, bestOf, pitchesNumber, firstOf, secondOf, BestFits};
+ghost use Rattle.pitch_search.specs.Best.{startNorm, considered, slid, best, bestOf, pitchesNumber, firstOf};
+ghost use Rattle.pitch_search.specs.Best.{secondOf, BestFits};
 ghost use Rattle.pitch_search.specs.Inner.{innerProd, productNumber, sumOf, InnerFits};
-ghost use Rattle.pitch_search.specs.Parts.{searchIn};
+ghost use Rattle.pitch_search.specs.Private.{searchIn};
 
 // `inner_prod` for lengths that fit.
 fn inner_prod_core(xs: &[f32], ys: &[f32], n: usize) -> f32

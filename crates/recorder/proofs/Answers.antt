@@ -27,7 +27,7 @@ use Rattle.recorder.specs.Recorder.{withFeed, tooLong, moreRows, LONGEST
 use Rattle.recorder.specs.Recorder.{following, nextRows}
 use Rattle.recorder.specs.Numbers.{recorderIn, recorderNumbers, begunLaid, moreLaid, closingLaid, nextLaid}
 use Rattle.recorder.specs.Numbers.{finishLaid}
-use Rattle.recorder.specs.Parts.{partOf, withAudio, Within}
+use Rattle.recorder.specs.Private.{partOf, withAudio, Within}
 use Rattle.recorder.specs.declared.Recorder.{Recorder}
 use Rattle.recorder.specs.declared.Part.{Part}
 

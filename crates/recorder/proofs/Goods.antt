@@ -19,13 +19,13 @@ use Rattle.sides.specs.Sides.{numberOf, ofNumber}
 use Rattle.sides.specs.declared.Side.{Side}
 use Rattle.sides.specs.declared.Side.the-variants.{Left, Right}
 use Rattle.sides.specs.declared.Meant.the-variants.{Means, Nothing}
-use Rattle.sheet.specs.Sheet.{four, recordOf, recordsOf, trailerOf}
-use Rattle.sheet.specs.End.{fromFour, good, entryOf}
+use Rattle.sheet.specs.Sheet.{four, recordBytes, recordsOf, trailerOf}
+use Rattle.sheet.specs.End.{fromFour, goodRecord, entryOf}
 use Rattle.sheet.proofs.Digits.{four-mod}
 use Rattle.sheet.proofs.Runs.{sum-append}
 use Rattle.sheet.proofs.Laying.{length-records, records-append}
 use Rattle.sheet.proofs.Back.{drop-bytes, record-back}
-use Rattle.recording.specs.Recording.{framesOf, entry, entriesFrom, headFor, chunkFor, bytesOf, MOST, Good}
+use Rattle.recording.specs.Recording.{framesOf, entry, entriesFrom, headFor, chunkFor, recordingBytes, MOST, Good}
 use Rattle.recording.specs.Verdict.{wasHeard, heardIn, isSize, howMany, verdictOf}
 use Rattle.recording.specs.declared.Verdict.the-variants.{Told}
 use Rattle.recording.specs.Numbers.{sideAt}
@@ -53,22 +53,22 @@ kind-heard (suc (suc b)) h = absurd (omega arith)
 module _ (side number : ℕ) (s : List ℕ) (h : isRecord side number s ≡ true) where
   numbered : fromFour s ≡ number % 4294967296
   unfolding isRecord
-  numbered = eqb-true _ _ (both (eqb (fromFour s) (number % 4294967296)) (good side s) h .0)
+  numbered = eqb-true _ _ (both (eqb (fromFour s) (number % 4294967296)) (goodRecord side s) h .0)
 
-  is-good : good side s ≡ true
+  is-good : goodRecord side s ≡ true
   unfolding isRecord
-  is-good = both (eqb (fromFour s) (number % 4294967296)) (good side s) h .1
+  is-good = both (eqb (fromFour s) (number % 4294967296)) (goodRecord side s) h .1
 
   known : getD s 4 0 ≤ 1
-  unfolding good
+  unfolding goodRecord
   known = ltb-false 1 (getD s 4 0) (not-true _ (both (not (ltb 1 (getD s 4 0))) _ is-good .0))
 
   entry-is : entryOf s ≡ entry number (wasHeard s)
   unfolding entryOf
   entry-is = ap₂ (λ a b. a + 4294967296 * b) numbered (kind-heard (getD s 4 0) known)
 
-  first-is : Bytes s → 8 ≤ length s → take 8 s ≡ recordOf side (entry number (wasHeard s))
-  first-is b l = sym (record-back side s is-good b l) ∙ ap (recordOf side) entry-is
+  first-is : Bytes s → 8 ≤ length s → take 8 s ≡ recordBytes side (entry number (wasHeard s))
+  first-is b l = sym (record-back side s is-good b l) ∙ ap (recordBytes side) entry-is
 
 pub records-are : (n side number : ℕ) (s : List ℕ) → Bytes s → length s ≡ 8 * n → areRecords side number n s ≡ true
     → s ≡ recordsOf side (entriesFrom number (heardIn n s))
@@ -314,13 +314,13 @@ module _ (f : Front) (small : f .first < 2 ^ 32) where
         ap (λ (p : ℕ × (List ℕ × (List ℕ × List ℕ))). p .1 .1 .1) laid
         ∙ rw (so .front, so .sum, ← so .are, four-mod (sum records), length-entries (f .first) heard, so .count)
 
-    in-a-row : head ++ (audio ++ (chunk ++ (records ++ trailer))) ≡ bytesOf (record {
+    in-a-row : head ++ (audio ++ (chunk ++ (records ++ trailer))) ≡ recordingBytes (record {
       front = f;
       audio = audio;
       heard =
           heard;
     })
-    unfolding bytesOf
+    unfolding recordingBytes
     in-a-row =
         let hs : head ≡ headFor f (length audio) = ap (λ (p : ℕ × (List ℕ × (List ℕ × List ℕ))). p .1 .0) laid ∙ rw (
           so
@@ -344,9 +344,10 @@ module _ (f : Front) (small : f .first < 2 ^ 32) where
     is-good-file =
         let as-it-is = told-all (record { front = f; audio = audio; heard = heard }) all-good in
         record {
-          good = subst (λ (hs : List Bool). Good (record { front = f; audio = audio; heard = hs })) (sym heard-is)
+          goodRecord = subst (λ (hs : List Bool). Good (record { front = f; audio = audio; heard = hs })) (sym heard-is)
               all-good;
-          bytes = in-a-row ∙ ap (λ (hs : List Bool). bytesOf (record { front = f; audio = audio; heard = hs })) (sym
+          bytes =
+              in-a-row ∙ ap (λ (hs : List Bool). recordingBytes (record { front = f; audio = audio; heard = hs })) (sym
               heard-is);
           noted = so .are ∙ ap (λ (hs : List Bool). recordsOf (numberOf (f .side)) (entriesFrom (f .first) hs)) (sym
               heard-is);

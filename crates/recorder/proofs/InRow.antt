@@ -4,7 +4,7 @@ use native.Mathlib.Nat.{add-zero}
 use native.Mathlib.Omega.{arith}
 use borrow.Author.Tests.{eq-eqb, ne-eqb}
 use lib.Seq.{drop-drop}
-use Rattle.sheet.specs.End.{fromFour, good}
+use Rattle.sheet.specs.End.{fromFour, goodRecord}
 use Rattle.recorder.specs.Recorder.{isRecord, areRecords}
 
 -- a record, by what its first four bytes and the others say
@@ -14,7 +14,7 @@ unfolding isRecord
 record-not side number s e h = rw (ne-eqb (fromFour s) (number % 4294967296) (λ z. h (e ∙ z)))
 
 pub record-is : (side number : ℕ) (s : List ℕ) {n : ℕ} → n ≡ fromFour s → n ≡ number % 4294967296 → {g : Bool} → g ≡
-    good side s → g ≡ isRecord side number s
+    goodRecord side s → g ≡ isRecord side number s
 unfolding isRecord
 record-is side number s e h b = rw (eq-eqb (fromFour s) (number % 4294967296) (sym e ∙ h)) b
 

@@ -7,7 +7,7 @@ use Rattle.rules.specs.Lists.{Bytes}
 use Rattle.rules.specs.Refusals.{refusing}
 use Rattle.sides.specs.Sides.{numberOf}
 use Rattle.sheet.specs.Sheet.{recordsOf}
-use Rattle.recording.specs.Recording.{Recording, entriesFrom, bytesOf, Good}
+use Rattle.recording.specs.Recording.{Recording, entriesFrom, recordingBytes, Good}
 use Rattle.recording.specs.Verdict.{heardIn, howMany, verdictOf}
 use Rattle.recording.specs.Numbers.{sideAt}
 use Rattle.recording.specs.declared.Front.{Front}
@@ -61,7 +61,7 @@ recordingOf front audio records = record { front = front; audio = audio; heard =
 -- a file is the good recording with this front, this audio and these records, and so it is told
 pub record IsGood (front : Front) (audio records file : List ℕ) : Type 0 where
   pub good : Good (recordingOf front audio records)
-  pub bytes : file ≡ bytesOf (recordingOf front audio records)
+  pub bytes : file ≡ recordingBytes (recordingOf front audio records)
   -- each record says the side, and they are numbered from the first frame's on
   pub noted : records ≡ recordsOf (numberOf (front .side)) (entriesFrom (front .first) (recordingOf front audio records
       .heard))

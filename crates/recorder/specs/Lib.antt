@@ -1,4 +1,4 @@
 pub mod Recorder
 pub mod Numbers
-pub mod Parts
+pub mod Private
 pub mod Laws

@@ -7,7 +7,7 @@ use Rattle.rules.specs.Lists.{sum}
 use Rattle.rules.specs.Refusals.{Row, _when_, wrong}
 use Rattle.checksum.specs.Checksum.{crc32}
 use Rattle.sides.specs.Sides.{numberOf}
-use Rattle.sheet.specs.End.{fromFour, good}
+use Rattle.sheet.specs.End.{fromFour, goodRecord}
 use Rattle.recording.specs.Recording.{framesOf}
 use Rattle.recording.specs.Verdict.{isSize}
 use Rattle.recording.specs.declared.Front.{Front}
@@ -43,7 +43,7 @@ startOf r bytes = min (skipOf r) bytes
 
 -- these bytes begin with the record of a frame with this number, of this side
 unfoldable pub isRecord : ℕ → ℕ → List ℕ → Bool
-isRecord side number s = eqb (fromFour s) (number % 4294967296) && good side s
+isRecord side number s = eqb (fromFour s) (number % 4294967296) && goodRecord side s
 
 -- and so do n records in a row, numbered on
 unfoldable pub areRecords : ℕ → ℕ → ℕ → List ℕ → Bool

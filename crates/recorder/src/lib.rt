@@ -16,7 +16,7 @@ ghost use Rattle.recorder.specs.Recorder.{beginning, skipOf, roomOf, too
 ghost use Rattle.recorder.specs.Recorder.{nextFirst, following, nextRows};
 ghost use Rattle.recorder.specs.Numbers.{recorderIn, recorderNumbers, begunLaid, moreLaid, closingLaid, nextLaid};
 ghost use Rattle.recorder.specs.Numbers.{finishLaid};
-ghost use Rattle.recorder.specs.Parts.{Found, withAudio, Within, Closes};
+ghost use Rattle.recorder.specs.Private.{Found, withAudio, Within, Closes};
 use recording::Front;
 use sides::Meant;
 use sides::Side;

@@ -3,7 +3,7 @@ ghost use mathlib.Core.Path.{_≡_};
 ghost use Prim.Native.Nat.{_+_, _*_, _≤_, _<_, _^_};
 ghost use lib.ListN.{length, drop};
 ghost use Rattle.rules.specs.Lists.{sum};
-ghost use Rattle.sheet.specs.End.{fromFour, good};
+ghost use Rattle.sheet.specs.End.{fromFour, goodRecord};
 ghost use Rattle.recorder.specs.Recorder.{isRecord, areRecords};
 
 fn number_at(records: &[u8], at: usize) -> usize
@@ -20,7 +20,7 @@ fn number_at(records: &[u8], at: usize) -> usize
 
 fn is_good(records: &[u8], at: usize, side: u8) -> bool
     requires { ⌜ at + 8 ≤ length (now records) ⌝ }
-    ensures { λ r. ⌜ r ≡ good side (drop at (now (records .entry))) ⌝ }
+    ensures { λ r. ⌜ r ≡ goodRecord side (drop at (now (records .entry))) ⌝ }
 {
     if 1 < records[at + 4] {
         return false;

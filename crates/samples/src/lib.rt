@@ -6,7 +6,8 @@ const LOWEST: f32 = -32768.0;
 
 const HIGHEST: f32 = 32767.0;
 
-// Whether every sample is from the lowest to the highest. NaN is neither below nor above, so what is asked is whether it lies between.
+// Whether every sample is from the lowest to the highest. NaN is neither below nor above, so what is asked is whether
+// it lies between.
 // All samples are looked at, and nothing is returned early: so four or more are compared at a time.
 pub fn all_good(samples: &[f32]) -> bool
     ensures { λ r. ⌜ r ≡ good (now (samples .entry)) ⌝ }

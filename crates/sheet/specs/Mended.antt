@@ -1,9 +1,10 @@
 -- Mending a torn sheet (document 02, request 14), given the file and where its audio ends.
-use Rattle.rules.specs.Common.{ℕ, _/_, Bool, false, cond, not, _&&_, List, [], _∷_, _++_, eqb, ltb, length, getD, take, drop}
+use Rattle.rules.specs.Common.{ℕ, _/_, Bool, false, cond, not, _&&_, List, [], _∷_, _++_, eqb, ltb, length, getD, take}
+use Rattle.rules.specs.Common.{drop}
 use Rattle.rules.specs.Leaf.{_leaving_}
 use Rattle.rules.specs.Refusals.{Row, _when_, refusing}
-use Rattle.sheet.specs.Sheet.{Sheet, bytesOf}
-use Rattle.sheet.specs.End.{run, entriesOf, readOf}
+use Rattle.sheet.specs.Sheet.{Sheet, sheetBytes}
+use Rattle.sheet.specs.End.{run, entriesOf, readSheet}
 use Rattle.sheet.specs.declared.Reading.{Reading}
 use Rattle.sheet.specs.declared.Reading.the-variants.{Good, Refused}
 
@@ -32,12 +33,13 @@ pub record Mended : Type 0 where
 unfoldable pub mended : List ℕ → ℕ → Mended
 mended s place =
     let rest = drop place s in
-    cond (readsAt place (readOf s)) (record { bytes = s; records = recordsIn (readOf s) }) (record { bytes = take place s ++ bytesOf (torn rest); records = kept rest })
+    cond (readsAt place (readSheet s)) (record { bytes = s; records = recordsIn (readSheet s) })
+    (record { bytes = take place s ++ sheetBytes (torn rest); records = kept rest })
 
 -- The refusals, in order.
 abbrev pub mendFaults : List ℕ → ℕ → List ℕ → List ℕ → List Row
 mendFaults s place numbers out =
-    let anew = not (readsAt place (readOf s)) in
+    let anew = not (readsAt place (readSheet s)) in
     let n = kept (drop place s) in
     5 when not (eqb (length numbers) 2)
     ∷ 37 when ltb (length s) place

@@ -8,12 +8,12 @@ ghost use Prim.Native.Nat.{_+_, _*_, _/_, _%_, _≤_, _<_, _^_};
 ghost use lib.ListN.{length, drop};
 ghost use Rattle.rules.specs.Leaf.{_leaving_};
 ghost use Rattle.rules.specs.Lists.{sum};
-ghost use Rattle.sheet.specs.Sheet.{kind, recordOf, recordsOf, trailerOf, sizeOf};
-ghost use Rattle.sheet.specs.End.{fromFour, zeros, good, run, entryOf, readOf};
-ghost use Rattle.sheet.specs.Asked.{summaryOf, entryAt};
-ghost use Rattle.sheet.specs.Written.{kinds, writtenOf};
+ghost use Rattle.sheet.specs.Sheet.{kind, recordBytes, recordsOf, trailerOf, sheetSize};
+ghost use Rattle.sheet.specs.End.{fromFour, threeZeros, goodRecord, run, entryOf, readSheet};
+ghost use Rattle.sheet.specs.Asked.{sheetSummary, entryAt};
+ghost use Rattle.sheet.specs.Written.{knownKinds, writtenOf};
 ghost use Rattle.sheet.specs.Mended.{kept, readsAt, mendOf};
-ghost use Rattle.sheet.specs.Parts.{pointed, Few, Pointed, checked, Kinds, closed, copied};
+ghost use Rattle.sheet.specs.Private.{pointed, Few, Pointed, checked, Kinds, closed, copied};
 
 // A good sheet: where its records start, how many there are, and the side. Or the number of a refusal.
 pub enum Reading {
@@ -42,7 +42,7 @@ fn number_at(file: &[u8], at: usize) -> usize
 // Whether three bytes at a place are 0.
 fn zeros_at(bytes: &[u8], at: usize) -> bool
     requires { ⌜ at + 3 ≤ length (now bytes) ⌝ }
-    ensures { λ r. ⌜ r ≡ zeros (drop at (now (bytes .entry))) ⌝ }
+    ensures { λ r. ⌜ r ≡ threeZeros (drop at (now (bytes .entry))) ⌝ }
 {
     if bytes[at] != 0 {
         return false;
@@ -56,7 +56,7 @@ fn zeros_at(bytes: &[u8], at: usize) -> bool
 // Whether the record at a place is a good one of this side.
 fn is_good(bytes: &[u8], at: usize, side: u32) -> bool
     requires { ⌜ at + 8 ≤ length (now bytes) ⌝ }
-    ensures { λ r. ⌜ r ≡ good side (drop at (now (bytes .entry))) ⌝ }
+    ensures { λ r. ⌜ r ≡ goodRecord side (drop at (now (bytes .entry))) ⌝ }
 {
     if 1 < bytes[at + 4] {
         return false;
@@ -145,7 +145,7 @@ fn checked_at(file: &[u8], start: usize, records: usize, side: u32) -> Reading
 }
 
 pub fn read(file: &[u8]) -> Reading
-    ensures { λ r. ⌜ r ≡ readOf (now (file .entry)) ⌝ }
+    ensures { λ r. ⌜ r ≡ readSheet (now (file .entry)) ⌝ }
 {
     match pointed_to(file) {
         Reading::Good {
@@ -160,7 +160,7 @@ pub fn read(file: &[u8]) -> Reading
 // For a host: where the records start, how many there are, and the side. A buffer of other than three places
 // is refused with 5.
 pub fn summary(numbers: &mut [u64], file: &[u8]) -> u32
-    ensures { λ r. ⌜ (r leaving now (numbers .exit)) ≡ summaryOf (now (file .entry)) (now (numbers .entry)) ⌝ }
+    ensures { λ r. ⌜ (r leaving now (numbers .exit)) ≡ sheetSummary (now (file .entry)) (now (numbers .entry)) ⌝ }
 {
     if numbers.len() != 3 {
         return 5;
@@ -214,7 +214,7 @@ pub fn entry(entry: &mut [u64], file: &[u8], index: u64) -> u32
 
 // Whether every entry is silent or heard.
 fn kinds_good(entries: &[u64]) -> bool
-    ensures { λ r. ⌜ r ≡ kinds (now (entries .entry)) ⌝ }
+    ensures { λ r. ⌜ r ≡ knownKinds (now (entries .entry)) ⌝ }
 {
     for i in 0..entries.len() {
         if 1 < entries[i] / 4294967296 {
@@ -232,7 +232,7 @@ pub fn low(number: u64) -> u8
 
 fn record_of(side: u32, entry: u64) -> [u8; 8]
     requires { ⌜ (side ≤ 1) × (kind entry ≤ 1) ⌝ }
-    ensures { λ r. ⌜ r ≡ recordOf side entry ⌝ }
+    ensures { λ r. ⌜ r ≡ recordBytes side entry ⌝ }
 {
     [
         low(entry),
@@ -295,7 +295,7 @@ fn write_records(out: &mut [u8], side: u32, entries: &[u64])
 
 // Writes the trailer after so many records, which are at the front.
 fn close(out: &mut [u8], records: usize, side: u32)
-    requires { ⌜ (length (now out) ≡ sizeOf records) × (records < 2 ^ 29) × (side ≤ 1) ⌝ }
+    requires { ⌜ (length (now out) ≡ sheetSize records) × (records < 2 ^ 29) × (side ≤ 1) ⌝ }
     ensures { λ _. ⌜ now (out .exit) ≡ closed records side (now (out .entry)) ⌝ }
 {
     let end = 8 * records;
@@ -307,7 +307,8 @@ fn close(out: &mut [u8], records: usize, side: u32)
 // Writes the sheet of these entries to the front of a buffer. An entry is a frame's number, plus 2^32 if it
 // was heard.
 pub fn write(out: &mut [u8], side: u32, entries: &[u64]) -> u32
-    ensures { λ r. ⌜ (r leaving now (out .exit)) ≡ writtenOf (record { side = side; entries = now (entries .entry) }) (now (out .entry)) ⌝ }
+    ensures { λ r. ⌜ (r leaving now (out .exit))
+        ≡ writtenOf (record { side = side; entries = now (entries .entry) }) (now (out .entry)) ⌝ }
 {
     let records = entries.len();
     if 536870911 < records {
@@ -361,7 +362,7 @@ fn copy_whole(numbers: &mut [u64], out: &mut [u8], file: &[u8], records: usize) 
 
 // Mends a file that does not read so: its bytes up to a place, the good records after it, and a trailer.
 fn mend_run(numbers: &mut [u64], out: &mut [u8], file: &[u8], at: usize) -> u32
-    requires { ⌜ (length (now numbers) ≡ 2) × (at ≤ length (now file)) × (readsAt at (readOf (now file)) ≡ false) ⌝ }
+    requires { ⌜ (length (now numbers) ≡ 2) × (at ≤ length (now file)) × (readsAt at (readSheet (now file)) ≡ false) ⌝ }
     ensures { λ r. ⌜ (r leaving now (numbers .exit) leaving now (out .exit))
         ≡ mendOf (now (file .entry)) at (now (numbers .entry)) (now (out .entry)) ⌝ }
 {

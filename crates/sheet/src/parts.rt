@@ -6,11 +6,12 @@ ghost use Rattle.rules.specs.Leaf.{_leaving_};
 ghost use Rattle.rules.specs.Lists.{sum};
 ghost use Rattle.sheet.specs.Sheet.{recordsOf};
 ghost use Rattle.sheet.specs.Rows.{recordsLaid, trailerLaid};
-ghost use Rattle.sheet.specs.Parts.{Kinds};
+ghost use Rattle.sheet.specs.Private.{Kinds};
 
 // Writes the records into a buffer that they fill, and returns the sum of their bytes.
 fn lay(out: &mut [u8], side: u32, entries: &[u64]) -> u64
-    requires { ⌜ (length (now out) ≡ 8 * length (now entries)) × (side ≤ 1) × Kinds (now entries) × (length (now entries) < 2 ^ 29) ⌝ }
+    requires { ⌜ (length (now out) ≡ 8 * length (now entries)) × (side ≤ 1) × Kinds (now entries)
+        × (length (now entries) < 2 ^ 29) ⌝ }
     ensures { λ r. ⌜ (now (out .exit) ≡ recordsOf side (now (entries .entry)))
         × (r ≡ sum (recordsOf side (now (entries .entry)))) × (r < 2 ^ 40) ⌝ }
 {

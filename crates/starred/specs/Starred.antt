@@ -29,7 +29,8 @@ smallestFile =
 -- - the silence test of 0.04, of the number just below it, and of NaN
 abbrev pub Starred : Type 0
 Starred =
-    (map tansigApprox (f32 0 ∷ f32 0x4100_0000 ∷ f32 0xC100_0000 ∷ nan ∷ []) ≡ f32 0 ∷ one ∷ f32 0xBF80_0000 ∷ f32 0 ∷ [])
+    (map tansigApprox (f32 0 ∷ f32 0x4100_0000 ∷ f32 0xC100_0000 ∷ nan ∷ [])
+    ≡ f32 0 ∷ one ∷ f32 0xBF80_0000 ∷ f32 0 ∷ [])
     × (map sigmoidApprox (f32 0 ∷ nan ∷ []) ≡ f32 0x3F00_0000 ∷ f32 0x3F00_0000 ∷ [])
     × (rectified nan ≡ f32 0)
     × (map (root binary32) (f32 0x4080_0000 ∷ f32 0x4000_0000 ∷ f32 0xBF80_0000 ∷ f32 0x8000_0000 ∷ [])

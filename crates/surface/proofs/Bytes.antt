@@ -15,7 +15,7 @@ use Rattle.isolation.specs.Run.{Returned, returned, on, State, after, received}
 use Rattle.isolation.specs.Isolation.{asBench, allZeros, own, alone}
 use Rattle.isolation.proofs.Isolated.{isolated}
 use Rattle.pcm.specs.Laws.{sampleOf}
-use Rattle.feed.specs.Feed.{Block, ROOM, sizeOf, samplesOf, feedRows, fedBy}
+use Rattle.feed.specs.Feed.{Block, ROOM, blockSize, samplesOf, feedRows, fedBy}
 use Rattle.feed.specs.Feed as feeding
 use Rattle.feed.proofs.Own.{own-samples}
 use Rattle.feed.specs.Surface.{hostedFeed}
@@ -32,21 +32,25 @@ seen n side rec store size samples model cleaned records answers =
     (fedBy (sideOf side) (rec .frame) (take n side rec store samples model ROOM answers))
 
 seen-is : (n side : ℕ) (rec : Record) (store : List Float) (b : Block) (model : List ℕ) (cleaned records answers : ℕ)
-    → feeding.feed n side rec store b model cleaned records answers ≡ seen n side rec store (sizeOf b) (samplesOf b) model cleaned records answers
+    → feeding.feed n side rec store b model cleaned records answers
+    ≡ seen n side rec store (blockSize b) (samplesOf b) model cleaned records answers
 unfolding feeding.feed
 seen-is n side rec store b model cleaned records answers = refl
 
 -- the samples of two such blocks
 pub samples-alike : (b b′ : Block) → SameChannel b b′ → samplesOf b ≡ samplesOf b′
 samples-alike b b′ h =
-    own-samples b (h .own) (h .here) ∙ ap (λ (f : ℕ). map (sampleOf f) (h .own)) (h .format) ∙ sym (own-samples b′ (h .own) (h .there))
+    own-samples b (h .own) (h .here) ∙ ap (λ (f : ℕ). map (sampleOf f) (h .own)) (h .format)
+    ∙ sym (own-samples b′ (h .own) (h .there))
 
 -- of a block a feed sees its samples alone
-feed-alike : (n side : ℕ) (rec : Record) (store : List Float) (b b′ : Block) (model : List ℕ) (cleaned records answers : ℕ) → SameChannel b b′
-    → feeding.feed n side rec store b model cleaned records answers ≡ feeding.feed n side rec store b′ model cleaned records answers
+feed-alike : (n side : ℕ) (rec : Record) (store : List Float) (b b′ : Block) (model : List ℕ)
+    (cleaned records answers : ℕ) → SameChannel b b′
+    → feeding.feed n side rec store b model cleaned records answers
+    ≡ feeding.feed n side rec store b′ model cleaned records answers
 feed-alike n side rec store b b′ model cleaned records answers h =
     let samples = samples-alike b b′ h in
-    let sizes : sizeOf b ≡ sizeOf b′ = sym (size-is b) ∙ ap length samples ∙ size-is b′ in
+    let sizes : blockSize b ≡ blockSize b′ = sym (size-is b) ∙ ap length samples ∙ size-is b′ in
     seen-is n side rec store b model cleaned records answers
     ∙ ap₂ (λ (size : ℕ) (xs : List Float). seen n side rec store size xs model cleaned records answers) sizes samples
     ∙ sym (seen-is n side rec store b′ model cleaned records answers)
@@ -55,14 +59,17 @@ feed-alike n side rec store b b′ model cleaned records answers h =
 
 -- the state behind a call of bench s
 abbrev next : ℕ → State → Effect Answer → State
-next s st g = record { numbers = λ k. cond (eqb s k) (returned s (st .numbers s) g .numbers) (st .numbers k); store = g .kept }
+next s st g =
+    record { numbers = λ k. cond (eqb s k) (returned s (st .numbers s) g .numbers) (st .numbers k); store = g .kept }
 
-call-alike : (n side : ℕ) (ns : List ℕ) (store : List Float) {c c′ : Call} → Alike c c′ → surface n side ns store c ≡ surface n side ns store c′
+call-alike : (n side : ℕ) (ns : List ℕ) (store : List Float) {c c′ : Call} → Alike c c′
+    → surface n side ns store c ≡ surface n side ns store c′
 unfolding hostedFeed
 call-alike n side ns store (same c) = refl
 call-alike n side ns store (fed {b} {b′} h m k e a) = feed-alike n side (recordIn side ns) store b b′ m k e a h
 
-runs-alike : (n s : ℕ) (cs cs′ : List Call) → AllAlike cs cs′ → (st : State) → received surface n s st (map (on s) cs) ≡ received surface n s st (map (on s) cs′)
+runs-alike : (n s : ℕ) (cs cs′ : List Call) → AllAlike cs cs′ → (st : State)
+    → received surface n s st (map (on s) cs) ≡ received surface n s st (map (on s) cs′)
 unfolding received
 runs-alike n s [] [] h st = refl
 runs-alike n s (c ∷ cs) (c′ ∷ cs′) h st =

@@ -16,10 +16,10 @@ use Rattle.desk.specs.Surface.{heardOf}
 use Rattle.dictation.specs.Dictation.{Told}
 use Rattle.whole.specs.Whole.{answersOf}
 use Rattle.whole.proofs.Dictations.{answers-length}
-use Rattle.sheet.specs.Sheet.{four, kind, recordOf, recordsOf}
+use Rattle.sheet.specs.Sheet.{four, kind, recordBytes, recordsOf}
 use Rattle.sheet.proofs.Laying.{length-record, length-records}
 use Rattle.sheet.proofs.Digits.{four-read}
-use Rattle.feed.specs.Feed.{entryOf, entriesOf}
+use Rattle.feed.specs.Feed.{frameEntry, frameEntries}
 use Rattle.surface.specs.Cutting.{Tells, framesHeardIn, RecordsTell}
 
 -- three answers of a reply, the first of which is 0 unless the frame was heard
@@ -61,16 +61,17 @@ flag-at (f ∷ fs) (suc j) h =
 
 -- entry j: the frame's number, and 2^32 more exactly if the frame's reply says that it was heard
 entries-tell : (frame : ℕ) (told : List Told) (j : ℕ) → j < length told
-    → getD (entriesOf frame (answersOf told)) j 0 ≡ (frame + j) % 4294967296 + mark (getD (framesHeardIn told) j false)
+    → getD (frameEntries frame (answersOf told)) j 0
+    ≡ (frame + j) % 4294967296 + mark (getD (framesHeardIn told) j false)
 entries-tell frame told j h =
-    getD-tab (length (answersOf told) / 3) (λ k. entryOf frame k (at (answersOf told) (3 * k))) j 0
+    getD-tab (length (answersOf told) / 3) (λ k. frameEntry frame k (at (answersOf told) (3 * k))) j 0
     (omega (arith, answers-length told))
     ∙ ap (λ (x : ℕ). (frame + j) % 4294967296 + x) (flag-at told j h)
 
 -- what a record of this entry says, whatever follows it
 record-tells : (number : ℕ) (heard : Bool) (side : ℕ) (rest : List ℕ) → number < 4294967296
-    → Tells (recordOf side (number + mark heard) ++ rest) number heard side
-unfolding recordOf four
+    → Tells (recordBytes side (number + mark heard) ++ rest) number heard side
+unfolding recordBytes four
 record-tells number heard side rest small =
     record {
       numbered = four-read (number + mark heard) (kind (number + mark heard) ∷ side ∷ 0 ∷ 0 ∷ rest) ∙ low heard;
@@ -89,19 +90,19 @@ record-tells number heard side rest small =
 
 -- record j stands behind 8 times j bytes
 drop-records : (side : ℕ) (es : List ℕ) (j : ℕ) → j < length es
-    → drop (8 * j) (recordsOf side es) ≡ recordOf side (getD es j 0) ++ recordsOf side (drop (suc j) es)
+    → drop (8 * j) (recordsOf side es) ≡ recordBytes side (getD es j 0) ++ recordsOf side (drop (suc j) es)
 drop-records side [] j h = absurd (omega arith)
 drop-records side (e ∷ es) zero h = refl
 drop-records side (e ∷ es) (suc j) h =
     let next : 8 * suc j ≡ 8 + 8 * j = omega arith in
     ap (λ (k : ℕ). drop k (recordsOf side (e ∷ es))) next
     ∙ sym (drop-drop (8 * j) 8 (recordsOf side (e ∷ es)))
-    ∙ ap (drop (8 * j)) (drop-at (recordOf side e) (recordsOf side es) 8 (length-record side e))
+    ∙ ap (drop (8 * j)) (drop-at (recordBytes side e) (recordsOf side es) 8 (length-record side e))
     ∙ drop-records side es j (omega arith)
 
 pub records-tell : RecordsTell
 records-tell bench frame told =
-    let es = entriesOf frame (answersOf told) in
+    let es = frameEntries frame (answersOf told) in
     let side = sideOf bench in
     let many : length es ≡ length told = length-tab (length (answersOf told) / 3) _
     ∙ omega (arith, answers-length told) in (
@@ -110,7 +111,7 @@ records-tell bench frame told =
           subst (λ (xs : List ℕ). Tells xs ((frame + j) % 4294967296) (getD (framesHeardIn told) j false) side)
           (sym
           (drop-records side es j (omega (arith, many))
-          ∙ ap (λ (e : ℕ). recordOf side e ++ recordsOf side (drop (suc j) es)) (entries-tell frame told j h)))
+          ∙ ap (λ (e : ℕ). recordBytes side e ++ recordsOf side (drop (suc j) es)) (entries-tell frame told j h)))
           (record-tells ((frame + j) % 4294967296) (getD (framesHeardIn told) j false) side
           (recordsOf side (drop (suc j) es)) (omega arith)),
     )

@@ -56,7 +56,7 @@ use Rattle.whole.proofs.Ranged.{take-by}
 use Rattle.isolation.specs.Isolation.{own}
 use Rattle.isolation.specs.Run.{On, on, State, recordAt, after, ended, desks, expand}
 use Rattle.isolation.proofs.Runs.{reads, record-after, store-after}
-use Rattle.feed.specs.Feed.{Block, ROOM, sizeOf, samplesOf}
+use Rattle.feed.specs.Feed.{Block, ROOM, blockSize, samplesOf}
 use Rattle.feed.specs.Surface.{hostedFeed}
 use Rattle.feed.proofs.Ranged.{feed-by}
 use Rattle.surface.specs.Surface.{Call, ask, frame, take, feed, surface, madeOf}
@@ -107,7 +107,8 @@ carried-waits b rest size progress = go (ltb rest 480)
 piece-fitted : (share : List Float) (way : Way) (waiting : ℕ) (x : List Float) (o s : ℕ)
     → passed (pieces.piece share way waiting x o s .answer) ≡ true → Piece share waiting x o s
 piece-fitted share way waiting x o s =
-    piece-by share (λ f. passed (f .answer) ≡ true → Piece share waiting x o s) (λ n e. absurd (false≢true e)) way waiting
+    piece-by share (λ f. passed (f .answer) ≡ true → Piece share waiting x o s)
+    (λ n e. absurd (false≢true e)) way waiting
     x o s (λ k _. k)
 
 resume-fitted : (share : List Float) (hearing : Hearing) (noted progress : ℕ) (x g : List Float) (m : List ℕ) (o s : ℕ)

@@ -2,9 +2,9 @@
 -- proofs/Entries.antt.
 --
 -- A feed is a take of its channel's samples. Where a bench's stream is cut makes no difference: its cleaned bytes, the
--- records of its frames and its answers in a row, and its own record and share at the end, are those of one dictation of
--- its channel, whatever other benches do in between, and however often a call of its own is refused. And each frame's
--- record carries the frame's number, whether it was heard, and the bench's own side.
+-- records of its frames and its answers in a row, and its own record and share at the end, are those of one dictation
+-- of its channel, whatever other benches do in between, and however often a call of its own is refused. And each
+-- frame's record carries the frame's number, whether it was heard, and the bench's own side.
 use Rattle.rules.specs.Common.{ℕ, _+_, _*_, _%_, _<_, Bool, false, cond, List, [], _∷_, _++_, map, _≡_, length, getD}
 use Rattle.rules.specs.Common.{drop, Float}
 use Rattle.rules.specs.Place.{get}
@@ -60,12 +60,12 @@ hasOf n s st calls =
 -- ---- and what a dictation gives
 
 -- each frame is lent our logarithms of its sums, and the one model
-abbrev pub said : Record → List Float → List Float → List ℕ → Dictated
-said rec share samples model = dictatedOn rec share samples (lentToEach rec samples model)
+abbrev pub dictationOf : Record → List Float → List Float → List ℕ → Dictated
+dictationOf rec share samples model = dictatedOn rec share samples (lentToEach rec samples model)
 
 abbrev pub hasSaid : ℕ → Record → List Float → List Float → List ℕ → Has
 hasSaid side rec share samples model =
-    let d = said rec share samples model in
+    let d = dictationOf rec share samples model in
     record {
       rec = d .rec;
       share = d .kept;

@@ -14,7 +14,7 @@ use Rattle.desk.specs.Desk.{opening}
 use Rattle.desk.specs.Surface.{hosted}
 use Rattle.isolation.specs.Isolation.{own}
 use Rattle.isolation.specs.Run.{On, on, State, recordAt, ended}
-use Rattle.feed.specs.Feed.{Block, sizeOf, samplesOf}
+use Rattle.feed.specs.Feed.{Block, blockSize, samplesOf}
 use Rattle.surface.specs.Surface.{Call, ask, frame, take, feed, surface}
 use Rattle.surface.specs.Between.{All}
 use Rattle.surface.specs.Acceptance.{suits}
@@ -35,8 +35,8 @@ pub data Fair (rec : Record) : Call → Type 0 where
       → 480 * completes (rec .waiting) (length x) ≤ o → 3 * completes (rec .waiting) (length x) ≤ a
       → Fair rec (take x m o a)
   fairFeed : (b : Block) (m : List ℕ) (c e a : ℕ) → Fine rec (samplesOf b) m
-      → 960 * completes (rec .waiting) (sizeOf b) ≤ c
-      → 8 * completes (rec .waiting) (sizeOf b) ≤ e → 3 * completes (rec .waiting) (sizeOf b) ≤ a
+      → 960 * completes (rec .waiting) (blockSize b) ≤ c
+      → 8 * completes (rec .waiting) (blockSize b) ≤ e → 3 * completes (rec .waiting) (blockSize b) ≤ a
       → Fair rec (feed b m c e a)
 
 -- so it is accepted, behind any run

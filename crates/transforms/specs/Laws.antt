@@ -14,4 +14,5 @@ ForwardPlain = (x : List Float) (bin part n : ℕ) → T (plain (loop n (forward
 
 -- After the terms of bins 1 to k - 1 of a sample, if bin 0 is an f32.
 abbrev pub InversePlain : Type 0
-InversePlain = (x : List Float) (sample k : ℕ) → T (fits binary32 (at x 0)) → T (plain (range 1 k (inverseStep x sample) (f32 0 ⊕ at x 0)))
+InversePlain = (x : List Float) (sample k : ℕ) → T (fits binary32 (at x 0))
+    → T (plain (range 1 k (inverseStep x sample) (f32 0 ⊕ at x 0)))

@@ -7,7 +7,7 @@ ghost use lib.Ieee.{Float};
 ghost use Rattle.rules.specs.Spectrum.{binOf};
 ghost use Rattle.transforms.specs.Cosine.{cosine};
 ghost use Rattle.transforms.specs.Transform.{bin, partOf, forwardOf};
-ghost use Rattle.transforms.specs.Parts.{extended, plusTerms, sumsOf, Reached, kept, Keeps, binLane, binPart};
+ghost use Rattle.transforms.specs.Private.{extended, plusTerms, sumsOf, Reached, kept, Keeps, binLane, binPart};
 use crate::lanes::Four;
 use crate::lanes::Places;
 use crate::lanes::Run;
@@ -135,7 +135,8 @@ fn bin_spot(j: usize) -> usize
 // Puts all sums into their places in the spectrum.
 pub(crate) fn spread(out: &mut [f32], parts: &[f32; 992])
     requires { ⌜ length (now out) ≡ 961 ⌝ }
-    ensures { λ _. ⌜ ((x : List Float) → Keeps (binPart x 960) 992 (now (parts .entry)) → now (out .exit) ≡ forwardOf x) ⌝ }
+    ensures { λ _. ⌜ ((x : List Float) → Keeps (binPart x 960) 992 (now (parts .entry))
+        → now (out .exit) ≡ forwardOf x) ⌝ }
 {
     for j in 0..961 {
         out[j] = parts[bin_spot(j)];

@@ -9,7 +9,7 @@ ghost use Rattle.rules.specs.F32.{_⊕_, _⊖_, _⊗_};
 ghost use Rattle.rules.specs.Tab.{tab};
 ghost use Rattle.transforms.specs.Cosine.{cosine};
 ghost use Rattle.transforms.specs.Transform.{wave};
-ghost use Rattle.transforms.specs.Parts.{fourOf, both, plusTerm, places, extended, sumsOf, kept, Keeps};
+ghost use Rattle.transforms.specs.Private.{fourOf, both, plusTerm, places, extended, sumsOf, kept, Keeps};
 
 // A number for each of four neighbours.
 pub(crate) struct Four {
@@ -81,7 +81,8 @@ pub(crate) fn times(v: f32, y: Four) -> Four
     }
 }
 
-// The next term of sums w quarters on, of the indices ahead: by the products p, and q a quarter on. The callers' w is known when it is compiled.
+// The next term of sums w quarters on, of the indices ahead: by the products p, and q a quarter on. The callers' w is
+// known when it is compiled.
 pub(crate) fn ahead(s: Four, p: Four, q: Four, w: usize) -> Four
     ensures { λ r. ⌜ r ≡ plusTerm w s p q ⌝ }
 {

@@ -6,7 +6,8 @@ ghost use mathlib.Core.List.{List};
 ghost use lib.Ieee.{Float};
 ghost use Rattle.transforms.specs.Cosine.{cosine};
 ghost use Rattle.transforms.specs.Transform.{sample, inverseOf};
-ghost use Rattle.transforms.specs.Parts.{extended, plusTerms, sumsOf, Reached, kept, Keeps, sampleLane, samplePart, wholePart};
+ghost use Rattle.transforms.specs.Private.{extended, plusTerms, sumsOf, Reached, kept, Keeps, sampleLane};
+ghost use Rattle.transforms.specs.Private.{samplePart, wholePart};
 use crate::lanes::Four;
 use crate::lanes::Places;
 use crate::lanes::Run;
@@ -164,7 +165,8 @@ fn sample_spot(n: usize) -> usize
 // Puts all sums into their places.
 pub(crate) fn spread(out: &mut [f32], parts: &[f32; 992])
     requires { ⌜ length (now out) ≡ 960 ⌝ }
-    ensures { λ _. ⌜ ((x : List Float) → Keeps (wholePart x) 992 (now (parts .entry)) → now (out .exit) ≡ inverseOf x) ⌝ }
+    ensures { λ _. ⌜ ((x : List Float) → Keeps (wholePart x) 992 (now (parts .entry))
+        → now (out .exit) ≡ inverseOf x) ⌝ }
 {
     for n in 0..960 {
         out[n] = parts[sample_spot(n)];

@@ -1,6 +1,7 @@
 -- The head of a WAV file, read chunk by chunk: what the next step of a reading finds in the file's bytes from
 -- a place on. Four letters are read as a number, least significant byte first.
-use Rattle.rules.specs.Common.{ℕ, _+_, _*_, _/_, _%_, min, Bool, cond, not, _&&_, _||_, List, [], _∷_, eqb, ltb, length, getD, drop}
+use Rattle.rules.specs.Common.{ℕ, _+_, _*_, _/_, _%_, min, Bool, cond, not, _&&_, _||_, List, [], _∷_, eqb, ltb, length}
+use Rattle.rules.specs.Common.{getD, drop}
 use Rattle.rules.specs.Leaf.{_leaving_}
 use Rattle.rules.specs.Refusals.{Row, _when_, refusing}
 use Rattle.sheet.specs.End.{fromFour}
@@ -32,13 +33,21 @@ unread = record { place = 0; format = 0; channels = 0; rate = 0; size = 0 }
 
 unfoldable pub frontOf : List ℕ → Step
 frontOf s =
-    refusing (41 when (ltb (length s) 12 || (not (eqb (fromFour s) RIFF) || not (eqb (fromFour (drop 8 s)) WAVE))) ∷ []) Refused
+    refusing (41 when (ltb (length s) 12 || (not (eqb (fromFour s) RIFF) || not (eqb (fromFour (drop 8 s)) WAVE))) ∷ [])
+    Refused
     (On (record { place = 12; format = 0; channels = 0; rate = 0; size = 0 }))
 
 -- ---- a chunk: its name, its size, its contents, and a byte more where these are odd
 
 abbrev pub pastChunk : ℕ → Head → Head
-pastChunk size h = record { place = h .place + 8 + size + size % 2; format = h .format; channels = h .channels; rate = h .rate; size = h .size }
+pastChunk size h =
+    record {
+      place = h .place + 8 + size + size % 2;
+      format = h .format;
+      channels = h .channels;
+      rate = h .rate;
+      size = h .size;
+    }
 
 -- The tag of a format. An extensible format, 65534, has its tag further on.
 unfoldable pub tagIn : ℕ → List ℕ → ℕ
@@ -47,7 +56,9 @@ tagIn size s = let tag = fromTwo (drop 8 s) in cond (eqb tag 65534) (cond (ltb s
 -- The format: 16 or 24 for whole numbers of that many bits (tag 1), 33 for whole numbers of 32 bits, 32 for
 -- floats of 32 bits (tag 3), and 0 for anything else.
 unfoldable pub formatOf : ℕ → ℕ → ℕ
-formatOf tag bits = cond (eqb tag 1) (cond (eqb bits 16) 16 (cond (eqb bits 24) 24 (cond (eqb bits 32) 33 0))) (cond (eqb tag 3) (cond (eqb bits 32) 32 0) 0)
+formatOf tag bits =
+    cond (eqb tag 1) (cond (eqb bits 16) 16 (cond (eqb bits 24) 24 (cond (eqb bits 32) 33 0)))
+    (cond (eqb tag 3) (cond (eqb bits 32) 32 0) 0)
 
 abbrev pub formatIn : ℕ → List ℕ → ℕ
 formatIn size s = formatOf (tagIn size s) (fromTwo (drop 22 s))
@@ -68,7 +79,15 @@ formatFaults s size =
 unfoldable pub formatted : List ℕ → ℕ → Head → Step
 formatted s size h =
     refusing (formatFaults s size) Refused
-    (On (pastChunk size (record { place = h .place; format = formatIn size s; channels = channelsIn s; rate = fromFour (drop 12 s); size = 0 })))
+    (On
+    (pastChunk size
+    (record {
+      place = h .place;
+      format = formatIn size s;
+      channels = channelsIn s;
+      rate = fromFour (drop 12 s);
+      size = 0;
+    })))
 
 -- A chunk is the audio, or the first `fmt `, or another one, which is skipped.
 unfoldable pub chunkOf : List ℕ → Head → Step
@@ -88,7 +107,8 @@ stepOf s h = cond (eqb (h .place) 0) (frontOf s) (chunkOf s h)
 
 -- Where a reading is, as the numbers that a host keeps.
 abbrev pub headFrom : List ℕ → Head
-headFrom ns = record { place = getD ns 0 0; format = getD ns 1 0; channels = getD ns 2 0; rate = getD ns 3 0; size = getD ns 4 0 }
+headFrom ns =
+    record { place = getD ns 0 0; format = getD ns 1 0; channels = getD ns 2 0; rate = getD ns 3 0; size = getD ns 4 0 }
 
 abbrev pub headNumbers : Head → List ℕ
 headNumbers h = h .place ∷ h .format ∷ h .channels ∷ h .rate ∷ h .size ∷ []
@@ -100,4 +120,5 @@ stepNumbers (On h) ns = 40 leaving headNumbers h
 stepNumbers (Refused n) ns = n leaving ns
 
 unfoldable pub stepTold : List ℕ → List ℕ → ℕ × List ℕ
-stepTold s ns = refusing (5 when not (eqb (length ns) 5) ∷ []) (λ n. n leaving ns) (stepNumbers (stepOf s (headFrom ns)) ns)
+stepTold s ns =
+    refusing (5 when not (eqb (length ns) 5) ∷ []) (λ n. n leaving ns) (stepNumbers (stepOf s (headFrom ns)) ns)

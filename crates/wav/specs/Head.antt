@@ -17,4 +17,5 @@ headOf rate size behind =
     ++ (1 ∷ 0 ∷ 1 ∷ 0 ∷ four rate ++ (four (2 * rate) ++ (2 ∷ 0 ∷ 16 ∷ 0 ∷ four DATA ++ four size)))))))
 
 unfoldable pub headWritten : ℕ → ℕ → ℕ → List ℕ → ℕ × List ℕ
-headWritten rate size behind out = refusing (5 when not (eqb (length out) 44) ∷ []) (λ n. n leaving out) (0 leaving headOf rate size behind)
+headWritten rate size behind out =
+    refusing (5 when not (eqb (length out) 44) ∷ []) (λ n. n leaving out) (0 leaving headOf rate size behind)

@@ -19,17 +19,18 @@ use Rattle.wav.specs.declared.chunks.Step.the-variants.{Audio, On, Refus
 -- ---- seals
 
 -- A seal's numbers fit into 24 bytes.
-pub record Holds (x : Seal) : Type 0 where
+pub record SealFits (x : Seal) : Type 0 where
   pub long : x .long < 2 ^ 64
   pub short : x .short < 2 ^ 32
 
 -- What is written reads back, whatever follows it.
 abbrev pub SealBack : Type 0
-SealBack = (w : Word) (x : Seal) (rest : List ℕ) → Holds x → sealRead w (sealOf w x ++ rest) ≡ reading.Whole x
+SealBack = (w : Word) (x : Seal) (rest : List ℕ) → SealFits x → sealRead w (sealOf w x ++ rest) ≡ reading.Whole x
 
 -- So a seal cannot be one of another side or of other numbers.
 abbrev pub OneSeal : Type 0
-OneSeal = (w : Word) (x y : Seal) (rest rest′ : List ℕ) → Holds x → Holds y → sealOf w x ++ rest ≡ sealOf w y ++ rest′ → x ≡ y
+OneSeal = (w : Word) (x y : Seal) (rest rest′ : List ℕ) → SealFits x → SealFits y
+    → sealOf w x ++ rest ≡ sealOf w y ++ rest′ → x ≡ y
 
 -- With the letters of the other side in their place it is no seal at all.
 abbrev pub otherSide : Side → Side
@@ -40,12 +41,14 @@ abbrev pub renamed : Seal → List ℕ → List ℕ
 renamed x s = take 4 s ++ (four (lettersOf (otherSide (x .side))) ++ drop 8 s)
 
 abbrev pub OtherName : Type 0
-OtherName = (w : Word) (x : Seal) (rest : List ℕ) → Holds x → sealRead w (renamed x (sealOf w x ++ rest)) ≡ reading.Refused 52
+OtherName = (w : Word) (x : Seal) (rest : List ℕ) → SealFits x
+    → sealRead w (renamed x (sealOf w x ++ rest)) ≡ reading.Refused 52
 
 -- What a host has written, it reads: the same side and the same two numbers.
 abbrev pub SealCalls : Type 0
 SealCalls =
-    (w : Word) (side long short : ℕ) (out after rest numbers : List ℕ) → long < 2 ^ 64 → short < 2 ^ 32 → length numbers ≡ 3
+    (w : Word) (side long short : ℕ) (out after rest numbers : List ℕ) → long < 2 ^ 64 → short < 2 ^ 32
+    → length numbers ≡ 3
     → (0 leaving after) ≡ sealWritten w side long short out
     → sealSummary w (after ++ rest) numbers ≡ (0 leaving side ∷ long ∷ short ∷ [])
 
@@ -81,4 +84,5 @@ follow (suc n) file h = andOn (stepOf (drop (h .place) file) h) (follow n file)
 abbrev pub HeadBack : Type 0
 HeadBack =
     (rate size behind : ℕ) (rest : List ℕ) → rate < 2 ^ 32 → size < 2 ^ 32
-    → follow 3 (headOf rate size behind ++ rest) unread ≡ Audio (record { place = 44; format = 16; channels = 1; rate = rate; size = size })
+    → follow 3 (headOf rate size behind ++ rest) unread
+    ≡ Audio (record { place = 44; format = 16; channels = 1; rate = rate; size = size })

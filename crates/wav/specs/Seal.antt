@@ -29,7 +29,8 @@ wordOf Ends = TUPP
 -- A seal without its own checksum: its word, the letters of the side, a number of 64 bits, and one of 32
 -- bits.
 abbrev pub twentyOf : ℕ → ℕ → ℕ → ℕ → List ℕ
-twentyOf letters name long short = four letters ++ (four name ++ (four long ++ (four (long / 4294967296) ++ four short)))
+twentyOf letters name long short =
+    four letters ++ (four name ++ (four long ++ (four (long / 4294967296) ++ four short)))
 
 unfoldable pub said : Word → Seal → List ℕ
 said w s = twentyOf (wordOf w) (lettersOf (s .side)) (s .long) (s .short)

@@ -3,7 +3,8 @@ ghost use mathlib.Core.Path.{_≡_};
 ghost use Prim.Native.Nat.{_+_, _≤_, _<_, _^_};
 ghost use lib.ListN.{length};
 ghost use Rattle.rules.specs.Leaf.{_leaving_};
-ghost use Rattle.wav.specs.Chunks.{tagIn, formatOf, frontOf, pastChunk, formatted, chunkOf, stepOf, headNumbers, stepTold};
+ghost use Rattle.wav.specs.Chunks.{tagIn, formatOf, frontOf, pastChunk, formatted, chunkOf, stepOf, headNumbers};
+ghost use Rattle.wav.specs.Chunks.{stepTold};
 use crate::bytes;
 
 // Four letters each, as a number, least significant byte first.

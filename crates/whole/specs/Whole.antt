@@ -9,7 +9,7 @@ use Rattle.samples.specs.Samples.{good}
 use Rattle.logs.specs.Log10.{logsOf}
 use Rattle.model.specs.Model.{readOf}
 use Rattle.frame.specs.Effect.{Effect, refusal}
-use Rattle.frame.specs.Reply.{passed, _when_, firstRefusal}
+use Rattle.frame.specs.Reply.{passed, _refusedIf_, firstRefusal}
 use Rattle.frame.specs.declared.Reply.{Reply}
 use Rattle.frame.specs.declared.Reply.the-variants.{Done}
 use Rattle.frame.specs.Frame.{counted, checked}
@@ -27,18 +27,20 @@ ourLent model = record { logs = logsOf; model = model }
 
 -- The reply of a table: the gate's number, 1 to 4, then the rows of the call's own table.
 abbrev pub replyOf : ℕ → List Reply → Reply
-replyOf number rows = firstRefusal (number when not (eqb number 0) ∷ rows)
+replyOf number rows = firstRefusal (number refusedIf not (eqb number 0) ∷ rows)
 
 -- A refused call changes nothing. Otherwise o is done on the side's own share.
 abbrev pub unlessRefused : Reply → ℕ → Record → List Float → Effect Answer → Effect Answer
-unlessRefused reply side rec store o = cond (passed reply) (placed side store o) (refusal (record { reply = reply; rec = rec }) store)
+unlessRefused reply side rec store o =
+    cond (passed reply) (placed side store o) (refusal (record { reply = reply; rec = rec }) store)
 
 -- ---- a frame
 
 -- The rows of a frame: 5, then 7, 8 and 9.
 abbrev pub frameRows : Record → List Float → List ℕ → ℕ → List Reply
 frameRows rec samples model out =
-    5 when wrong ((length samples, 480) ∷ (out, 480) ∷ []) ∷ checked (counted (rec .hearing)) (readOf model) ∷ 9 when not (good samples) ∷ []
+    5 refusedIf wrong ((length samples, 480) ∷ (out, 480) ∷ []) ∷ checked (counted (rec .hearing)) (readOf model)
+    ∷ 9 refusedIf not (good samples) ∷ []
 
 unfoldable pub frameReply : ℕ → ℕ → Record → ℕ → List Float → List ℕ → ℕ → Reply
 frameReply n side rec len samples model out = replyOf (gate n side rec len 1) (frameRows rec samples model out)
@@ -54,10 +56,10 @@ frame n side rec store samples model out =
 -- model, and the samples, those that wait included.
 abbrev pub takeRows : Record → List Float → List Float → List ℕ → ℕ → ℕ → List Reply
 takeRows rec share samples model out answers =
-    5 when not (pieceFits (rec .waiting) (length samples) out 22)
-    ∷ 5 when not (leb (3 * completes (rec .waiting) (length samples)) answers)
+    5 refusedIf not (pieceFits (rec .waiting) (length samples) out 22)
+    ∷ 5 refusedIf not (leb (3 * completes (rec .waiting) (length samples)) answers)
     ∷ checked (counted (rec .hearing)) (readOf model)
-    ∷ 9 when not (good (waitingIn (rec .waiting) share ++ samples))
+    ∷ 9 refusedIf not (good (waitingIn (rec .waiting) share ++ samples))
     ∷ []
 
 unfoldable pub takeReply : ℕ → ℕ → Record → List Float → List Float → List ℕ → ℕ → ℕ → Reply
@@ -78,8 +80,13 @@ answersOf (f ∷ fs) = heardOf (f .1) ++ answersOf fs
 abbrev pub takenOn : Record → List Float → List Float → List ℕ → Effect Answer
 takenOn rec share samples model =
     let d = dictatedOn rec share samples (lentToEach rec samples model) in
-    record { answer = record { reply = Done; rec = d .rec }; kept = d .kept; written = from 0 (d .out) ∷ from 0 (answersOf (d .told)) ∷ [] }
+    record {
+      answer = record { reply = Done; rec = d .rec };
+      kept = d .kept;
+      written = from 0 (d .out) ∷ from 0 (answersOf (d .told)) ∷ [];
+    }
 
 unfoldable pub take : ℕ → ℕ → Record → List Float → List Float → List ℕ → ℕ → ℕ → Effect Answer
 take n side rec store samples model out answers =
-    unlessRefused (takeReply n side rec store samples model out answers) side rec store (takenOn rec (get (shareOf side) store) samples model)
+    unlessRefused (takeReply n side rec store samples model out answers) side rec store
+    (takenOn rec (get (shareOf side) store) samples model)

@@ -2,8 +2,8 @@
 mod heard;
 mod one_frame;
 mod one_piece;
+mod refusals;
 mod spoken;
-mod tests;
 
 pub use heard::Three;
 pub use heard::three_of;

@@ -12,14 +12,14 @@ ghost use Rattle.pieces.specs.Pieces.{waitingIn, paddedTo, waits, completes};
 ghost use Rattle.desk.specs.Surface.{heardOf};
 ghost use Rattle.dictation.specs.Dictation.{frameOn};
 ghost use Rattle.whole.specs.Whole.{ourLent, takenOn};
-ghost use Rattle.whole.specs.Parts.{Fit, Ready, frameOf};
+ghost use Rattle.whole.specs.Private.{Fit, Ready, frameOf};
 use desk::Answer;
 use desk::Record;
 use frame::PART;
 use frame::Reply;
 
 // One frame on a share: takes 480 samples and writes 480 numbers, with our logarithms between its halves.
-pub(crate) fn speak(
+pub(crate) fn process_frame(
     share: &mut [f32],
     rec: Record,
     samples: &[f32],
@@ -44,9 +44,11 @@ pub(crate) fn speak(
 // `out` becomes the samples from frame j on, of those that wait followed by the piece's, as far as it has
 // room, filled up with zeros.
 fn gather(out: &mut [f32], share: &[f32], waiting: usize, piece: &[f32], j: usize)
-    requires { ⌜ (length (now share) ≡ 6144) × (waiting ≤ 479) × (length (now piece) ≤ 4096) × (480 * j ≤ waiting + length (now piece)) ⌝ }
+    requires { ⌜ (length (now share) ≡ 6144) × (waiting ≤ 479) × (length (now piece) ≤ 4096)
+        × (480 * j ≤ waiting + length (now piece)) ⌝ }
     ensures { λ _. ⌜ now (out .exit)
-        ≡ paddedTo (length (now (out .entry))) (drop (480 * j) (waitingIn waiting (now (share .entry)) ++ now (piece .entry))) ⌝ }
+        ≡ paddedTo (length (now (out .entry)))
+        (drop (480 * j) (waitingIn waiting (now (share .entry)) ++ now (piece .entry))) ⌝ }
 {
     if j == 0 {
         let end = PART + waiting;
@@ -70,20 +72,26 @@ fn step(
 ) -> Record
     requires { ⌜ Fit rec (now share) (now model) ⌝ }
     requires { ⌜ Ready waiting (now share) (now piece) (j + 1) (length (now out)) (length (now answers)) ⌝ }
-    ensures { λ r. ⌜ r ≡ frameOf j waiting rec (now (share .entry)) (now (piece .entry)) (now (model .entry)) .answer .rec ⌝ }
-    ensures { λ _. ⌜ now (share .exit) ≡ frameOf j waiting rec (now (share .entry)) (now (piece .entry)) (now (model .entry)) .kept ⌝ }
+    ensures { λ r. ⌜ r ≡ frameOf j waiting rec (now (share .entry)) (now (piece .entry))
+        (now (model .entry)) .answer .rec ⌝ }
+    ensures { λ _. ⌜ now (share .exit)
+        ≡ frameOf j waiting rec (now (share .entry)) (now (piece .entry)) (now (model .entry)) .kept ⌝ }
     ensures { λ _. ⌜ now (out .exit)
-        ≡ over (from (480 * j) (firstIn (frameOf j waiting rec (now (share .entry)) (now (piece .entry)) (now (model .entry)) .written)))
+        ≡ over
+        (from (480 * j) (firstIn
+        (frameOf j waiting rec (now (share .entry)) (now (piece .entry)) (now (model .entry)) .written)))
         (now (out .entry)) ⌝ }
     ensures { λ _. ⌜ now (answers .exit)
-        ≡ over (from (3 * j) (heardOf (frameOf j waiting rec (now (share .entry)) (now (piece .entry)) (now (model .entry)) .answer .reply)))
+        ≡ over
+        (from (3 * j)
+        (heardOf (frameOf j waiting rec (now (share .entry)) (now (piece .entry)) (now (model .entry)) .answer .reply)))
         (now (answers .entry)) ⌝ }
 {
     let mut samples = [0.0f32; 480];
     gather(&mut samples, share, waiting, piece, j);
     let start = 480 * j;
     let end = start + 480;
-    let done = speak(share, rec, &samples, model, &mut out[start..end]);
+    let done = process_frame(share, rec, &samples, model, &mut out[start..end]);
     let reply = done.reply;
     crate::heard::tell(answers, j, reply);
     done.rec
@@ -94,9 +102,11 @@ const TO: usize = PART + 479;
 
 // Lets the samples after so many frames wait.
 fn settle(share: &mut [f32], waiting: usize, piece: &[f32], frames: usize)
-    requires { ⌜ (length (now share) ≡ 6144) × (waiting ≤ 479) × (length (now piece) ≤ 4096) × (480 * frames ≤ waiting + length (now piece)) ⌝ }
+    requires { ⌜ (length (now share) ≡ 6144) × (waiting ≤ 479) × (length (now piece) ≤ 4096)
+        × (480 * frames ≤ waiting + length (now piece)) ⌝ }
     ensures { λ _. ⌜ now (share .exit)
-        ≡ waits (now (share .entry)) (drop (480 * frames) (waitingIn waiting (now (share .entry)) ++ now (piece .entry))) ⌝ }
+        ≡ waits (now (share .entry))
+        (drop (480 * frames) (waitingIn waiting (now (share .entry)) ++ now (piece .entry))) ⌝ }
 {
     let mut rest = [0.0f32; 479];
     gather(&mut rest, share, waiting, piece, frames);
@@ -116,7 +126,8 @@ pub(crate) fn dictate(
     requires { ⌜ Ready (rec .waiting) (now share) (now piece) (completes (rec .waiting) (length (now piece)))
         (length (now out)) (length (now answers)) ⌝ }
     ensures { λ r. ⌜ Worked (takenOn rec (now (share .entry)) (now (piece .entry)) (now (model .entry)))
-        r (now (share .exit)) (now (out .entry) ∷ now (answers .entry) ∷ []) (now (out .exit) ∷ now (answers .exit) ∷ []) ⌝ }
+        r (now (share .exit)) (now (out .entry) ∷ now (answers .entry) ∷ [])
+        (now (out .exit) ∷ now (answers .exit) ∷ []) ⌝ }
 {
     let waiting = rec.waiting;
     let frames = (waiting + piece.len()) / 480;

@@ -56,7 +56,7 @@ fn by_the_text(samples: &[f32]) -> Duration {
 fn idle(samples: &[f32]) -> f64 {
     let (mut store, mut records) = (vec![0.0; STORE], [[0; RECORD]; BENCHES]);
     for (side, record) in (0..).zip(&mut records) {
-        Way::Crate.open(record, &mut store, side, HOUSE).expect("the house model");
+        Way::Nnnoiseless.open(record, &mut store, side, HOUSE).expect("the house model");
     }
     let (mut out, mut entry, mut answer) = ([0; 2 * FRAME], [0], [0.0; 3]);
     let Layout { format, channels } = Layout::CLEANED;
@@ -115,7 +115,8 @@ impl Speed {
 pub fn measure() -> Speed {
     let samples: Vec<f32> = grinder(FRAMES * FRAME, 7, 100.0, 340.0).iter().map(|x| (1_000.0 * x) as f32).collect();
     let (recorded, mut times) = (Block::of(&samples), [const { vec![] }; 4]);
-    let (mut recorder, mut own, mut calls) = (Recorder::new(Way::Crate), Recorder::new(Way::Asked), Calls::default());
+    let (mut recorder, mut own, mut calls) =
+        (Recorder::new(Way::Nnnoiseless), Recorder::new(Way::Own), Calls::default());
     for _ in 0..ROUNDS {
         times[0].push(pieces(&mut recorder, &recorded));
         times[1].push(pieces(&mut own, &recorded));

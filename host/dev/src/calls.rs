@@ -69,7 +69,7 @@ fn timed<R>(spent: &mut Duration, f: impl FnOnce() -> R) -> R {
 impl Calls {
     /// Opens a bench. The four calls ask nothing of its way.
     pub fn open(&mut self, side: Side, model: &[u8]) -> Result<(), Refusal> {
-        Way::Asked.open(&mut self.records[side as usize], &mut self.store, side as u32, model)?;
+        Way::Own.open(&mut self.records[side as usize], &mut self.store, side as u32, model)?;
         self.finders[side as usize] = PitchFinder::new();
         Ok(())
     }

@@ -133,7 +133,8 @@ fn db(ratio: f64) -> f64 {
     10.0 * ratio.log10()
 }
 
-/// What the cleaning did, in decibels; the first 1.5 seconds, in which a model may be looking for the noise floor, do not count.
+/// What the cleaning did, in decibels; the first 1.5 seconds, in which a model may be looking for the noise floor, do
+/// not count.
 pub struct Effect {
     pub pauses: f64,
     pub voice: f64,

@@ -1,5 +1,5 @@
-//! How much noise was taken away: by how many decibels the frames without a voice are softer, the middle one of them. (Of their powers together the end of
-//! a word, which is loud and not likely, would be all.)
+//! How much noise was taken away: by how many decibels the frames without a voice are softer, the middle one of them.
+//! (Of their powers together the end of a word, which is loud and not likely, would be all.)
 
 use crate::cleaning::measured::Measured;
 use crate::FRAME;
@@ -115,7 +115,8 @@ impl Pauses {
 mod tests {
     use super::*;
 
-    /// Noise of 100 that comes out as 10 in every other frame, which has no voice: 20 dB. The voice's frames do not count.
+    /// Noise of 100 that comes out as 10 in every other frame, which has no voice: 20 dB. The voice's frames do not
+    /// count.
     #[test]
     fn a_tenth_is_left() {
         let mut pauses = Pauses::default();

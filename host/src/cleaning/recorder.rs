@@ -45,16 +45,16 @@ impl Side {
 #[derive(Clone, Copy, Debug, Default, PartialEq)]
 pub enum Way {
     #[default]
-    Crate,
-    Asked,
+    Nnnoiseless,
+    Own,
 }
 
 impl Way {
     /// Opens a bench in this way. A refused opening changes nothing.
     pub fn open(self, record: &mut [u32], store: &mut [f32], side: u32, model: &[u8]) -> Result<(), Refusal> {
         done(match self {
-            Way::Crate => tuppence::open_crate(record, store, side, model),
-            Way::Asked => tuppence::open(record, store, side, model),
+            Way::Nnnoiseless => tuppence::open_crate(record, store, side, model),
+            Way::Own => tuppence::open(record, store, side, model),
         })
     }
 }

@@ -23,8 +23,8 @@ const MOST_JOBS: usize = 256;
 
 fn way(given: &Given) -> Way {
     match given.word("--lag").as_deref() {
-        Some("own") => Way::Asked,
-        _ => Way::Crate,
+        Some("own") => Way::Own,
+        _ => Way::Nnnoiseless,
     }
 }
 

@@ -38,24 +38,47 @@ pub const COMMANDS: &[Command] = &[
         ],
         files: Files::from(0, "FILE"),
         options: &[
-            Opt::of("--left", Takes::There("FILE"), "The left bench's recording; alone, that bench's alone. - is standard input."),
+            Opt::of(
+                "--left",
+                Takes::There("FILE"),
+                "The left bench's recording; alone, that bench's alone. - is standard input.",
+            ),
             Opt::of("--right", Takes::There("FILE"), "The right bench's."),
             Opt::of("--both", Takes::There("FILE"), "Both in one: the left channel is the left bench."),
             Opt::of("--side", Takes::OneOf(&["left", "right"]), "The side of the files whose name says none."),
-            Opt::flag("--raw", "Standard input has no header: 48,000 samples a second, 16 bits, little end first, left and right in turn."),
-            Opt::of("--channels", Takes::OneOf(&["1", "2"]), "The channels of --raw: 2 with -, 1 with --left - or --right -."),
+            Opt::flag(
+                "--raw",
+                "Standard input has no header: 48,000 samples a second, 16 bits, little end first, \
+                 left and right in turn.",
+            ),
+            Opt::of(
+                "--channels",
+                Takes::OneOf(&["1", "2"]),
+                "The channels of --raw: 2 with -, 1 with --left - or --right -.",
+            ),
             Opt::flag("--to-the-end", "Clean all that a file holds, even if its header announces less."),
-            Opt::of("--out", Takes::Place("DIR"), "Where the files are written. Of several FILEs each has a folder there."),
+            Opt::of(
+                "--out",
+                Takes::Place("DIR"),
+                "Where the files are written. Of several FILEs each has a folder there.",
+            ),
             SPLIT,
             START,
             Opt::flag("--keep-before", "Keep each dictation as it was before cleaning, too. For --split."),
             Opt::of("--name", Takes::Text("NAME"), "Call what is written NAME-left.wav and so on."),
-            Opt::of("--model", Takes::There("FILE"), "The model: .rnn, .rnnn or rnn_data.c. The house model where none is named."),
+            Opt::of(
+                "--model",
+                Takes::There("FILE"),
+                "The model: .rnn, .rnnn or rnn_data.c. The house model where none is named.",
+            ),
             Opt::flag("--or-house", "Clean with the house model if the library refuses the one that --model names."),
             LAG,
             Opt::of("--jobs", Takes::Text("N"), "Clean N of several FILEs at a time; else as many as there are cores."),
             FORCE,
-            Opt::flag("--anyway", "Clean a recording although its name or its seal says the other side, or both benches' are identical."),
+            Opt::flag(
+                "--anyway",
+                "Clean a recording although its name or its seal says the other side, or both benches' are identical.",
+            ),
             CSV,
             Opt::flag("-q", "Print errors only."),
             JSON,
@@ -66,20 +89,26 @@ page with all of it, into DIR. Each recording is sealed: its side is before its 
 number. A recording whose name, seal or side sheet says the other bench, one file for both benches, and two recordings
 that are identical are refused before anything is written.
 
-FILE.. are recordings of one bench each, every one with a folder of its own in DIR that is called like the file. Its side
-is what its name says: left or right as a word, or L or R as the last word (patientR.wav, p-r-2.wav), and if it says none,
+FILE.. are recordings of one bench each, every one with a folder of its own in DIR that is called like the file. Its \
+side
+is what its name says: left or right as a word, or L or R as the last word (patientR.wav, p-r-2.wav), and if it says \
+none,
 what its folder's name says; or what --side says.
 
 - is a stereo WAV stream on standard input, of any length. A WAV file can hold 12 hours and 19 minutes: then a recording
-goes on in left-2.wav, with the next frame. All recordings are cleaned as they are read, and written as they are cleaned: it takes no more memory for ten hours
+goes on in left-2.wav, with the next frame. All recordings are cleaned as they are read, and written as they are \
+cleaned: it takes no more memory for ten hours
 than for a minute. On their way the files are called left.wav.part and so on, and the records of the side sheets lie in
 left.wav.sheet and right.wav.sheet; at the end all is closed and put in its place. Ctrl-C, TERM or HUP is the end of
 what is read: what came is closed and kept. A second one ends the program at once.
 
 With --split each bench's recording is cut into dictations. One is over after so many seconds without a voice at that
-bench, and the next one begins half a second before its first voice. Each is a sealed recording of its own, called by the
-time at which it began, and told as soon as it is closed. No sample is lost: silence is at the end of the dictation before
-it. index.html lists all dictations in DIR. The time is the clock's for a stream, and for a file its last change less its
+bench, and the next one begins half a second before its first voice. Each is a sealed recording of its own, called by \
+the
+time at which it began, and told as soon as it is closed. No sample is lost: silence is at the end of the dictation \
+before
+it. index.html lists all dictations in DIR. The time is the clock's for a stream, and for a file its last change less \
+its
 length; --start says another.
 
 What is wrong with one bench ends that bench there and leaves the other as it is. A recording that breaks off is cleaned
@@ -106,7 +135,8 @@ recording; 4 one of an earlier version of the box, or a side sheet without a sea
 wrote it; 6 a name or a folder that says another side. Of several files the highest. - is a recording on standard input,
 which is judged as it arrives.
 
-Of a folder all recordings in it and in the folders of its days are told, by time, and which frames of a bench are missing
+Of a folder all recordings in it and in the folders of its days are told, by time, and which frames of a bench are \
+missing
 between them: status 2.",
         examples: &["box side monday/left.wav monday/right.wav", "box side monday", "box side --json *.wav"],
         run: sheets::run_side,

@@ -27,7 +27,11 @@ fn wrapped(text: &str, behind: usize) -> String {
 pub const EXIT: [(u8, &str); 7] = [
     (0, "done as asked"),
     (1, "it could not be done"),
-    (2, "what was given is not right: the command line, or a recording that is not whole or seems to be another bench's"),
+    (
+        2,
+        "what was given is not right: the command line, or a recording that is not whole or seems to be another \
+         bench's",
+    ),
     (3, "`side` finds no recording"),
     (4, "`side` finds a recording of an earlier version of the box, or a side sheet without a seal"),
     (5, "`side` finds a recording that is not as the box wrote it"),

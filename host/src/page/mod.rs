@@ -1,5 +1,6 @@
-//! One page of both benches for a browser: a card for each, with its side in large letters, what a clerk wants to know of it, players for before and
-//! after, and its picture, in which a press plays from there. It is one file beside the recordings, and needs no network.
+//! One page of both benches for a browser: a card for each, with its side in large letters, what a clerk wants to know
+//! of it, players for before and after, and its picture, in which a press plays from there. It is one file beside the
+//! recordings, and needs no network.
 
 pub mod about;
 pub mod colours;
@@ -123,7 +124,8 @@ fn player_id(bench: &Summary, strip: Strip) -> String {
 fn player(bench: &Summary, strip: Strip, file: &str) -> String {
     let (id, side, when) = (player_id(bench, strip), bench.side.name(), strip.name());
     format!(
-        "<figure><figcaption>{when} cleaning</figcaption><audio id=\"{id}\" controls preload=\"metadata\" aria-label=\"{side} bench, {when} cleaning\" \
+        "<figure><figcaption>{when} cleaning</figcaption><audio id=\"{id}\" controls preload=\"metadata\" \
+         aria-label=\"{side} bench, {when} cleaning\" \
          src=\"{}\"></audio></figure>",
         in_a_link(file)
     )
@@ -135,7 +137,8 @@ fn strip_with_player(text: &mut String, bench: &Summary, strip: Strip, plays: St
     let (wide, high) = (picture::WIDE, picture::HIGH);
     writeln!(
         text,
-        "<div class=\"strip\"><svg viewBox=\"0 0 {wide} {high}\" preserveAspectRatio=\"none\" role=\"img\" aria-labelledby=\"{id}-title {id}-desc\">\n\
+        "<div class=\"strip\"><svg viewBox=\"0 0 {wide} {high}\" preserveAspectRatio=\"none\" role=\"img\" \
+         aria-labelledby=\"{id}-title {id}-desc\">\n\
          <title id=\"{id}-title\">The {side} recording {when} cleaning</title>\n<desc id=\"{id}-desc\">{}</desc>",
         picture::described(bench, strip)
     )
@@ -143,7 +146,8 @@ fn strip_with_player(text: &mut String, bench: &Summary, strip: Strip, plays: St
     picture::strip(text, bench, strip, seconds);
     writeln!(
         text,
-        "</svg><span class=\"what\">{when}</span>\n<input type=\"range\" min=\"0\" max=\"{seconds:.2}\" step=\"0.01\" value=\"0\" \
+        "</svg><span class=\"what\">{when}</span>\n<input type=\"range\" min=\"0\" max=\"{seconds:.2}\" step=\"0.01\" \
+         value=\"0\" \
          aria-label=\"{side} bench: listen {} cleaning from\" data-player=\"{}\" hidden></div>",
         plays.name(),
         player_id(bench, plays)
@@ -189,8 +193,10 @@ fn sound(text: &mut String, bench: &Summary, before: Option<&str>, prefix: &str)
     writeln!(
         text,
         "<div class=\"lane\"><svg viewBox=\"0 0 {wide} {high}\" preserveAspectRatio=\"none\" role=\"img\" \
-         aria-labelledby=\"{side}-voice-title {side}-voice-desc\">\n<title id=\"{side}-voice-title\">Where a voice is likely on the {side} \
-         recording</title>\n<desc id=\"{side}-voice-desc\">How likely a voice is, and below it a bar where something was heard.</desc>"
+         aria-labelledby=\"{side}-voice-title {side}-voice-desc\">\n<title id=\"{side}-voice-title\">Where a voice is \
+         likely on the {side} \
+         recording</title>\n<desc id=\"{side}-voice-desc\">How likely a voice is, and below it a bar where something \
+         was heard.</desc>"
     )
     .unwrap();
     picture::lane(text, bench, bench.seconds());
@@ -252,7 +258,8 @@ fn card(text: &mut String, bench: &Summary, before: Option<&str>, prefix: &str) 
     let side = bench.side.name();
     writeln!(
         text,
-        "<section class=\"bench {side}\" aria-labelledby=\"{side}\">\n<div class=\"head\"><h2 id=\"{side}\">{}</h2>\n{}{}</div>",
+        "<section class=\"bench {side}\" aria-labelledby=\"{side}\">\n<div class=\"head\"><h2 \
+         id=\"{side}\">{}</h2>\n{}{}</div>",
         side.to_uppercase(),
         seal(bench),
         trouble(bench).unwrap_or_default(),
@@ -291,9 +298,11 @@ pub fn html(benches: &[Summary; 2], before: Option<[&str; 2]>, prefix: &str, has
         _ => "Both benches".into(),
     };
     let mut text = format!(
-        "<!DOCTYPE html>\n<html lang=\"en\">\n<head>\n<meta charset=\"utf-8\">\n<meta name=\"viewport\" content=\"width=device-width\">\n\
+        "<!DOCTYPE html>\n<html lang=\"en\">\n<head>\n<meta charset=\"utf-8\">\n<meta name=\"viewport\" \
+         content=\"width=device-width\">\n\
          <meta name=\"color-scheme\" content=\"light dark\">\n<title>{title}</title>\n<style>\n\
-         :root {{ color-scheme: light dark; {} }}\n@media (prefers-color-scheme: dark) {{ :root {{ {} }} }}\n{}{}</style>\n</head>\n<body>\n\
+         :root {{ color-scheme: light dark; {} }}\n@media (prefers-color-scheme: dark) {{ :root {{ {} }} \
+         }}\n{}{}</style>\n</head>\n<body>\n\
          <h1>{title}</h1>\n<main>\n",
         variables(&LIGHT),
         variables(&DARK),
@@ -311,9 +320,11 @@ pub fn html(benches: &[Summary; 2], before: Option<[&str; 2]>, prefix: &str, has
     key(&mut text);
     writeln!(
         text,
-        "<p>A press in a picture plays from there; by keyboard the arrows move, and Enter plays. A frame is {} ms. It was heard where it is not \
+        "<p>A press in a picture plays from there; by keyboard the arrows move, and Enter plays. A frame is {} ms. It \
+         was heard where it is not \
          silent, steady noise too; voice are the frames in which a voice is likely. The noise taken away \
-         is that of the others, the middle one of them. {}The picture of both is in <a href=\"{}\">benches.svg</a>.</p>\n</footer>\n\
+         is that of the others, the middle one of them. {}The picture of both is in <a \
+         href=\"{}\">benches.svg</a>.</p>\n</footer>\n\
          <script>\n{}</script>\n</body>\n</html>",
         1000 * FRAME / RATE as usize,
         table,

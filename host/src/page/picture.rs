@@ -1,4 +1,5 @@
-//! The picture of a recording: its peak and its RMS before and after, where a voice is likely, what was heard, and where frames are missing.
+//! The picture of a recording: its peak and its RMS before and after, where a voice is likely, what was heard, and
+//! where frames are missing.
 //! `svg` is one picture of both benches; the page has the strips of each bench by themselves.
 
 use crate::cleaning::cleaned::Summary;
@@ -9,7 +10,8 @@ use std::fmt::Write;
 
 /// The shapes' classes and their colours.
 pub const RULES: &str = include_str!("picture.css");
-/// A strip's own measure, in whole numbers: the width of a recording, the height of a strip, and of the lane of voices below it.
+/// A strip's own measure, in whole numbers: the width of a recording, the height of a strip, and of the lane of voices
+/// below it.
 pub const WIDE: f64 = 2_000.0;
 pub const HIGH: f64 = 200.0;
 pub const LANE: f64 = 40.0;
@@ -178,8 +180,10 @@ const VOICES: f64 = 20.0;
 const ACROSS: f64 = 1_000.0;
 
 const LEGEND: [&str; 2] = [
-    "Both benches, before and after: the peak, and darker or brighter over it the RMS. Below each: how likely a voice is,",
-    "and a bar where something was heard. A red stroke is a place where frames are missing. Time is in minutes:seconds.",
+    "Both benches, before and after: the peak, and darker or brighter over it the RMS. Below each: how likely a voice \
+     is,",
+    "and a bar where something was heard. A red stroke is a place where frames are missing. Time is in \
+     minutes:seconds.",
 ];
 
 /// A strip for each recording, before and after, on one axis.
@@ -188,9 +192,12 @@ pub fn svg(benches: &[Summary; 2]) -> String {
     let bench_high = 2.0 * (STRIP + BETWEEN) + VOICES + BETWEEN;
     let (wide, high) = (LEFT + ACROSS + 40.0, TOP + 2.0 * bench_high + 30.0);
     let mut text = format!(
-        "<svg xmlns=\"http://www.w3.org/2000/svg\" viewBox=\"0 0 {wide} {high}\" font-family=\"sans-serif\" font-size=\"16\" role=\"img\" \
-         aria-labelledby=\"title desc\">\n<title id=\"title\">Both benches, before and after</title>\n<desc id=\"desc\">{}</desc>\n\
-         <style>\n{}@media (prefers-color-scheme: dark) {{\n{}}}\n</style>\n<rect class=\"ground\" width=\"100%\" height=\"100%\"/>\n",
+        "<svg xmlns=\"http://www.w3.org/2000/svg\" viewBox=\"0 0 {wide} {high}\" font-family=\"sans-serif\" \
+         font-size=\"16\" role=\"img\" \
+         aria-labelledby=\"title desc\">\n<title id=\"title\">Both benches, before and after</title>\n<desc \
+         id=\"desc\">{}</desc>\n\
+         <style>\n{}@media (prefers-color-scheme: dark) {{\n{}}}\n</style>\n<rect class=\"ground\" width=\"100%\" \
+         height=\"100%\"/>\n",
         benches.each_ref().map(|bench| described(bench, Strip::After)).join(" "),
         plain(RULES, &LIGHT),
         plain(RULES, &DARK),

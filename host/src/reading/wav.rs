@@ -205,7 +205,8 @@ impl<R: Read> Reader<R> {
     }
 
     fn of(from: R, read: Vec<u8>, Head { place, format, channels, rate, size, is_long }: Head) -> Self {
-        // A stream that does not know its length says so, and a recorder that lost power leaves a size that is too large: what is there counts.
+        // A stream that does not know its length says so, and a recorder that lost power leaves a size that is too
+        // large: what is there counts.
         let most = if size == UNKNOWN.into() { u64::MAX } else { size };
         let (early, sample) = (read.len(), Sample::of(format));
         let from = io::Cursor::new(read).chain(from).take(most);
@@ -228,7 +229,8 @@ impl<R: Read> Reader<R> {
         self.place[0] > 0
     }
 
-    /// Where the audio ends, as the header says: behind the samples, and the byte that an odd number of them is filled up with.
+    /// Where the audio ends, as the header says: behind the samples, and the byte that an odd number of them is filled
+    /// up with.
     pub fn end(&self) -> u64 {
         self.place[0] + self.place[1] + self.place[1] % 2
     }
@@ -276,8 +278,8 @@ const CHUNKS: [&[u8; 4]; 14] = [
     b"iXML", b"_PMX",
 ];
 
-/// Whether a chunk begins at this place of a file: one with a name that programs use, or with any name in letters if the
-/// file is long enough for it.
+/// Whether a chunk begins at this place of a file: one with a name that programs use, or with any name in letters if
+/// the file is long enough for it.
 pub fn is_chunk(mut from: impl Read + Seek, at: u64) -> io::Result<bool> {
     let end = from.seek(SeekFrom::End(0))?;
     from.seek(SeekFrom::Start(at))?;

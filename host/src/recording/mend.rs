@@ -1,5 +1,5 @@
-//! `box mend FILE --out FILE2`: a recording that the judge does not accept, written again as the box writes it. Its side
-//! is what one of its seals says, or a person says it. It is read and written in parts.
+//! `box mend FILE --out FILE2`: a recording that the judge does not accept, written again as the box writes it. Its
+//! side is what one of its seals says, or a person says it. It is read and written in parts.
 
 use crate::cleaning::recorder::Side;
 use crate::error::{At, Error, Reason, Result};

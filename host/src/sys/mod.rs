@@ -1,5 +1,5 @@
-//! What is asked of the operating system, each call with its reason. All that is `unsafe` in this program is in here; the
-//! compiler refuses it anywhere else (lib.rs).
+//! What is asked of the operating system, each call with its reason. All that is `unsafe` in this program is in here;
+//! the compiler refuses it anywhere else (lib.rs).
 //!
 //! | Call | Where | Why |
 //! |---|---|---|

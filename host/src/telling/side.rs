@@ -39,7 +39,8 @@ pub fn told_of(path: &Path) -> Result<Told> {
     }
 }
 
-/// A line for each recording, those of a folder by time. The other files come back, each with the reason, and with the highest status.
+/// A line for each recording, those of a folder by time. The other files come back, each with the reason, and with the
+/// highest status.
 pub fn tell_sides(paths: &[PathBuf]) -> Result<()> {
     let mut bad = vec![];
     for path in paths {

@@ -8,7 +8,7 @@ use Rattle.rules.specs.Tab.{tab}
 use Rattle.rules.proofs.Loops.{turns}
 use Rattle.rules.proofs.Lists.{tab-none, tab-more, tab-done, tab-still}
 use Rattle.bands.specs.Dct.{dctStep}
-use Rattle.bands.specs.Parts.{sumsAfter}
+use Rattle.bands.specs.Private.{sumsAfter}
 use Rattle.bands.proofs.Sums.{sums-long, sum-more}
 use Rattle.bands.proofs.add_row.Statement.{statement}
 use Rattle.bands.proofs.add_row.Tie as tie

@@ -3,7 +3,7 @@ use Rattle.rules.proofs.Common.{_-_, _≤_, _≡_, _∙_, ap, length}
 use native.Mathlib.Omega.{arith}
 use denote.Ref.{now}
 use Rattle.rules.proofs.Loops.{turns}
-use Rattle.bands.specs.Parts.{sumsAfter}
+use Rattle.bands.specs.Private.{sumsAfter}
 use Rattle.bands.proofs.Shares.{zeros-of}
 use Rattle.bands.proofs.Sums.{sums-none}
 use Rattle.bands.proofs.add_rows.Statement.{statement}

@@ -14,10 +14,12 @@ dct-core-spec =
     tie.close
     (tie.spec
     (λ c κs. search needs)  -- add-rows-requires
-    (λ c κs. c .before .before .before .add-rows .kept .0 ∙ c .before .before .before .before .before .before .before .pre .into)  -- scale-sums-requires
+    (λ c κs. c .before .before .before .add-rows .kept .0
+    ∙ c .before .before .before .before .before .before .before .pre .into)  -- scale-sums-requires
     (λ c. search needs)  -- same-length
     (λ c.
     let start = c .before .before .before .before .before .before .before .before .before .before in
     c .before .before .scale-sums .ensures
-    ∙ ap (λ (sums : List Float). tab 22 (λ i. dctScaled (at sums i))) (c .before .before .before .before .before .before .add-rows .ensures)
+    ∙ ap (λ (sums : List Float). tab 22 (λ i. dctScaled (at sums i)))
+    (c .before .before .before .before .before .before .add-rows .ensures)
     ∙ sums-scaled (now (start .args .table)) (now (start .args .x))))  -- returns

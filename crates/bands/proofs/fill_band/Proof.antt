@@ -13,7 +13,8 @@ use Rattle.bands.proofs.fill_band.Tie as tie
 
 abbrev Inv-loop : tie.InvT-loop
 Inv-loop out₀ table bands i start size low high bins j₀ out j =
-    (j ≤ size) × (length out ≡ 481) × (start ≡ edge i) × (size ≡ edge (i + 1) - edge i) × (start + size ≤ 400) × (size ≤ 88)
+    (j ≤ size) × (length out ≡ 481) × (start ≡ edge i) × (size ≡ edge (i + 1) - edge i) × (start + size ≤ 400)
+    × (size ≤ 88)
     × (low ≡ at bands i) × (high ≡ at bands (i + 1)) × (bins ≡ ofInt binary32 (pos size))
     × (out ≡ loop j (gainStep bands i) out₀)
 
@@ -26,8 +27,18 @@ band s = band-of _ _ (s .pre .1 .0) (s .pre .1 .1)
 loop-again : tie.Need-loop-again Inv-loop μ-loop
 unfolding gainStep frac
 loop-again c =
-    let inv = c .before .before .loop .inv in
-    (omega arith, simp length-set (inv .1), inv .2, inv .3, inv .4, inv .5, inv .6, inv .7, inv .8, more _ _ _ (inv .9) (rw (inv .8, inv .3, inv .2)))
+    let inv = c .before .before .loop .inv in (
+      omega arith,
+      simp length-set (inv .1),
+      inv .2,
+      inv .3,
+      inv .4,
+      inv .5,
+      inv .6,
+      inv .7,
+      inv .8,
+      more _ _ _ (inv .9) (rw (inv .8, inv .3, inv .2)),
+    )
 
 pub fill-band-spec : {M : Type 1} → statement M
 fill-band-spec =
@@ -48,7 +59,19 @@ fill-band-spec =
     (λ c. search turns)  -- shared-slice-read-high
     (λ c. omega (arith, band (c .before .before .before .before)))  -- cast-bins
     (λ c. search turns)  -- int-to-float-bins
-    (λ c. let b = band (c .before .before .before .before .before) in (omega arith, omega arith, b .start, omega arith, omega arith, omega arith, refl, refl, refl, begin _ _))  -- loop-holds
+    (λ c.
+    let b = band (c .before .before .before .before .before) in (
+      omega arith,
+      omega arith,
+      b .start,
+      omega arith,
+      omega arith,
+      omega arith,
+      refl,
+      refl,
+      refl,
+      begin _ _,
+    ))  -- loop-holds
     (λ c. omega arith)  -- cast-frac
     (λ c. search turns)  -- int-to-float-frac
     (λ c. search turns)  -- add-out

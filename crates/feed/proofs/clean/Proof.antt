@@ -27,7 +27,8 @@ clean-spec =
     let i = o .before in
     let p = i .before in
     let t = p .before .before .before .before .before .before in
-    handed _ _ _ _ _ _ (t .take .ensures) (p .passed .ensures) (i .if1 .taken) (o .side-of .ensures) _ refl (h .hand-out .ensures))  -- returns
+    handed _ _ _ _ _ _ (t .take .ensures) (p .passed .ensures) (i .if1 .taken) (o .side-of .ensures) _ refl
+    (h .hand-out .ensures))  -- returns
     (λ c. search needs)  -- same-length-5
     (λ c. search needs)  -- same-length-6
     (λ c.

@@ -1,4 +1,5 @@
--- `model::array_numbers` meets its contract: two numbers that fit, of the place that `array_place` finds. Assumes nothing.
+-- `model::array_numbers` meets its contract: two numbers that fit, of the place that `array_place` finds.
+-- Assumes nothing.
 use Rattle.rules.proofs.Common.{ℕ, zero, suc, List, [], _∷_, _≡_, refl, sym, _∙_, length, set}
 use native.Mathlib.Omega.{arith}
 use borrow.Author.Needs.{needs}
@@ -35,13 +36,15 @@ cast-place-2 c =
 mul-result : tie.Need-mul-result
 mul-result c =
     let r = c .before .before .before in
-    let small = refused-in (now (r .before .before .before .before .args .bytes)) (sym (c .before .number .given .1) ∙ r .read .ensures) in
+    let small = refused-in (now (r .before .before .before .before .args .bytes))
+    (sym (c .before .number .given .1) ∙ r .read .ensures) in
     omega (arith, small .2)
 
 add-result : tie.Need-add-result
 add-result c =
     let r = c .before .before .before in
-    let small = refused-in (now (r .before .before .before .before .args .bytes)) (sym (c .before .number .given .1) ∙ r .read .ensures) in
+    let small = refused-in (now (r .before .before .before .before .args .bytes))
+    (sym (c .before .number .given .1) ∙ r .read .ensures) in
     omega (arith, small .1, small .2)
 
 returns-2 : tie.Need-returns-2

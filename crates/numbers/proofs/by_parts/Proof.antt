@@ -48,4 +48,5 @@ pub by-parts-spec : {M : Type 1} → statement M
 by-parts-spec =
     tie.close
     (tie.spec
-    returns float-to-bits-bits mul-result narrow-magnitude-requires add-result cast-result float-from-bits-result returns-2)
+    returns float-to-bits-bits mul-result narrow-magnitude-requires add-result cast-result float-from-bits-result
+    returns-2)

@@ -25,5 +25,8 @@ all-good-spec =
     (λ c. search turns)  -- shared-slice-read-x
     (λ c. search turns)  -- add-i
     (λ c. search turns)  -- loop-less
-    (λ c. let l = c .before .before .loop in (omega arith, refl, one-more _ (l .so-far) (l .i) (omega arith) (l .inv .2)))  -- loop-again
-    (λ c. all-passed _ (c .before .loop .so-far) (c .before .loop .i) (omega arith) (c .before .loop .inv .2)))  -- returns
+    (λ c.
+    let l = c .before .before .loop in
+    (omega arith, refl, one-more _ (l .so-far) (l .i) (omega arith) (l .inv .2)))  -- loop-again
+    (λ c. all-passed _ (c .before .loop .so-far) (c .before .loop .i) (omega arith)
+    (c .before .loop .inv .2)))  -- returns

@@ -14,7 +14,8 @@ use Rattle.feed.proofs.out.hand_out.Statement.{statement}
 use Rattle.feed.proofs.out.hand_out.Tie as tie
 
 -- what fills a front part of a list
-filled : (n : ℕ) (new held : List ℕ) → length new ≡ n → put (record { at = 0; size = n - 0 }) held new ≡ atFront new held
+filled : (n : ℕ) (new held : List ℕ) → length new ≡ n
+    → put (record { at = 0; size = n - 0 }) held new ≡ atFront new held
 unfolding put
 filled n new held e = rw (sub-zero n, ← e)
 
@@ -31,7 +32,8 @@ returns c =
     let a = s .args in
     let some = part 0 (480 * a .frames) (now (a .out)) in
     let size : length some ≡ 480 * a .frames = simp length-take (omega arith) in (
-      ap (λ (x : List ℕ). put (record { at = 0; size = 960 * a .frames - 0 }) (now (a .cleaned)) x) (left (p .pack .ensures) (record { size = simp length-take (omega arith) }))
+      ap (λ (x : List ℕ). put (record { at = 0; size = 960 * a .frames - 0 }) (now (a .cleaned)) x)
+          (left (p .pack .ensures) (record { size = simp length-take (omega arith) }))
           ∙ filled (960 * a .frames) (packed some) (now (a .cleaned)) (omega (arith, packed-length some, size)),
       n .note-each .ensures,
     )

@@ -5,7 +5,7 @@ use borrow.Author.Needs.{needs}
 use Rattle.rules.specs.Leaf.{_leaving_}
 use Rattle.frame.specs.Written.{atFront}
 use Rattle.sheet.specs.Sheet.{recordsOf}
-use Rattle.sheet.specs.Written.{kinds}
+use Rattle.sheet.specs.Written.{knownKinds}
 use Rattle.sheet.specs.Rows.{recordsLaid}
 use Rattle.sheet.proofs.InRow.{rows-laid}
 use Rattle.sheet.proofs.Laying.{length-records}
@@ -13,7 +13,7 @@ use Rattle.feed.proofs.out.note_down.Statement.{statement}
 use Rattle.feed.proofs.out.note_down.Tie as tie
 
 laid : (side : ℕ) (es numbers out : List ℕ) {r : ℕ} {numbers′ out′ : List ℕ} → length numbers ≡ 2 → getD numbers 0 0 ≡ 0
-    → side ≤ 1 → length es ≤ 9 → 8 * length es ≤ length out → kinds es ≡ true
+    → side ≤ 1 → length es ≤ 9 → 8 * length es ≤ length out → knownKinds es ≡ true
     → (r leaving numbers′ leaving out′) ≡ recordsLaid side es numbers out → out′ ≡ atFront (recordsOf side es) out
 laid side es numbers out two none known few room heard e =
     let done = rows-laid side es numbers out two (omega arith) known heard room refl refl in
