@@ -137,7 +137,8 @@ fn what_a_cut_leaves() {
     assert_eq!(judged(&mut &new.unwrap()[..]).unwrap().unwrap().front.side.name(), "right");
     // a copy of what is still being made
     let mut open = right[..HEAD + 9_600].to_vec();
-    (open[4..8].fill(0xFF), open[72..76].fill(0xFF));
+    open[4..8].fill(0xFF);
+    open[72..76].fill(0xFF);
     let (ended, new) = mended(&open, &[]);
     assert_eq!(ended.status, Some(0), "{}", ended.why);
     assert!(new.unwrap() == with_entries(1, &audio[..9_600], &heard_from(0, 11)));

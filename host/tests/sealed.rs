@@ -161,7 +161,7 @@ fn mutants() {
         let (side, n) = (i % 2, i / 2 % known.0[0].len());
         let mut file = known.0[side][n].clone();
         let damaged = |_| damage(rng, &mut file, &known, known.other(side, n));
-        let mixed = (0..1 + i % 3).map(damaged).fold(false, |mixed, more| mixed || more);
+        let mixed = (0..1 + i % 3).map(damaged).filter(|mixed| *mixed).count() > 0;
         if let Some(told) = told(&file) {
             assert!(known.begins(told.front.side as usize, audio(&file)), "mutant {i}: {told}");
             counts[0] += 1;

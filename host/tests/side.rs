@@ -137,7 +137,8 @@ fn what_is_not_as_it_was_written() {
         untold(&changed(at), 5, &format!("its front seal is damaged; {} (refusal 61)", mend("restores it")));
     }
     let mut open = left[..HEAD + 960].to_vec();
-    (open[4..8].fill(0xFF), open[72..HEAD].fill(0xFF));
+    open[4..8].fill(0xFF);
+    open[72..HEAD].fill(0xFF);
     untold(&open, 5, &format!("it was not finished; {} (refusal 61)", mend("closes it")));
     // the audio
     let cut = "the file ends after 0.50 of the 1.00 s of its audio";
@@ -188,7 +189,8 @@ fn what_is_not_as_it_was_written() {
 fn what_is_still_being_made() {
     let path = folder("told-part");
     let mut open = sealed(0, &noise(480, 1))[..HEAD + 500].to_vec();
-    (open[4..8].fill(0xFF), open[72..HEAD].fill(0xFF));
+    open[4..8].fill(0xFF);
+    open[72..HEAD].fill(0xFF);
     fs::create_dir(path.join("out")).unwrap();
     fs::write(path.join("out/left.wav.part"), &open).unwrap();
     let ended = run(host(&path, &["side", "out/left.wav.part"]));

@@ -69,7 +69,8 @@ fn of_mixed() -> i32 {
     let path = given("mixed");
     fs::create_dir(path.join("out")).unwrap();
     let mut open = sealed(1, &noise(480, 1))[..made::HEAD + 960].to_vec();
-    (open[4..8].fill(0xFF), open[72..76].fill(0xFF));
+    open[4..8].fill(0xFF);
+    open[72..76].fill(0xFF);
     fs::write(path.join("out/left.wav.part"), open).unwrap();
     fs::write(path.join("out/left.wav.sheet"), front(1, 0, 0)).unwrap();
     run(host(&path, &["mend", "out"])).status.unwrap()

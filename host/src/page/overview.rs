@@ -117,7 +117,7 @@ impl Overview {
 
     /// Samples of one frame from a place on, into either strip.
     pub fn part(&mut self, place: u64, part: &Measured, strip: fn(&mut Column) -> &mut Loudness) {
-        strip(self.at(place / FRAME as u64)).add(part, place % FRAME as u64 == 0);
+        strip(self.at(place / FRAME as u64)).add(part, place.is_multiple_of(FRAME as u64));
     }
 
     pub fn frame(&mut self, frame: &Frame, gap: bool) {

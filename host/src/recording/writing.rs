@@ -127,7 +127,7 @@ mod tests {
 
     /// Records of frames of a side that number up, each third of them heard.
     fn records(side: Side, first: u32, frames: u32) -> Vec<[u8; NOTE]> {
-        let entry = |n: u32| u64::from(first.wrapping_add(n)) | if n % 3 == 0 { HEARD } else { 0 };
+        let entry = |n: u32| u64::from(first.wrapping_add(n)) | if n.is_multiple_of(3) { HEARD } else { 0 };
         let entries: Vec<u64> = (0..frames).map(entry).collect();
         let bytes = records_of(Front { side, began: 0, first }, &entries).unwrap();
         bytes.chunks_exact(NOTE).map(|record| record.try_into().unwrap()).collect()
