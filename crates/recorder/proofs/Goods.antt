@@ -344,7 +344,7 @@ module _ (f : Front) (small : f .first < 2 ^ 32) where
     is-good-file =
         let as-it-is = told-all (record { front = f; audio = audio; heard = heard }) all-good in
         record {
-          goodRecord = subst (λ (hs : List Bool). Good (record { front = f; audio = audio; heard = hs })) (sym heard-is)
+          good = subst (λ (hs : List Bool). Good (record { front = f; audio = audio; heard = hs })) (sym heard-is)
               all-good;
           bytes =
               in-a-row ∙ ap (λ (hs : List Bool). recordingBytes (record { front = f; audio = audio; heard = hs })) (sym
