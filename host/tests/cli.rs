@@ -230,7 +230,7 @@ fn the_house_model_in_place_of_a_refused_one() {
     let frames = |out: &str| fs::read(given.path.join(out).join("left.wav")).unwrap()[76..].to_vec();
     assert_eq!(frames("trial"), frames("house"));
     let [json, _] = told(clean("cut.rnn", "json", &["--or-house", "--json"]));
-    assert!(json.contains("\"model\":\"house.rnn\"") && json.contains("refusal 16"), "{json}");
+    assert!(json.contains("\"model\": \"house.rnn\"") && json.contains("refusal 16"), "{json}");
 }
 
 /// A name in any bytes is taken as it is.

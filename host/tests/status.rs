@@ -98,6 +98,16 @@ fn of_side(name: &str, bytes: &[u8]) -> i32 {
     run(host(&path, &["side", name])).status.unwrap()
 }
 
+/// A folder with two dictations of the left bench, of which the second does not begin where the first ends.
+fn of_missing() -> i32 {
+    let (path, audio) = (given("missing").join("day/2026-11-16"), noise(480, 1));
+    fs::create_dir_all(&path).unwrap();
+    fs::write(path.join("090000-left.wav"), sealed(0, &audio)).unwrap();
+    let later = made::recording(0, 1_794_820_200, &audio, &[7 | 1 << 32]);
+    fs::write(path.join("100000-left.wav"), later).unwrap();
+    run(host(path.parent().unwrap(), &["side", "."])).status.unwrap()
+}
+
 fn of_answer(to: impl Into<Stdio>) -> i32 {
     let mut command = Command::new(env!("CARGO_BIN_EXE_tuppencehop"));
     command.arg("--version").stdout(to).stderr(Stdio::null()).status().unwrap().code().unwrap()
@@ -166,6 +176,7 @@ fn cases() -> Vec<(&'static str, i32)> {
             of("twins", &["clean", "l.wav", "./l.wav", "--out", "out"])
         }),
         ("a file holds more audio than its header announces", of_right("more", &more)),
+        ("`side DIR` finds that dictations are missing", of_missing()),
         ("`mend` finds files in a folder that disagree about a side", of_mixed()),
         ("`side` finds no recording", of("side", &["side", "l.wav"])),
         (

@@ -6,7 +6,7 @@ use crate::cleaning::recorder::Side;
 use crate::cleaning::run::run;
 use crate::error::{Error, Result};
 use crate::reading::source::{Lost, Recordings};
-use crate::recording::day::{given_up, Day, Plan, Tell};
+use crate::recording::day::{day_given_up, Day, Plan, Tell};
 use crate::recording::times::{since_1970, Times};
 use crate::sys::signals;
 use crate::telling::progress::Watched;
@@ -74,7 +74,7 @@ pub fn clean_in_dictations(job: &Job, split: &Split, tell: Tell) -> Result<Ended
     let lost: Vec<Lost> = recordings.lost().into_iter().chain(refused(benches)).collect();
     lost.iter().for_each(|lost| lost.sides.iter().for_each(|side| day.fault(*side, &lost.why.to_string())));
     let lost: Vec<Error> = lost.into_iter().map(|lost| lost.why).collect();
-    match day.finish().map_err(|why| given_up(out, why))? {
+    match day.finish().map_err(|why| day_given_up(out, why))? {
         true => Ok(Ended { lost, notes }),
         false => Err(nothing(lost)),
     }

@@ -19,7 +19,7 @@ fn link(name: &Path) -> String {
 }
 
 /// Where the recording lies as it was before cleaning.
-fn before(name: &Path) -> String {
+fn original_link(name: &Path) -> String {
     let file = name.file_name().unwrap_or_default();
     link(&name.with_file_name(BEFORE).join(file))
 }
@@ -33,7 +33,7 @@ pub fn frames(first: u32, frames: u64) -> String {
 /// A button that plays a dictation from a second on. `what` is shown, and `said` is what a screen reader says.
 fn button(text: &mut String, one: &Listed, at: f64, class: &str, what: &str, said: &str) {
     let (side, hour) = (one.front.side.name(), hour_of(one.front.began));
-    let before = if one.has_before { format!(" data-before=\"{}\"", before(&one.name)) } else { String::new() };
+    let before = if one.has_before { format!(" data-before=\"{}\"", original_link(&one.name)) } else { String::new() };
     write!(
         text,
         "<button type=\"button\" class=\"{class}\" data-src=\"{}\"{before} data-at=\"{at:.2}\" data-side=\"{side}\" \
@@ -121,7 +121,7 @@ const ABOUT: &str = "<footer><p>LEFT is the left bench's column and RIGHT the ri
     dictation was sealed when it was closed; whether it still is, the command <code>side</code> tells.</p></footer>\n";
 
 /// The page of these dictations, which are in order.
-pub fn html(all: &[Listed]) -> String {
+pub fn day_html(all: &[Listed]) -> String {
     let mut days: Vec<(String, Vec<&Listed>)> = vec![];
     for one in all {
         let day = day_of(one.front.began);
@@ -172,7 +172,7 @@ mod tests {
             one(Side::Right, "2026-11-16T09:31:00", 0, 9_600, Voice::None, false),
             one(Side::Left, "2026-11-16T09:40:00", 41_210, 960 * 11_092, Voice::Unknown, false),
         ];
-        let page = html(&all);
+        let page = day_html(&all);
         assert!(page.starts_with(BEGINS) && page.contains("<h1>Dictations of 2026-11-16</h1>"));
         let rows: Vec<&str> = page.split("<tr><th scope=\"row\">").skip(1).collect();
         assert_eq!(rows.len(), 3);
@@ -200,8 +200,8 @@ mod tests {
     #[test]
     fn several_days_and_none() {
         let of = |began: &str| one(Side::Left, began, 0, 960, Voice::None, false);
-        let page = html(&[of("2026-11-16T23:59:59"), of("2026-11-17T00:00:01")]);
+        let page = day_html(&[of("2026-11-16T23:59:59"), of("2026-11-17T00:00:01")]);
         assert_eq!(page.matches("<h2 ").count(), 2);
-        assert!(html(&[]).contains("No dictation is closed yet."));
+        assert!(day_html(&[]).contains("No dictation is closed yet."));
     }
 }

@@ -7,13 +7,13 @@ use crate::cleaning::recorder::{Frame, Side};
 use crate::cleaning::run::Sink;
 use crate::cleaning::split::Cutter;
 use crate::error::{At, Error, Result};
-use crate::page::day::{html, BEGINS};
+use crate::page::day::{day_html, BEGINS};
 use crate::recording::closing::Closer;
 use crate::recording::files::PAGE;
 use crate::recording::folder::Folder;
 use crate::recording::front::{Front, MOST};
 use crate::recording::judge::Told;
-use crate::recording::listed::{dictations, note, Voice, BEFORE};
+use crate::recording::listed::{dictations, note_dictation, Voice, BEFORE};
 use crate::recording::original::Original;
 use crate::recording::place::{beside, is_taken, new_file};
 use crate::recording::rolling::{full_at, BYTES};
@@ -140,7 +140,7 @@ impl Dictation {
         self.before.take().map_or(Ok(()), Original::keep)?;
         self.folder.take().map_or(Ok(()), |mut folder| folder.keep())?;
         let summary = std::mem::replace(&mut self.summary, Summary::of(self.front.side));
-        note(&self.day, &self.name, self.front, told.frames, told.heard, summary.seconds(), voice)?;
+        note_dictation(&self.day, &self.name, self.front, told.frames, told.heard, summary.seconds(), voice)?;
         put_page(out)?;
         let place = self.day.join(&self.name);
         tell(&Closed { place, told, summary, voice, fault: self.fault.take() });
@@ -154,7 +154,7 @@ pub fn put_page(out: &Path) -> Result<()> {
     // what a crash left there; a link is not followed
     let _ = fs::remove_file(&new);
     let written = new_file(&new).and_then(|mut file| {
-        file.write_all(html(&dictations(out)).as_bytes())?;
+        file.write_all(day_html(&dictations(out)).as_bytes())?;
         sync_all(&file)
     });
     written.and_then(|()| fs::rename(&new, &place)).at(&place)?;
@@ -361,12 +361,12 @@ impl Day {
             return why;
         }
         self.folder.leave();
-        given_up(&self.how.out, why)
+        day_given_up(&self.how.out, why)
     }
 }
 
 /// Why something could not be finished, and how it is closed.
-pub fn given_up(out: &Path, why: Error) -> Error {
+pub fn day_given_up(out: &Path, why: Error) -> Error {
     let command = mend_command(out);
     why.reworded(|why| format!("{why}; what was cleaned is left unfinished, and {command} closes it"))
 }

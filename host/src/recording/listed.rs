@@ -65,7 +65,7 @@ pub fn head_of(path: &Path) -> Option<(Front, u32)> {
 }
 
 /// The names in a folder; none if it can't be read.
-fn names(folder: &Path) -> Vec<String> {
+fn names_in(folder: &Path) -> Vec<String> {
     let entries = fs::read_dir(folder).into_iter().flatten().filter_map(|entry| entry.ok());
     let mut names: Vec<String> = entries.filter_map(|entry| entry.file_name().into_string().ok()).collect();
     names.sort();
@@ -74,13 +74,13 @@ fn names(folder: &Path) -> Vec<String> {
 
 /// The folders of days in a folder, by their names.
 pub fn days(folder: &Path) -> Vec<String> {
-    names(folder).into_iter().filter(|name| is_day(name) && folder.join(name).is_dir()).collect()
+    names_in(folder).into_iter().filter(|name| is_day(name) && folder.join(name).is_dir()).collect()
 }
 
 /// The WAV files of a folder and of the days in it, from the folder on.
 pub fn wavs(folder: &Path) -> Vec<PathBuf> {
-    let within = |day: String| names(&folder.join(&day)).into_iter().map(move |name| Path::new(&day).join(name));
-    let own = names(folder).into_iter().map(PathBuf::from);
+    let within = |day: String| names_in(&folder.join(&day)).into_iter().map(move |name| Path::new(&day).join(name));
+    let own = names_in(folder).into_iter().map(PathBuf::from);
     let all = own.chain(days(folder).into_iter().flat_map(within));
     all.filter(|name| name.extension().is_some_and(|ending| ending.eq_ignore_ascii_case("wav"))).collect()
 }
@@ -91,7 +91,7 @@ const ON_THE_WAY: [&str; 2] = [".part", ".sheet"];
 /// The names of the recordings in a folder that are on their way.
 fn on_the_way(folder: &Path) -> Vec<String> {
     let place = |name: String| ON_THE_WAY.iter().find_map(|end| name.strip_suffix(end).map(String::from));
-    let mut found: Vec<String> = names(folder).into_iter().filter_map(place).collect();
+    let mut found: Vec<String> = names_in(folder).into_iter().filter_map(place).collect();
     found.retain(|name| name.ends_with(".wav"));
     found.dedup();
     found
@@ -147,7 +147,7 @@ pub fn dictations(folder: &Path) -> Vec<Listed> {
     for day in days(folder) {
         let path = folder.join(&day);
         let voices = voices(&path);
-        for file in names(&path) {
+        for file in names_in(&path) {
             let Some((front, size)) = head_of(&path.join(&file)) else { continue };
             let voice = voices.iter().rev().find(|(of, _)| *of == file).map_or(Voice::Unknown, |(_, voice)| *voice);
             let has_before = path.join(BEFORE).join(&file).is_file();
@@ -168,7 +168,15 @@ pub fn sort<T>(all: &mut [T], by: impl Fn(&T) -> (Front, &Path)) {
 }
 
 /// Adds a dictation to the table of its day, whose folder this is.
-pub fn note(day: &Path, file: &str, front: Front, frames: u64, heard: u64, seconds: f64, voice: Voice) -> Result<()> {
+pub fn note_dictation(
+    day: &Path,
+    file: &str,
+    front: Front,
+    frames: u64,
+    heard: u64,
+    seconds: f64,
+    voice: Voice,
+) -> Result<()> {
     let place = day.join(TABLE);
     let table = match new_file(&place) {
         Ok(mut table) => writeln!(table, "{COLUMNS}").map(|()| table),
@@ -268,12 +276,12 @@ mod tests {
         fs::create_dir_all(&day).unwrap();
         let one = front(Side::Right, 7, 41);
         let spoken = Voice::From { first: 0.5, last: 2.25 };
-        note(&day, "a.wav", one, 9, 8, 0.09, spoken).unwrap();
-        note(&day, "b.wav", one, 9, 8, 0.09, Voice::None).unwrap();
+        note_dictation(&day, "a.wav", one, 9, 8, 0.09, spoken).unwrap();
+        note_dictation(&day, "b.wav", one, 9, 8, 0.09, Voice::None).unwrap();
         let whole = fs::read_to_string(day.join(TABLE)).unwrap();
         assert_eq!(whole.lines().nth(1), Some("a.wav,right,7,0.09000,41,9,8,0.50,2.25"));
         fs::write(day.join(TABLE), &whole[..whole.len() - 3]).unwrap();
-        note(&day, "c.wav", one, 9, 8, 0.09, Voice::Unknown).unwrap();
+        note_dictation(&day, "c.wav", one, 9, 8, 0.09, Voice::Unknown).unwrap();
         let wanted = [("a.wav", spoken), ("c.wav", Voice::Unknown)];
         assert_eq!(voices(&day), wanted.map(|(file, voice)| (file.to_string(), voice)));
         fs::remove_dir_all(day).unwrap();

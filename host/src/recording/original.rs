@@ -15,7 +15,7 @@ use std::path::{Path, PathBuf};
 const HEAD: usize = 44;
 
 /// The bytes in front of so many bytes of sound.
-fn head(size: u32) -> [u8; HEAD] {
+fn original_head(size: u32) -> [u8; HEAD] {
     let mut head = [0; HEAD];
     head.copy_from_slice(&wav::write(RATE, &[])[..HEAD]);
     head[4..8].copy_from_slice(&size.saturating_add(HEAD as u32 - 8).to_le_bytes());
@@ -24,9 +24,9 @@ fn head(size: u32) -> [u8; HEAD] {
 }
 
 /// Writes into the head of a file how much sound it has.
-fn close(file: &mut File, size: u32) -> io::Result<()> {
+fn close_original(file: &mut File, size: u32) -> io::Result<()> {
     file.rewind()?;
-    file.write_all(&head(size))?;
+    file.write_all(&original_head(size))?;
     sync_all(file)
 }
 
@@ -43,7 +43,7 @@ impl Original {
         let mut folder = Folder::new(&day.join(BEFORE), false)?;
         let (place, mut file) = (folder.place(name), folder.create(name)?);
         // until it is closed nobody knows how long it is
-        file.write_all(&head(u32::MAX)).at(&place)?;
+        file.write_all(&original_head(u32::MAX)).at(&place)?;
         Ok(Original { folder, place, file, size: 0 })
     }
 
@@ -55,7 +55,7 @@ impl Original {
 
     /// Closes it, and gives it its place.
     pub fn keep(mut self) -> Result<()> {
-        close(&mut self.file, self.size).at(&self.place)?;
+        close_original(&mut self.file, self.size).at(&self.place)?;
         self.folder.keep()
     }
 
@@ -66,11 +66,11 @@ impl Original {
 }
 
 /// Closes what a crash left of one: its head says how much sound there is.
-pub fn mend(part: &Path) -> Result<()> {
+pub fn mend_original(part: &Path) -> Result<()> {
     let mut file = File::options().read(true).write(true).open(part).at(part)?;
     let size = file.metadata().at(part)?.len().saturating_sub(HEAD as u64) & !1;
     file.set_len(HEAD as u64 + size).at(part)?;
-    close(&mut file, u32::try_from(size).unwrap_or(u32::MAX)).at(part)
+    close_original(&mut file, u32::try_from(size).unwrap_or(u32::MAX)).at(part)
 }
 
 #[cfg(test)]
@@ -93,7 +93,7 @@ mod tests {
         torn.leave();
         let part = day.join("before/b.wav.part");
         File::options().append(true).open(&part).unwrap().write_all(&[7]).unwrap();
-        mend(&part).unwrap();
+        mend_original(&part).unwrap();
         for file in [day.join("before/a.wav"), part] {
             assert_eq!(fs::read(file).unwrap(), wav::write(RATE, &samples));
         }

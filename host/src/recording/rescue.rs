@@ -7,7 +7,7 @@ use crate::recording::files::TABLE;
 use crate::recording::folder::Folder;
 use crate::recording::front::{Front, SEAL};
 use crate::recording::judge::{judged, Told};
-use crate::recording::listed::{days, note, Voice, BEFORE};
+use crate::recording::listed::{days, note_dictation, Voice, BEFORE};
 use crate::recording::original;
 use crate::recording::place::{beside, free, give_place, is_taken};
 use crate::recording::times::is_day;
@@ -111,7 +111,7 @@ fn mend_other(part: &Path) -> Result<()> {
     open_ours(part)?;
     let place = part.with_extension("");
     if part.parent().is_some_and(|folder| folder.ends_with(BEFORE)) {
-        original::mend(part)?;
+        original::mend_original(part)?;
     }
     let is_table = place.file_name() == Some(TABLE.as_ref());
     if is_table && !cut_table(part).at(part)? {
@@ -181,7 +181,7 @@ fn list_dictations(path: &Path, closed: &[Closed]) -> Result<()> {
         let (Some(day), Some(file)) = (place.parent(), place.file_name()) else { continue };
         if day.parent() == Some(path) && day.file_name().is_some_and(|day| is_day(&day.to_string_lossy())) {
             let file = file.to_string_lossy();
-            note(day, &file, told.front, told.frames, told.heard, kept.seconds, Voice::Unknown)?;
+            note_dictation(day, &file, told.front, told.frames, told.heard, kept.seconds, Voice::Unknown)?;
         }
     }
     if days(path).is_empty() || !is_page_ours(path) {

@@ -2,7 +2,7 @@
 //! clock on the wall showed; within a recording there are seconds since 1970, which know no time zone.
 
 use crate::cleaning::recorder::Side;
-use crate::sys::clock::{local, moment, Local};
+use crate::sys::clock::{local, since_1970_of, Local};
 use crate::RATE;
 use std::time::{SystemTime, UNIX_EPOCH};
 
@@ -15,7 +15,7 @@ pub enum Times {
     From(u64),
 }
 
-fn seconds(samples: u64) -> u64 {
+fn whole_seconds(samples: u64) -> u64 {
     samples / u64::from(RATE)
 }
 
@@ -28,8 +28,8 @@ impl Times {
     /// When a sample was recorded, before which so many have come, and after it so many.
     pub fn of(self, before: u64, after: u64) -> u64 {
         match self {
-            Times::Clock => since_1970(SystemTime::now()).saturating_sub(seconds(after)),
-            Times::From(start) => start.saturating_add(seconds(before)),
+            Times::Clock => since_1970(SystemTime::now()).saturating_sub(whole_seconds(after)),
+            Times::From(start) => start.saturating_add(whole_seconds(before)),
         }
     }
 }
@@ -37,19 +37,19 @@ impl Times {
 /// The time of a recording that nobody can read off a clock.
 const NEVER: Local = Local { year: 1970, month: 1, day: 1, hour: 0, minute: 0, second: 0 };
 
-fn shown(began: u64) -> Local {
+fn local_time(began: u64) -> Local {
     local(began).unwrap_or(NEVER)
 }
 
 /// The day on which something began, as `2026-11-16`.
 pub fn day_of(began: u64) -> String {
-    let Local { year, month, day, .. } = shown(began);
+    let Local { year, month, day, .. } = local_time(began);
     format!("{year:04}-{month:02}-{day:02}")
 }
 
 /// The time of day at which it began, as `09:30:12`.
 pub fn hour_of(began: u64) -> String {
-    let Local { hour, minute, second, .. } = shown(began);
+    let Local { hour, minute, second, .. } = local_time(began);
     format!("{hour:02}:{minute:02}:{second:02}")
 }
 
@@ -81,7 +81,7 @@ pub fn read_moment(text: &str) -> Option<u64> {
         [hour, minute, second] => (number(hour)?, number(minute)?, number(second)?),
         _ => return None,
     };
-    moment(Local { year, month, day, hour, minute, second })
+    since_1970_of(Local { year, month, day, hour, minute, second })
 }
 
 #[cfg(test)]

@@ -62,7 +62,7 @@ pub fn local(seconds: u64) -> Option<Local> {
 }
 
 /// So many seconds after 1970 began the clock shows this; `None` if it never does.
-pub fn moment(shown: Local) -> Option<u64> {
+pub fn since_1970_of(shown: Local) -> Option<u64> {
     let mut tm = Tm {
         second: shown.second.try_into().ok()?,
         minute: shown.minute.try_into().ok()?,
@@ -91,12 +91,12 @@ mod tests {
         for seconds in [86_400, 951_782_400, 1_794_803_412, 4_102_444_799] {
             let shown = local(seconds).unwrap();
             // where clocks are turned back, two moments show the same
-            assert!(moment(shown).is_some_and(|back| back == seconds || back.abs_diff(seconds) == 3_600));
+            assert!(since_1970_of(shown).is_some_and(|back| back == seconds || back.abs_diff(seconds) == 3_600));
         }
         let shown = Local { year: 2026, month: 2, day: 30, hour: 0, minute: 0, second: 0 };
-        assert_eq!(moment(shown), None);
+        assert_eq!(since_1970_of(shown), None);
         assert_eq!(local(u64::MAX), None);
-        assert_eq!(moment(Local { month: 13, day: 1, ..shown }), None);
-        assert_eq!(moment(Local { second: u32::MAX, ..shown }), None);
+        assert_eq!(since_1970_of(Local { month: 13, day: 1, ..shown }), None);
+        assert_eq!(since_1970_of(Local { second: u32::MAX, ..shown }), None);
     }
 }

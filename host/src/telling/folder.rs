@@ -11,7 +11,7 @@ use std::path::{Path, PathBuf};
 
 /// The WAV files of a folder and of the days in it. Recordings come by the time at which they began, and others behind
 /// them.
-fn in_order(folder: &Path) -> Vec<PathBuf> {
+fn recordings_in(folder: &Path) -> Vec<PathBuf> {
     let (mut recordings, mut others) = (vec![], vec![]);
     for path in wavs(folder).into_iter().map(|name| folder.join(name)) {
         match head_of(&path) {
@@ -41,7 +41,7 @@ fn told_missing(missing: &Missing) -> Error {
 
 /// Looks at each recording of a folder, by time, and hands it on. What is missing between them comes back.
 pub fn look_into(folder: &Path, mut each: impl FnMut(&Path, Result<Told>)) -> Vec<Error> {
-    let (paths, mut told) = (in_order(folder), vec![]);
+    let (paths, mut told) = (recordings_in(folder), vec![]);
     if paths.is_empty() {
         return vec![Error::undone("there is no recording in this folder").at(folder)];
     }
