@@ -95,7 +95,7 @@ class Benches(unittest.TestCase):
 
 
 def recording(audio, side, heard):
-    """What the box writes for a recording, byte by byte: the front seal, the audio, the end seal, records and trailer."""
+    """What the box writes for a recording, byte by byte."""
 
     def number(n, size=4):
         return n.to_bytes(size, "little")
