@@ -40,11 +40,19 @@ example_in rust README.md | while IFS= read -r line; do
     exit 1
 done
 example_in c >"$made/example.c"
-cc -std=c11 -Wall -Wextra -Werror -Ibindings/c -o "$made/example" "$made/example.c" -L"$shared" -ltuppence -Wl,-rpath,"$PWD/$shared"
+cc -std=c11 -Wall -Wextra -Werror -Ibindings/c -o "$made/example" "$made/example.c" \
+    -L"$shared" -ltuppence -Wl,-rpath,"$PWD/$shared"
 "$made/example"
 mkdir -p "$made/example_rust/src"
-printf '[workspace]\n[package]\nname = "example"\nversion = "0.1.0"\nedition = "2021"\n[dependencies]\ntuppence = { path = "%s" }\n' \
-    "$PWD/bindings/rust" >"$made/example_rust/Cargo.toml"
+cat >"$made/example_rust/Cargo.toml" <<END
+[workspace]
+[package]
+name = "example"
+version = "0.1.0"
+edition = "2021"
+[dependencies]
+tuppence = { path = "$PWD/bindings/rust" }
+END
 example_in rust >"$made/example_rust/src/main.rs"
 cargo run --quiet --release --offline --manifest-path "$made/example_rust/Cargo.toml" --target-dir target/rust
 example_in python >"$made/example.py"

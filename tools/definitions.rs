@@ -1,12 +1,13 @@
-// What stands in specs/, by its text. `definitions uncited` lists every definition of a reader's file that no chain of citations reaches, from a
-// contract of a `pub fn` or from a claim; `definitions unstated` lists the laws that a page of docs/ names and that are no claims; `definitions twice`
-// lists the names that are defined in two files. tools/definitions.sh compiles it.
+// What stands in specs/, by its text. `definitions uncited` lists every definition of a reader's file that no chain of
+// citations reaches, from a contract of a `pub fn` or from a claim; `definitions unstated` lists the laws that a page
+// of docs/ names and that are no claims; `definitions twice` lists the names that are defined in two files.
+// tools/definitions.sh compiles it.
 //
-// A reader's file is any of specs/ but Parts.antt, which is for the code's private functions, and Lib.antt. A claim is a
-// public law in proofs/ that docs/PROMISES.md names in backticks and whose type is a statement of specs/ itself: no
-// premise comes before it, and it is in no module with parameters. Names are followed through the `use` lines; a variable of the same
-// name counts as a citation, so the list may be too short by such a name, and is never too long. Which names may stand twice, and why, is said in
-// tools/definitions.txt.
+// A reader's file is any of specs/ but Private.antt, which is for the code's private functions, and Lib.antt. A claim
+// is a public law in proofs/ that docs/PROMISES.md names in backticks and whose type is a statement of specs/ itself:
+// no premise comes before it, and it is in no module with parameters. Names are followed through the `use` lines; a
+// variable of the same name counts as a citation, so the list may be too short by such a name, and is never too long.
+// Which names may stand twice, and why, is said in tools/definitions.txt.
 
 use std::collections::{BTreeMap, BTreeSet};
 use std::fs;
@@ -107,7 +108,8 @@ fn defined(line: &str) -> Option<&str> {
 
 fn blocks(text: &str) -> Vec<Block> {
     let mut blocks: Vec<Block> = Vec::new();
-    // what stands in a module, and in a module in it, is indented, as are the fields of a record and the cases of a data type
+    // what stands in a module, and in a module in it, is indented, as are the fields of a record and the cases of a
+    // data type
     let (mut modules, mut in_type, mut in_data) = (Vec::new(), true, false);
     for line in text.lines().filter(|line| !line.is_empty()) {
         let indent = line.len() - line.trim_start().len();
@@ -138,7 +140,8 @@ fn blocks(text: &str) -> Vec<Block> {
         }
         block.words.extend(words(line).filter(|word| *word != block.name).map(String::from));
         if in_type {
-            block.of_type.push_str(line.split_once(" : ").filter(|_| begun.is_some()).map_or(line, |(_, of_type)| of_type));
+            let typed = line.split_once(" : ").filter(|_| begun.is_some());
+            block.of_type.push_str(typed.map_or(line, |(_, of_type)| of_type));
             block.of_type.push('\n');
         }
     }
@@ -242,8 +245,8 @@ fn after_numbers_and_types(of_type: &str) -> &str {
     rest
 }
 
-/// Whether the type of a law is a statement of specs/ itself: the name of a definition and what it is of. Nothing may be
-/// assumed before it, neither by an argument of the law nor by a parameter of its module.
+/// Whether the type of a law is a statement of specs/ itself: the name of a definition and what it is of. Nothing may
+/// be assumed before it, neither by an argument of the law nor by a parameter of its module.
 fn is_claim(law: &Block, source: &Source) -> bool {
     let says = after_numbers_and_types(&law.of_type);
     let named = words(says).next().filter(|word| says.starts_with(word) && word.starts_with(char::is_uppercase));
@@ -259,14 +262,15 @@ fn page(name: &str) -> String {
     fs::read_to_string(format!("docs/{name}.md")).unwrap_or_else(|why| panic!("docs/{name}.md: {why}"))
 }
 
-/// The public laws that a page names and that are no claims: docs/PROMISES.md in the section of their crate, the other pages anywhere. There a name of one
-/// word is a crate, a function or a field.
+/// The public laws that a page names and that are no claims: docs/PROMISES.md in the section of their crate, the other
+/// pages anywhere. There a name of one word is a crate, a function or a field.
 fn unstated(crates: &[PathBuf]) -> Vec<String> {
     let promises = page("PROMISES");
     let sections = promises.split("\n## ").filter_map(|section| section.split_once('\n'));
     let promised: BTreeMap<&str, BTreeSet<&str>> = sections.map(|(title, text)| (title, in_backticks(text))).collect();
     let others = ["TRUST", "ARCHITECTURE", "DECISIONS"].map(page);
-    let elsewhere: BTreeSet<&str> = others.iter().flat_map(|text| in_backticks(text)).filter(|name| name.contains('-')).collect();
+    let quoted = others.iter().flat_map(|text| in_backticks(text));
+    let elsewhere: BTreeSet<&str> = quoted.filter(|name| name.contains('-')).collect();
     let mut found = Vec::new();
     for path in crates.iter().flat_map(|c| files(&c.join("proofs"), "antt")) {
         let (krate, _) = name_of(&path, "proofs");
@@ -344,7 +348,8 @@ fn signed(crates: &[PathBuf], specs: &Specs) -> BTreeSet<Name> {
     }
     for path in crates.iter().flat_map(|c| files(&c.join("proofs"), "antt")) {
         let source = read(&path, "--");
-        for law in blocks(&source.text).iter().filter(|law| law.public && named.contains(&law.name[..]) && is_claim(law, &source)) {
+        let claim = |law: &Block| law.public && named.contains(&law.name[..]) && is_claim(law, &source);
+        for law in blocks(&source.text).iter().filter(|law| claim(law)) {
             signed.extend(specs.meant(&words(&law.of_type).map(String::from).collect(), &source));
         }
     }
@@ -355,34 +360,37 @@ fn uncited(crates: &[PathBuf], specs: &Specs) -> Vec<String> {
     let mut reached = BTreeSet::new();
     let mut next: Vec<Name> = signed(crates, specs).into_iter().collect();
     while let Some(name) = next.pop() {
-        // what the code's private functions have in Parts.antt is no reader's
-        if !name.1.ends_with("Parts") && reached.insert(name.clone()) {
+        // what the code's private functions have in Private.antt is no reader's
+        if !name.1.ends_with("Private") && reached.insert(name.clone()) {
             next.extend(specs.cited.get(&name).into_iter().flatten().cloned());
         }
     }
-    let of_readers = specs.all.iter().filter(|(name, _)| !name.1.ends_with("Parts") && !reached.contains(name));
+    let of_readers = specs.all.iter().filter(|(name, _)| !name.1.ends_with("Private") && !reached.contains(name));
     of_readers.map(|(name, path)| format!("{}: {}", path.display(), name.2)).collect()
 }
 
-/// The names that two readers' files define, or two files of one crate. What other crates have in Parts.antt no reader meets.
+/// The names that two readers' files define, or two files of one crate. What other crates have in Private.antt no
+/// reader meets.
 fn twice(specs: &Specs, may: &BTreeSet<String>) -> Vec<String> {
     let mut places: BTreeMap<&str, BTreeSet<(&str, bool, String)>> = BTreeMap::new();
     for ((krate, file, name), path) in &specs.all {
-        places.entry(name).or_default().insert((krate, file.ends_with("Parts"), path.display().to_string()));
+        places.entry(name).or_default().insert((krate, file.ends_with("Private"), path.display().to_string()));
     }
     let several = |files: &BTreeSet<(&str, bool, String)>| {
         let crates: BTreeSet<&str> = files.iter().map(|(krate, _, _)| *krate).collect();
         crates.len() < files.len() || files.iter().filter(|(_, parts, _)| !parts).count() > 1
     };
     let found = places.into_iter().filter(|(name, files)| several(files) && !may.contains(*name));
-    found.map(|(name, files)| format!("{name}: {}", files.into_iter().map(|f| f.2).collect::<Vec<_>>().join(" "))).collect()
+    let paths = |files: BTreeSet<(&str, bool, String)>| files.into_iter().map(|f| f.2).collect::<Vec<_>>().join(" ");
+    found.map(|(name, files)| format!("{name}: {}", paths(files))).collect()
 }
 
 /// The names that tools/definitions.txt lets stand twice, in lines `NAME NAME: why`.
 fn may_stand_twice() -> BTreeSet<String> {
     let list = fs::read_to_string("tools/definitions.txt").expect("tools/definitions.txt");
     let lines = list.lines().filter(|line| !line.is_empty() && !line.starts_with('#'));
-    let names = lines.flat_map(|line| line.split_once(": ").unwrap_or_else(|| panic!("no reason: {line}")).0.split(' '));
+    let parts = lines.map(|line| line.split_once(": ").unwrap_or_else(|| panic!("no reason: {line}")));
+    let names = parts.flat_map(|(names, _)| names.split(' '));
     names.map(String::from).collect()
 }
 

@@ -1,6 +1,7 @@
 #!/bin/sh
 # What stands in specs/. Exit status 1 where there is anything to list. Needs rustc.
-# tools/definitions.sh uncited: the definitions of a reader's file that nothing a reader signs for leads to. A law counts
+# tools/definitions.sh uncited: the definitions of a reader's file that nothing a reader signs for leads to. A law
+# counts
 #     only if its type is a statement of specs/ itself, without a premise before it.
 # tools/definitions.sh unstated: the laws that docs/ names as claims and whose type is not a statement of specs/ itself,
 #     and those that docs/PROMISES.md names as the proof of another statement.

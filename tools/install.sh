@@ -1,5 +1,6 @@
 #!/usr/bin/env bash
-# Puts the program in its place: tools/install.sh PROGRAM install [PREFIX], or tools/install.sh PROGRAM package. `./box install` and `./box package` build it first.
+# Puts the program in its place: tools/install.sh PROGRAM install [PREFIX], or tools/install.sh PROGRAM package.
+# `./box install` and `./box package` build it first.
 # What is installed needs neither this repository nor rt nor cargo.
 set -euo pipefail
 root=$(cd "$(dirname "$0")/.." && pwd)
@@ -54,7 +55,8 @@ install_libraries_into() {
 # A cdylib, built as this repository has it.
 build() {
     command -v cargo >/dev/null || PATH="$PATH:$HOME/.cargo/bin"
-    cargo build --quiet --release --offline --locked --manifest-path "$root/$1/Cargo.toml" --target-dir "$root/target/$2"
+    cargo build --quiet --release --offline --locked --manifest-path "$root/$1/Cargo.toml" \
+        --target-dir "$root/target/$2"
 }
 
 # For pkg-config: the folders are found from the place of this file, so that a package works wherever it is unpacked.

@@ -1,8 +1,8 @@
 #!/usr/bin/env bash
 # The LADSPA plugin as its users run it, beside `box clean`: tools/ladspa.sh. What LADSPA's own applyplugin, ffmpeg and
 # sox write must be what the box writes, sample for sample, 960 samples later; and so must both channels of a stereo
-# file. Needs Debian's ladspa-sdk, ffmpeg, sox and python3; the box and the plugin are built first. Not part of the gate,
-# which has tests of the plugin in bindings/ladspa.
+# file. Needs Debian's ladspa-sdk, ffmpeg, sox and python3; the box and the plugin are built first. Not part of the
+# gate, which has tests of the plugin in bindings/ladspa.
 set -euo pipefail
 cd "$(dirname "$0")/.."
 root=$PWD

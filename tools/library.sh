@@ -1,8 +1,9 @@
 #!/usr/bin/env bash
-# The static library of what the crates hold: tools/library.sh proves and writes target/staticlib/libexport.a where that is not it already.
-# Beside it stands made-of: the checksum of what the crates hold, the kit that proved it, and the archive's own checksum. A file that was merely touched
-# is none that has changed. An archive that `rt staticlib export` wrote by hand has no such note, or that of another: if it is newer than all crates it is
-# of them, and is noted.
+# The static library of what the crates hold: tools/library.sh proves and writes target/staticlib/libexport.a where that
+# is not it already.
+# Beside it stands made-of: the checksum of what the crates hold, the kit that proved it, and the archive's own
+# checksum. A file that was merely touched is none that has changed. An archive that `rt staticlib export` wrote by hand
+# has no such note, or that of another: if it is newer than all crates it is of them, and is noted.
 #   tools/library.sh           proves what is not proved, and tells each crate
 #   tools/library.sh --kit     the kit that proved the library
 set -euo pipefail
@@ -12,8 +13,8 @@ archive=target/staticlib/libexport.a note=target/staticlib/made-of
 
 # What the crates hold, but for the edits that must fail: these are no part of the library.
 held() {
-    { find crates -type f -not -path '*/must-fail/*' -not -name '.*' -print0; printf 'crates.txt\0'; } | LC_ALL=C sort -z |
-        xargs -0 sha256sum | sha256sum | cut -d ' ' -f 1
+    { find crates -type f -not -path '*/must-fail/*' -not -name '.*' -print0; printf 'crates.txt\0'; } |
+        LC_ALL=C sort -z | xargs -0 sha256sum | sha256sum | cut -d ' ' -f 1
 }
 
 sum() {
@@ -46,7 +47,8 @@ needs() {
     for below in $(sed -n "s/^$1://p" crates.txt); do needs "$below"; done
 }
 
-# The crates are proved first, as many at a time as there are processors; then the library, which proves one at a time what is not proved yet.
+# The crates are proved first, as many at a time as there are processors; then the library, which proves one at a time
+# what is not proved yet.
 prove() {
     rt check export 2>&1 && rt staticlib export 2>&1
 }
@@ -75,7 +77,8 @@ fi
 held=$(held)
 if is_proved; then exit; fi
 command -v rt >/dev/null || {
-    echo "rt is missing, which proves the library: it comes with the Rattle toolchain, $kit; put its bin folder into PATH"
+    echo "rt is missing, which proves the library: it comes with the Rattle toolchain, $kit;" \
+        "put its bin folder into PATH"
     exit 1
 }
 echo "Proving the library, crate by crate: about ten minutes in all on an idle machine where none is proved yet."

@@ -1,5 +1,5 @@
 
-// ---- What `log10` of the crate `logs` is made of, worked out in whole numbers of 2^-192; nothing of it is in the Rust text.
+// ---- The numbers that `log10` of the crate `logs` uses, computed in whole numbers of 2^-192. The Rust text has none.
 
 // A number below 2^63, its lowest digits first.
 type Fine = [u64; 4];
@@ -134,9 +134,11 @@ fn logarithm_tables() {
     let constants = constants(ln_2, ln_10);
     let row = |[centre, high, low]: &[f64; 3]| format!("Row {{ centre: {centre:?}, high: {high:?}, low: {low:?} }},\n");
     let arms: String = rows[..32].iter().enumerate().map(|(i, x)| format!("        {i} => {}", row(x))).collect();
-    let named: String = constants.iter().map(|(name, _, x)| format!("pub(crate) const {name}: f64 = {x:?};\n\n")).collect();
+    let constant = |(name, _, x): &(_, _, f64)| format!("pub(crate) const {name}: f64 = {x:?};\n\n");
+    let named: String = constants.iter().map(constant).collect();
     let code = format!(
-        "// The constants of `log10`, made by tools/make_tables.sh. High parts are whole numbers of 2^-40, and what they lack is in the low parts.
+        "// The constants of `log10`, made by tools/make_tables.sh. A high part is a whole number of 2^-40, and
+// the low part is what it lacks.
 ghost use mathlib.Core.Path.{{_≡_}};
 ghost use Prim.Native.Nat.{{_≤_}};
 ghost use Rattle.logs.specs.Tables.{{rowAt}};
@@ -165,7 +167,9 @@ pub(crate) fn row_at(i: u64) -> Row
     );
     let bits = |x: f64| format!("0x{:016X}", x.to_bits());
     let lines: Vec<String> = rows.iter().map(|row| format!("    {} ∷", row.map(bits).join(" ∷ "))).collect();
-    let named: String = constants.iter().map(|(_, name, x)| format!("\nabbrev pub {name} : Float\n{name} = f64 {}\n", bits(*x))).collect();
+    let definition =
+        |(_, name, x): &(_, _, f64)| format!("\nabbrev pub {name} : Float\n{name} = f64 {}\n", bits(*x));
+    let named: String = constants.iter().map(definition).collect();
     let text = format!(
         "-- The constants of `log10`, made by tools/make_tables.sh: by their bit patterns.
 use Rattle.rules.specs.Common.{{ℕ, _+_, _*_, List, [], _∷_, map, Float, ofBits}}

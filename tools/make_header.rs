@@ -123,7 +123,9 @@ fn kind_of(text: &str) -> Kind {
 /// A constant's number.
 fn constant(file: &str, name: &str, wrong: &mut Wrong) -> usize {
     let text = read(file);
-    let value = text.lines().find_map(|line| line.split_once(&format!("const {name}: usize = "))?.1.trim_end_matches(';').replace('_', "").parse().ok());
+    let declared = format!("const {name}: usize = ");
+    let number = |line: &str| line.split_once(&declared)?.1.trim_end_matches(';').replace('_', "").parse().ok();
+    let value = text.lines().find_map(number);
     value.unwrap_or_else(|| {
         wrong.note(file, format!("no number `const {name}: usize = …;`, which the header tells"));
         0
@@ -132,7 +134,8 @@ fn constant(file: &str, name: &str, wrong: &mut Wrong) -> usize {
 
 // ---- what must be there
 
-/// Every module says what it is, every function too, and one of the two what each slice must be, by its name in backticks.
+/// Every module says what it is, every function too, and one of the two what each slice must be, by its name in
+/// backticks.
 fn explained(module: &Module, wrong: &mut Wrong) {
     if module.comment.is_empty() {
         wrong.note(&module.file, "its first line is no comment, which is to say what the module is".into());
@@ -159,9 +162,10 @@ fn explained(module: &Module, wrong: &mut Wrong) {
 fn declared(functions: &[Function], wrong: &mut Wrong) {
     const FILE: &str = "bindings/rust/src/functions.rs";
     let text: String =
-        read(FILE).lines().filter(|line| !line.trim_start().starts_with("//")).map(|line| format!("{line}\n")).collect();
+        read(FILE).lines().filter(|line| !line.trim_start().starts_with("//")).flat_map(|line| [line, "\n"]).collect();
     let surfaces = text.split("surface! {").skip(1).filter_map(|part| part.split_once("\n}")).map(|(inside, _)| inside);
-    let lines = surfaces.flat_map(|inside| inside.split(';')).map(|one| one.split_whitespace().collect::<Vec<_>>().join(" "));
+    let spaced = |one: &str| one.split_whitespace().collect::<Vec<_>>().join(" ");
+    let lines = surfaces.flat_map(|inside| inside.split(';')).map(spaced);
     let declared: Vec<Function> = lines
         .filter(|line| !line.is_empty())
         .filter_map(|line| {
@@ -317,9 +321,9 @@ fn refusals(wrong: &mut Wrong) -> String {
     if rows.is_empty() {
         wrong.note(PAGE, "no row of its table can be read".into());
     }
-    let lines = rows.iter().map(|cells| format!("#define {} {}\n", cells[2].trim_matches('`'), cells[1]));
-    let what = "What a call returns if it refuses, and 40, which is no refusal; docs/REFUSALS.md says of each exactly when.";
-    format!("\n/* {what} */\n{}", lines.collect::<String>())
+    let lines = rows.iter().map(|cells| format!("    {} = {},\n", cells[2].trim_matches('`'), cells[1]));
+    let what = "The refusals that a call may return, and 40, which is none. docs/REFUSALS.md says exactly when.";
+    format!("\n/* {what} */\nenum tuppence_refusal {{\n{}}};\n", lines.collect::<String>())
 }
 
 /// The version of the Rust crate, which is that of the library.
@@ -337,7 +341,8 @@ fn header(modules: &[Module], store: usize, record: usize, wrong: &mut Wrong) ->
     let mut text = String::from(HEAD);
     write!(
         text,
-        "\n/* The numbers of the store, which serves all benches, and of a bench's record: zeros before its first opening. */\n\
+        "\n/* The numbers of the store, which serves all benches, and of a bench's record: zeros before its first \
+         opening. */\n\
          #define TUPPENCE_STORE {store}\n#define TUPPENCE_RECORD {record}\n\n\
          /* The version of this header and of the library. */\n#define TUPPENCE_VERSION \"{}\"\n",
         version(wrong)

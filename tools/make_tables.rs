@@ -1,20 +1,26 @@
-// Writes each table as a constant of the code and, by its bit patterns, as a definition. tools/make_tables.sh puts the Rust text in front of this.
-// The cosines are not in that text: they are worked out here, and the logarithm's constants in tools/logarithm.rs.
+// Writes each table as a constant of the code and, by its bit patterns, as a definition. tools/make_tables.sh puts the
+// Rust text in front of this file. The cosines are not in that text: they are computed here, and the logarithm's
+// constants in tools/logarithm.rs.
 use std::fs::write;
 
 fn main() {
     let c = common();
-    table("bands", "window", "Window", "window", "The window's 960 numbers, `window` in `common()` of lib.rs", &c.window);
-    table("bands", "dct_table", "DctTable", "dctTable", "The DCT's 22 rows of 22 numbers, `dct_table` in `common()` of lib.rs", &c.dct_table);
-    table("numbers", "table", "Tansig", "tansig", "The activations' 201 numbers, `TANSIG_TABLE` of util.rs", &TANSIG_TABLE);
+    let what = "The window's 960 numbers, `window` in `common()` of lib.rs";
+    table("bands", "window", "Window", "window", what, &c.window);
+    let what = "The DCT's 22 rows of 22 numbers, `dct_table` in `common()` of lib.rs";
+    table("bands", "dct_table", "DctTable", "dctTable", what, &c.dct_table);
+    let what = "The activations' 201 numbers, `TANSIG_TABLE` of util.rs";
+    table("numbers", "table", "Tansig", "tansig", what, &TANSIG_TABLE);
     one_by_one("crates/numbers/src/table.rt", "tansig", &TANSIG_TABLE);
     let turn: Vec<f32> = (0..960).map(cosine).collect();
-    table("transforms", "cosine", "Cosine", "cosine", "The cosines of m/960 of a turn, each the nearest f32, +0 at 240 and 720", &turn);
+    let what = "The cosines of m/960 of a turn, each the nearest f32, +0 at 240 and 720";
+    table("transforms", "cosine", "Cosine", "cosine", what, &turn);
     logarithm_tables();
     println!("wnorm {:08X}", c.wnorm.to_bits());
 }
 
-// The nearest f32 to the cosine of m/960 of a turn. The f64 cosine is off by less than its last bit, so it stops if a midpoint of two f32 is within eight of these.
+// The nearest f32 to the cosine of m/960 of a turn. The f64 cosine is off by less than its last bit. So this stops if a
+// midpoint of two f32 is within eight times that distance.
 fn cosine(m: usize) -> f32 {
     if m % 480 == 240 {
         return 0.0;
@@ -23,7 +29,8 @@ fn cosine(m: usize) -> f32 {
     let near = exact as f32;
     for other in [near.to_bits() - 1, near.to_bits() + 1] {
         let middle = (near as f64 + f32::from_bits(other) as f64) / 2.0;
-        assert!(near.abs() == 1.0 || (exact - middle).abs() > 8.0 * f64::EPSILON * exact.abs(), "{m} is near a midpoint");
+        let far = (exact - middle).abs() > 8.0 * f64::EPSILON * exact.abs();
+        assert!(near.abs() == 1.0 || far, "{m} is near a midpoint");
     }
     near
 }
@@ -35,11 +42,13 @@ fn literal(x: f32) -> String {
 // A function for one number of a table, behind what `table` wrote.
 fn one_by_one(file: &str, name: &str, numbers: &[f32]) {
     let last = numbers.len() - 1;
-    let arms: String = numbers[..last].iter().enumerate().map(|(i, x)| format!("        {i} => {},\n", literal(*x))).collect();
+    let arm = |(i, x): (usize, &f32)| format!("        {i} => {},\n", literal(*x));
+    let arms: String = numbers[..last].iter().enumerate().map(arm).collect();
     let written = std::fs::read_to_string(file).unwrap();
     let written = written.replace(
         "ghost use mathlib.Core.Path.{_≡_};\n",
-        "ghost use mathlib.Core.Path.{_≡_};\nghost use Prim.Native.Nat.{_≤_};\nghost use Rattle.rules.specs.F32.{at};\n",
+        "ghost use mathlib.Core.Path.{_≡_};\nghost use Prim.Native.Nat.{_≤_};\n\
+         ghost use Rattle.rules.specs.F32.{at};\n",
     );
     let code = format!(
         "{written}
@@ -58,7 +67,7 @@ pub(crate) fn entry(i: u32) -> f32
     write(file, code).unwrap();
 }
 
-// A row of the DCT takes two lines.
+// Half a row of the DCT, which takes two lines.
 const HALF_ROW: &str = "abbrev halfRow : ℕ → ℕ → ℕ → ℕ → ℕ → ℕ → ℕ → ℕ → ℕ → ℕ → ℕ → List ℕ
 halfRow a b c d e f g h i j k = a ∷ b ∷ c ∷ d ∷ e ∷ f ∷ g ∷ h ∷ i ∷ j ∷ k ∷ []
 
@@ -86,9 +95,10 @@ pub fn all() -> [f32; {count}]
     );
     let bits: Vec<String> = numbers.iter().map(|x| format!("0x{:08X}", x.to_bits())).collect();
     let (half_row, list) = if spec == "DctTable" {
-        (HALF_ROW, bits.chunks(11).map(|half| format!("    halfRow {}", half.join(" "))).collect::<Vec<_>>().join(" ++\n"))
+        let half_row = |half: &[String]| format!("    halfRow {}\n    {}", half[..6].join(" "), half[6..].join(" "));
+        (HALF_ROW, bits.chunks(11).map(half_row).collect::<Vec<_>>().join(" ++\n"))
     } else {
-        ("", bits.chunks(10).map(|ten| format!("    {} ∷", ten.join(" ∷ "))).collect::<Vec<_>>().join("\n") + " []")
+        ("", bits.chunks(8).map(|eight| format!("    {} ∷", eight.join(" ∷ "))).collect::<Vec<_>>().join("\n") + " []")
     };
     let text = format!(
         "-- {what}: by their bit patterns.

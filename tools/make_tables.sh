@@ -1,6 +1,6 @@
 #!/bin/sh
-# Makes the constant tables anew from the Rust text: `common()` of oracle/text/lib.rs and TANSIG_TABLE of oracle/text/util.rs, compiled as they stand; the cosines of request 08; and
-# the constants of the logarithm.
+# Makes the constant tables anew from the Rust text: `common()` of oracle/text/lib.rs and TANSIG_TABLE of
+# oracle/text/util.rs, compiled as they stand; the cosines of request 08; and the constants of the logarithm.
 # With --check it changes no file, and says which tables are not what it makes. Needs rustc and rt.
 set -eu
 cd "$(dirname "$0")/.."
@@ -21,6 +21,10 @@ others=0
 for file in $(cd "$room" && find crates -type f | sort); do
     cmp -s "$room/$file" "$file" && continue
     others=1
-    if [ "${1:-}" = --check ]; then echo "$file is not what tools/make_tables.sh makes"; else cp "$room/$file" "$file"; fi
+    if [ "${1:-}" = --check ]; then
+        echo "$file is not what tools/make_tables.sh makes"
+    else
+        cp "$room/$file" "$file"
+    fi
 done
 [ "${1:-}" != --check ] || exit $others

@@ -29,7 +29,7 @@ struct world {
     float answers[3 * FRAMES];
     uint8_t bytes[BYTES];
     uint8_t cleaned[2 * FRAME * FRAMES];
-    uint64_t entries[FRAMES];
+    uint8_t records[8 * FRAMES];
 };
 
 static struct world world, before;
@@ -135,7 +135,7 @@ static void bad_call(void)
     struct slice s[9] = {
         {world.record, TUPPENCE_RECORD, 4}, {world.store, TUPPENCE_STORE, 4}, {model, model_size, 1},
         {world.sound, PIECE, 4}, {world.out, FRAME * FRAMES, 4}, {world.answers, 3 * FRAMES, 4},
-        {world.bytes, BYTES, 1}, {world.cleaned, 2 * FRAME * FRAMES, 1}, {world.entries, FRAMES, 8},
+        {world.bytes, BYTES, 1}, {world.cleaned, 2 * FRAME * FRAMES, 1}, {world.records, 8 * FRAMES, 1},
     };
     int which = (int)random_below(3), count = count_of(which);
     const int *slices = SLICES[which];
@@ -206,7 +206,7 @@ static void *on_its_own_stack(void *nothing)
     expect("open_crate", open_by(tuppence_open_crate), 0);
     expect("feed",
         tuppence_feed(world.record, TUPPENCE_RECORD, world.store, TUPPENCE_STORE, 0, world.bytes, BYTES, 16, 2, 1,
-            model, model_size, world.cleaned, 2 * FRAME * FRAMES, world.entries, FRAMES, world.answers, 3 * FRAMES),
+            model, model_size, world.cleaned, 2 * FRAME * FRAMES, world.records, 8 * FRAMES, world.answers, 3 * FRAMES),
         0);
     return nothing;
 }

@@ -53,11 +53,13 @@ int main(int count, char **words)
         tuppence_take(record, TUPPENCE_RECORD, store, TUPPENCE_STORE, 0, sound, PIECE, model, size,
             out, FRAME * MOST_FRAMES, answers, 3 * MOST_FRAMES),
         "tuppence_take of a closed bench");
-    look_for(7, tuppence_open(record, TUPPENCE_RECORD, store, TUPPENCE_STORE, 0, model, size - 1) % 256, "tuppence_open of a torn model");
+    look_for(7, tuppence_open(record, TUPPENCE_RECORD, store, TUPPENCE_STORE, 0, model, size - 1) % 256,
+             "tuppence_open of a torn model");
     look_for(0, tuppence_open(record, TUPPENCE_RECORD, store, TUPPENCE_STORE, 0, model, size), "tuppence_open");
     /* both benches are open: the left's record, handed in for the right side, is refused with 2 */
     uint32_t right[TUPPENCE_RECORD] = {0};
-    look_for(0, tuppence_open(right, TUPPENCE_RECORD, store, TUPPENCE_STORE, 1, model, size), "tuppence_open of the right");
+    look_for(0, tuppence_open(right, TUPPENCE_RECORD, store, TUPPENCE_STORE, 1, model, size),
+             "tuppence_open of the right");
     look_for(2,
         tuppence_frame(record, TUPPENCE_RECORD, store, TUPPENCE_STORE, 1, sound, FRAME, model, size,
             out, FRAME, answers, 3),

@@ -7,6 +7,7 @@ import subprocess
 import tempfile
 import unittest
 import wave
+import zlib
 
 import tuppence
 
@@ -93,8 +94,28 @@ class Benches(unittest.TestCase):
         self.assertEqual(refused.exception.number % 256, 7)
 
 
+def recording(audio, side, heard):
+    """What the box writes for a recording, byte by byte."""
+
+    def number(n, size=4):
+        return n.to_bytes(size, "little")
+
+    def seal(word, long, short):
+        said = word + (b"LEFT", b"RGHT")[side] + number(long, 8) + number(short)
+        return said + number(zlib.crc32(said))
+
+    records = b"".join(number(i) + bytes([h, side, 0, 0]) for i, h in enumerate(heard))
+    trailer = number(len(records)) + number(len(heard)) + bytes([side, 0, 0, 0]) + number(sum(records))
+    contents = seal(b"TUPP", len(audio), zlib.crc32(audio)) + records + trailer
+    after = b"side" + number(len(contents)) + contents
+    form = b"fmt " + number(16) + bytes([1, 0, 1, 0]) + number(48000) + number(96000) + bytes([2, 0, 16, 0])
+    front = b"side" + number(24) + seal(b"TUPB", 0, 0)
+    riff = b"WAVE" + form + front + b"data" + number(len(audio)) + audio + after
+    return b"RIFF" + number(len(riff)) + riff
+
+
 class Sides(unittest.TestCase):
-    """Recordings that the library itself writes, and damaged ones."""
+    """Recordings as the box writes them, and damaged ones."""
 
     def setUp(self):
         self.folder = tempfile.TemporaryDirectory()
@@ -108,10 +129,10 @@ class Sides(unittest.TestCase):
     def test_each_side_is_reported(self):
         audio = array.array("h", sound(0.02)).tobytes()
         for number, name in enumerate(("left", "right")):
-            self.assertEqual(self.side_of(tuppence._recording(audio, number, [1, 0, 1])), name)
+            self.assertEqual(self.side_of(recording(audio, number, [1, 0, 1])), name)
 
     def test_no_damaged_file_is_reported(self):
-        file = tuppence._recording(array.array("h", [7] * 100).tobytes(), 1, [1, 1])
+        file = recording(array.array("h", [7] * 100).tobytes(), 1, [1, 1])
         self.assertEqual(self.side_of(file), "right")
         places = [(at, bit) for at in range(len(file)) for bit in range(8)]
         damaged = [file[:at] + bytes([file[at] ^ 1 << bit]) + file[at + 1 :] for at, bit in places]

@@ -90,11 +90,10 @@ _lib.tuppence_take.argtypes = [
 _lib.tuppence_pack.argtypes = [ctypes.POINTER(ctypes.c_uint8), _SIZE, _FLOATS, _SIZE]
 _BYTES = ctypes.POINTER(ctypes.c_uint8)
 _U64S = ctypes.POINTER(ctypes.c_uint64)
-_lib.tuppence_wav_head.argtypes = [_BYTES, _SIZE, ctypes.c_uint32, ctypes.c_uint32, ctypes.c_uint32]
-_lib.tuppence_seal_write.argtypes = [_BYTES, _SIZE, ctypes.c_uint32, ctypes.c_uint64, ctypes.c_uint32]
-_lib.tuppence_sheet_write.argtypes = [_BYTES, _SIZE, ctypes.c_uint32, _U64S, _SIZE]
-_lib.tuppence_checksum.argtypes = [ctypes.c_uint32, ctypes.c_char_p, _SIZE]
-for _name in ("open", "open_crate", "take", "pack", "wav_head", "seal_write", "sheet_write", "checksum"):
+_lib.tuppence_judge_begin.argtypes = [_U64S, _SIZE, _BYTES, _SIZE]
+_lib.tuppence_judge_more.argtypes = [_U64S, _SIZE, _BYTES, _SIZE, ctypes.c_char_p, _SIZE]
+_lib.tuppence_judge_verdict.argtypes = [_U64S, _SIZE, _U64S, _SIZE, _BYTES, _SIZE]
+for _name in ("open", "open_crate", "take", "pack", "judge_begin", "judge_more", "judge_verdict"):
     getattr(_lib, "tuppence_" + _name).restype = ctypes.c_uint32
 
 
@@ -179,35 +178,21 @@ class NotSealed(Exception):
     """The file is not, byte for byte, a recording that the box wrote. `box side` says why."""
 
 
-_HEAD, _CHUNK, _SEAL, _RECORD_BYTES, _TRAILER = 44, 8, 24, 8, 16
-
-
-def _recording(audio, side, heard):
-    """What the box writes for a recording: head, audio, and the chunk with seal, records and trailer."""
-    contents = _SEAL + _RECORD_BYTES * len(heard) + _TRAILER
-    head, seal = (ctypes.c_uint8 * _HEAD)(), (ctypes.c_uint8 * _SEAL)()
-    sheet = (ctypes.c_uint8 * (contents - _SEAL))()
-    entries = (ctypes.c_uint64 * len(heard))(*(i + (h << 32) for i, h in enumerate(heard)))
-    _check(_lib.tuppence_wav_head(head, len(head), 48000, len(audio), _CHUNK + contents))
-    _check(_lib.tuppence_seal_write(seal, len(seal), side, len(audio), _lib.tuppence_checksum(0, audio, len(audio))))
-    _check(_lib.tuppence_sheet_write(sheet, len(sheet), side, entries, len(entries)))
-    return bytes(head) + audio + b"side" + contents.to_bytes(4, "little") + bytes(seal) + bytes(sheet)
+# How many bytes of a file are read at a time.
+_PART = 1 << 20
 
 
 def side(path):
     """Whose recording a file is, "left" or "right", if it is byte for byte one that the box wrote.
 
-    What the file says is taken apart, written down again by the library, and compared. Otherwise NotSealed is raised.
+    The library's judge decides, as in `box side`. If it does not accept the file, NotSealed is raised.
     """
-    file = pathlib.Path(path).read_bytes()
-    size = int.from_bytes(file[40:_HEAD], "little")
-    count = -(-size // (2 * FRAME)) + 1
-    records = _HEAD + size + _CHUNK + _SEAL
-    if size == 0 or size % 2 or len(file) != records + _RECORD_BYTES * count + _TRAILER:
+    numbers, held, told = (ctypes.c_uint64 * 11)(), (ctypes.c_uint8 * 76)(), (ctypes.c_uint64 * 5)()
+    judge = numbers, len(numbers), held, len(held)
+    _check(_lib.tuppence_judge_begin(*judge))
+    with open(path, "rb") as file:
+        while part := file.read(_PART):
+            _check(_lib.tuppence_judge_more(*judge, part, len(part)))
+    if _lib.tuppence_judge_verdict(told, len(told), *judge):
         raise NotSealed(path)
-    audio = file[_HEAD : _HEAD + size]
-    heard = [file[records + _RECORD_BYTES * i + 4] & 1 for i in range(count)]
-    for number, name in enumerate(("left", "right")):
-        if file == _recording(audio, number, heard):
-            return name
-    raise NotSealed(path)
+    return ("left", "right")[told[0]]

@@ -23,11 +23,11 @@ pub enum Error {
     Undone(Reason),
     /// What was given is not right: the command line, or a recording that is not whole or is another bench's.
     Wrong(Reason),
-    /// The file has no side sheet, or one without frames.
-    NoSheet(Reason),
-    /// The file has a side sheet, but no seal.
+    /// The file is no recording.
+    NoRecording(Reason),
+    /// An earlier version of the box wrote it, or it has a side sheet without a seal.
     Unsealed(Reason),
-    /// The seal belongs to other audio, or the seal or its sheet is damaged.
+    /// The recording is not as the box wrote it.
     Damaged(Reason),
     /// The file's name says another side.
     Misnamed(Reason),
@@ -73,7 +73,7 @@ impl Error {
         match self {
             Error::Undone(_) => 1,
             Error::Wrong(_) => 2,
-            Error::NoSheet(_) => 3,
+            Error::NoRecording(_) => 3,
             Error::Unsealed(_) => 4,
             Error::Damaged(_) => 5,
             Error::Misnamed(_) => 6,
@@ -94,17 +94,12 @@ impl Error {
         match self {
             Error::Undone(reason)
             | Error::Wrong(reason)
-            | Error::NoSheet(reason)
+            | Error::NoRecording(reason)
             | Error::Unsealed(reason)
             | Error::Damaged(reason)
             | Error::Misnamed(reason) => Some(reason),
             Error::Several(_) | Error::Reported(_) => None,
         }
-    }
-
-    /// The same reason, for a command that has no other status for it.
-    pub fn as_undone(self) -> Error {
-        self.reason().cloned().map_or(self, Error::Undone)
     }
 
     /// The same error with another text. Status and refusal stay as they are.
@@ -117,7 +112,7 @@ impl Error {
         match self {
             Error::Undone(reason) => Error::Undone(reworded(reason)),
             Error::Wrong(reason) => Error::Wrong(reworded(reason)),
-            Error::NoSheet(reason) => Error::NoSheet(reworded(reason)),
+            Error::NoRecording(reason) => Error::NoRecording(reworded(reason)),
             Error::Unsealed(reason) => Error::Unsealed(reworded(reason)),
             Error::Damaged(reason) => Error::Damaged(reworded(reason)),
             Error::Misnamed(reason) => Error::Misnamed(reworded(reason)),
@@ -222,7 +217,7 @@ mod tests {
         for (error, status) in [
             (Error::from(refusal), 1),
             (Error::Wrong(refusal.into()), 2),
-            (Error::NoSheet(refusal.into()), 3),
+            (Error::NoRecording(refusal.into()), 3),
             (Error::Unsealed(refusal.into()), 4),
             (Error::Damaged(refusal.into()), 5),
             (Error::Misnamed(refusal.into()), 6),

@@ -1,5 +1,5 @@
-//! The recorder box: it runs both benches over one lent store through the proved library, and does itself what the library
-//! leaves to its host: files.
+//! The recorder box: it runs both benches over one lent store through the proved library, and does itself what the
+//! library leaves to its host: files.
 
 #![deny(unsafe_code)]
 

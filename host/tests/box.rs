@@ -1,5 +1,5 @@
-//! `./box` from nothing: it proves what has changed and nothing else, shows nothing of cargo, names what is missing, and
-//! installs a program that runs without any of it.
+//! `./box` from nothing: it proves what has changed and nothing else, shows nothing of cargo, names what is missing,
+//! and installs a program that runs without any of it.
 
 mod common;
 
@@ -19,8 +19,8 @@ fn write_script(path: &Path, text: &str) {
     fs::set_permissions(path, fs::Permissions::from_mode(0o755)).unwrap();
 }
 
-/// A repository with a crate in it, and in `bin` all that the scripts call: an `rt` and a cargo that note that they were
-/// called, and make an archive of what the crate holds, and a program that echoes its words.
+/// A repository with a crate in it, and in `bin` all that the scripts call: an `rt` and a cargo that note that they
+/// were called, and make an archive of what the crate holds, and a program that echoes its words.
 fn repository(name: &str) -> PathBuf {
     let path = folder(&format!("box-{name}"));
     for folder in ["bin", "tools", "crates/export/src", "crates/export/must-fail", "kit/bin", "home"] {
@@ -55,10 +55,12 @@ fn repository(name: &str) -> PathBuf {
         symlink(place.unwrap_or_else(|| panic!("{tool}")), path.join("bin").join(tool)).unwrap();
     }
     let rt = "echo \"$*\" >>rt-was-called; echo \"rt: export proved (1 s)\"\n\
-              if [ \"$1\" = staticlib ]; then mkdir -p target/staticlib; cp crates/export/src/lib.rt target/staticlib/libexport.a; fi\n";
+              if [ \"$1\" = staticlib ]; then mkdir -p target/staticlib; cp crates/export/src/lib.rt \
+              target/staticlib/libexport.a; fi\n";
     write_script(&path.join("kit/bin/rt"), rt);
     symlink("../kit/bin/rt", path.join("bin/rt")).unwrap();
-    let cargo = "echo \"$*\" >cargo-was-called; echo \"  Compiling much\"; echo \"  Finished\" >&2; [ ! -e broken ] || exit 101\n\
+    let cargo = "echo \"$*\" >cargo-was-called; echo \"  Compiling much\"; echo \"  Finished\" >&2; [ ! -e broken ] \
+                 || exit 101\n\
                  mkdir -p target/host/release; cd target/host/release\n\
                  for name in tuppencehop tuppencehop-dev; do\n\
                  printf '#!/usr/bin/env bash\\necho \"$PWD: $*\"\\n' >$name; chmod +x $name\n\
@@ -203,7 +205,7 @@ fn an_installed_program_runs_alone() {
         (&["box", "clean", "--l"], "--left --lag"),
         (&["box", "clean", "--lag", ""], "crate own"),
         (&["box", "export", "--as", ""], "rnnn"),
-        (&["box", "side", "-"], "--quick --json --help"),
+        (&["box", "side", "-"], "--json --help"),
         (&["box", "side", "again/l"], "again/left.wav"),
         (&["box", "clean", "--name", ""], ""),
         (&["box", "help", "de"], "demo"),
@@ -262,7 +264,8 @@ fn a_debian_package_has_the_same() {
     example_of(&path.join("usr"));
 }
 
-/// The clerk's program has nothing of the Rust text in it. (host/dev/tests/words.rs sees that its names would be found.)
+/// The clerk's program has nothing of the Rust text in it. (host/dev/tests/words.rs sees that its names would be
+/// found.)
 #[test]
 fn the_box_has_no_symbol_of_the_text() {
     let symbols = ended(Command::new("nm").arg(env!("CARGO_BIN_EXE_tuppencehop")).output().unwrap());

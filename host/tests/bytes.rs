@@ -106,7 +106,7 @@ fn written(path: &Path, audio: usize) -> (Vec<u8>, Vec<u64>, u64) {
         assert_eq!(tuppence::sheet_entry(&mut entry, &file, index), 0);
         entry[0]
     });
-    (file[HEADER..HEADER + audio].to_vec(), entries.collect(), numbers[2])
+    (file[HEAD..HEAD + audio].to_vec(), entries.collect(), numbers[2])
 }
 
 /// Seeded noise over a buzz, with silence now and then, of both benches in turn.

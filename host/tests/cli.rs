@@ -99,8 +99,9 @@ fn each_recording_carries_its_sheet() {
         let file = fs::read(given.path.join(format!("out/{side}.wav"))).unwrap();
         let rows: Vec<&str> = table.lines().filter(|line| line.starts_with(side)).collect();
         let heard = rows.iter().filter(|row| row.contains(",heard,")).count();
-        let sheet = tuppencehop::telling::side::Sheet::of(&file).unwrap();
-        assert_eq!((sheet.side.name(), sheet.frames, sheet.heard, sheet.gaps.count), (side, rows.len(), heard, 0));
+        let told = tuppencehop::recording::judge::judged(&mut &file[..]).unwrap().unwrap();
+        let wanted = (side, rows.len() as u64, heard as u64);
+        assert_eq!((told.front.side.name(), told.frames, told.heard), wanted);
         assert!(heard > 0);
         // behind the audio and its seal
         let mut start = [0; 3];
@@ -206,6 +207,30 @@ fn a_missing_file() {
     given.fails(given.clean("none.wav", "right.wav", "house.rnn", "out"), &["none.wav"]);
     given
         .fails(given.clean("left.wav", "right.wav", "none.rnn", "out"), &["clean: --model ", "none.rnn: no such file"]);
+}
+
+/// With --or-house a model that is refused gives way to the house model, and the refusal is told.
+#[test]
+fn the_house_model_in_place_of_a_refused_one() {
+    let given = Given::new("or_house");
+    given.put("cut.rnn", &fs::read(given.path.join("house.rnn")).unwrap()[..87_520]);
+    let clean = |model: &str, out: &str, more: &[&str]| {
+        let [left, model, out] = ["left.wav", model, out].map(|name| given.at(name));
+        host(&[&["clean", "--left", &left, "--model", &model, "--out", &out, "--csv"], more].concat())
+    };
+    given.fails(clean("cut.rnn", "out", &[]), &["cut.rnn: the model is refused", "(refusal 16, layer 5, vad_output)"]);
+    let told = |output: Output| {
+        assert!(output.status.success());
+        [output.stdout, output.stderr].map(|bytes| String::from_utf8(bytes).unwrap())
+    };
+    let [_, why] = told(clean("cut.rnn", "trial", &["--or-house"]));
+    assert!(why.contains("(refusal 16, layer 5, vad_output); the house model is used instead"), "{why}");
+    let [_, none] = told(clean("house.rnn", "house", &["--or-house"]));
+    assert_eq!(none, "");
+    let frames = |out: &str| fs::read(given.path.join(out).join("left.wav")).unwrap()[76..].to_vec();
+    assert_eq!(frames("trial"), frames("house"));
+    let [json, _] = told(clean("cut.rnn", "json", &["--or-house", "--json"]));
+    assert!(json.contains("\"model\": \"house.rnn\"") && json.contains("refusal 16"), "{json}");
 }
 
 /// A name in any bytes is taken as it is.

@@ -12,8 +12,9 @@ use std::sync::OnceLock;
 use std::thread::{scope, sleep, spawn};
 use std::time::{Duration, Instant};
 use tuppencehop::cleaning::demo::Rng;
+use tuppencehop::cleaning::recorder::Side;
 use tuppencehop::reading::wav;
-use tuppencehop::recording::seal;
+use tuppencehop::recording::front::{Front, SEAL};
 
 const SIDES: [&str; 2] = ["left", "right"];
 /// What a power cut may cost.
@@ -106,7 +107,7 @@ fn after_a_power_cut(path: &Path, cut: &Path, rng: &mut Rng) {
     copy(&path.join("out"), &cut.join("out"));
     let (mut good, mut there) = ([usize::MAX; 2], [0; 2]);
     for (k, side) in SIDES.into_iter().enumerate() {
-        let samples = |bytes: u64| (bytes as usize).saturating_sub(HEADER) / 2;
+        let samples = |bytes: u64| (bytes as usize).saturating_sub(HEAD) / 2;
         let audio = part(cut, side, ".part");
         there[k] = samples(size(&audio));
         let (seconds, zeros) = (rng.draw() % 192_000, rng.draw() & 1 == 0);
@@ -171,9 +172,9 @@ fn what_is_told() {
     let before = names(&path.join("out"));
     assert_eq!(before, ["frames.csv.part", "left.wav.part", "left.wav.sheet", "right.wav.part", "right.wav.sheet"]);
     for side in SIDES {
-        let mut sheet = fs::read(part(&path, side, ".sheet")).unwrap();
-        sheet.truncate(seal::LENGTH);
-        assert_eq!(seal::side_under_way(&sheet).unwrap().name(), side);
+        let sheet = fs::read(part(&path, side, ".sheet")).unwrap();
+        assert_eq!(Front::read(&sheet[..SEAL]).unwrap().side.name(), side);
+        assert!(fs::read(part(&path, side, ".part")).unwrap()[44..].starts_with(&sheet[..SEAL]));
     }
     // the same folder is refused, whatever it is asked, and all stays as it was
     for words in [&["-", "--raw", "--out", "out"][..], &["-", "--raw", "--out", "out", "--force"]] {
@@ -202,7 +203,7 @@ fn what_is_told() {
     assert_eq!((ended.status, &ended.said[..]), (Some(0), "out: there is no unfinished recording\n"));
 }
 
-/// Where audio and records do not go equally far, or a place is taken, that is told and nothing is written over.
+/// Where records are lost they are written anew, and where a place is taken nothing is written over; both are told.
 #[test]
 fn what_is_missing_is_told() {
     let path = left_behind("crash-missing");
@@ -213,42 +214,66 @@ fn what_is_missing_is_told() {
     assert_eq!(ended.status, Some(0), "{}", ended.why);
     let lines: Vec<&str> = ended.said.lines().collect();
     assert!(lines[0].starts_with("out/left-2.wav: left side, "), "{}", ended.said);
-    assert!(lines[1].ends_with(" s. The 0.10 s after them have no records and are lost."), "{}", ended.said);
+    assert!(lines[1].ends_with(" s. The records of 10 frames were lost: these are marked as heard."), "{}", ended.said);
     assert!(lines[3].ends_with(" s. The last 0.10 s are zeros, as a power cut may leave them."), "{}", ended.said);
     assert_eq!(fs::read(path.join("out/left.wav")).unwrap(), b"of yesterday");
     assert!(sound(&path.join("out/left-2.wav"), "left").len() > 40_000);
 }
 
-/// The side is in the bytes: without it nothing is said of it, and the files stay.
+/// The side is in the head, and once more before the records: one of them is enough. Without both nothing is closed.
 #[test]
 fn a_side_that_can_not_be_told() {
     let path = left_behind("crash-seal");
-    let (good, sheet) = (fs::read(part(&path, "left", ".sheet")).unwrap(), part(&path, "left", ".sheet"));
-    let bad = |bytes: &[u8], words: &str| {
-        fs::write(&sheet, bytes).unwrap();
-        let (audio, ended) = (fs::read(part(&path, "left", ".part")).unwrap(), mend(&path));
+    let [audio, sheet] = [".part", ".sheet"].map(|ending| part(&path, "left", ending));
+    let (good, records) = (fs::read(&audio).unwrap(), fs::read(&sheet).unwrap());
+    let put = |first: &[u8], second: &[u8]| {
+        fs::write(&audio, first).unwrap();
+        fs::write(&sheet, second).unwrap();
+    };
+    let bad = |first: &[u8], second: &[u8], words: &str| {
+        put(first, second);
+        let ended = mend(&path);
         assert_eq!(ended.status, Some(1));
         assert!(ended.why.contains(words), "{}", ended.why);
-        assert_eq!((fs::read(part(&path, "left", ".part")).unwrap(), &fs::read(&sheet).unwrap()[..]), (audio, bytes));
+        assert!(fs::read(&audio).unwrap() == first && fs::read(&sheet).unwrap() == second);
     };
-    bad(b"", "out/left.wav.sheet: it does not begin with a seal, so nothing tells the side of out/left.wav.part, which stays");
-    bad(&[&good[..4], b"RGHT", &good[8..]].concat(), "it does not begin with a seal");
-    // right in the seal, left in the records
-    bad(
-        &[&seal::under_way(tuppencehop::cleaning::recorder::Side::Right), &good[24..]].concat(),
-        "no record in it is of the sound",
-    );
-    bad(&good[..seal::LENGTH], "no record in it is of the sound");
+    let (no_head, no_seal) = ([&[0; HEAD][..], &good[HEAD..]].concat(), [&[0; SEAL][..], &records[SEAL..]].concat());
+    let neither = "out/left.wav.part: neither its head nor its records tell its side; it stays until you move it";
+    bad(&no_head, &no_seal, neither);
+    bad(&no_head, b"", neither);
+    let ours = "this is no file that the box wrote; it stays as it is";
+    let changed = |bytes: &[u8], at: usize| [&bytes[..at], &[bytes[at] ^ 1], &bytes[at + 1..]].concat();
+    // the seal of the other side, but for its checksum
+    bad(&no_head, &[&records[..4], b"RGHT", &records[8..]].concat(), neither);
+    bad(&changed(&good, 50), &records, &format!("out/left.wav.part: {ours}"));
+    bad(&good, &changed(&records, 6), &format!("out/left.wav.sheet: {ours}"));
+    bad(b"notes, which are longer than any head of a recording could be, by far, and that is a long text", b"", ours);
     // the other bench was closed all the same
     assert!(sound(&path.join("out/right.wav"), "right").len() > 40_000);
-    fs::remove_file(&sheet).unwrap();
-    let ended = mend(&path);
-    assert!(ended.status == Some(1) && ended.why.contains("left.wav.sheet: No such file"), "{}", ended.why);
-    // names that were changed do not matter
-    fs::write(part(&path, "right", ".sheet"), &good).unwrap();
-    fs::rename(part(&path, "left", ".part"), part(&path, "right", ".part")).unwrap();
-    let ended = mend(&path);
-    assert!(ended.status == Some(0) && ended.said.starts_with("out/left.wav: left side, "), "{ended:?}");
+    // one of both is enough; and without records all are heard
+    put(&good, &records);
+    assert_eq!(mend(&path).status, Some(0));
+    let whole = fs::read(path.join("out/left.wav")).unwrap();
+    for (first, second) in [(&no_head, &records), (&good, &no_seal)] {
+        fs::remove_file(path.join("out/left.wav")).unwrap();
+        put(first, second);
+        let ended = mend(&path);
+        assert_eq!(ended.status, Some(0), "{}", ended.why);
+        assert!(fs::read(path.join("out/left.wav")).unwrap() == whole);
+    }
+    for second in [None, Some(&records[..SEAL]), Some(&records[..7])] {
+        fs::remove_file(path.join("out/left.wav")).unwrap();
+        put(&good, second.unwrap_or_default());
+        if second.is_none() {
+            fs::remove_file(&sheet).unwrap();
+        }
+        let ended = mend(&path);
+        assert_eq!(ended.status, Some(0), "{}", ended.why);
+        let (audio, told) = recording(&path.join("out/left.wav"));
+        assert_eq!((audio.len(), told.heard), ((good.len() - HEAD) / 2, told.frames));
+        let lost = format!("The records of {} frames were lost: these are marked as heard.", told.frames);
+        assert!(ended.said.contains(&lost), "{}", ended.said);
+    }
 }
 
 /// The power fails again while a recording is closed: then its header says where the audio ends, and records stand
@@ -325,12 +350,11 @@ fn ten_hours_in_64_mb() {
     let path = folder("crash-hours");
     fs::create_dir(path.join("out")).unwrap();
     let (count, samples) = (3_600_001, 480 * 3_600_000u64);
-    let mut head = wav::write(48_000, &[]);
-    head[40..].fill(0xFF);
-    fs::write(part(&path, "right", ".part"), head).unwrap();
+    let front = Front { side: Side::Right, began: 0, first: 0 };
+    fs::write(part(&path, "right", ".part"), front.open_head()).unwrap();
     let audio = File::options().write(true).open(part(&path, "right", ".part")).unwrap();
-    audio.set_len(HEADER as u64 + 2 * samples).unwrap();
-    let sheet = [&seal::under_way(tuppencehop::cleaning::recorder::Side::Right)[..], &records(1, count)].concat();
+    audio.set_len(HEAD as u64 + 2 * samples).unwrap();
+    let sheet = [&front.seal()[..], &records(1, count)].concat();
     fs::write(part(&path, "right", ".sheet"), sheet).unwrap();
     let ended = in_memory(&path, 64, &["mend", "out"]);
     assert_eq!(ended.status, Some(0), "{}", ended.why);
@@ -348,11 +372,11 @@ fn a_long_torn_sheet_in_64_mb() {
     let samples = 480 * 100_000u32;
     let (zeros, torn) = (File::open("/dev/zero").unwrap(), path.join("torn.wav"));
     let (bytes, checksum) = wav::checksum(&mut &zeros, 2 * u64::from(samples)).unwrap();
-    let seal = seal::Seal { side: tuppencehop::cleaning::recorder::Side::Left, bytes, checksum };
-    fs::write(&torn, wav::header(48_000, 2 * samples, 0)).unwrap();
+    let front = Front { side: Side::Left, began: 0, first: 0 };
+    fs::write(&torn, front.head(2 * samples).unwrap()).unwrap();
     let mut file = File::options().append(true).open(&torn).unwrap();
-    file.set_len(HEADER as u64 + bytes).unwrap();
-    file.write_all(&[b"side", &[0; 4], &seal.written()[..], &records(0, 100_001)].concat()).unwrap();
+    file.set_len(HEAD as u64 + bytes).unwrap();
+    file.write_all(&[&front.chunk(2 * samples, checksum).unwrap()[..], &records(0, 100_001)].concat()).unwrap();
     let ended = in_memory(&path, 64, &["mend", "torn.wav", "--out", "mended.wav"]);
     assert_eq!(ended.status, Some(0), "{}", ended.why);
     assert!(ended.said.starts_with("mended.wav: left side, 100001 frames, 33334 heard, no gap\n"), "{}", ended.said);

@@ -1,12 +1,13 @@
-//! Randomly damaged recordings, sheets and models through the readers: each is read or refused, and none ends in a panic.
+//! Randomly damaged recordings, sheets and models through the readers: each is read or refused, and none ends in a
+//! panic.
 
 use std::io::Cursor;
 use tuppencehop::cleaning::demo::{Rng, HOUSE};
 use tuppencehop::cleaning::recorder::{Recorder, Side};
 use tuppencehop::reading::wav;
+use tuppencehop::recording::judge::judged;
 use tuppencehop::recording::mend;
-use tuppencehop::telling::found::sealed;
-use tuppencehop::telling::side::Sheet;
+use tuppencehop::telling::found::Found;
 
 /// The same in an EXTENSIBLE header, where the samples' form stands in front of fourteen fixed bytes.
 fn extended(file: &[u8]) -> Vec<u8> {
@@ -38,7 +39,8 @@ fn recordings() -> Vec<Vec<u8>> {
     forms
 }
 
-/// A byte changed, a few bytes of a number set to an end, the file cut or lengthened; mostly one of these, sometimes several.
+/// A byte changed, a few bytes of a number set to an end, the file cut or lengthened; mostly one of these, sometimes
+/// several.
 fn damage(rng: &mut Rng, file: &mut Vec<u8>) {
     for _ in 0..1 + rng.draw() % 3 {
         let at = rng.draw() as usize % (file.len() + 1);
@@ -68,19 +70,29 @@ fn read_at_once(file: &[u8]) -> Result<[u64; 3], u32> {
     }
 }
 
-/// The same as the box reads it, in parts.
-fn read_in_parts(file: &[u8]) -> Result<[u64; 3], u32> {
-    let read = Sheet::read(&mut Cursor::new(file)).unwrap();
-    read.map(|(sheet, start)| [start, sheet.frames as u64, sheet.side as u64]).map_err(|refusal| refusal.0)
+/// Whether the frames of a good sheet number up from the first one.
+fn numbers_up(file: &[u8], frames: u64) -> bool {
+    let number = |index: u64| {
+        let mut entry = [0];
+        assert_eq!(tuppence::sheet_entry(&mut entry, file, index), 0);
+        entry[0] as u32
+    };
+    (1..frames).all(|index| number(index) == number(index - 1).wrapping_add(1))
 }
 
-/// Mends a file. What it becomes is sealed.
+/// The sheet as the box finds it, in parts: one with frames that number up.
+fn read_in_parts(file: &[u8]) -> Option<[u64; 3]> {
+    let found = Found::of(&mut Cursor::new(file)).unwrap().sheet;
+    found.map(|sheet| [sheet.start, sheet.frames, sheet.side as u64])
+}
+
+/// Mends a file. What it becomes is accepted.
 fn is_mended(file: &[u8]) -> bool {
-    let Ok(mended) = mend::mended_of(&mut Cursor::new(file), Some(Side::Right)) else { return false };
+    let Ok(plan) = mend::plan_of(&mut Cursor::new(file), Some(Side::Right)) else { return false };
     let mut out = vec![];
-    mended.write(&mut Cursor::new(file), &mut out).unwrap();
-    assert_eq!(sealed(&mut Cursor::new(&out), false).ok(), Some(mended.sheet));
-    assert_eq!(mended.whole, out == file);
+    plan.write(&mut Cursor::new(file), &mut out).unwrap();
+    assert_eq!(judged(&mut &out[..]).unwrap().map(|told| told.front), Ok(plan.front));
+    assert_eq!(plan.whole, out == file);
     true
 }
 
@@ -92,11 +104,12 @@ fn recordings_and_sheets() {
         let mut file = good[i % good.len()].clone();
         damage(rng, &mut file);
         let results =
-            [wav::read(&file).is_ok(), wav::audio(&file[..]).is_ok(), Sheet::of(&file).is_ok(), is_mended(&file)];
+            [wav::read(&file).is_ok(), wav::audio(&file[..]).is_ok(), read_in_parts(&file).is_some(), is_mended(&file)];
         for (count, ok) in read.iter_mut().zip(results) {
             *count += u32::from(ok);
         }
-        assert_eq!(read_in_parts(&file), read_at_once(&file), "{file:?}");
+        let at_once = read_at_once(&file).ok().filter(|[_, frames, _]| *frames > 0 && numbers_up(&file, *frames));
+        assert_eq!(read_in_parts(&file), at_once, "{file:?}");
     }
     // some of each are read still, and some of each are not
     assert!(read.iter().all(|n| (1_000..99_000).contains(n)), "{read:?}");

@@ -42,7 +42,10 @@ fn taken(path: &Path, words: &[&str], notes: &str) {
 
 /// What is said of a file whose name, or its folder's, says the other side.
 fn by_name(file: &str, whose: &str, says: &str, bench: &str) -> String {
-    format!("{file}: its {whose} says {says}, but it is given as the {bench} bench's recording; use --anyway to clean it as {bench} regardless")
+    format!(
+        "{file}: its {whose} says {says}, but it is given as the {bench} bench's recording; use --anyway to clean \
+         it as {bench} regardless"
+    )
 }
 
 /// One rule for every way to name a file.
@@ -118,7 +121,8 @@ fn stereo(left: &[f32], right: &[f32]) -> Vec<u8> {
     file
 }
 
-const IDENTICAL: &str = "both benches' recordings are identical: one voice can't be both benches'; use --anyway to clean it as both regardless";
+const IDENTICAL: &str = "both benches' recordings are identical: one voice can't be both benches'; use --anyway to \
+                         clean it as both regardless";
 
 #[test]
 fn one_voice_for_both_benches() {
@@ -139,7 +143,8 @@ fn one_voice_for_both_benches() {
         assert_eq!((ended.status, ended.why), (Some(2), format!("box: standard input: {IDENTICAL}\n")));
         assert!(!path.join("out").exists());
     }
-    let note = "both benches' recordings are identical: one voice can't be both benches'; cleaned regardless, because of --anyway";
+    let note = "both benches' recordings are identical: one voice can't be both benches'; cleaned regardless, because \
+                of --anyway";
     taken(&path, &["clean", "--both", "both.wav", "--anyway"], &format!("both.wav: {note}\n"));
     // two voices over the same second of silence, and two voices
     let quiet = |voice: &[f32]| [&[0.0; 48_000], voice].concat();
@@ -384,9 +389,10 @@ fn long_files() {
     // RF64 is none of ours: no side is told of it
     let left = sealed(0, &noise(960, 1));
     let head = rf64(b"RF64", 1_920, u32::MAX);
-    fs::write(path.join("1.wav"), [&head[..head.len() - audio.len()], &left[44..]].concat()).unwrap();
+    fs::write(path.join("1.wav"), [&head[..head.len() - audio.len()], &left[76..]].concat()).unwrap();
     let ended = run(host(&path, &["side", "1.wav"]));
-    assert_eq!((ended.status, &*ended.why), (Some(5), "box: 1.wav: its header is none that the box writes\n"));
+    let why = "box: 1.wav: another program wrote it in another form (refusal 61)\n";
+    assert_eq!((ended.status, &*ended.why, &*ended.said), (Some(5), why, ""));
 }
 
 /// Two files of a list that would be written to one folder.
@@ -397,7 +403,8 @@ fn twins() {
         fs::create_dir(path.join(folder)).unwrap();
         fs::copy(path.join("left.wav"), path.join(folder).join("left.wav")).unwrap();
     }
-    let why = "clean: x/left.wav and y/left.wav would both be written to out/left; clean them with different --out\nbox: see box clean --help";
+    let why = "clean: x/left.wav and y/left.wav would both be written to out/left; clean them with different \
+               --out\nbox: see box clean --help";
     refused(&path, &["clean", "x/left.wav", "y/left.wav"], why);
     refused(&path, &["clean", "x/left.wav", "y/left.wav", "--force"], why);
     assert_eq!(said(&path, &["clean", "x/left.wav", "right.wav"]).status, Some(0));

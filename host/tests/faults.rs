@@ -10,7 +10,7 @@ use tuppencehop::cleaning::cleaned::Cleaned;
 use tuppencehop::cleaning::demo::HOUSE;
 use tuppencehop::cleaning::recorder::{Side, Way};
 use tuppencehop::cleaning::run::{run as run_benches, Refused};
-use tuppencehop::reading::source::{Limited, Memory};
+use tuppencehop::reading::source::Memory;
 use tuppencehop::reading::wav;
 use tuppencehop::telling::refusal::Refusal;
 
@@ -233,7 +233,8 @@ fn a_model_that_is_refused_for_one() {
     let both = [0, 1].map(|bench| dictations()[bench][..48_000].to_vec());
     let run = |models: [&[u8]; 2]| {
         let mut benches = Side::BOTH.map(Cleaned::of);
-        let refused = run_benches(&mut Memory([&both[0], &both[1]]), models, Way::Crate, &mut benches, |_| ()).unwrap();
+        let refused =
+            run_benches(&mut Memory([&both[0], &both[1]]), models, Way::Nnnoiseless, &mut benches, |_| ()).unwrap();
         (refused, benches.map(|bench| bench.after))
     };
     let (refused, whole) = run([HOUSE; 2]);
@@ -246,16 +247,4 @@ fn a_model_that_is_refused_for_one() {
     let (refused, [left, right]) = run([cut, HOUSE]);
     assert_eq!(refused, [Some(Refused { refusal, sample: 0 }), None]);
     assert!(left.is_empty() && right == whole[1]);
-}
-
-/// A file has an end; what goes beyond it is cut there, and told.
-#[test]
-fn more_than_a_file_can_hold() {
-    let both = [0, 1].map(|bench| dictations()[bench][..48_000].to_vec());
-    let mut benches = Side::BOTH.map(Cleaned::of);
-    let mut memory = Memory([&both[0], &both[1][..9_000]]);
-    let mut limited = Limited::new(&mut memory, 10_007);
-    assert_eq!(run_benches(&mut limited, [HOUSE; 2], Way::Crate, &mut benches, |_| ()), Ok([None, None]));
-    assert_eq!(limited.cut, [true, false]);
-    assert_eq!(benches.map(|bench| bench.after.len()), [10_007, 9_000]);
 }

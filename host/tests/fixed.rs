@@ -88,7 +88,7 @@ fn bench_15_is_the_last_and_98_304_numbers_are_the_only_store() {
 /// The eleventh number of a record is the way of its bench, and the twelfth its bench, counted from 1.
 #[test]
 fn an_opening_settles_the_way() {
-    for (way, number) in [(Way::Asked, 0), (Way::Crate, 1)] {
+    for (way, number) in [(Way::Own, 0), (Way::Nnnoiseless, 1)] {
         let (mut store, mut record) = (vec![1.0; tuppence::STORE], [0; RECORD]);
         assert_eq!(way.open(&mut record, &mut store, 0, &smallest()), Ok(()));
         assert_eq!(record, [1, 0, 1, 1, 1, 0, 0, 0, 0, 0, number, 1]);
@@ -103,7 +103,8 @@ fn an_opening_settles_the_way() {
     }
 }
 
-/// Pulses 120 samples apart, of which every other one grows weak: whether the lag stays 120 or becomes 240 hangs on what the finder remembers.
+/// Pulses 120 samples apart, of which every other one grows weak: whether the lag stays 120 or becomes 240 hangs on
+/// what the finder remembers.
 fn pulses() -> Vec<f32> {
     let strength = |i: usize| if i >= 9_600 && i / 120 % 2 == 1 { 3_200.0 } else { 8_000.0 };
     (0..100 * FRAME).map(|i| strength(i) * (1.0 - (i % 120) as f32 / 8.0).max(0.0)).collect()
@@ -127,7 +128,7 @@ fn disturbed(way: Way, by: Option<&[u8]>) -> Vec<u8> {
 
 #[test]
 fn a_refused_opening_changes_nothing() {
-    for way in [Way::Crate, Way::Asked] {
+    for way in [Way::Nnnoiseless, Way::Own] {
         assert!(disturbed(way, Some(b"")) == disturbed(way, None), "{way:?}");
     }
 }

@@ -1,6 +1,6 @@
 //! What the box writes of a recording of each format, held against fixed checksums, of either way. Those of `--lag own`
-//! were taken when the box still made samples of bytes, and bytes of samples, by itself. Where the library's own numbers
-//! move, they are to be taken anew; tests/bytes.rs goes along by itself.
+//! were taken when the box still made samples of bytes, and bytes of samples, by itself. Where the library's own
+//! numbers move, they are to be taken anew; tests/bytes.rs goes along by itself.
 
 mod common;
 
@@ -93,8 +93,8 @@ fn checksum(bytes: &[u8]) -> u64 {
 /// The checksum of a recording's audio, and of the entries of its sheet behind it.
 fn recorded(path: &Path) -> u64 {
     let file = fs::read(path).unwrap();
-    let size = u32::from_le_bytes(file[40..HEADER].try_into().unwrap()) as usize;
-    let (mut bytes, mut numbers, mut entry) = (file[HEADER..HEADER + size].to_vec(), [0; 3], [0]);
+    let size = u32::from_le_bytes(file[72..HEAD].try_into().unwrap()) as usize;
+    let (mut bytes, mut numbers, mut entry) = (file[HEAD..HEAD + size].to_vec(), [0; 3], [0]);
     assert_eq!(tuppence::sheet_read(&mut numbers, &file), 0);
     for index in 0..numbers[1] {
         assert_eq!(tuppence::sheet_entry(&mut entry, &file, index), 0);

@@ -15,7 +15,7 @@ fn it_has_the_usual_shape() {
 #[test]
 fn on_the_demo_the_pauses_fall_by_15_decibels_and_the_voice_by_at_most_one_and_a_half() {
     let dictations = [dictation(0), dictation(1)];
-    for way in [Way::Crate, Way::Asked] {
+    for way in [Way::Nnnoiseless, Way::Own] {
         for (bench, dictation) in cleaned(&dictations, way).unwrap().iter().zip(&dictations) {
             let effect = effect(dictation, &bench.after);
             let (pauses, voice, [before, after]) = (effect.pauses, effect.voice, effect.ratio);

@@ -1,5 +1,5 @@
-//! The page's structure, read without a browser: names, roles, references, the contrasts of its colours, and what it says of recordings that are not
-//! whole. (How it looks is seen by tools/see_page.sh.)
+//! The page's structure, read without a browser: names, roles, references, the contrasts of its colours, and what it
+//! says of recordings that are not whole. (How it looks is seen by tools/see_page.sh.)
 
 use std::collections::HashMap;
 use std::fs;
@@ -12,6 +12,7 @@ use tuppencehop::cleaning::recorder::{Frame, Heard, Side};
 use tuppencehop::page;
 use tuppencehop::page::about::About;
 use tuppencehop::page::colours::{DARK, LIGHT};
+use tuppencehop::reading::block::packed;
 use tuppencehop::reading::wav;
 
 /// A tag, and what stands between it and the next one.
@@ -72,7 +73,8 @@ fn attributes(mut text: &str) -> HashMap<String, String> {
     }
 }
 
-/// Two seconds of either side: noise, then a voice; frames of the right one are missing, and samples of it stood at full scale.
+/// Two seconds of either side: noise, then a voice; frames of the right one are missing, and samples of it stood at
+/// full scale.
 fn benches() -> [Summary; 2] {
     Side::BOTH.map(|side| {
         let mut summary = Summary::of(side);
@@ -82,11 +84,11 @@ fn benches() -> [Summary; 2] {
             before[50_000..50_003].fill(32_767.0);
         }
         summary.before(&before);
-        summary.after(&before.iter().map(|x| x / 10.0).collect::<Vec<_>>());
+        summary.after(&packed(&before.iter().map(|x| x / 10.0).collect::<Vec<_>>()));
         for number in (0..201).filter(|number| side == Side::Left || *number != 150) {
             let probability = if number >= 100 { 0.9 } else { 0.1 };
             let heard = Heard::Voice { probability, energy: 1.0 };
-            summary.frame(&Frame { entry: number.into(), heard, heard_so_far: number });
+            summary.frame(&Frame::of(side, number, heard, number));
         }
         summary.about = About::stream(&format!("{} <1> & \"2\".wav", side.name()), "models/house.rnn".as_ref());
         summary
@@ -249,8 +251,8 @@ const GROUND: [&str; 2] = ["card", "paper"];
 const SIDES: [&str; 2] = ["left", "right"];
 const SEEN: [&str; 8] = ["edge", "peak-before", "rms-before", "peak-after", "rms-after", "voice", "heard", "gap"];
 
-/// Text has 4.5 to 1 on every ground, what must be seen 3 to 1 on its card, and the RMS as much on the peak. A gap's stroke has the card's colour on
-/// either side.
+/// Text has 4.5 to 1 on every ground, what must be seen 3 to 1 on its card, and the RMS as much on the peak. A gap's
+/// stroke has the card's colour on either side.
 #[test]
 fn contrasts() {
     assert_eq!(format!("{:.2} {:.2}", contrast("#000000", "#ffffff"), contrast("#1f6f8b", "#d00000")), "21.00 1.01");
@@ -274,7 +276,8 @@ fn contrasts() {
     assert!(page.contains("color-scheme: light dark"));
 }
 
-/// The style sheet names no colour but by those variables, text only in the text's and grounds only in the grounds'; and no text is under 12 px.
+/// The style sheet names no colour but by those variables, text only in the text's and grounds only in the grounds';
+/// and no text is under 12 px.
 #[test]
 fn the_style_sheet() {
     let page = the_page();
@@ -366,10 +369,10 @@ fn a_long_recording_has_as_large_a_page() {
             for second in 0..seconds {
                 let sound: Vec<f32> = (0..48_000).map(|i| ((i * 7 + second * 131) % 2_001) as f32 - 1_000.0).collect();
                 summary.before(&sound);
-                summary.after(&sound);
-                for entry in 100 * second as u64..100 * second as u64 + 100 {
-                    let probability = (entry % 7) as f32 / 7.0;
-                    summary.frame(&Frame { entry, heard: Heard::Voice { probability, energy: 1.0 }, heard_so_far: 0 });
+                summary.after(&packed(&sound));
+                for number in 100 * second as u32..100 * second as u32 + 100 {
+                    let probability = (number % 7) as f32 / 7.0;
+                    summary.frame(&Frame::of(side, number, Heard::Voice { probability, energy: 1.0 }, 0));
                 }
             }
             summary

@@ -1,4 +1,5 @@
-//! Every command of the box that the README and docs/BOX.md show is run here, with files in the place of the names that stand there.
+//! Every command of the box that the README and docs/BOX.md show is run here, with files in the place of the names that
+//! stand there.
 
 mod models;
 
@@ -68,12 +69,12 @@ fn tear(folder: &Path, name: &str) {
     fs::write(folder.join(name), &whole[..whole.len() - 10]).unwrap();
 }
 
-/// A recording with its side sheet alone, as those of before have it.
+/// A recording with its side sheet alone, as the first ones have it.
 fn unseal(folder: &Path, name: &str) {
-    let mut file = fs::read(folder.join("DIR/left.wav")).unwrap();
-    let end = wav::audio(&file[..]).unwrap().end() as usize;
-    file.drain(end..end + 32);
-    fs::write(folder.join(name), file).unwrap();
+    let file = fs::read(folder.join("DIR/left.wav")).unwrap();
+    let audio = wav::audio(&file[..]).unwrap();
+    let (start, end) = (audio.place as usize, audio.end() as usize);
+    fs::write(folder.join(name), [&file[..36], &file[start - 8..end], &file[end + 32..]].concat()).unwrap();
 }
 
 /// A run that the power cut short.

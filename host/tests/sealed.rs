@@ -11,8 +11,9 @@ use std::io::{Cursor, Write};
 use std::path::{Path, PathBuf};
 use tuppencehop::cleaning::demo::{Rng, HOUSE};
 use tuppencehop::reading::wav;
+use tuppencehop::recording::front::Front;
+use tuppencehop::recording::judge::{judged, Told};
 use tuppencehop::recording::mend;
-use tuppencehop::telling::found::sealed as told;
 
 /// What the box writes, made by hand of its audio and its table.
 #[test]
@@ -24,13 +25,13 @@ fn one_whole_riff() {
     let table = fs::read_to_string(path.join("out/frames.csv")).unwrap();
     for (side, name) in [(0, "left"), (1, "right")] {
         let file = fs::read(path.join(format!("out/{name}.wav"))).unwrap();
-        let audio = &file[HEADER..][..2 * 62_400];
+        let audio = &file[HEAD..][..2 * 62_400];
         let rows = table.lines().filter(|row| row.starts_with(name));
         let entries: Vec<u64> =
             rows.enumerate().map(|(n, row)| n as u64 + if row.contains(",heard,") { HEARD } else { 0 }).collect();
         assert_eq!(entries.len(), 131);
         assert!(file == with_entries(side, audio, &entries), "{name}");
-        // RIFF says how long all is, and its three chunks are all of it
+        // RIFF says how long all is, and its four chunks are all of it
         assert_eq!(file[4..8], (file.len() as u32 - 8).to_le_bytes());
         assert!(are_chunks(&file[12..]));
         assert_eq!(wav::read(&file).unwrap().channels[0].len(), 62_400);
@@ -97,55 +98,89 @@ fn place(rng: &mut Rng, file: &[u8]) -> usize {
 }
 
 /// Parts of the other side's recording, which is as long, in the place of this one's.
-fn swap(rng: &mut Rng, file: &mut [u8], other: &[u8]) {
+/// Whether the front or the audio is now the other's.
+fn swap(rng: &mut Rng, file: &mut [u8], other: &[u8]) -> bool {
     let [seal, records] = places(other);
-    let parts = [HEADER..seal - 8, seal..records, records..other.len(), seal..other.len(), records..other.len() - 16];
-    let part = parts[rng.draw() as usize % parts.len()].clone();
+    let parts = [
+        HEAD..seal - 8,
+        44..68,
+        0..HEAD,
+        seal..records,
+        records..other.len(),
+        seal..other.len(),
+        records..other.len() - 16,
+    ];
+    let which = rng.draw() as usize % parts.len();
+    let part = parts[which].clone();
     if file.len() == other.len() {
         file[part.clone()].copy_from_slice(&other[part]);
     }
+    which < 3
 }
 
-fn damage(rng: &mut Rng, file: &mut Vec<u8>, known: &Known, other: &[u8]) {
-    let at = place(rng, file);
-    match rng.draw() % 8 {
+/// Damages a file. Whether something of another recording is in it where its own front or audio was.
+fn damage(rng: &mut Rng, file: &mut Vec<u8>, known: &Known, other: &[u8]) -> bool {
+    let (at, kind) = (place(rng, file), rng.draw() % 8);
+    match kind {
         0 | 1 if at < file.len() => file[at] ^= 1 << (rng.draw() % 8),
         2 => _ = file.splice(at..at, (0..1 + rng.draw() % 9).map(|_| rng.draw() as u8).collect::<Vec<_>>()),
         3 => _ = file.drain(at..(at + 1 + rng.draw() as usize % 9).min(file.len())),
         4 => file[at..].fill(0),
         5 => file.truncate(at),
         6 => file.extend(known.any(rng)),
-        _ => swap(rng, file, other),
+        _ => return swap(rng, file, other),
     }
+    kind == 6
+}
+
+/// What the judge tells of some bytes.
+fn told(file: &[u8]) -> Option<Told> {
+    judged(&mut &file[..]).unwrap().ok()
+}
+
+/// What becomes of a file by mending, and how.
+fn mended(file: &[u8]) -> Option<(mend::Plan, Told, Vec<u8>)> {
+    let plan = mend::plan_of(&mut Cursor::new(file), None).ok()?;
+    let mut new = vec![];
+    plan.write(&mut Cursor::new(file), &mut new).unwrap();
+    let told = told(&new).expect("what is mended is accepted");
+    assert_eq!(told.front, plan.front);
+    assert_eq!(plan.whole, new == file);
+    Some((plan, told, new))
 }
 
 /// Damage of every kind, alone and together: of no file the other side is told, and none becomes one by mending. What
-/// is told, and what is mended, is the audio of a recording of that side.
+/// is told is the audio of a recording of that side, and so is what is mended, if its end seal is there. If that was
+/// cut off, the side is the front's, and the recording's own, unless a part of another recording was put in its place.
 #[test]
 fn mutants() {
     let many: usize = std::env::var("MUTANTS").map_or(20_000, |many| many.parse().unwrap());
     let (known, rng) = (Known::new(), &mut Rng(0x51de));
-    let mut counts = [0; 3];
+    let (mut counts, mut cut) = ([0; 3], 0);
     for i in 0..many {
         let (side, n) = (i % 2, i / 2 % known.0[0].len());
         let mut file = known.0[side][n].clone();
-        (0..1 + rng.draw() % 3).for_each(|_| damage(rng, &mut file, &known, known.other(side, n)));
-        if let Ok(sheet) = told(&mut Cursor::new(&file), false) {
-            assert!(known.begins(sheet.side as usize, audio(&file)), "mutant {i}: {sheet}");
+        let damaged = |_| damage(rng, &mut file, &known, known.other(side, n));
+        let mixed = (0..1 + i % 3).map(damaged).filter(|mixed| *mixed).count() > 0;
+        if let Some(told) = told(&file) {
+            assert!(known.begins(told.front.side as usize, audio(&file)), "mutant {i}: {told}");
             counts[0] += 1;
         }
-        if let Ok(mended) = mend::mended_of(&mut Cursor::new(&file), None) {
-            let mut new = vec![];
-            mended.write(&mut Cursor::new(&file), &mut new).unwrap();
-            let sheet = told(&mut Cursor::new(&new), false).expect("what is mended is sealed");
-            assert!(sheet == mended.sheet && known.begins(sheet.side as usize, audio(&new)), "mutant {i}: {sheet}");
-            counts[1 + usize::from(mended.whole)] += 1;
+        let Some((plan, told, new)) = mended(&file) else { continue };
+        counts[1 + usize::from(plan.whole)] += 1;
+        if plan.says == mend::Says::Seal {
+            assert!(known.begins(told.front.side as usize, audio(&new)), "mutant {i}: {told}");
+        } else {
+            assert_eq!(Front::read(&file[44..68]), Ok(told.front), "mutant {i}");
+            assert!(mixed || told.front.side as usize == side, "mutant {i}: {told}");
+            assert!(file[HEAD..].starts_with(audio(&new)), "mutant {i}");
+            cut += 1;
         }
     }
-    // some are as good as they were, some are mended, and most are neither
+    // some are as good as they were, some are mended, and some are neither
     let [as_they_were, mended, whole] = counts;
     assert!(as_they_were == whole && (many / 1_000..many / 10).contains(&whole), "{counts:?}");
-    assert!((many / 10..many / 2).contains(&mended), "{counts:?}");
+    assert!((many / 5..4 * many / 5).contains(&mended) && (many / 20..mended).contains(&cut), "{counts:?}, {cut}");
 }
 
 /// A right recording, cut anywhere and filled up with zeros as a power cut leaves it: it is never left.
@@ -156,16 +191,16 @@ fn two_thousand_power_cuts() {
     for cut in (0..whole.len()).rev().step_by(whole.len() / 2_000) {
         let mut file = whole.clone();
         file[cut..].fill(0);
-        assert!(told(&mut Cursor::new(&file), false).is_err() || file == whole, "{cut}");
-        match mend::mended_of(&mut Cursor::new(&file), None) {
-            Ok(mended) => {
-                assert_eq!(mended.sheet.side.name(), "right");
+        assert!(told(&file).is_none() || file == whole, "{cut}");
+        match mend::plan_of(&mut Cursor::new(&file), None) {
+            Ok(plan) => {
+                assert_eq!(plan.front.side.name(), "right");
                 closed += 1;
             }
             Err(why) => assert!(!why.to_string().contains("left"), "{why}"),
         }
     }
-    assert!(closed > 10, "{closed}");
+    assert!(closed > 2_000, "{closed}");
 }
 
 /// Both recordings of a dictation, cleaned and as they were.
@@ -208,6 +243,9 @@ fn the_other_bench() {
     refused(&["--left", "old.wav", "--right", "b.wav"], &given("old.wav: its side sheet", "right", "left"));
     fs::write(path.join("torn.wav"), &right[..records]).unwrap();
     refused(&["--left", "torn.wav", "--right", "b.wav"], &given("torn.wav: its seal", "right", "left"));
+    // one that was cut: its front says it
+    fs::write(path.join("cut.wav"), &right[..HEAD + 2_000]).unwrap();
+    refused(&["--left", "cut.wav", "--right", "b.wav"], &given("cut.wav: its seal", "right", "left"));
     // one recording for both, by whatever name
     fs::hard_link(path.join("a.wav"), path.join("c.wav")).unwrap();
     for other in ["a.wav", "./a.wav", "c.wav"] {

@@ -3,13 +3,14 @@
 mod common;
 mod made;
 
-use common::{folder, host, in_memory, run, Ended};
+use common::{ended, fed, folder, host, in_memory, run, Ended};
 use made::*;
 use std::fs::{self, File};
 use std::io::{Seek, SeekFrom, Write};
-use std::path::{Path, PathBuf};
+use std::path::PathBuf;
 use std::process::Command;
 use std::sync::atomic::{AtomicU32, Ordering};
+use tuppencehop::recording::judge::judged;
 
 /// What is told of these files, in a folder of their own.
 fn side(name: &str, files: &[(&str, &[u8])]) -> Ended {
@@ -39,78 +40,163 @@ fn a_line_for_each_recording() {
     );
 }
 
-/// `--quick` does not look at the audio, and says so.
+/// What is said of files that the judge accepts, with a first frame and a start of their own.
 #[test]
-fn a_quick_look() {
+fn a_recording_that_goes_on_from_another() {
+    let frames: Vec<u64> = (41_210..41_213).collect();
+    let later = recording(0, 1_794_803_400, &noise(1_440, 1), &frames);
+    let wrapped = recording(1, 0, &noise(960, 1), &[u32::MAX.into(), HEARD]);
+    let said = "l.wav: left side, frames 41,210 to 41,212, 0 heard, no gap, begun 2026-11-16 04:30:00 UTC; sealed\n\
+                r.wav: right side, frames 4,294,967,295 to 0, 1 heard, no gap; sealed\n";
+    let files: [(&str, &[u8]); 2] = [("l.wav", &later), ("r.wav", &wrapped)];
+    assert_eq!(side("later", &files), Ended { status: Some(0), said: said.into(), why: String::new() });
+    let path = folder("told-later-json");
+    fs::write(path.join("l.wav"), &later).unwrap();
+    let json = run(host(&path, &["side", "--json", "l.wav"])).said;
+    assert!(json.contains("\"gaps\": 0, \"first\": 41210, \"began\": 1794803400, \"status\": 0"), "{json}");
+    // a frame that does not follow the one before it, or one too few
+    for entries in [&[41_210, 41_212, 41_213][..], &[41_210, 41_211], &[41_210, 41_211, 41_212, 41_213]] {
+        let path = folder("told-later");
+        fs::write(path.join("1.wav"), recording(0, 0, &noise(1_440, 1), entries)).unwrap();
+        let ended = run(host(&path, &["side", "1.wav"]));
+        assert_eq!((ended.status, &*ended.said), (Some(5), ""), "{entries:?}: {}", ended.why);
+    }
+}
+
+/// There is no quick look: a side is told after the whole file was judged.
+#[test]
+fn no_quick_look() {
     let path = folder("told-quick");
-    let (mut left, mut right) = (sealed(0, &noise(480, 1)), sealed(1, &noise(480, 2)));
-    left[HEADER + 5] ^= 1;
-    let record = right.len() - 16 - 3;
-    right[record] ^= 1;
-    fs::write(path.join("l.wav"), left).unwrap();
-    fs::write(path.join("r.wav"), right).unwrap();
-    let ended = run(host(&path, &["side", "l.wav", "--quick", "r.wav"]));
-    assert_eq!(ended.said, "l.wav: left side, 2 frames, 1 heard, no gap; sealed, but its audio was not looked at\n");
-    assert_eq!((ended.status, ended.why.contains("r.wav: its seal is whole, but no side sheet")), (Some(5), true));
-    assert_eq!(run(host(&path, &["side", "l.wav"])).status, Some(5));
-    assert_eq!(run(host(&path, &["side", "--quick"])).status, Some(2));
-}
-
-#[test]
-fn no_sheet_and_none_with_frames() {
-    let audio = noise(960, 1);
-    let none = "a side sheet without frames tells no side";
-    // 16 zeros are a good, empty, left sheet, and so is the end of any file that was padded with silence
-    untold(&[0; 16], 3, none);
-    untold(&riff(&[noise(960, 2), vec![0; 960]].concat(), &[]), 3, none);
-    untold(&riff(&audio, &sheet(1, &[])), 3, none);
-    untold(&sealed(1, &[]), 3, none);
-    untold(&[0; 15], 3, &format!("{NOT_SEALED} (refusal 31)"));
-    untold(&riff(&audio, &[]), 3, &format!("{NOT_SEALED} (refusal 32)"));
-    let third = riff(&audio, &sheet(2, &[]));
-    untold(&third, 3, "no side sheet: its trailer names neither the left nor the right side (refusal 33)");
-    untold(&sealed(0, &audio)[..1_000], 3, "the file ends within its audio (refusal 37)");
-}
-
-/// As files of before have it, or of others.
-#[test]
-fn a_sheet_without_a_seal() {
-    let audio = noise(960, 1);
-    let says = "a side sheet without a seal says: left side, 3 frames, 1 heard, no gap";
-    untold(&riff(&audio, &sheet(0, &entries(3))), 4, says);
-    untold(&sheet(0, &entries(3)), 4, says);
-    let gaps = "a side sheet without a seal says: right side, 5 frames, 1 heard, 2 gaps, the first after frame 8";
-    untold(&riff(&audio, &sheet(1, &[7, 8 + HEARD, 10, 11, 40])), 4, gaps);
-    let once = "a side sheet without a seal says: right side, 2 frames, 0 heard, 1 gap, after frame 5";
-    untold(&riff(&audio, &sheet(1, &[5, 7])), 4, once);
-}
-
-#[test]
-fn not_of_this_audio() {
-    let (audio, other) = (noise(960, 1), noise(960, 2));
-    let (left, chunk) = (sealed(0, &audio), chunk(&seal(0, &audio), &sheet(0, &entries(3))));
-    let elsewhere = "its seal does not stand where its audio ends";
-    untold(&riff(&other, &chunk), 5, "its audio is not the one that it was sealed with");
-    untold(&riff(&audio[..1_918], &chunk), 5, "its seal is of 1920 bytes of audio, and it has 1918");
-    untold(&riff(&audio[..960], &chunk), 5, "its side sheet has 3 frames, and its audio 2");
-    // a byte inserted, a byte removed, and a part cut out with the header and the sheet kept
-    untold(&[&left[..500], &[7], &left[500..]].concat(), 5, elsewhere);
-    untold(&[&left[..500], &left[501..]].concat(), 5, elsewhere);
-    untold(&[&left[..500], &left[980..]].concat(), 5, elsewhere);
-    untold(&[&left[..24], &[0x81], &left[25..]].concat(), 5, "its header is none that the box writes");
-    // two files, one behind the other
-    let joined = [left.clone(), sealed(1, &other)].concat();
-    let why = "another recording was joined to its end; `box mend 1.wav --out NEW.wav` keeps the first";
-    untold(&joined, 5, why);
-    untold(&joined[..joined.len() - 1], 5, why);
-    // and the first of them changed
-    let mut changed = joined.clone();
-    changed[100] ^= 1;
-    untold(&changed, 5, "its side sheet does not stand where its seal does");
+    fs::write(path.join("l.wav"), sealed(0, &noise(480, 1))).unwrap();
+    let ended = run(host(&path, &["side", "--quick", "l.wav"]));
+    assert!(ended.status == Some(2) && ended.why.contains("unknown option --quick"), "{}", ended.why);
 }
 
 const NOT_SEALED: &str = "not a sealed recording: another program saved it, or it was never sealed. Ask for the file \
-                          as the box wrote it";
+                          as the box wrote it (refusal 61)";
+
+#[test]
+fn no_recording_at_all() {
+    let audio = noise(960, 1);
+    for bytes in [
+        &[][..],
+        &[0; 15],
+        &[0; 16],
+        &[0; 200],
+        b"notes",
+        &riff(&audio, &[]),
+        &riff(&[noise(960, 2), vec![0; 960]].concat(), &[]),
+        &riff(&audio, &sheet(1, &[])),
+        &riff(&audio, &sheet(2, &[])),
+        &sealed(0, &audio)[..40],
+    ] {
+        untold(bytes, 3, NOT_SEALED);
+    }
+    // another program kept the audio and the chunks behind it, and not the one before it
+    let left = sealed(0, &audio);
+    untold(&riff(&audio, b"LIST\x04\0\0\0INFO"), 3, NOT_SEALED);
+    untold(&[&left[..36], &left[68..HEAD + 1_920]].concat(), 3, NOT_SEALED);
+}
+
+/// As earlier versions of the box wrote them, or others. No side is told of them.
+#[test]
+fn what_was_written_before() {
+    let audio = noise(960, 1);
+    let why =
+        "an earlier version of the box sealed it; `box mend 1.wav --out NEW.wav` checks it and writes it as this \
+               version does";
+    untold(&earlier(0, &audio), 4, why);
+    untold(&earlier(1, &audio), 4, why);
+    let why = "a side sheet without a seal tells no side; if somebody knows the side, `box mend 1.wav --as left --out \
+               NEW.wav` (or `--as right`) seals it";
+    for side in 0..2 {
+        untold(&riff(&audio, &sheet(side, &entries(3))), 4, why);
+        untold(&sheet(side, &entries(3)), 4, why);
+        untold(&riff(&audio, &sheet(side, &[7, 8 + HEARD, 9])), 4, why);
+    }
+    // what does not number up is no sheet
+    untold(&riff(&audio, &sheet(1, &[7, 8 + HEARD, 10])), 3, NOT_SEALED);
+    let mut broken = earlier(1, &audio);
+    broken[HEADER + 1_920 + 12] ^= 1;
+    untold(&broken, 5, "its seal is damaged: its own checksum does not fit it (refusal 52)");
+}
+
+/// Each part of a recording, cut or changed: what is said of it, and which command mends it.
+#[test]
+fn what_is_not_as_it_was_written() {
+    let (audio, other) = (noise(48_000, 1), noise(48_000, 2));
+    let left = sealed(0, &audio);
+    let (end, whole) = (HEAD + 96_000, left.len());
+    let mend = |does: &str| format!("`box mend 1.wav --out NEW.wav` {does}");
+    let changed = |at: usize| [&left[..at], &[left[at] ^ 1], &left[at + 1..]].concat();
+    // the head
+    for at in [4, 24, 30, 36, 70, 73] {
+        untold(&changed(at), 5, &format!("its head was changed; {} (refusal 61)", mend("restores it")));
+    }
+    for at in [44, 48, 52, 60, 67] {
+        untold(&changed(at), 5, &format!("its front seal is damaged; {} (refusal 61)", mend("restores it")));
+    }
+    let mut open = left[..HEAD + 960].to_vec();
+    open[4..8].fill(0xFF);
+    open[72..HEAD].fill(0xFF);
+    untold(&open, 5, &format!("it was not finished; {} (refusal 61)", mend("closes it")));
+    // the audio
+    let cut = "the file ends after 0.50 of the 1.00 s of its audio";
+    untold(&left[..HEAD + 48_000], 5, &format!("{cut}; {} (refusal 62)", mend("closes it there")));
+    let not_of = "its audio is not the one that it was sealed with (refusal 63)";
+    for at in [HEAD, HEAD + 50_000, end - 1] {
+        untold(&changed(at), 5, not_of);
+    }
+    let front = front(0, 0, 0);
+    untold(&fronted(&front, &other, &left[end..]), 5, not_of);
+    // what is between the audio and the records
+    let ends = format!("the file ends where its audio does; {} (refusal 63)", mend("closes it"));
+    (0..32).for_each(|there| untold(&left[..end + there], 5, &ends));
+    let of = |seal: &[u8], sheet: &[u8]| fronted(&front, &audio, &chunk(seal, sheet));
+    let good = sheet(0, &entries(101));
+    untold(&of(&seal(1, &audio), &good), 5, "its front seal says left, and its end seal right (refusal 63)");
+    untold(&of(&[0; 24], &good), 5, "its seal is damaged: it is none (refusal 51)");
+    untold(&changed(end + 12), 5, "its seal is damaged: its own checksum does not fit it (refusal 52)");
+    let mut nobody = seal(0, &audio)[..20].to_vec();
+    nobody[4..8].copy_from_slice(b"BOTH");
+    nobody.extend(crc32(&nobody).to_le_bytes());
+    let why = "its seal is damaged: it names neither the left nor the right side (refusal 53)";
+    untold(&of(&nobody, &good), 5, why);
+    // the records, and their end
+    let records =
+        format!("the records of its frames are damaged or missing (refusal 64); {}", mend("writes them anew"));
+    untold(&left[..end + 32], 5, &records);
+    untold(&left[..end + 400], 5, &records);
+    untold(&of(&seal(0, &audio), &sheet(1, &entries(101))), 5, &records);
+    untold(&of(&seal(0, &audio), &sheet(0, &[&entries(100)[..], &[101]].concat())), 5, &records);
+    untold(&changed(whole - 16 - 3), 5, &records);
+    let trailer = format!("the end of its records is damaged or missing (refusal 65); {}", mend("writes them anew"));
+    untold(&left[..whole - 1], 5, &trailer);
+    untold(&changed(whole - 16 - 8 + 4), 5, &trailer);
+    untold(&changed(whole - 1), 5, &trailer);
+    // two files, one behind the other
+    let joined = [left.clone(), sealed(1, &other)].concat();
+    let why = format!("another recording was joined to its end; {} (refusal 66)", mend("keeps the first"));
+    untold(&joined, 5, &why);
+    untold(&joined[..joined.len() - 1], 5, &why);
+    let mut changed = joined.clone();
+    changed[100] ^= 1;
+    untold(&changed, 5, not_of);
+}
+
+/// A file that is still being made, by its name.
+#[test]
+fn what_is_still_being_made() {
+    let path = folder("told-part");
+    let mut open = sealed(0, &noise(480, 1))[..HEAD + 500].to_vec();
+    open[4..8].fill(0xFF);
+    open[72..HEAD].fill(0xFF);
+    fs::create_dir(path.join("out")).unwrap();
+    fs::write(path.join("out/left.wav.part"), &open).unwrap();
+    let ended = run(host(&path, &["side", "out/left.wav.part"]));
+    let why = "box: out/left.wav.part: it was not finished; `box mend out` closes it (refusal 61)\n";
+    assert_eq!(ended, Ended { status: Some(5), said: String::new(), why: why.into() });
+}
 
 /// A tag at the end of a sealed recording is named, and so is the command that takes it away again.
 #[test]
@@ -121,61 +207,53 @@ fn a_tag_that_was_added() {
         fs::write(path.join(name), [&left, tag].concat()).unwrap();
         let quoted = if name.contains(' ') { format!("'{name}'") } else { name.into() };
         let bytes = if tag.len() == 1 { "1 byte was".into() } else { format!("{} bytes were", tag.len()) };
-        for quick in [&["side", name][..], &["side", "--quick", name]] {
-            let ended = run(host(&path, quick));
-            let why = format!(
-                "box: {name}: another program changed it: {bytes} added after its end, such as a tag; \
-                 `box mend {quoted} --out NEW.wav` restores it\n"
-            );
-            assert_eq!(ended, Ended { status: Some(5), said: String::new(), why });
-        }
+        let ended = run(host(&path, &["side", name]));
+        let why = format!(
+            "box: {name}: another program changed it: {bytes} added after its end, such as a tag; \
+             `box mend {quoted} --out NEW.wav` restores it (refusal 66)\n"
+        );
+        assert_eq!(ended, Ended { status: Some(5), said: String::new(), why });
         let new = format!("new-{name}");
         let ended = run(host(&path, &["mend", name, "--out", &new]));
         assert_eq!(ended.status, Some(0), "{}", ended.why);
         assert!(ended.said.contains(&format!("The {} bytes after its end are left out.", tag.len())), "{}", ended.said);
         assert!(fs::read(path.join(new)).unwrap() == left);
     }
-    // where the audio was changed too, nothing is restored
-    let mut changed = [&left[..], b"TAG"].concat();
-    changed[100] ^= 1;
-    untold(
-        &changed,
-        5,
-        "its seal is whole, but no side sheet: it does not end in a trailer that points back to records (refusal 32)",
-    );
 }
 
+/// Every byte of a small recording changed to every other value, and every byte missing or twice: none is accepted, and
+/// of none a side is told.
 #[test]
-fn damaged_seals_and_sheets() {
-    let audio = noise(960, 1);
-    let of = |seal: &[u8], sheet: &[u8]| riff(&audio, &chunk(seal, sheet));
-    let (left, three) = (seal(0, &audio), entries(3));
-    let mut renamed = left.clone();
-    renamed[4..8].copy_from_slice(b"RGHT");
-    untold(&of(&renamed, &sheet(1, &three)), 5, "its seal is damaged: its own checksum does not fit it (refusal 52)");
-    untold(&of(&[0; 24], &sheet(0, &three)), 5, "its seal is damaged: it is none (refusal 51)");
-    let mut nobody = left[..20].to_vec();
-    nobody[4..8].copy_from_slice(b"BOTH");
-    nobody.extend(crc32(&nobody).to_le_bytes());
-    let why = "its seal is damaged: it names neither the left nor the right side (refusal 53)";
-    untold(&of(&nobody, &sheet(0, &three)), 5, why);
-    untold(&of(&left, &sheet(1, &three)), 5, "its seal says left, and its side sheet right");
-    let mut broken = sheet(0, &three);
-    broken[4] = 2;
-    let why = "its seal is whole, but no side sheet: a record is broken or of the other side (refusal 34)";
-    untold(&of(&left, &broken), 5, why);
-    broken[4] = 0;
-    let why = "its seal is whole, but no side sheet: its records are not those that it was closed with (refusal 35)";
-    untold(&of(&left, &broken), 5, why);
-    let numbers = "its frames don't number up from 0: left side, 3 frames, 0 heard,";
-    untold(&of(&left, &sheet(0, &[0, 1, 3])), 5, &format!("{numbers} 1 gap, after frame 1"));
-    untold(&of(&left, &sheet(0, &[1, 2, 3])), 5, &format!("{numbers} no gap"));
-    untold(&of(&left, &sheet(0, &entries(4))), 5, "its side sheet has 4 frames, and its audio 3");
-    // the end filled with zeros, as a power cut may leave it
-    let mut right = sealed(1, &audio);
-    let tail = right.len() - 30;
-    right[tail..].fill(0);
-    untold(&right, 5, "its side sheet does not stand where its seal does");
+fn no_byte_may_be_another() {
+    let path = folder("told-bytes");
+    for side in 0..2 {
+        let whole = recording(side, 1_794_803_400, &noise(7, 3), &[5 + HEARD]);
+        assert!(judged(&mut &whole[..]).unwrap().is_ok());
+        for at in 0..whole.len() {
+            let mut changed = whole.clone();
+            for _ in 0..255 {
+                changed[at] = changed[at].wrapping_add(1);
+                assert!(judged(&mut &changed[..]).unwrap().is_err(), "byte {at}");
+            }
+            let shorter = [&whole[..at], &whole[at + 1..]].concat();
+            let longer = [&whole[..at], &[whole[at], whole[at]], &whole[at + 1..]].concat();
+            assert!(
+                judged(&mut &shorter[..]).unwrap().is_err() && judged(&mut &longer[..]).unwrap().is_err(),
+                "byte {at}"
+            );
+        }
+        // the same by the program, one value of each byte, in one run
+        let names: Vec<String> = (0..whole.len()).map(|at| format!("{at}.wav")).collect();
+        for (at, name) in names.iter().enumerate() {
+            let mut changed = whole.clone();
+            changed[at] ^= 1 << (at % 8);
+            fs::write(path.join(name), changed).unwrap();
+        }
+        let words: Vec<&str> = ["side"].into_iter().chain(names.iter().map(|name| &**name)).collect();
+        let ended = run(host(&path, &words));
+        assert_eq!((&*ended.said, ended.why.lines().count()), ("", whole.len()));
+        assert!(!ended.why.contains("left side") && !ended.why.contains("right side"));
+    }
 }
 
 /// The side is in the file, so a wrong name is found out; but only where it is one.
@@ -229,15 +307,54 @@ fn the_highest_status() {
     assert_eq!(run(host(&path, &["side"])).status, Some(2));
 }
 
-/// A pipe has no end to go back from.
-#[cfg(unix)]
+/// A pipe is judged as its bytes arrive. What is refused can't be looked at again, and gets the words of its number.
 #[test]
 fn a_recording_through_a_pipe() {
-    let path = Path::new(env!("CARGO_TARGET_TMPDIR")).join("piped.wav");
-    fs::write(&path, sealed(0, &noise(480, 1))).unwrap();
-    let words = "cat \"$1\" | \"$0\" side /dev/stdin";
-    let output = Command::new("sh").args(["-c", words, env!("CARGO_BIN_EXE_tuppencehop")]).arg(&path).output().unwrap();
-    assert_eq!(output.stdout, b"/dev/stdin: left side, 2 frames, 1 heard, no gap; sealed\n");
+    let path = folder("told-pipe");
+    let left = sealed(0, &noise(4_800, 1));
+    let piped = |bytes: &[u8]| fed(host(&path, &["side", "-"]), bytes);
+    let said = "-: left side, 11 frames, 4 heard, no gap; sealed\n";
+    assert_eq!(piped(&left), Ended { status: Some(0), said: said.into(), why: String::new() });
+    let (end, whole) = (HEAD + 9_600, left.len());
+    let changed = |at: usize| [&left[..at], &[left[at] ^ 1], &left[at + 1..]].concat();
+    for (bytes, status, why) in [
+        (b"notes".to_vec(), 3, NOT_SEALED),
+        (changed(5), 3, NOT_SEALED),
+        (left[..end - 1].to_vec(), 5, "it ends within its audio (refusal 62)"),
+        (changed(200), 5, "its audio was changed, or the seal after it (refusal 63)"),
+        (changed(end + 32), 5, "the records of its frames are damaged or missing (refusal 64)"),
+        (changed(whole - 1), 5, "the end of its records is damaged or missing (refusal 65)"),
+        ([&left[..], b"TAG"].concat(), 5, "something was added after its end (refusal 66)"),
+    ] {
+        let ended = piped(&bytes);
+        assert_eq!(ended, Ended { status: Some(status), said: String::new(), why: format!("box: -: {why}\n") });
+    }
+    // a pipe with a name
+    let words = "mkfifo p && (cat 1.wav >p & exec \"$0\" side p)";
+    fs::write(path.join("1.wav"), &left).unwrap();
+    let mut shell = Command::new("sh");
+    shell.args(["-c", words, env!("CARGO_BIN_EXE_tuppencehop")]).current_dir(&path);
+    assert_eq!(ended(shell.output().unwrap()).said, said.replace("-:", "p:"));
+}
+
+/// A pipe is not laid down anywhere, and takes no more memory than a part of it: 300 MB in 16 MB, without a folder for
+/// temporary files.
+#[test]
+fn a_long_pipe_takes_no_memory_and_no_room() {
+    let path = folder("told-long-pipe");
+    let size = 300_000_000u32;
+    let head = with_entries(1, &[], &[]);
+    let mut whole = [&head[..72], &size.to_le_bytes()].concat();
+    let frames = size.div_ceil(960) + 1;
+    whole[4..8].copy_from_slice(&(116 + size + 8 * frames).to_le_bytes());
+    fs::write(path.join("head"), &whole).unwrap();
+    let limit = "(cat head; head -c 300000000 /dev/zero) | (ulimit -v 16384; TMPDIR=/nowhere exec \"$0\" side -)";
+    let mut shell = Command::new("sh");
+    shell.args(["-c", limit, env!("CARGO_BIN_EXE_tuppencehop")]).current_dir(&path);
+    let ended = ended(shell.output().unwrap());
+    // all of it was read: the audio is there, and nothing after it
+    let why = "box: -: its audio was changed, or the seal after it (refusal 63)\n";
+    assert_eq!(ended, Ended { status: Some(5), said: String::new(), why: why.into() });
 }
 
 /// A file of five GB that takes no room, and ends in these bytes.
@@ -261,9 +378,7 @@ fn what_is_claimed_takes_no_memory() {
         (ended.status, ended.why)
     };
     // records of the other side, and eight million silent frames 0 of the left one
-    let why = "box: 1.wav: no side sheet: a record is broken or of the other side (refusal 34)\n";
-    assert_eq!(looked("told-claims-right", &claims(536_870_911, 1)), (Some(3), why.into()));
-    let why = "box: 1.wav: a side sheet without a seal says: left side, 8000000 frames, 0 heard, 7999999 gaps, \
-         the first after frame 0\n";
-    assert_eq!(looked("told-claims-left", &claims(8_000_000, 0)), (Some(4), why.into()));
+    let why = format!("box: 1.wav: {NOT_SEALED}\n");
+    assert_eq!(looked("told-claims-right", &claims(536_870_911, 1)), (Some(3), why.clone()));
+    assert_eq!(looked("told-claims-left", &claims(8_000_000, 0)), (Some(3), why));
 }

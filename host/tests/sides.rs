@@ -14,8 +14,9 @@ use tuppencehop::cleaning::demo::dictation;
 use tuppencehop::cleaning::recorder::{Frame, Heard, Side};
 use tuppencehop::page;
 use tuppencehop::page::picture;
+use tuppencehop::reading::block::packed;
 use tuppencehop::reading::wav;
-use tuppencehop::telling::found::sealed as sealed_sheet;
+use tuppencehop::recording::judge::judged;
 
 const SIDES: [&str; 2] = ["left", "right"];
 
@@ -63,7 +64,7 @@ fn each_recording_comes_out_on_its_own_side() {
         bytes(&path, &format!("{out}/{side}.wav"))
     };
     let wanted = [alone("left", "l.wav"), alone("right", "r.wav")];
-    let audio = |file: &[u8]| file[HEADER..HEADER + 4_800].to_vec();
+    let audio = |file: &[u8]| file[HEAD..HEAD + 4_800].to_vec();
     assert!(audio(&wanted[0]) != audio(&wanted[1]));
     // the same sound on the other bench is the same but for the seal and the sheet
     fs::copy(path.join("l.wav"), path.join("same.wav")).unwrap();
@@ -91,14 +92,15 @@ fn each_recording_comes_out_on_its_own_side() {
     assert!(bytes(&path, "said/a/right.wav") == wanted[1]);
 }
 
-/// The seal's side, the records' side and the trailer's are the bench's.
+/// The front seal's side, the end seal's, the records' and the trailer's are the bench's.
 #[test]
-fn what_is_written_says_its_side_three_times() {
+fn what_is_written_says_its_side_four_times() {
     let path = given("written");
     assert_eq!(cleaned(&path, &["--left", "l.wav", "--right", "r.wav"], "out").status, Some(0));
     for (side, number) in [("left", 0u8), ("right", 1)] {
         let file = bytes(&path, &format!("out/{side}.wav"));
-        let chunk = &file[HEADER + 4_800..];
+        assert_eq!(&file[44..52], if number == 0 { b"TUPBLEFT" } else { b"TUPBRGHT" });
+        let chunk = &file[HEAD + 4_800..];
         assert_eq!(&chunk[..4], b"side");
         assert_eq!(&chunk[8..16], if number == 0 { b"TUPPLEFT" } else { b"TUPPRGHT" });
         let records = &chunk[32..chunk.len() - 16];
@@ -163,7 +165,7 @@ fn a_seal_that_does_not_stand_where_the_audio_ends() {
         refused("its seal");
         let ended = run(host(&path, &["side", "1.wav"]));
         assert_eq!(ended.status, Some(5));
-        assert!(ended.why.contains("its seal does not stand where its audio ends"), "{}", ended.why);
+        assert!(ended.why.contains("its seal is not where its audio ends"), "{}", ended.why);
         // the seal is asked first, and the sheet too
         fs::write(path.join("1.wav"), displaced(n, 1 - n)).unwrap();
         refused("its seal");
@@ -262,11 +264,11 @@ fn benches() -> [Summary; 2] {
         let mut summary = Summary::of(side);
         let level = if side == Side::Left { 100.0 } else { 9_000.0 };
         summary.before(&[level; 38_400]);
-        summary.after(&[level / 2.0; 38_400]);
+        summary.after(&packed(&[level / 2.0; 38_400]));
         for number in (0..81).filter(|number| side == Side::Right || *number != 5) {
             let probability = if side == Side::Left && number >= 40 { 0.9 } else { 0.1 };
             let heard = Heard::Voice { probability, energy: 1.0 };
-            summary.frame(&Frame { entry: number.into(), heard, heard_so_far: number });
+            summary.frame(&Frame::of(side, number, heard, number));
         }
         summary.about.name = ["one.wav", "two.wav"][side as usize].into();
         summary
@@ -284,8 +286,14 @@ fn each_card_is_of_its_own_bench() {
         assert!(!words.contains(other) && !words.contains(&other.to_uppercase()), "{side}: {words}");
         for text in [
             format!("<h2 id=\"{side}\">{}</h2>", side.to_uppercase()),
-            format!("<audio id=\"{side}-before\" controls preload=\"metadata\" aria-label=\"{side} bench, before cleaning\" src=\"{side}-before.wav\">"),
-            format!("<audio id=\"{side}-after\" controls preload=\"metadata\" aria-label=\"{side} bench, after cleaning\" src=\"{side}.wav\">"),
+            format!(
+                "<audio id=\"{side}-before\" controls preload=\"metadata\" aria-label=\"{side} bench, before \
+                 cleaning\" src=\"{side}-before.wav\">"
+            ),
+            format!(
+                "<audio id=\"{side}-after\" controls preload=\"metadata\" aria-label=\"{side} bench, after \
+                 cleaning\" src=\"{side}.wav\">"
+            ),
             format!("<caption>The {side} recording</caption>"),
             format!("data-player=\"{side}-before\""),
             format!("data-player=\"{side}-after\""),
@@ -368,24 +376,69 @@ fn the_demo_keeps_its_sides() {
     }
 }
 
-/// A run that was cut short is closed as the sides that its seals say, whatever the names say.
-#[test]
-fn what_is_mended_keeps_its_side() {
-    let path = given("mended");
-    let mut child = stream(&path);
+/// A run of half a second that was cut short.
+fn cut_short(path: &Path) {
+    let mut child = stream(path);
     let mut to = child.stdin.take().unwrap();
     std::io::Write::write_all(&mut to, &raw(0.5)).unwrap();
     soon("nothing is written", || size(&path.join("out/right.wav.part")) > 20_000);
     child.kill().unwrap();
     child.wait().unwrap();
-    // somebody exchanged the names
-    for ending in ["part", "sheet"] {
+}
+
+/// Exchanges the names of both benches' files with these endings.
+fn exchange(path: &Path, endings: &[&str]) {
+    for ending in endings {
         let [left, right] = SIDES.map(|side| path.join(format!("out/{side}.wav.{ending}")));
         let aside = path.join("aside");
         fs::rename(&left, &aside).unwrap();
         fs::rename(&right, &left).unwrap();
         fs::rename(&aside, &right).unwrap();
     }
+}
+
+/// A run that was cut short is closed as the sides that its files say. If these, or their names, disagree, nothing is
+/// closed, and that is said.
+#[test]
+fn what_is_mended_keeps_its_side() {
+    let path = given("mended");
+    cut_short(&path);
+    let before = names(&path.join("out"));
+    let contents = || before.iter().map(|name| bytes(&path, &format!("out/{name}"))).collect::<Vec<_>>();
+    for (exchanged, why) in [
+        (&["part"][..], "its head says right, but out/left.wav.sheet says left"),
+        (&["sheet"], "its head says left, but out/left.wav.sheet says right"),
+        (&["part", "sheet"], "its name says left, but its head says right"),
+    ] {
+        exchange(&path, exchanged);
+        let there = contents();
+        let ended = run(host(&path, &["mend", "out"]));
+        let why = format!("box: out/left.wav.part: {why}; nothing is closed, and all files stay as they are\n");
+        assert!(ended.status == Some(2) && ended.why.starts_with(&why), "{}", ended.why);
+        assert_eq!((ended.why.lines().count(), &*ended.said), (2, ""));
+        assert!(names(&path.join("out")) == before && contents() == there);
+        exchange(&path, exchanged);
+    }
+    // one bench's files alone in the place of the other's
+    let aside = path.join("aside");
+    for ending in ["part", "sheet"] {
+        let [left, right] = SIDES.map(|side| path.join(format!("out/{side}.wav.{ending}")));
+        fs::rename(&left, aside.with_extension(ending)).unwrap();
+        fs::copy(right, left).unwrap();
+    }
+    assert_eq!(run(host(&path, &["mend", "out"])).status, Some(2));
+    assert_eq!(names(&path.join("out")), before);
+    for ending in ["part", "sheet"] {
+        fs::rename(aside.with_extension(ending), path.join(format!("out/left.wav.{ending}"))).unwrap();
+    }
+    // records of the other side behind the right seal
+    let sheets = SIDES.map(|side| bytes(&path, &format!("out/{side}.wav.sheet")));
+    fs::write(path.join("out/right.wav.sheet"), [&sheets[1][..24], &sheets[0][24..]].concat()).unwrap();
+    let ended = run(host(&path, &["mend", "out"]));
+    let why = "out/right.wav.part: its head says right, but records in out/right.wav.sheet say left; nothing is closed";
+    assert!(ended.status == Some(2) && ended.why.contains(why), "{}", ended.why);
+    assert_eq!(names(&path.join("out")), before);
+    fs::write(path.join("out/right.wav.sheet"), &sheets[1]).unwrap();
     assert_eq!(run(host(&path, &["mend", "out"])).status, Some(0));
     let sounds = SIDES.map(|side| sound(&path.join(format!("out/{side}.wav")), side));
     let own = SIDES.map(|side| {
@@ -413,7 +466,7 @@ fn a_torn_recording_keeps_its_side() {
         assert!(mend(&["--as", other]).why.contains(&format!("its seal says {side}")));
         assert_eq!(mend(&[]).status, Some(0));
         let file = bytes(&path, "new.wav");
-        assert_eq!(sealed_sheet(&mut std::io::Cursor::new(&file), false).unwrap().side.name(), *side);
+        assert_eq!(judged(&mut &file[..]).unwrap().unwrap().front.side.name(), *side);
         fs::remove_file(path.join("new.wav")).unwrap();
         // without a seal
         fs::write(path.join("torn.wav"), riff(&audio, &sheet(number as u32, &entries(6)))).unwrap();

@@ -4,7 +4,7 @@ mod common;
 mod made;
 
 use common::*;
-use made::{entries, noise, riff, sealed, sheet};
+use made::{earlier, entries, front, noise, riff, sealed, sheet};
 use std::collections::BTreeMap;
 use std::fs::{self, File};
 use std::io::Write;
@@ -64,6 +64,18 @@ fn of_unfinished(words: &[&str], name: &str) -> i32 {
     run(host(&path, words)).status.unwrap()
 }
 
+/// Of a folder in which a right recording is on its way to the left one's name.
+fn of_mixed() -> i32 {
+    let path = given("mixed");
+    fs::create_dir(path.join("out")).unwrap();
+    let mut open = sealed(1, &noise(480, 1))[..made::HEAD + 960].to_vec();
+    open[4..8].fill(0xFF);
+    open[72..76].fill(0xFF);
+    fs::write(path.join("out/left.wav.part"), open).unwrap();
+    fs::write(path.join("out/left.wav.sheet"), front(1, 0, 0)).unwrap();
+    run(host(&path, &["mend", "out"])).status.unwrap()
+}
+
 fn of_taken(words: &[&str]) -> i32 {
     let path = given("taken");
     fs::create_dir(path.join("out")).unwrap();
@@ -86,6 +98,16 @@ fn of_side(name: &str, bytes: &[u8]) -> i32 {
     run(host(&path, &["side", name])).status.unwrap()
 }
 
+/// A folder with two dictations of the left bench, of which the second does not begin where the first ends.
+fn of_missing() -> i32 {
+    let (path, audio) = (given("missing").join("day/2026-11-16"), noise(480, 1));
+    fs::create_dir_all(&path).unwrap();
+    fs::write(path.join("090000-left.wav"), sealed(0, &audio)).unwrap();
+    let later = made::recording(0, 1_794_820_200, &audio, &[7 | 1 << 32]);
+    fs::write(path.join("100000-left.wav"), later).unwrap();
+    run(host(path.parent().unwrap(), &["side", "."])).status.unwrap()
+}
+
 fn of_answer(to: impl Into<Stdio>) -> i32 {
     let mut command = Command::new(env!("CARGO_BIN_EXE_tuppencehop"));
     command.arg("--version").stdout(to).stderr(Stdio::null()).status().unwrap().code().unwrap()
@@ -99,7 +121,7 @@ fn cases() -> Vec<(&'static str, i32)> {
     (broken[20], broken[32], broken[34]) = (3, 4, 32);
     broken[HEADER + 40..HEADER + 44].fill(0xFF);
     let (audio, left) = (noise(480, 1), sealed(0, &noise(480, 1)));
-    let changed = [&left[..60], &[left[60] ^ 1], &left[61..]].concat();
+    let changed = [&left[..100], &[left[100] ^ 1], &left[101..]].concat();
     let mut more = wav::write(48_000, &[3.0; 4_800]);
     more[40..44].copy_from_slice(&960u32.to_le_bytes());
     let asked = [&TWO[..], &["r.wav", "--out", "out"]].concat();
@@ -154,9 +176,17 @@ fn cases() -> Vec<(&'static str, i32)> {
             of("twins", &["clean", "l.wav", "./l.wav", "--out", "out"])
         }),
         ("a file holds more audio than its header announces", of_right("more", &more)),
-        ("`side` finds no side sheet, or one without frames", of("side", &["side", "l.wav"])),
-        ("`side` finds a side sheet without a seal", of_side("1.wav", &riff(&audio, &sheet(0, &entries(2))))),
-        ("`side` finds a recording that is not the one that was sealed, or is damaged", of_side("1.wav", &changed)),
+        ("`side DIR` finds that dictations are missing", of_missing()),
+        ("`mend` finds files in a folder that disagree about a side", of_mixed()),
+        ("`side` finds no recording", of("side", &["side", "l.wav"])),
+        (
+            "`side` finds a recording of an earlier version, or a side sheet without a seal",
+            of_side("1.wav", &riff(&audio, &sheet(0, &entries(2)))),
+        ),
+        ("`side` finds a recording of an earlier version, or a side sheet without a seal", {
+            of_side("1.wav", &earlier(0, &audio))
+        }),
+        ("`side` finds a recording that is not as the box wrote it", of_side("1.wav", &changed)),
         ("`side` finds a name, or a folder's, that says another side", of_side("right.wav", &left)),
     ]
 }

@@ -164,7 +164,8 @@ fn control_c_at_a_terminal() {
     let (mut keyboard, name) = terminal();
     let words = format!(
         "exec <{name} >{name} 2>&1; trap : INT; \
-         while cat second.raw; do sleep 0.05; done | \"$0\" clean - --raw --csv --model house.rnn --out out; echo $? >status"
+         while cat second.raw; do sleep 0.05; done | \"$0\" clean - --raw --csv --model house.rnn --out out; echo $? \
+         >status"
     );
     let mut shell = Command::new("sh");
     shell.args(["-c", &words, env!("CARGO_BIN_EXE_tuppencehop")]).current_dir(&path);

@@ -1,4 +1,5 @@
-//! `box clean -`: what comes of a stream is what comes of the same file, however it is delivered; and it takes no more memory for a long one.
+//! `box clean -`: what comes of a stream is what comes of the same file, however it is delivered; and it takes no more
+//! memory for a long one.
 
 use std::fs;
 use std::io::Write;

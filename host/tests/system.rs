@@ -1,5 +1,6 @@
-//! What the system may refuse: a disk that fails, a file system without locks or without `renameat2`, and bytes that come
-//! back otherwise. (The calls are made to fail by a small library in front of the system's own, tests/shim/shim.c.)
+//! What the system may refuse: a disk that fails, a file system without locks or without `renameat2`, and bytes that
+//! come back otherwise. (The calls are made to fail by a small library in front of the system's own,
+//! tests/shim/shim.c.)
 
 mod common;
 
@@ -12,7 +13,9 @@ use std::sync::OnceLock;
 use std::thread::sleep;
 use std::time::Duration;
 use tuppencehop::cleaning::demo::HOUSE;
+use tuppencehop::cleaning::recorder::Side;
 use tuppencehop::reading::wav;
+use tuppencehop::recording::front::Front;
 
 /// The library in front of the system's own, built once.
 fn shim() -> &'static Path {
@@ -125,6 +128,45 @@ fn what_does_not_read_back() {
     assert!(!path.join("new.rnn").exists() && !path.join("new.rnn.part").exists());
     assert_eq!(run(host(&path, &words)).status, Some(0));
     assert_eq!(fs::read(path.join("new.rnn")).unwrap(), HOUSE);
+}
+
+/// A recording that is not on the disk as it was written gets no place: a bit is enough.
+#[test]
+fn a_disk_that_turns_a_bit() {
+    let path = given("bit");
+    let not = |place: &str, side: &str, why: &str| {
+        let gets_none =
+            format!("what was written is not accepted as a recording of the {side} side, and gets no place");
+        format!("box: {place}: {gets_none}: {why}\n")
+    };
+    let audio = "its audio was changed, or the seal after it (refusal 63)";
+    let ended = run(failing(clean(&path, &TWO), "write"));
+    assert_eq!((ended.status, ended.why), (Some(1), not("out/left.wav", "left", audio)));
+    assert!(!path.join("out").exists());
+    let ended = run(failing(clean(&path, &["--right", "r.wav", "--out", "out"]), "write"));
+    assert_eq!((ended.status, ended.why), (Some(1), not("out/right.wav", "right", audio)));
+    assert!(!path.join("out").exists());
+    // a file that is mended
+    assert_eq!(run(clean(&path, &TWO)).status, Some(0));
+    let whole = fs::read(path.join("out/right.wav")).unwrap();
+    fs::write(path.join("torn.wav"), &whole[..whole.len() - 9]).unwrap();
+    let words = ["mend", "torn.wav", "--out", "new.wav"];
+    let ended = run(failing(host(&path, &words), "write"));
+    assert_eq!((ended.status, ended.why), (Some(1), not("new.wav", "right", audio)));
+    assert!(!path.join("new.wav").exists() && !path.join("new.wav.part").exists());
+    assert_eq!(run(host(&path, &words)).status, Some(0));
+    // and what a run left: two seconds, and their records
+    let front = Front { side: Side::Left, began: 0, first: 0 };
+    let part = path.join("left/left.wav.part");
+    fs::create_dir(path.join("left")).unwrap();
+    fs::write(&part, [&front.open_head()[..], &raw(1.0)].concat()).unwrap();
+    fs::write(path.join("left/left.wav.sheet"), front.seal()).unwrap();
+    let ended = run(failing(host(&path, &["mend", "left"]), "write"));
+    let records = "the end of its records is damaged or missing (refusal 65)";
+    assert_eq!((ended.status, ended.why), (Some(1), not("left/left.wav.part", "left", records)));
+    assert!(part.exists() && !path.join("left/left.wav").exists());
+    assert_eq!(run(host(&path, &["mend", "left"])).status, Some(0));
+    assert_eq!(sound(&path.join("left/left.wav"), "left").len(), 96_000);
 }
 
 /// After a signal no more is taken than a pipe holds, whatever goes on coming: this one is always full.

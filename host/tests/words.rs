@@ -119,7 +119,7 @@ fn errors_name_what_is_wrong() {
         (vec!["help", "claen"], 2, "unknown command claen; did you mean clean?"),
         (vec!["demo"], 2, "demo: DIR is missing"),
         (vec!["demo", "out", "more"], 2, "demo: more is one word too many"),
-        (vec!["side"], 2, "side: FILE is missing"),
+        (vec!["side"], 2, "side: FILE or DIR is missing"),
         (vec!["mend", "l.wav"], 2, "mend: --out FILE2 is missing"),
         (vec!["mend", ".", "--out", "out"], 2, "mend: --out is for a file; a folder is mended where it is"),
         (vec!["export", "house.rnn", "--as", "c", "--out", "out"], 2, "export: --as c: rnnn is wanted"),
@@ -307,8 +307,8 @@ fn answers_as_json() {
     fs::copy(path.join("out/left.wav"), path.join("right.wav")).unwrap();
     let ended = said(&path, &["side", "--json", "out/left.wav", "right.wav", "l.wav", "none.wav"]);
     assert_eq!((ended.status, &*ended.why), (Some(6), ""));
-    let sheet = "\"side\": \"left\", \"frames\": 11, \"heard\": 11, \"gaps\": 0";
-    let none = "\"side\": null, \"frames\": null, \"heard\": null, \"gaps\": null";
+    let sheet = "\"side\": \"left\", \"frames\": 11, \"heard\": 11, \"gaps\": 0, \"first\": 0, \"began\": 0";
+    let none = "\"side\": null, \"frames\": null, \"heard\": null, \"gaps\": null, \"first\": null, \"began\": null";
     let lines: Vec<&str> = ended.said.lines().collect();
     assert_eq!(lines[0], format!("{{\"file\": \"out/left.wav\", {sheet}, \"status\": 0, \"error\": null}}"));
     let starts = format!("{{\"file\": \"right.wav\", {none}, \"status\": 6, \"error\": \"the name says another side: ");
@@ -322,8 +322,19 @@ fn answers_as_json() {
     let whole = fs::read(path.join("out/left.wav")).unwrap();
     fs::write(path.join("torn.wav"), &whole[..whole.len() - 10]).unwrap();
     let told = good(&path, &["mend", "torn.wav", "--out", "new.wav", "--json"]);
-    let fields = "\"recording\": \"torn.wav\", \"lost\": 0, \"whole\": false, \"status\": 0, \"error\": null}\n";
-    assert_eq!(told, format!("{{\"file\": \"new.wav\", {sheet}, {fields}"));
+    let fields = |name: &str, lost: u32, rewritten: u32| {
+        let more = "\"whole\": false, \"status\": 0, \"error\": null}\n";
+        format!("\"recording\": \"{name}\", \"lost\": {lost}, \"rewritten\": {rewritten}, {more}")
+    };
+    assert_eq!(told, format!("{{\"file\": \"new.wav\", {sheet}, {}", fields("torn.wav", 0, 0)));
+    // three records lost, and one cut within its audio
+    fs::write(path.join("torn.wav"), &whole[..whole.len() - 16 - 20]).unwrap();
+    let told = good(&path, &["mend", "torn.wav", "--out", "new-2.wav", "--json"]);
+    assert_eq!(told, format!("{{\"file\": \"new-2.wav\", {sheet}, {}", fields("torn.wav", 0, 3)));
+    fs::write(path.join("cut.wav"), &whole[..HEAD + 2_001]).unwrap();
+    let told = good(&path, &["mend", "cut.wav", "--out", "new-3.wav", "--json"]);
+    let four = sheet.replace("11", "4");
+    assert_eq!(told, format!("{{\"file\": \"new-3.wav\", {four}, {}", fields("cut.wav", 7_600, 4)));
     let ended = said(&path, &["mend", "l.wav", "--out", "none.wav", "--json"]);
     assert_eq!((ended.status, &*ended.why), (Some(1), ""));
     assert!(
@@ -383,7 +394,8 @@ fn a_crash_mended_as_json() {
     assert_eq!(lines.len(), 2);
     assert!(lines[0].starts_with("{\"file\": \"out/left.wav\", \"side\": \"left\", \"frames\": "), "{told}");
     assert!(
-        lines[1].contains(", \"gaps\": 0, \"seconds\": 0.") && lines[1].ends_with("\"status\": 0, \"error\": null}"),
+        lines[1].contains(", \"gaps\": 0, \"first\": 0, \"began\": 0, \"seconds\": 0.")
+            && lines[1].ends_with("\"rewritten\": 0, \"status\": 0, \"error\": null}"),
         "{told}"
     );
     // one that can't be closed
@@ -392,7 +404,7 @@ fn a_crash_mended_as_json() {
     let ended = said(&path, &["mend", "out", "--json"]);
     assert_eq!((ended.status, &*ended.why), (Some(1), ""));
     assert!(
-        ended.said.contains("\"file\": \"out\", \"side\": null") && ended.said.contains("with a seal"),
+        ended.said.contains("\"file\": \"out\", \"side\": null") && ended.said.contains("it stays as it is"),
         "{}",
         ended.said
     );

@@ -1,7 +1,7 @@
 // Every change that is made to the text before it is compiled. The text itself, ../text, stands as it was published.
 //
-// `from` must occur exactly once in its file, else the build fails. A file's probe is put after its last line: functions of
-// ours that call the text's private ones, and change nothing.
+// `from` must occur exactly once in its file, else the build fails. A file's probe is put after its last line:
+// functions of ours that call the text's private ones, and change nothing.
 
 pub struct Change {
     pub file: &'static str,

@@ -1,6 +1,6 @@
-//! The benches apart: two whole runs through the static library. One bench makes the same calls in both; the calls of the
-//! others, their moments, the store's first contents and what the one's answer buffers held differ. What the one receives
-//! is compared bit for bit. Every bench is the one in its turn.
+//! The benches apart: two whole runs through the static library. One bench makes the same calls in both; the calls of
+//! the others, their moments, the store's first contents and what the one's answer buffers held differ. What the one
+//! receives is compared bit for bit. Every bench is the one in its turn.
 
 use crate::answers::Answers;
 use crate::ask::{Ask, Caller, FRAME, TAKE};
@@ -43,8 +43,8 @@ impl Run {
         }
     }
 
-    /// A call of the one, whose answer buffers hold this run's own numbers beforehand: what it is answered, and of that the bits that are
-    /// the one's to receive.
+    /// A call of the one, whose answer buffers hold this run's own numbers beforehand: what it is answered, and of that
+    /// the bits that are the one's to receive.
     fn one(&mut self, one: usize, ask: &Ask) -> (u32, Vec<Vec<f32>>, Vec<u32>) {
         let held: Vec<_> = ask.held.iter().map(|held| self.rng.list_of(held.len(), Mood::Any)).collect();
         let (mut lent, before) = (held.clone(), self.records[one].clone());

@@ -25,8 +25,8 @@ pub const TAKE: u32 = 10;
 pub struct Ask {
     pub call: u32,
     pub side: u32,
-    /// Samples; the first spectrum; the second spectrum and the logarithms; the inverse. Of the halves, samples; logarithms. A
-    /// piece; the same and logarithms. Samples; a piece.
+    /// Samples; the first spectrum; the second spectrum and the logarithms; the inverse. Of the halves, samples;
+    /// logarithms. A piece; the same and logarithms. Samples; a piece.
     pub given: Vec<Vec<f32>>,
     /// Call 2's; none for its sister, which finds its own.
     pub lag: Option<u32>,
@@ -89,8 +89,9 @@ impl Ask {
         }
     }
 
-    /// The places of each answer buffer that an accepted call writes, by the record before it and after it: those of a frame that
-    /// is completed, and sums where a piece pauses. What has nothing to do with a piece writes whole buffers.
+    /// The places of each answer buffer that an accepted call writes, by the record before it and after it: those of a
+    /// frame that is completed, and sums where a piece pauses. What has nothing to do with a piece writes whole
+    /// buffers.
     pub fn written(&self, before: &[u32], after: &[u32]) -> Vec<Range<usize>> {
         let sums = if noted(after, UNFINISHED) > 0 { 0..22 } else { 0..0 };
         match self.call {
@@ -119,7 +120,8 @@ const SOUND: usize = 9_600;
 /// What an opening began.
 #[derive(Clone, Default)]
 struct Session {
-    /// Whether NaNs, infinities and huge numbers may come in. (The filter's memories keep a NaN until the next opening.)
+    /// Whether NaNs, infinities and huge numbers may come in. (The filter's memories keep a NaN until the next
+    /// opening.)
     wild: bool,
     shape: Shape,
     model: Vec<u8>,
@@ -161,7 +163,8 @@ impl Caller {
         Caller { whole, ..Caller::in_pieces(side, pieces) }
     }
 
-    /// Mostly a call that is due. The plain sums that a half is held against take their time: one call in twelve is one.
+    /// Mostly a call that is due. The plain sums that a half is held against take their time: one call in twelve is
+    /// one.
     fn call(&self, rng: &mut Rng, due: usize, unfinished: usize, waiting: usize) -> u32 {
         let calls = if self.whole > 0 { TAKE } else { RESUME } as usize;
         match (rng.below(80), due) {

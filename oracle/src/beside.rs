@@ -1,4 +1,5 @@
-//! Any desk beside the desk by the text, or beside another: both are asked the same, and all that they answer and leave is compared.
+//! Any desk beside the desk by the text, or beside another: both are asked the same, and all that they answer and leave
+//! is compared.
 
 use crate::ask::{Ask, Caller, FRAME, PIECE, RESUME, SECOND_HALF, TAKE};
 use crate::desk::{self, BENCH, BENCHES, COUNTS, EX, FINDER_MEM, LAG, RECORD, SHARE, STORE, WAIT, WAY, X};
@@ -124,7 +125,8 @@ impl Beside<'_> {
         Answered { number: want, lent: wanted, before }
     }
 
-    /// A refused call is as if it had never been; an accepted one leaves the counts that the models of this side agree with.
+    /// A refused call is as if it had never been; an accepted one leaves the counts that the models of this side agree
+    /// with.
     fn mend(&mut self, side: usize, ask: &Ask, want: u32, saved: [World; 2]) {
         for (world, saved) in [&mut self.ours, &mut self.theirs].into_iter().zip(saved) {
             if want != 0 {
@@ -155,7 +157,8 @@ fn given<'a>(words: &'a [u32], ask: &'a Ask, world: &'a World) -> Vec<(&'static 
     given
 }
 
-/// The answer buffers, each in three parts: what lies in front of the places that are written, these, and what lies behind.
+/// The answer buffers, each in three parts: what lies in front of the places that are written, these, and what lies
+/// behind.
 fn parts<'a>(lent: &'a [Vec<f32>], written: &[Range<usize>], [beside, by]: [By; 2]) -> Vec<Value<'a>> {
     let each = lent.iter().zip(written);
     each.flat_map(|(list, at)| [beside(&list[..at.start]), by(&list[at.clone()]), beside(&list[at.end..])]).collect()
@@ -165,9 +168,9 @@ fn whole(lent: &[Vec<f32>], by: By) -> Vec<Value<'_>> {
     lent.iter().map(|list| by(list)).collect()
 }
 
-/// All that a call leaves: the number, the answer buffers, the records, the side's places of what its finder remembers and of the samples
-/// that wait, and the store; and how these three are compared. (A refused call may have named a side, or been lent a store, that has no such
-/// places.)
+/// All that a call leaves: the number, the answer buffers, the records, the side's places of what its finder remembers
+/// and of the samples that wait, and the store; and how these three are compared. (A refused call may have named a
+/// side, or been lent a store, that has no such places.)
 fn all<'a>(
     number: &'a u32,
     lent: Vec<Value<'a>>,
@@ -269,7 +272,8 @@ impl Damage {
     }
 }
 
-/// What the record of an open side must not say of its bench: any other bench's number, none, and numbers that no bench has.
+/// What the record of an open side must not say of its bench: any other bench's number, none, and numbers that no bench
+/// has.
 pub fn another_bench(rng: &mut Rng, side: usize) -> u32 {
     let other = (side + 1 + rng.below(BENCHES - 1)) % BENCHES;
     rng.pick(&[other as u32 + 1, other as u32 + 1, 0, BENCHES as u32 + 1, u32::MAX])

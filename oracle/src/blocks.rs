@@ -1,5 +1,6 @@
-//! Blocks of recorded bytes in one call, the library's `feed`, beside what it is by definition: a channel unpacked in plain Rust (`plain_pcm`), a take, and
-//! plain packing and numbering, on a second store. (The package `feed` of this folder is another thing: it hands the text its transforms and logarithms.)
+//! Blocks of recorded bytes in one call, the library's `feed`, beside what it is by definition: a channel unpacked in
+//! plain Rust (`plain_pcm`), a take, and plain packing and records, on a second store. (The package `feed` of this
+//! folder is another thing: it hands the text its transforms and logarithms.)
 
 use crate::answers::Answers;
 use crate::beside::another_bench;
@@ -17,7 +18,7 @@ use crate::surface::OURS;
 use crate::tally::{Given, Tally, Value};
 use crate::Options;
 
-type Feed = fn(&mut [u32], &mut [f32], u32, &[u8], u32, u32, u32, &[u8], &mut [u8], &mut [u64], &mut [f32]) -> u32;
+type Feed = fn(&mut [u32], &mut [f32], u32, &[u8], u32, u32, u32, &[u8], &mut [u8], &mut [u8], &mut [f32]) -> u32;
 
 pub fn compare(options: &Options) -> Tally {
     let mut tally = Tally::new("feed");
@@ -40,7 +41,7 @@ struct Case {
     layout: Layout,
     model: Vec<u8>,
     out: Vec<u8>,
-    entries: Vec<u64>,
+    records: Vec<u8>,
     answers: Vec<f32>,
     /// The frames that it completes.
     frames: usize,
@@ -57,7 +58,7 @@ impl Case {
             layout: Layout { format: 16, channels: 1, channel: 0 },
             model: models::of_shape(rng, shape),
             out: vec![],
-            entries: vec![],
+            records: vec![],
             answers: vec![],
             frames: 0,
         };
@@ -70,14 +71,14 @@ impl Case {
     fn with(&self, rng: &mut Rng, layout: Layout, bytes: Vec<u8>) -> Case {
         let samples = plain::unpack(&bytes, layout).map_or(0, |samples| samples.len());
         let frames = completed(self.record[WAITING] as usize, samples);
-        let (out, entries) = (rng.bytes(960 * frames), (0..frames).map(|_| rng.bits()).collect());
-        Case { bytes, layout, out, entries, answers: rng.list_of(3 * frames, Mood::Any), frames, ..self.clone() }
+        let (out, records) = (rng.bytes(960 * frames), rng.bytes(8 * frames));
+        Case { bytes, layout, out, records, answers: rng.list_of(3 * frames, Mood::Any), frames, ..self.clone() }
     }
 
     fn put(&mut self, feed: Feed) -> u32 {
         let Layout { format, channels, channel } = self.layout;
-        let Case { record, store, side, bytes, model, out, entries, answers, .. } = self;
-        feed(record, store, *side, bytes, format, channels, channel, model, out, entries, answers)
+        let Case { record, store, side, bytes, model, out, records, answers, .. } = self;
+        feed(record, store, *side, bytes, format, channels, channel, model, out, records, answers)
     }
 
     /// What a feed is by definition. What is to be refused is worked out from the ruling, before anything changes.
@@ -85,7 +86,8 @@ impl Case {
         pass!(gate(Due::Piece, &self.record, &self.store, self.side));
         let Some(samples) = plain::unpack(&self.bytes, self.layout) else { return 5 };
         let frames = completed(self.record[WAITING] as usize, samples.len());
-        let room = self.out.len() >= 960 * frames && self.entries.len() >= frames && self.answers.len() >= 3 * frames;
+        let room =
+            self.out.len() >= 960 * frames && self.records.len() >= 8 * frames && self.answers.len() >= 3 * frames;
         if !(1..=LONGEST).contains(&samples.len()) || !room {
             return 5;
         }
@@ -94,20 +96,22 @@ impl Case {
         let Case { record, store, side, model, answers, .. } = self;
         pass!(tuppence::take(record, store, *side, &samples, model, &mut cleaned, answers));
         self.out[..960 * frames].copy_from_slice(&plain::pack(&cleaned));
-        for (j, entry) in (0..).zip(&mut self.entries[..frames]) {
+        for (j, record) in (0..).zip(self.records[..8 * frames].chunks_exact_mut(8)) {
             let heard = self.answers[3 * j as usize] != 0.0;
-            *entry = u64::from(first.wrapping_add(j)) | u64::from(heard) << 32;
+            record[..4].copy_from_slice(&first.wrapping_add(j).to_le_bytes());
+            record[4..].copy_from_slice(&[u8::from(heard), (self.side % 2) as u8, 0, 0]);
         }
         0
     }
 
     /// What a call leaves, the number returned first; bit for bit where it is what is wanted.
     fn left<'a>(&'a self, numbers: &'a [u32], floats: fn(&'a [f32]) -> Value<'a>) -> [Value<'a>; 6] {
-        let Case { record, store, out, entries, answers, .. } = self;
-        [numbers.into(), record.into(), floats(store), out.into(), entries.into(), floats(answers)]
+        let Case { record, store, out, records, answers, .. } = self;
+        [numbers.into(), record.into(), floats(store), out.into(), records.into(), floats(answers)]
     }
 
-    /// A feed beside its definition, and its number, if it is known, beside the lowest of the faults. What the feed left.
+    /// A feed beside its definition, and its number, if it is known, beside the lowest of the faults. What the feed
+    /// left.
     fn judge(&self, tally: &mut Tally, feed: Feed, lowest: Option<u32>) -> (u32, Case) {
         let Layout { format, channels, channel } = self.layout;
         let numbers = [self.side, format, channels, channel];
@@ -130,7 +134,8 @@ impl Case {
     }
 }
 
-/// A block: of the bench's own channel silence, or sound of some loudness, and now and then a float that is no sample; of the others anything.
+/// A block: of the bench's own channel silence, or sound of some loudness, and now and then a float that is no sample;
+/// of the others anything.
 fn recorded(rng: &mut Rng, Layout { format, channels, channel }: Layout, samples: usize) -> Vec<u8> {
     let width = plain::width(format).unwrap_or(2);
     let mut bytes = rng.bytes(samples * channels as usize * width);
@@ -180,7 +185,8 @@ impl Met {
     }
 }
 
-/// Blocks on sixteen interleaved benches, until they completed so many frames; now and then a number, a length or the record is another.
+/// Blocks on sixteen interleaved benches, until they completed so many frames; now and then a number, a length or the
+/// record is another.
 fn interleaved(tally: &mut Tally, rng: &mut Rng, feed: Feed, frames: u64) -> Met {
     let mut store = rng.list(STORE);
     let mut benches: Vec<Option<Case>> = vec![None; BENCHES];
@@ -219,7 +225,7 @@ fn damage(rng: &mut Rng, case: &mut Case) -> bool {
         2 => case.layout.channel = rng.pick(&[case.layout.channels, 65_535, u32::MAX]),
         3 => case.bytes.truncate(case.bytes.len() - 1),
         4 => case.out.resize(rng.near(case.out.len()), 1),
-        5 => case.entries.resize(rng.near(case.entries.len()), 1),
+        5 => case.records.resize(rng.near(case.records.len()), 1),
         6 => case.answers.resize(rng.near(case.answers.len()), 1.0),
         7 => case.side = rng.pick(&[16, 17, u32::MAX]),
         8 => case.record[rng.below(RECORD)] = rng.pick(&[0, 1, 2, 5, 8, 128, 480, 4_097, u32::MAX]),
@@ -240,7 +246,7 @@ fn first_waiting(case: &mut Case) -> &mut f32 {
 
 const ANY: &[Fault<Case>] = &[
     (0, |c| c.out.push(7)),
-    (0, |c| c.entries.push(7)),
+    (0, |c| c.records.push(7)),
     (0, |c| c.answers.push(0.5)),
     (1, |c| c.side = 16),
     (1, |c| c.side = u32::MAX),
@@ -285,7 +291,7 @@ const ANY: &[Fault<Case>] = &[
 /// Where a frame is completed.
 const COMPLETING: &[Fault<Case>] = &[
     (5, |c| c.out.truncate(960 * c.frames - 1)),
-    (5, |c| c.entries.truncate(c.frames - 1)),
+    (5, |c| c.records.truncate(8 * c.frames - 1)),
     (5, |c| c.answers.truncate(3 * c.frames - 1)),
 ];
 
@@ -336,7 +342,8 @@ fn every_two_faults(tally: &mut Tally, rng: &mut Rng, feed: Feed) {
     }
 }
 
-/// What two blocks give the left bench, each with a right channel or alone: numbers, bytes, entries, answers and record.
+/// What two blocks give the left bench, each with a right channel or alone: numbers, bytes, records, answers and the
+/// bench's own record.
 fn received(
     rng: &mut Rng,
     feed: Feed,
@@ -354,7 +361,7 @@ fn received(
         let case = one.with(rng, Layout { format, channels, channel: 0 }, bytes.clone());
         one = Case {
             out: vec![1; case.out.len()],
-            entries: vec![1; case.entries.len()],
+            records: vec![1; case.records.len()],
             answers: vec![1.0; case.answers.len()],
             ..case
         };
@@ -369,7 +376,8 @@ fn received(
     received
 }
 
-/// The left bench beside so many random right channels, whose bench is fed in between, receives what it receives where its channel is all there is.
+/// The left bench beside so many random right channels, whose bench is fed in between, receives what it receives where
+/// its channel is all there is.
 fn beside_any_right(tally: &mut Tally, rng: &mut Rng, feed: Feed, times: u64) {
     let store = rng.list(STORE);
     let left = Case::opened(rng, 0, store, SHAPE);
@@ -410,15 +418,16 @@ fn in_blocks(rng: &mut Rng, feed: Feed, bench: &Case, layout: Layout, stream: &[
         case = case.with(rng, layout, block.to_vec());
         numbers.push(case.put(feed));
         all.out.extend(&case.out);
-        all.entries.extend(&case.entries);
+        all.records.extend(&case.records);
         all.answers.extend(&case.answers);
         rest = behind;
     }
     numbers.dedup();
-    (numbers, Case { out: all.out, entries: all.entries, answers: all.answers, ..case })
+    (numbers, Case { out: all.out, records: all.records, answers: all.answers, ..case })
 }
 
-/// However a stream is cut into blocks, its bytes, entries and answers in a row are the same, and so is the bench at the end.
+/// However a stream is cut into blocks, its bytes, records and answers in a row are the same, and so is the bench at
+/// the end.
 fn cut_in_two_ways(tally: &mut Tally, rng: &mut Rng, feed: Feed, times: u64) {
     let store = rng.list(STORE);
     for _ in 0..times {

@@ -1,4 +1,5 @@
-//! Request 12: the same samples with the same logarithms and models, cut in two ways, give the same output, answers, sums, record and store.
+//! Request 12: the same samples with the same logarithms and models, cut in two ways, give the same output, answers,
+//! sums, record and store.
 
 use crate::ask::{piece_length, Ask, PIECE, RESUME};
 use crate::desk::{Way, BENCHES, RECORD, STORE, UNFINISHED, WAITING};

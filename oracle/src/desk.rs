@@ -1,9 +1,10 @@
-//! The desk by the text: an opening and four calls over a lent store, answered by the text's own functions; a frame in two halves.
+//! The desk by the text: an opening and four calls over a lent store, answered by the text's own functions; a frame in
+//! two halves.
 //! (`dictation` has the pieces.)
 //!
-//! Nothing is kept between calls but the store and the records: each call sets the text's memories from its share, runs the
-//! text's functions for that part of the frame, and writes the memories back. The module
-//! `shadow` runs the same frames once more, whole, by `process_frame`.
+//! Nothing is kept between calls but the store and the records: each call sets the text's memories from its share, runs
+//! the text's functions for that part of the frame, and writes the memories back. The module `shadow` runs the same
+//! frames once more, whole, by `process_frame`.
 
 use crate::fft::{fast_forward, fast_inverse};
 use crate::finder::whole;
@@ -32,16 +33,17 @@ pub const STATES: [usize; 3] = [3392, 3520, 3648];
 pub const FINDER_MEM: Range<usize> = 3776..3778;
 pub const WAIT: Range<usize> = 3778..4257;
 
-/// A bench's way, which its opening settles: our own lag and the plain sums, or the text's finder and the fast transforms.
+/// A bench's way, which its opening settles: our own lag and the plain sums, or the text's finder and the fast
+/// transforms.
 #[derive(Clone, Copy, Default, PartialEq)]
 pub enum Way {
     #[default]
-    Asked,
-    Crate,
+    Own,
+    Nnnoiseless,
 }
 
 impl Way {
-    pub const BOTH: [Way; 2] = [Way::Asked, Way::Crate];
+    pub const BOTH: [Way; 2] = [Way::Own, Way::Nnnoiseless];
 
     pub fn any(rng: &mut Rng) -> Way {
         rng.pick(&Way::BOTH)
@@ -55,8 +57,8 @@ impl Way {
     fn forward(self, window: &[f32; 960]) -> [f32; 961] {
         let mut spectrum = [0.0; 961];
         match self {
-            Way::Asked => plain_forward(&cosines(), &mut spectrum, window),
-            Way::Crate => fast_forward(&cosines(), &mut spectrum, window),
+            Way::Own => plain_forward(&cosines(), &mut spectrum, window),
+            Way::Nnnoiseless => fast_forward(&cosines(), &mut spectrum, window),
         }
         spectrum
     }
@@ -64,18 +66,18 @@ impl Way {
     fn inverse(self, spectrum: &[f32; 961]) -> [f32; 960] {
         let mut window = [0.0; 960];
         match self {
-            Way::Asked => plain_inverse(&cosines(), &mut window, spectrum),
-            Way::Crate => fast_inverse(&cosines(), &mut window, spectrum),
+            Way::Own => plain_inverse(&cosines(), &mut window, spectrum),
+            Way::Nnnoiseless => fast_inverse(&cosines(), &mut window, spectrum),
         }
         window
     }
 
-    /// The lag of a share's `input_mem`. The text's finder goes on from the last period and the last gain that stand there, whoever wrote
-    /// them, and leaves its own.
+    /// The lag of a share's `input_mem`. The text's finder goes on from the last period and the last gain that stand
+    /// there, whoever wrote them, and leaves its own.
     fn lag(self, share: &mut [f32]) -> u32 {
         match self {
-            Way::Asked => lag::joined(&share[INPUT_MEM]),
-            Way::Crate => {
+            Way::Own => lag::joined(&share[INPUT_MEM]),
+            Way::Nnnoiseless => {
                 let [last_period, last_gain] = [0, 1].map(|i| share[FINDER_MEM][i]);
                 let (period, gain) = PitchFinder::after(whole(last_period), last_gain).process(&share[INPUT_MEM]);
                 share[FINDER_MEM].copy_from_slice(&[period as f32, gain]);
@@ -229,11 +231,11 @@ fn save(text: &mut DenoiseFeatures, share: &mut [f32], record: &mut [u32]) {
 }
 
 pub fn open(record: &mut [u32], store: &mut [f32], side: u32, model: &[u8]) -> u32 {
-    opened(record, store, side, Way::Asked, model)
+    opened(record, store, side, Way::Own, model)
 }
 
 pub fn open_crate(record: &mut [u32], store: &mut [f32], side: u32, model: &[u8]) -> u32 {
-    opened(record, store, side, Way::Crate, model)
+    opened(record, store, side, Way::Nnnoiseless, model)
 }
 
 fn opened(record: &mut [u32], store: &mut [f32], side: u32, way: Way, model: &[u8]) -> u32 {
@@ -267,8 +269,8 @@ pub fn call1(record: &mut [u32], store: &mut [f32], side: u32, samples: &[f32], 
     0
 }
 
-/// The text runs on to the end of `compute_frame_features`; of that, call 2 has what it hands to its second transform and
-/// to its logarithms.
+/// The text runs on to the end of `compute_frame_features`; of that, call 2 has what it hands to its second transform
+/// and to its logarithms.
 pub fn call2(
     record: &mut [u32],
     store: &mut [f32],
@@ -299,7 +301,8 @@ pub fn call2(
     0
 }
 
-/// Call 2 with the lag of the side's `input_mem`, by the text's leaves joined. A side or a store that has none is refused by call 2.
+/// Call 2 with the lag of the side's `input_mem`, by the text's leaves joined. A side or a store that has none is
+/// refused by call 2.
 pub fn call2_own(
     record: &mut [u32],
     store: &mut [f32],
@@ -375,8 +378,8 @@ pub fn first_half(record: &mut [u32], store: &mut [f32], side: u32, samples: &[f
     call2(record, store, side, &spectrum, lag, &mut window, sums)
 }
 
-/// Request 08: call 3 with the spectrum of the window for the lag that call 2 kept, and call 4 with the inverse of what it wrote, both
-/// transforms by the bench's way.
+/// Request 08: call 3 with the spectrum of the window for the lag that call 2 kept, and call 4 with the inverse of what
+/// it wrote, both transforms by the bench's way.
 pub fn second_half(
     record: &mut [u32],
     store: &mut [f32],

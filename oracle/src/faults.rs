@@ -1,4 +1,5 @@
-//! Whole calls with every fault at its limit, and with every two at once: the lower number answers, and nothing changes.
+//! Whole calls with every fault at its limit, and with every two at once: the lower number answers, and nothing
+//! changes.
 
 use crate::ask::{Ask, FRAME, TAKE};
 use crate::desk::{
@@ -168,7 +169,8 @@ fn faults(case: &Case) -> Vec<Fault<Case>> {
     faults
 }
 
-/// A case with these faults: those that bring no refusal first, and then the lower ones over the higher; and the lowest number.
+/// A case with these faults: those that bring no refusal first, and then the lower ones over the higher; and the lowest
+/// number.
 pub fn befallen<C: Clone>(case: &C, mut faults: Vec<Fault<C>>) -> (C, u32) {
     faults.sort_by_key(|(number, _)| std::cmp::Reverse(number.wrapping_sub(1)));
     let mut case = case.clone();

@@ -78,7 +78,8 @@ fn bins<const R: usize>(c: &[f32; 960], x: [Complex; R]) -> [Complex; R] {
     out
 }
 
-/// Each lane joins R numbers that stand m apart; its number j is turned by m · j · k/480 of a turn, but in the first stage.
+/// Each lane joins R numbers that stand m apart; its number j is turned by m · j · k/480 of a turn, but in the first
+/// stage.
 fn stage<const R: usize>(c: &[f32; 960], m: usize, z: [Complex; 480]) -> [Complex; 480] {
     let lanes = 480 / R;
     let mut out = [Complex::default(); 480];

@@ -1,5 +1,5 @@
-//! `PitchFinder::process`, against the text's own: frame after frame with what it remembers, and after numbers that no finder
-//! wrote.
+//! `PitchFinder::process`, against the text's own: frame after frame with what it remembers, and after numbers that no
+//! finder wrote.
 
 use crate::lag::voice;
 use crate::rng::{Mood, Rng};
@@ -24,8 +24,8 @@ pub fn compare(options: &Options) -> Tally {
     tally
 }
 
-/// Silence of either sign, NaN throughout, infinities, and loud ones whose squares overflow; after the numbers at the edges of what
-/// may be kept.
+/// Silence of either sign, NaN throughout, infinities, and loud ones whose squares overflow; after the numbers at the
+/// edges of what may be kept.
 fn fixed(tally: &mut Tally) {
     let edges =
         [0.0, -0.0, 0.5, 59.9, 60.0, 767.0, 767.9, 768.0, 768.5, 1e9, -1.0, f32::INFINITY, f32::NEG_INFINITY, f32::NAN];
@@ -53,7 +53,8 @@ fn recording(tally: &mut Tally, rng: &mut Rng) {
     }
 }
 
-/// Stretches of voices, high and wavering ones among them, noise and silence, some with special numbers; or numbers of any one kind.
+/// Stretches of voices, high and wavering ones among them, noise and silence, some with special numbers; or numbers of
+/// any one kind.
 fn sound(rng: &mut Rng, len: usize) -> Vec<f32> {
     if rng.once_in(8) {
         return rng.list(len);
@@ -73,8 +74,8 @@ fn sound(rng: &mut Rng, len: usize) -> Vec<f32> {
     sound
 }
 
-/// A voice whose every other period is another, more and less so by turns: whether one period is found or two depends on what was found last, in
-/// one frame of five.
+/// A voice whose every other period is another, more and less so by turns: whether one period is found or two depends
+/// on what was found last, in one frame of five.
 fn wavering(rng: &mut Rng, len: usize) -> Vec<f32> {
     let (period, slow) = (70.0 + 250.0 * rng.unit(), 2000.0 + 4000.0 * rng.unit());
     let (loud, noise) = (300.0 + 6000.0 * rng.unit(), rng.pick(&[0.0, 0.01, 0.1]));

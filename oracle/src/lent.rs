@@ -1,4 +1,5 @@
-//! A frame and a piece in one call as they are by definition: the halves, and a piece resumed to its end, with the desk's logarithms lent.
+//! A frame and a piece in one call as they are by definition: the halves, and a piece resumed to its end, with the
+//! desk's logarithms lent.
 //! What is to be refused is worked out from the ruling, before any call is made.
 
 use crate::desk::{asked, broken, gate, pass, unfit, Due, UNFINISHED, WAITING};

@@ -1,9 +1,9 @@
 //! The proved library held against the Rust text, group by group.
 //!
 //! Each group makes seeded inputs, lends them to both sides and compares the number returned and every lent buffer
-//! afterwards, refused calls included. What is to be refused is worked out here, from the tables of refusals and not from
-//! either side. All NaNs are taken alike, and both zeros where a maximum leaves their signs open. A refused call must leave
-//! the very bits, and every call its inputs.
+//! afterwards, refused calls included. What is to be refused is worked out here, from the tables of refusals and not
+//! from either side. All NaNs are taken alike, and both zeros where a maximum leaves their signs open. A refused call
+//! must leave the very bits, and every call its inputs.
 
 pub mod models;
 pub mod plain_pcm;

@@ -82,8 +82,8 @@ impl Fine {
     }
 }
 
-/// The f32 whose f64 logarithm lies less than 16 of its last digits from a midpoint of two f32. At 0EFEEE7A the sum of our
-/// parts falls on the midpoint.
+/// The f32 whose f64 logarithm lies less than 16 of its last digits from a midpoint of two f32. At 0EFEEE7A the sum of
+/// our parts falls on the midpoint.
 #[rustfmt::skip]
 const NEAR_MIDPOINTS: [u32; 116] = [
     0x0197_b60d, 0x0220_be43, 0x0225_f259, 0x0278_6410, 0x041b_3e8a, 0x0436_b84d, 0x058e_cd6a, 0x06cb_926d,

@@ -15,8 +15,8 @@ const ONES: [One; 4] = [
     ("sqrt", tuppence::sqrt, f32::sqrt),
 ];
 
-/// Of two zeros `max` is defined to give +0 where one is +0, and `min` the left one. What the compiled Rust gives there is its
-/// compiler's choice.
+/// Of two zeros `max` is defined to give +0 where one is +0, and `min` the left one. What the compiled Rust gives there
+/// is its compiler's choice.
 fn max(a: f32, b: f32) -> f32 {
     if a == 0.0 && b == 0.0 {
         f32::from_bits(a.to_bits() & b.to_bits())

@@ -144,7 +144,8 @@ fn every_float(pcm: &mut Pcm) {
 /// Numbers that name no format.
 pub const NO_FORMATS: [u32; 9] = [0, 8, 15, 17, 25, 34, 48, 64, u32::MAX];
 
-/// Any channel of blocks of 1 to 4,096 samples, the shortest and the longest among them; now and then a number or a length is another.
+/// Any channel of blocks of 1 to 4,096 samples, the shortest and the longest among them; now and then a number or a
+/// length is another.
 fn blocks(pcm: &mut Pcm, rng: &mut Rng, format: u32, channels: u32, calls: u64) {
     let width = plain::width(format).expect("it is a format");
     for call in 0..calls {
@@ -191,7 +192,8 @@ impl Block {
     }
 }
 
-/// What a block is refused for, each by itself. Of two one may undo the other: a sample more in both lists is a block again.
+/// What a block is refused for, each by itself. Of two one may undo the other: a sample more in both lists is a block
+/// again.
 const FAULTS: [fn(&mut Block); 14] = [
     |b| b.layout.format = 0,
     |b| b.layout.format += 2,
@@ -209,7 +211,8 @@ const FAULTS: [fn(&mut Block); 14] = [
     |b| b.out.push(0.5),
 ];
 
-/// Blocks without a fault, with each, and with every two at once; one channel too many; and lengths around those of packed samples.
+/// Blocks without a fault, with each, and with every two at once; one channel too many; and lengths around those of
+/// packed samples.
 fn every_two_faults(pcm: &mut Pcm, rng: &mut Rng) {
     let shapes = [
         (16, 1, 5),

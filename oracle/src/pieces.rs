@@ -1,4 +1,5 @@
-//! Request 12: dictation in pieces of any lengths on sixteen interleaved benches, against the text's; and the same samples cut in two ways.
+//! Request 12: dictation in pieces of any lengths on sixteen interleaved benches, against the text's; and the same
+//! samples cut in two ways.
 
 use crate::answers::Answers;
 use crate::ask::{Caller, PIECE, RESUME};
@@ -58,8 +59,8 @@ fn compare_with(tally: &mut Tally, seed: u64, frames: u64, desk: &Surface) -> Me
     met
 }
 
-/// Mostly none. Else a record with the new numbers at their limits, one at a time, or several that may belong together; samples that wait
-/// changed from outside; or what befalls any call.
+/// Mostly none. Else a record with the new numbers at their limits, one at a time, or several that may belong together;
+/// samples that wait changed from outside; or what befalls any call.
 pub fn damage(rng: &mut Rng, side: usize, record: &[u32]) -> Damage {
     let piece = rng.pick(&[1, 479, 480, 481, 1_000, 4_095, 4_096, 4_097]);
     let noted = record[UNFINISHED];

@@ -1,4 +1,5 @@
-//! Recorded bytes as samples, and samples as bytes, in plain Rust: a channel of 16-bit, 24-bit, 32-bit or float samples, and 16 bits back.
+//! Recorded bytes as samples, and samples as bytes, in plain Rust: a channel of 16-bit, 24-bit, 32-bit or float
+//! samples, and 16 bits back.
 
 /// What the bytes of a block are, and which of its channels is meant.
 #[derive(Clone, Copy, Debug)]
@@ -19,8 +20,8 @@ pub fn width(format: u32) -> Option<usize> {
     }
 }
 
-/// The sample that these bytes are, worked out in f64, where all of it is exact, and rounded once. Full scale is 32,768, and what lies beyond the
-/// ends is taken for them; what is not finite stays so.
+/// The sample that these bytes are, worked out in f64, where all of it is exact, and rounded once. Full scale is
+/// 32,768, and what lies beyond the ends is taken for them; what is not finite stays so.
 fn sample(bytes: &[u8], format: u32) -> f32 {
     let number = match *bytes {
         [a, b] => f64::from(i16::from_le_bytes([a, b])),
@@ -36,7 +37,8 @@ fn sample(bytes: &[u8], format: u32) -> f32 {
     }
 }
 
-/// The samples of one channel; none where the bytes are not whole samples of so many channels, or there is no such format or channel.
+/// The samples of one channel; none where the bytes are not whole samples of so many channels, or there is no such
+/// format or channel.
 pub fn unpack(bytes: &[u8], Layout { format, channels, channel }: Layout) -> Option<Vec<f32>> {
     let width = width(format)?;
     if channels > 65_535 || channel >= channels {

@@ -10,8 +10,8 @@ pub fn checksum(before: u32, bytes: &[u8]) -> u32 {
 /// The word of the front seal, and that of the end seal.
 pub const WORDS: [&[u8; 4]; 2] = [b"TUPB", b"TUPP"];
 
-/// The side, and the numbers of 64 and of 32 bits: when it began and its first frame, or how many bytes of audio and their
-/// checksum.
+/// The side, and the numbers of 64 and of 32 bits: when it began and its first frame, or how many bytes of audio and
+/// their checksum.
 #[derive(Clone, Copy, Debug, PartialEq)]
 pub struct Seal {
     pub side: u32,

@@ -23,7 +23,8 @@ pub fn compare(options: &Options) -> Tally {
     tally
 }
 
-/// Every byte of a small recording changed to every other value, none of which is accepted, and the file cut at every byte.
+/// Every byte of a small recording changed to every other value, none of which is accepted, and the file cut at every
+/// byte.
 fn every_byte(t: &mut Tally, rng: &mut Rng) {
     for side in 0..2 {
         let front = Front { side, began: 1_800_000_000, first: u32::from(side) };

@@ -25,8 +25,8 @@ pub struct Surface {
 impl Surface {
     pub fn opening(&self, way: Way) -> Opening {
         match way {
-            Way::Asked => self.open,
-            Way::Crate => self.open_crate,
+            Way::Own => self.open,
+            Way::Nnnoiseless => self.open_crate,
         }
     }
 }

@@ -193,7 +193,8 @@ impl Tally {
         });
     }
 
-    /// A call of a leaf with one answer buffer: where the arguments fit, the Rust's answer and 0, else 5 and nothing changed.
+    /// A call of a leaf with one answer buffer: where the arguments fit, the Rust's answer and 0, else 5 and nothing
+    /// changed.
     pub fn leaf(
         &mut self,
         what: &str,

@@ -1,5 +1,6 @@
-//! A frame and a piece in one call, on sixteen interleaved benches and among all other calls: bit for bit beside the halves and pieces that they
-//! are by definition, on a second store. And every two faults at once, of which the lower number answers.
+//! A frame and a piece in one call, on sixteen interleaved benches and among all other calls: bit for bit beside the
+//! halves and pieces that they are by definition, on a second store. And every two faults at once, of which the lower
+//! number answers.
 
 use crate::answers::Answers;
 use crate::ask::{Ask, Caller, FRAME, TAKE};
@@ -68,7 +69,8 @@ fn compare_with(tally: &mut Tally, rng: &mut Rng, frames: u64, mut both: Beside)
     met
 }
 
-/// As for pieces, and more records of closed sides; and the last sample that waits, or the place behind it, which nobody looks at.
+/// As for pieces, and more records of closed sides; and the last sample that waits, or the place behind it, which
+/// nobody looks at.
 fn damage(rng: &mut Rng, side: usize, record: &[u32]) -> Damage {
     let waiting = record[WAITING] as usize;
     match rng.below(60) {

@@ -1,4 +1,5 @@
-//! The laws that crates/fft/specs/Exact.antt asks of cosines are not empty: they hold modulo the prime 4801, where 2404 is a 960th of a turn.
+//! The laws that crates/fft/specs/Exact.antt asks of cosines are not empty: they hold modulo the prime 4801, where 2404
+//! is a 960th of a turn.
 
 const PRIME: u64 = 4801;
 

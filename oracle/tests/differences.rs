@@ -1,4 +1,5 @@
-//! Each row of docs/DIFFERENCES.md, by the smallest input that shows it: what the library answers, and what the compiled text does.
+//! Each row of docs/DIFFERENCES.md, by the smallest input that shows it: what the library answers, and what the
+//! compiled text does.
 
 use nnnoiseless_text::probe::{bands, features, pitch, rnn, util};
 use nnnoiseless_text::{feed, DenoiseFeatures, RnnModel};

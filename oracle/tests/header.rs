@@ -1,4 +1,5 @@
-//! bindings/c/tuppence.h as a C compiler takes it: a program in C, and every function that it declares, linked with the library.
+//! bindings/c/tuppence.h as a C compiler takes it: a program in C, and every function that it declares, linked with the
+//! library.
 
 use std::fs;
 use std::path::{Path, PathBuf};

@@ -8,27 +8,33 @@ use oracle::plain_wav;
 const HEADS: [(&[u8], [u64; 5]); 6] = [
     // ffmpeg, 24 bits: EXTENSIBLE, with LIST in front
     (
-        b"RIFF\xa88\0\0WAVEfmt (\0\0\0\xfe\xff\x01\0\x80\xbb\0\0\x802\x02\0\x03\0\x18\0\x16\0\x18\0\x04\0\0\0\x01\0\0\0\0\0\x10\0\x80\0\0\xaa\08\x9bqLIST$\0\0\0INFOINAM\x02\0\0\0x\0ISFT\x0e\0\0\0Lavf59.27.100\0data@8\0\0",
+        b"RIFF\xa88\0\0WAVEfmt (\0\0\0\xfe\xff\x01\0\x80\xbb\0\0\x802\x02\0\x03\0\x18\0\x16\0\x18\0\x04\0\0\0\x01\0\0\
+          \0\0\0\x10\0\x80\0\0\xaa\08\x9bqLIST$\0\0\0INFOINAM\x02\0\0\0x\0ISFT\x0e\0\0\0Lavf59.27.100\0data@8\0\0",
         [112, 24, 1, 48000, 14400],
     ),
     // sox, floats: a `fmt ` chunk of 18 bytes, and fact
     (
-        b"RIFF2\x96\0\0WAVEfmt \x12\0\0\0\x03\0\x02\0\x80\xbb\0\0\0\xdc\x05\0\x08\0 \0\0\0fact\x04\0\0\0\xc0\x12\0\0data\0\x96\0\0",
+        b"RIFF2\x96\0\0WAVEfmt \x12\0\0\0\x03\0\x02\0\x80\xbb\0\0\0\xdc\x05\0\x08\0 \
+          \0\0\0fact\x04\0\0\0\xc0\x12\0\0data\0\x96\0\0",
         [58, 32, 2, 48000, 38400],
     ),
     // ffmpeg, six channels of floats
     (
-        b"RIFFj\xc2\x01\0WAVEfmt (\0\0\0\xfe\xff\x06\0\x80\xbb\0\0\0\x94\x11\0\x18\0 \0\x16\0 \0?\0\0\0\x03\0\0\0\0\0\x10\0\x80\0\0\xaa\08\x9bqfact\x04\0\0\0\xc0\x12\0\0LIST\x1a\0\0\0INFOISFT\x0e\0\0\0Lavf59.27.100\0data\0\xc2\x01\0",
+        b"RIFFj\xc2\x01\0WAVEfmt (\0\0\0\xfe\xff\x06\0\x80\xbb\0\0\0\x94\x11\0\x18\0 \0\x16\0 \
+          \0?\0\0\0\x03\0\0\0\0\0\x10\0\x80\0\0\xaa\08\x9bqfact\x04\0\0\0\xc0\x12\0\0LIST\x1a\0\0\0INFOISFT\x0e\0\0\0L\
+          avf59.27.100\0data\0\xc2\x01\0",
         [114, 32, 6, 48000, 115200],
     ),
     // ffmpeg into a pipe
     (
-        b"RIFF\xff\xff\xff\xffWAVEfmt \x10\0\0\0\x01\0\x01\0\x80\xbb\0\0\0w\x01\0\x02\0\x10\0LIST\x1a\0\0\0INFOISFT\x0e\0\0\0Lavf59.27.100\0data\xff\xff\xff\xff",
+        b"RIFF\xff\xff\xff\xffWAVEfmt \x10\0\0\0\x01\0\x01\0\x80\xbb\0\0\0w\x01\0\x02\0\x10\0LIST\x1a\0\0\0INFOISFT\
+          \x0e\0\0\0Lavf59.27.100\0data\xff\xff\xff\xff",
         [78, 16, 1, 48000, 4294967295],
     ),
     // sox, 24 bits
     (
-        b"RIFF\xc8p\0\0WAVEfmt (\0\0\0\xfe\xff\x02\0\x80\xbb\0\0\0e\x04\0\x06\0\x18\0\x16\0\x18\0\x03\0\0\0\x01\0\0\0\0\0\x10\0\x80\0\0\xaa\08\x9bqfact\x04\0\0\0\xc0\x12\0\0data\x80p\0\0",
+        b"RIFF\xc8p\0\0WAVEfmt (\0\0\0\xfe\xff\x02\0\x80\xbb\0\0\0e\x04\0\x06\0\x18\0\x16\0\x18\0\x03\0\0\0\x01\0\0\0\
+          \0\0\x10\0\x80\0\0\xaa\08\x9bqfact\x04\0\0\0\xc0\x12\0\0data\x80p\0\0",
         [80, 24, 2, 48000, 28800],
     ),
     // sox into a pipe

@@ -1,5 +1,5 @@
-//! What memory is made of: each bench's memory is rebuilt from its heard frames alone, and compared with what its share and
-//! its record hold.
+//! What memory is made of: each bench's memory is rebuilt from its heard frames alone, and compared with what its share
+//! and its record hold.
 
 use nnnoiseless_text::probe::{bands, pitch::PitchFinder, rnn};
 use nnnoiseless_text::RnnModel;
@@ -130,8 +130,8 @@ fn transformed(way: Way, samples: &[f32], lag: usize) -> Vec<f32> {
     let (mut window, mut spectrum) = ([0.0; 960], vec![0.0; 961]);
     bands::apply_window(&mut window, &samples[768 - lag..][..960]);
     let forward = match way {
-        Way::Asked => tuppence::forward,
-        Way::Crate => tuppence::fft_forward,
+        Way::Own => tuppence::forward,
+        Way::Nnnoiseless => tuppence::fft_forward,
     };
     assert_eq!(forward(&mut spectrum, &window), 0);
     spectrum
@@ -162,7 +162,8 @@ struct Count {
 }
 
 impl Bench {
-    /// A call and its answer. Of `input_mem`, before the call and after it, the joined calls and call 2's sister read the last samples.
+    /// A call and its answer. Of `input_mem`, before the call and after it, the joined calls and call 2's sister read
+    /// the last samples.
     fn follow(
         &mut self,
         ask: &Ask,
@@ -183,7 +184,7 @@ impl Bench {
             (SECOND_HALF | RESUME, 0) => {
                 let second = transformed(self.way, before, self.noted.1);
                 self.frame(ask, &second, answer.last().unwrap(), count);
-                count.in_crates_way += usize::from(self.way == Way::Crate);
+                count.in_crates_way += usize::from(self.way == Way::Nnnoiseless);
             }
             (_, 0) => {}
             _ => count.refused += 1,
@@ -191,8 +192,8 @@ impl Bench {
         // a frame is begun, with the transform and the lag of its way
         if number == 0 && (ask.call == FIRST_HALF || (paused && matches!(ask.call, PIECE | RESUME))) {
             let lag = match self.way {
-                Way::Asked => own_lag(after),
-                Way::Crate => self.finder.process(after).0,
+                Way::Own => own_lag(after),
+                Way::Nnnoiseless => self.finder.process(after).0,
             };
             self.noted = (transformed(self.way, after, 0), lag);
         }
@@ -237,7 +238,7 @@ fn memory_is_made_of_heard_frames() {
     let mut benches: Vec<Bench> = (0..BENCHES as u32)
         .map(|side| Bench {
             caller: Caller::in_pieces(side, 2),
-            way: Way::Asked,
+            way: Way::Own,
             finder: PitchFinder::new(),
             memory: BLANK,
             noted: (vec![], 0),

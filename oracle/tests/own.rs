@@ -1,4 +1,5 @@
-//! A record is of use to its own bench alone: every other bench refuses it with 2, whatever is asked, and nothing changes.
+//! A record is of use to its own bench alone: every other bench refuses it with 2, whatever is asked, and nothing
+//! changes.
 
 use oracle::desk::{BENCH, BENCHES, DUE, RECORD, STORE};
 
@@ -13,12 +14,12 @@ fn model() -> Vec<u8> {
 struct Lent {
     floats: [Vec<f32>; 3],
     bytes: Vec<u8>,
-    entries: Vec<u64>,
+    records: Vec<u8>,
 }
 
 impl Lent {
     fn new() -> Lent {
-        Lent { floats: [480, 960, 961].map(|n| vec![7.5; n]), bytes: vec![7; 960], entries: vec![7] }
+        Lent { floats: [480, 960, 961].map(|n| vec![7.5; n]), bytes: vec![7; 960], records: vec![7; 8] }
     }
 }
 
@@ -61,7 +62,7 @@ const CALLS: [Call; 13] = [
     }),
     ("feed", 1, |r, s, side, model, l| {
         let block = [1; 2 * 480];
-        tuppence::feed(r, s, side, &block, 16, 1, 0, model, &mut l.bytes, &mut l.entries, &mut l.floats[0])
+        tuppence::feed(r, s, side, &block, 16, 1, 0, model, &mut l.bytes, &mut l.records, &mut l.floats[0])
     }),
 ];
 

@@ -1,5 +1,5 @@
-//! A bench of the crate's way beside the crate: its frames in one call, and the text's own `process_frame`, which finds the lag by its own
-//! finder, over the same fast transforms and the nearest logarithms.
+//! A bench of the crate's way beside the crate: its frames in one call, and the text's own `process_frame`, which finds
+//! the lag by its own finder, over the same fast transforms and the nearest logarithms.
 
 use nnnoiseless_text::probe::pitch::PitchFinder;
 use nnnoiseless_text::{feed, DenoiseState, RnnModel};
@@ -34,7 +34,8 @@ fn processed(text: &mut DenoiseState, samples: &[f32]) -> ([f32; 480], f32) {
     (out, voice)
 }
 
-/// Recordings on any benches of one store, each from its opening on: every sample, the voice, and what the finder remembers.
+/// Recordings on any benches of one store, each from its opening on: every sample, the voice, and what the finder
+/// remembers.
 fn beside_process_frame(desk: &Surface, seed: u64) {
     let rng = &mut Rng::new(seed);
     let (mut store, mut heard) = (rng.list(STORE), 0);
@@ -42,7 +43,7 @@ fn beside_process_frame(desk: &Surface, seed: u64) {
         let (side, shape) = (rng.below(BENCHES) as u32, models::shape(rng));
         let (model, mut record, mut finder) = (models::of_shape(rng, shape), [0; RECORD], PitchFinder::new());
         let mut text = DenoiseState::from_model(RnnModel::from_bytes(&model).unwrap());
-        assert_eq!(desk.opening(Way::Crate)(&mut record, &mut store, side, &model), 0);
+        assert_eq!(desk.opening(Way::Nnnoiseless)(&mut record, &mut store, side, &model), 0);
         let held = vec![vec![7.5; 480], vec![7.5; 3]];
         let mut ask = Ask { call: FRAME, side, model, held, ..Ask::default() };
         for samples in finder::recorded(rng, 480 * FRAMES).chunks_exact(480) {

@@ -1,4 +1,5 @@
-//! The signs of zeros that the definitions fix, by their bit patterns. (The comparison with the Rust looks at all others that the Rust fixes.)
+//! The signs of zeros that the definitions fix, by their bit patterns. (The comparison with the Rust looks at all
+//! others that the Rust fixes.)
 
 const PLUS: u32 = 0;
 const MINUS: u32 = 0x8000_0000;

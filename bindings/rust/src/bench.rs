@@ -1,6 +1,6 @@
 //! One bench with a store of its own.
 
-use crate::{feed, open, open_crate, place, take, Refusal, ANSWERS, FRAME, FRAMES, RECORD, STORE};
+use crate::{feed, open, open_crate, place, take, Refusal, ANSWERS, FRAME, FRAMES, NOTE, RECORD, STORE};
 
 /// What the library says of a frame.
 #[derive(Clone, Copy, Debug, PartialEq)]
@@ -63,8 +63,9 @@ pub struct Taken<'a> {
 pub struct Fed<'a> {
     /// The cleaned samples as 16-bit integers, 960 bytes for each frame.
     pub cleaned: &'a [u8],
-    /// The frames' entries of the side sheet: the frame's number, and 2^32 more if it was heard.
-    pub entries: &'a [u64],
+    /// The frames' records of the side sheet, 8 bytes each: four bytes of the frame's number, little end first; 1 if it
+    /// was heard, else 0; the bench's side, 0 left and 1 right; and two zeros.
+    pub records: &'a [[u8; NOTE]],
     answers: &'a [f32],
 }
 
@@ -97,7 +98,7 @@ pub struct Bench {
     model: Vec<u8>,
     out: [f32; FRAMES * FRAME],
     cleaned: [u8; 2 * FRAMES * FRAME],
-    entries: [u64; FRAMES],
+    records: [[u8; NOTE]; FRAMES],
     answers: [f32; ANSWERS * FRAMES],
 }
 
@@ -115,7 +116,7 @@ impl Bench {
             model: model.into(),
             out: [0.0; FRAMES * FRAME],
             cleaned: [0; 2 * FRAMES * FRAME],
-            entries: [0; FRAMES],
+            records: [[0; NOTE]; FRAMES],
             answers: [0.0; ANSWERS * FRAMES],
         })
     }
@@ -161,13 +162,13 @@ impl Bench {
             channel,
             &self.model,
             &mut self.cleaned,
-            &mut self.entries,
+            self.records.as_flattened_mut(),
             &mut self.answers,
         ))?;
         let frames = self.completed(before);
         Ok(Fed {
             cleaned: &self.cleaned[..2 * FRAME * frames],
-            entries: &self.entries[..frames],
+            records: &self.records[..frames],
             answers: &self.answers[..ANSWERS * frames],
         })
     }

@@ -16,6 +16,8 @@ pub const PIECE: usize = 4_096;
 pub const FRAMES: usize = 9;
 /// Answers for each frame: heard (1) or silent (0), how likely it has a voice, and its energy.
 pub const ANSWERS: usize = 3;
+/// The bytes of a frame's record in the side sheet.
+pub const NOTE: usize = 8;
 
 /// Where a record has each of its numbers.
 pub mod place {

@@ -1,4 +1,5 @@
--- What the proofs need of the band edges: they rise, band i's is at least i, the last is 400, and no band has more than 88 bins. Assumes nothing.
+-- What the proofs need of the band edges: they rise, band i's is at least i, the last is 400, and no band has more than
+-- 88 bins. Assumes nothing.
 use Rattle.rules.proofs.Common.{ℕ, _+_, _-_, _≤_, _<_, List, _≡_, leb, ltb, getD}
 use lib.Dec.{leb→le, ltb→lt}
 use Rattle.rules.proofs.Tests.{at-each}

@@ -3,4 +3,5 @@ pub mod Norm
 pub mod Results
 pub mod Scale
 pub mod Shares
+pub mod Sums
 pub mod WindowRule

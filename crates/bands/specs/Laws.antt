@@ -1,4 +1,5 @@
--- What is claimed of the bands' results. The proofs are in proofs/Results, proofs/Norm and proofs/Scale; the window's rule stands in WindowRule.
+-- What is claimed of the bands' results. The proofs are in proofs/Results, proofs/Norm and proofs/Scale; the window's
+-- rule stands in WindowRule.
 use Rattle.rules.specs.Common.{ℕ, _≤_, _<_, List, _≡_, length, Float, binary64, ofBits}
 use Rattle.rules.specs.F32.{at, f32}
 use Rattle.bands.specs.Bands.{bandCorr, bandGain}

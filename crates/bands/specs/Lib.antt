@@ -3,6 +3,7 @@ pub mod Dct
 pub mod DctTable
 pub mod Laws
 pub mod Norm
+pub mod Private
 pub mod Window
 pub mod WindowRule
 pub mod Windowed

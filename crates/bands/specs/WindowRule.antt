@@ -1,5 +1,7 @@
--- The window's rule, over whole numbers: entry i counts 2^-41, the unit of its smallest entry. `proofs/WindowRule.antt` shows the claim.
-use Rattle.rules.specs.Common.{ℕ, _+_, _-_, _*_, _/_, _^_, _≤_, _<_, true, false, List, map, _≡_, Float, binary32, nan, inf, fin, up, down, round}
+-- The window's rule, over whole numbers: entry i counts 2^-41, the unit of its smallest entry. `proofs/WindowRule.antt`
+-- shows the claim.
+use Rattle.rules.specs.Common.{ℕ, _+_, _-_, _*_, _/_, _^_, _≤_, _<_, true, false, List, map, _≡_, Float, binary32, nan}
+use Rattle.rules.specs.Common.{inf, fin, up, down, round}
 use Rattle.rules.specs.F32.{natAt}
 use Rattle.bands.specs.Window.{window}
 
@@ -28,7 +30,8 @@ pub record Rule (i : ℕ) : Type 0 where
   pub near-above : i < 480 → squares i ≤ 2 ^ 82 + 2 ^ 59
   pub near-below : i < 480 → 2 ^ 82 ≤ squares i + 2 ^ 59
 
--- the claim: the rule holds at all 960 places, and counting loses nothing, since the float nearest to a count is the entry itself
+-- the claim: the rule holds at all 960 places, and counting loses nothing, since the float nearest to a count is the
+-- entry itself
 pub record Claim : Type 0 where
   pub ruled : (i : ℕ) → i < 960 → Rule i
   pub exact : map (λ (n : ℕ). round binary32 false n (2 ^ 41)) counts ≡ window

@@ -4,12 +4,15 @@
 ghost use mathlib.Core.Path.{_≡_};
 ghost use Prim.Native.Nat.{_+_, _-_, _≤_, _<_};
 ghost use lib.ListN.{length};
-ghost use Rattle.rules.specs.F32.{zeros};
+ghost use Rattle.rules.specs.F32.{at, zeros};
 ghost use Rattle.rules.specs.Leaf.{Leaf, _leaving_};
 ghost use Rattle.rules.specs.Loop.{loop, range};
-ghost use Rattle.bands.specs.Bands.{edges, edge, binCorr, inBand, corrStep, bandCorr, BandFits, gainStep, bandGain, GainFits};
-ghost use Rattle.bands.specs.Dct.{dctSum, dctScaled, dctIn, dctOf, DctFits};
+ghost use Rattle.rules.specs.Tab.{tab};
+ghost use Rattle.bands.specs.Bands.{edges, edge, binCorr, inBand, corrStep, bandCorr, BandFits, gainStep};
+ghost use Rattle.bands.specs.Bands.{bandGain, GainFits};
+ghost use Rattle.bands.specs.Dct.{dctScaled, dctIn, dctOf, DctFits};
 ghost use Rattle.bands.specs.Norm.{wnorm};
+ghost use Rattle.bands.specs.Private.{sumsAfter};
 ghost use Rattle.bands.specs.Windowed.{windowedBy, windowed, WindowFits};
 
 mod dct_table;
@@ -142,7 +145,7 @@ pub fn compute_band_corr(out: &mut [f32], x: &[f32], p: &[f32]) -> u32
     0
 }
 
-// The bins of band i, between its gain and the next band's.
+// The bins of band i, between its gain and the next band's. Floats are made of four numbers of 16 bits at a time.
 fn fill_band(out: &mut [f32], table: &[usize; 22], bands: &[f32], i: usize)
     requires { ⌜ GainFits (length (now out)) (length (now bands)) ⌝ }
     requires { ⌜ (now table ≡ edges) × (i < 21) ⌝ }
@@ -152,8 +155,9 @@ fn fill_band(out: &mut [f32], table: &[usize; 22], bands: &[f32], i: usize)
     let size = table[i + 1] - start;
     let low = bands[i];
     let high = bands[i + 1];
+    let bins = size as u16 as f32;
     for j in 0..size {
-        let frac = j as f32 / size as f32;
+        let frac = j as u16 as f32 / bins;
         out[start + j] = (1.0 - frac) * low + frac * high;
     }
 }
@@ -186,15 +190,27 @@ pub fn interp_band_gain(out: &mut [f32], bands: &[f32]) -> u32
     0
 }
 
-fn dct_sum(table: &[f32; 484], x: &[f32], i: usize) -> f32
-    requires { ⌜ (length (now x) ≡ 22) × (i < 22) ⌝ }
-    ensures { λ r. ⌜ r ≡ dctSum (now (table .entry)) (now (x .entry)) i ⌝ }
+// Row j of the table: each of the 22 sums gets its next product. No sum waits for another: so four are added at a time.
+fn add_row(sums: &mut [f32], table: &[f32; 484], x: &[f32], j: usize)
+    requires { ⌜ (length (now x) ≡ 22) × (j < 22) × (now sums ≡ sumsAfter (now table) (now x) j) ⌝ }
+    ensures { λ _. ⌜ now (sums .exit) ≡ sumsAfter (now (table .entry)) (now (x .entry)) (j + 1) ⌝ }
 {
-    let mut sum = 0.0;
-    for j in 0..22 {
-        sum = sum + x[j] * table[j * 22 + i];
+    let factor = x[j];
+    let row = j * 22;
+    for i in 0..22 {
+        sums[i] = sums[i] + factor * table[row + i];
     }
-    sum
+}
+
+// The 22 sums, into any places.
+fn add_rows(sums: &mut [f32], table: &[f32; 484], x: &[f32])
+    requires { ⌜ DctFits (length (now sums)) (length (now x)) ⌝ }
+    ensures { λ _. ⌜ now (sums .exit) ≡ sumsAfter (now (table .entry)) (now (x .entry)) 22 ⌝ }
+{
+    rules::clear(sums);
+    for j in 0..22 {
+        add_row(sums, table, x, j);
+    }
 }
 
 // A cast to f64 is asked to be of no NaN.
@@ -207,13 +223,21 @@ fn dct_scaled(sum: f32) -> f32
     numbers::narrow(sum as f64 * DCT_SCALE)
 }
 
+fn scale_sums(sums: &mut [f32])
+    requires { ⌜ length (now sums) ≡ 22 ⌝ }
+    ensures { λ _. ⌜ now (sums .exit) ≡ tab 22 (λ i. dctScaled (at (now (sums .entry)) i)) ⌝ }
+{
+    for i in 0..22 {
+        sums[i] = dct_scaled(sums[i]);
+    }
+}
+
 fn dct_core(out: &mut [f32], table: &[f32; 484], x: &[f32])
     requires { ⌜ DctFits (length (now out)) (length (now x)) ⌝ }
     ensures { λ _. ⌜ now (out .exit) ≡ dctIn (now (table .entry)) (now (x .entry)) ⌝ }
 {
-    for i in 0..22 {
-        out[i] = dct_scaled(dct_sum(table, x, i));
-    }
+    add_rows(out, table, x);
+    scale_sums(out);
 }
 
 // A brute-force DCT of 22 numbers.

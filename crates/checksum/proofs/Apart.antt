@@ -2,7 +2,8 @@
 --     small        a register, and a checksum, has 32 bits
 --     same-end     of bytes that end alike, the checksums are equal only where those of what stands in front are
 --     burst-seen   of bytes that differ in at most four neighbours, they are never equal
-use Rattle.rules.proofs.Common.{ℕ, suc, _+_, _-_, _*_, _/_, _%_, _^_, _≤_, _<_, Bool, List, [], _∷_, _++_, _≡_, refl, sym, ap, _∙_, eqb, ltb, T, length, getD}
+use Rattle.rules.proofs.Common.{ℕ, suc, _+_, _-_, _*_, _/_, _%_, _^_, _≤_, _<_, Bool, List, [], _∷_, _++_, _≡_, refl}
+use Rattle.rules.proofs.Common.{sym, ap, _∙_, eqb, ltb, T, length, getD}
 use mathlib.Core.List.{append-assoc}
 use native.Mathlib.Nat.{div-div-eq-div-mul}
 use lib.Pow.{pow-add}
@@ -74,9 +75,11 @@ top c byte h =
     xor-shr (entry (bitXor c byte)) (c / 256) 24 ∙ rw (none, xor-zero-r)
 
 -- so they tell which entry it was
-place-told : (c d x y : ℕ) → c < 2 ^ 32 → d < 2 ^ 32 → next c x / 2 ^ 24 ≡ next d y / 2 ^ 24 → bitXor c x % 256 ≡ bitXor d y % 256
+place-told : (c d x y : ℕ) → c < 2 ^ 32 → d < 2 ^ 32 → next c x / 2 ^ 24 ≡ next d y / 2 ^ 24
+    → bitXor c x % 256 ≡ bitXor d y % 256
 place-told c d x y hc hd e =
-    sym (entry-told (bitXor c x)) ∙ ap (λ (n : ℕ). getD tops n 0) (sym (top c x hc) ∙ e ∙ top d y hd) ∙ entry-told (bitXor d y)
+    sym (entry-told (bitXor c x)) ∙ ap (λ (n : ℕ). getD tops n 0) (sym (top c x hc) ∙ e ∙ top d y hd)
+    ∙ entry-told (bitXor d y)
 
 module _ (c d byte : ℕ) (hc : c < 2 ^ 32) (hd : d < 2 ^ 32) (same : next c byte ≡ next d byte) where
   same-place : bitXor c byte % 256 ≡ bitXor d byte % 256
@@ -86,7 +89,8 @@ module _ (c d byte : ℕ) (hc : c < 2 ^ 32) (hd : d < 2 ^ 32) (same : next c byt
   same-high =
       let e = entry (bitXor c byte) in
       let swapped : bitXor (c / 256) e ≡ bitXor (d / 256) e =
-      xor-comm (c / 256) e ∙ same ∙ ap (λ (k : ℕ). bitXor (getD table k 0) (d / 256)) (sym same-place) ∙ xor-comm e (d / 256) in
+      xor-comm (c / 256) e ∙ same ∙ ap (λ (k : ℕ). bitXor (getD table k 0) (d / 256)) (sym same-place)
+      ∙ xor-comm e (d / 256) in
       sym (xor-twice (c / 256) e) ∙ ap (λ (n : ℕ). bitXor n e) swapped ∙ xor-twice (d / 256) e
 
   same-low : c % 256 ≡ d % 256
@@ -109,21 +113,24 @@ crc-apart : (c d : ℕ) (bytes : List ℕ) → c < 2 ^ 32 → d < 2 ^ 32 → crc
 unfolding crc
 crc-apart c d [] hc hd e = e
 crc-apart c d (byte ∷ bytes) hc hd e =
-    same-register c d byte hc hd (crc-apart (next c byte) (next d byte) bytes (next-small c byte hc) (next-small d byte hd) e)
+    same-register c d byte hc hd
+    (crc-apart (next c byte) (next d byte) bytes (next-small c byte hc) (next-small d byte hd) e)
 
 inverted-small : (c : ℕ) → c < 2 ^ 32 → inverted c < 2 ^ 32
 inverted-small c h = xor-lt 32 c 0xFFFFFFFF h (omega arith)
 
 pub small : Small
 unfolding crc32
-small before bytes h = inverted-small (crc (inverted before) bytes) (crc-small (inverted before) bytes (inverted-small before h))
+small before bytes h =
+    inverted-small (crc (inverted before) bytes) (crc-small (inverted before) bytes (inverted-small before h))
 
 pub same-end : SameEnd
 unfolding crc32
 same-end before xs ys zs h e =
     let start = inverted before in
     let room = inverted-small before h in
-    let plain : crc start (xs ++ zs) ≡ crc start (ys ++ zs) = sym (xor-twice _ 0xFFFFFFFF) ∙ ap inverted e ∙ xor-twice _ 0xFFFFFFFF in
+    let plain : crc start (xs ++ zs) ≡ crc start (ys ++ zs) =
+    sym (xor-twice _ 0xFFFFFFFF) ∙ ap inverted e ∙ xor-twice _ 0xFFFFFFFF in
     ap inverted (crc-apart (crc start xs) (crc start ys) zs (crc-small start xs room) (crc-small start ys room)
     (sym (crc-append start xs zs) ∙ plain ∙ crc-append start ys zs))
 
@@ -132,7 +139,8 @@ same-end before xs ys zs h e =
 -- what a register's first bits tell, its first eight do
 first-eight : (k m n : ℕ) → k ≤ 24 → m / 2 ^ k ≡ n / 2 ^ k → m / 2 ^ 24 ≡ n / 2 ^ 24
 first-eight k m n h e =
-    let all : 2 ^ 24 ≡ 2 ^ k * 2 ^ (24 - k) = ap (λ (i : ℕ). 2 ^ i) (let whole : 24 ≡ k + (24 - k) = omega arith in whole) ∙ pow-add 2 k (24 - k) in
+    let all : 2 ^ 24 ≡ 2 ^ k * 2
+    ^ (24 - k) = ap (λ (i : ℕ). 2 ^ i) (let whole : 24 ≡ k + (24 - k) = omega arith in whole) ∙ pow-add 2 k (24 - k) in
     rw (all, ← div-div-eq-div-mul m (2 ^ k) (2 ^ (24 - k)), ← div-div-eq-div-mul n (2 ^ k) (2 ^ (24 - k)), e)
 
 byte-more : (n k : ℕ) → n / 256 / 2 ^ (8 * k) ≡ n / 2 ^ (8 * suc k)
@@ -141,7 +149,8 @@ byte-more n k =
     div-div-eq-div-mul n 256 (2 ^ (8 * k)) ∙ rw (bits, pow-add 2 8 (8 * k))
 
 -- registers that come to the same by so many bytes each agree in front of their last bits
-high-told : (c d x y k : ℕ) → bitXor c x % 256 ≡ bitXor d y % 256 → next c x / 2 ^ k ≡ next d y / 2 ^ k → c / 256 / 2 ^ k ≡ d / 256 / 2 ^ k
+high-told : (c d x y k : ℕ) → bitXor c x % 256 ≡ bitXor d y % 256 → next c x / 2 ^ k ≡ next d y / 2 ^ k
+    → c / 256 / 2 ^ k ≡ d / 256 / 2 ^ k
 high-told c d x y k place e =
     let t = entry (bitXor c x) / 2 ^ k in
     let swapped : bitXor (c / 256 / 2 ^ k) t ≡ bitXor (d / 256 / 2 ^ k) t =
@@ -153,7 +162,8 @@ high-told c d x y k place e =
     ∙ xor-comm t (d / 256 / 2 ^ k) in
     sym (xor-twice (c / 256 / 2 ^ k) t) ∙ ap (λ (n : ℕ). bitXor n t) swapped ∙ xor-twice (d / 256 / 2 ^ k) t
 
-ahead : (xs ys : List ℕ) (c d : ℕ) → length xs ≡ length ys → length xs ≤ 4 → c < 2 ^ 32 → d < 2 ^ 32 → crc c xs ≡ crc d ys
+ahead : (xs ys : List ℕ) (c d : ℕ) → length xs ≡ length ys → length xs ≤ 4 → c < 2 ^ 32 → d < 2 ^ 32
+    → crc c xs ≡ crc d ys
     → c / 2 ^ (8 * length xs) ≡ d / 2 ^ (8 * length xs)
 unfolding crc
 ahead [] [] c d same few hc hd e = ap (λ (n : ℕ). n / 2 ^ 0) e
@@ -161,7 +171,8 @@ ahead [] (y ∷ ys) c d same few hc hd e = absurd (omega arith)
 ahead (x ∷ xs) [] c d same few hc hd e = absurd (omega arith)
 ahead (x ∷ xs) (y ∷ ys) c d same few hc hd e =
     let k = length xs in
-    let behind = ahead xs ys (next c x) (next d y) (omega arith) (omega arith) (next-small c x hc) (next-small d y hd) e in
+    let behind =
+    ahead xs ys (next c x) (next d y) (omega arith) (omega arith) (next-small c x hc) (next-small d y hd) e in
     let place = place-told c d x y hc hd (first-eight (8 * k) _ _ (omega arith) behind) in
     sym (byte-more c k) ∙ high-told c d x y (8 * k) place behind ∙ byte-more d k
 
@@ -169,21 +180,26 @@ same-byte : (c x y : ℕ) → x < 256 → y < 256 → bitXor c x % 256 ≡ bitXo
 same-byte c x y hx hy e =
     let low = c % 256 in
     let mixed : bitXor low (x % 256) ≡ bitXor low (y % 256) = sym (xor-mod c x 8) ∙ e ∙ xor-mod c y 8 in
-    let swapped : bitXor (x % 256) low ≡ bitXor (y % 256) low = xor-comm (x % 256) low ∙ mixed ∙ xor-comm low (y % 256) in
-    let same : x % 256 ≡ y % 256 = sym (xor-twice (x % 256) low) ∙ ap (λ (n : ℕ). bitXor n low) swapped ∙ xor-twice (y % 256) low in
+    let swapped : bitXor (x % 256) low ≡ bitXor (y % 256) low =
+    xor-comm (x % 256) low ∙ mixed ∙ xor-comm low (y % 256) in
+    let same : x % 256 ≡ y % 256 =
+    sym (xor-twice (x % 256) low) ∙ ap (λ (n : ℕ). bitXor n low) swapped ∙ xor-twice (y % 256) low in
     omega arith
 
-burst : (xs ys : List ℕ) (c : ℕ) → length xs ≡ length ys → length xs ≤ 4 → Bytes xs → Bytes ys → c < 2 ^ 32 → crc c xs ≡ crc c ys → xs ≡ ys
+burst : (xs ys : List ℕ) (c : ℕ) → length xs ≡ length ys → length xs ≤ 4 → Bytes xs → Bytes ys → c < 2 ^ 32
+    → crc c xs ≡ crc c ys → xs ≡ ys
 unfolding crc
 burst [] [] c same few bx by h e = refl
 burst [] (y ∷ ys) c same few bx by h e = absurd (omega arith)
 burst (x ∷ xs) [] c same few bx by h e = absurd (omega arith)
 burst (x ∷ xs) (y ∷ ys) c same few bx by h e =
-    let behind = ahead xs ys (next c x) (next c y) (omega arith) (omega arith) (next-small c x h) (next-small c y h) e in
+    let behind =
+    ahead xs ys (next c x) (next c y) (omega arith) (omega arith) (next-small c x h) (next-small c y h) e in
     let place = place-told c c x y h h (first-eight (8 * length xs) _ _ (omega arith) behind) in
     let first = same-byte c x y (bx 0) (by 0) place in
     let on : crc (next c y) xs ≡ crc (next c y) ys = rw first at e in
-    let rest = burst xs ys (next c y) (omega arith) (omega arith) (λ i. bx (suc i)) (λ i. by (suc i)) (next-small c y h) on in
+    let rest =
+    burst xs ys (next c y) (omega arith) (omega arith) (λ i. bx (suc i)) (λ i. by (suc i)) (next-small c y h) on in
     cc
 
 pub burst-seen : BurstSeen
@@ -192,5 +208,7 @@ burst-seen before a x y b h same few bx by e =
     let start = inverted before in
     let room = inverted-small before h in
     let front = same-end before (a ++ x) (a ++ y) b h (rw (append-assoc a x b, append-assoc a y b) e) in
-    let plain : crc start (a ++ x) ≡ crc start (a ++ y) = sym (xor-twice _ 0xFFFFFFFF) ∙ ap inverted front ∙ xor-twice _ 0xFFFFFFFF in
-    burst x y (crc start a) same few bx by (crc-small start a room) (sym (crc-append start a x) ∙ plain ∙ crc-append start a y)
+    let plain : crc start (a ++ x) ≡ crc start (a ++ y) =
+    sym (xor-twice _ 0xFFFFFFFF) ∙ ap inverted front ∙ xor-twice _ 0xFFFFFFFF in
+    burst x y (crc start a) same few bx by (crc-small start a room)
+    (sym (crc-append start a x) ∙ plain ∙ crc-append start a y)

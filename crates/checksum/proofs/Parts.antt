@@ -1,5 +1,6 @@
 -- A checksum in parts. Assumes nothing.
-use Rattle.rules.proofs.Common.{ℕ, zero, suc, _+_, _*_, _/_, _%_, _≤_, _<_, List, [], _∷_, _++_, _≡_, refl, sym, ap, _∙_, length, getD, drop}
+use Rattle.rules.proofs.Common.{ℕ, zero, suc, _+_, _*_, _/_, _%_, _≤_, _<_, List, [], _∷_, _++_, _≡_, refl, sym, ap}
+use Rattle.rules.proofs.Common.{_∙_, length, getD, drop}
 use native.Mathlib.Numerals.{add-one}
 use native.Mathlib.Omega.{arith}
 use lib.Arith.{bin-ind}
@@ -46,7 +47,9 @@ in-parts before xs ys = rw (xor-twice (crc (inverted before) xs) 0xFFFFFFFF, crc
 -- ---- a register that a loop moves on, byte by byte
 
 module _ (bytes : List ℕ) where
-  pub crc-more : (c i : ℕ) → i < length bytes → crc c (drop i bytes) ≡ crc (bitXor (getD table (bitXor c (getD bytes i 0) % 256) 0) (c / 256)) (drop (i + 1) bytes)
+  pub crc-more : (c i : ℕ) → i < length bytes
+      → crc c (drop i bytes) ≡ crc (bitXor (getD table (bitXor c (getD bytes i 0) % 256) 0) (c / 256))
+      (drop (i + 1) bytes)
   unfolding crc
   crc-more c i h = rw (add-one, drop-cons bytes i 0 h)
 

@@ -1,16 +1,17 @@
-// CRC-32 as zip and PNG have it, over bytes handed in one after another.
+// CRC-32 as zip and PNG define it. Bytes may be handed in one part after another.
 pub mod table;
 
 ghost use mathlib.Core.Path.{_≡_};
 ghost use Rattle.checksum.specs.Checksum.{table, crc, crc32};
 
+// A byte as a number of 32 bits.
 fn wide(byte: u8) -> u32
     ensures { λ r. ⌜ r ≡ byte ⌝ }
 {
     byte as u32
 }
 
-// The register after these bytes, by the table's entries.
+// The register after these bytes, by the table.
 fn update(entries: &[u32; 256], start: u32, bytes: &[u8]) -> u32
     requires { ⌜ now entries ≡ table ⌝ }
     ensures { λ r. ⌜ r ≡ crc start (now (bytes .entry)) ⌝ }
@@ -23,7 +24,7 @@ fn update(entries: &[u32; 256], start: u32, bytes: &[u8]) -> u32
     register
 }
 
-// The checksum of what was handed in before, 0 of nothing, and of these bytes behind it.
+// The checksum of these bytes. `before` is the checksum of the bytes that come before them: 0 if there are none.
 pub fn crc32(before: u32, bytes: &[u8]) -> u32
     ensures { λ r. ⌜ r ≡ crc32 before (now (bytes .entry)) ⌝ }
 {

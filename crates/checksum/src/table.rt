@@ -1,5 +1,5 @@
-// The 256 entries by which a checksum takes a byte at once.
-// Whoever loops over them takes them once, by `all`: each mention of a constant array fills it anew.
+// The 256 entries with which a checksum takes in a whole byte at a time. A loop fetches them once, by `all`,
+// because each mention of a constant array fills it again.
 ghost use mathlib.Core.Path.{_≡_};
 ghost use Rattle.checksum.specs.Checksum.{table};
 

@@ -1,11 +1,13 @@
 -- What the desk makes of a call, by what the call gives on the side's share.
 --     replied-by, refused     the reply is the share's, but for a call 4 that is done
 --     done-alike              a call is done at the desk exactly where it is done on the share
---     admitted-by             what holds of a refusal, and of the call where the gate gives 0, holds of an admitted call
+--     admitted-by             what holds of a refusal, and of the call where the gate gives 0, holds of an admitted
+--                             call
 --     let-in                  where the gate gives 0, the call's effect on the share is the desk's
 --     was-let-in, on-share    a call that is done was let through, and is done on the share
 -- Assumes nothing.
-use Rattle.rules.proofs.Common.{ℕ, Bool, true, false, cond, _&&_, false≢true, List, _≡_, refl, sym, _∙_, eqb, length, Float}
+use Rattle.rules.proofs.Common.{ℕ, Bool, true, false, cond, _&&_, false≢true, List, _≡_, refl, sym, _∙_, eqb, length}
+use Rattle.rules.proofs.Common.{Float}
 use borrow.Author.Tests.{eq-eqb, eqb-true}
 use Rattle.rules.specs.Place.{get}
 use Rattle.frame.specs.Effect.{Effect, refusal}
@@ -19,7 +21,8 @@ use Rattle.desk.specs.Desk.{Ask, callOf, replyTo, answered, onShare, adm
 use Rattle.desk.specs.Laws.{placed}
 
 module _ (b : Record) (ask : Ask) where
-  pub replied-by : (reply : Reply) (P : Reply → Type 0) → (passed reply ≡ true → P (Numbered (oneMore (b .frame)) (b .heard))) → P reply
+  pub replied-by : (reply : Reply) (P : Reply → Type 0)
+      → (passed reply ≡ true → P (Numbered (oneMore (b .frame)) (b .heard))) → P reply
       → P (replyTo b ask reply)
   replied-by reply P done same = go (eqb (callOf ask) 4) (passed reply) refl
     where
@@ -53,7 +56,8 @@ module _ (b : Record) (ask : Ask) where
     abbrev number : ℕ
     number = gate n side b (length store) (callOf ask)
 
-    pub let-in : gate n side b (length store) (callOf ask) ≡ 0 → desk n side b store ask ≡ placed side store (givenOf (onShare b (get (shareOf side) store) ask))
+    pub let-in : gate n side b (length store) (callOf ask) ≡ 0
+        → desk n side b store ask ≡ placed side store (givenOf (onShare b (get (shareOf side) store) ask))
     unfolding desk
     let-in e = rw (eq-eqb number 0 e)
 
@@ -63,8 +67,10 @@ module _ (b : Record) (ask : Ask) where
       done = sym (done-alike (admitted b share ask number .answer)) ∙ p
 
       pub was-let-in : gate n side b (length store) (callOf ask) ≡ 0
-      was-let-in = admitted-by share number (λ f. passed (f .answer) ≡ true → number ≡ 0) (λ e. absurd (false≢true e)) (λ z _. z) done
+      was-let-in = admitted-by share number (λ f. passed (f .answer) ≡ true → number ≡ 0) (λ e. absurd (false≢true e))
+          (λ z _. z) done
 
       pub on-share : passed (onShare b (get (shareOf side) store) ask .answer) ≡ true
       on-share =
-          admitted-by share number (λ f. passed (f .answer) ≡ true → passed (onShare b share ask .answer) ≡ true) (λ e. absurd (false≢true e)) (λ _ e. e) done
+          admitted-by share number (λ f. passed (f .answer) ≡ true → passed (onShare b share ask .answer) ≡ true)
+          (λ e. absurd (false≢true e)) (λ _ e. e) done

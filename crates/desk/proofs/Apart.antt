@@ -5,7 +5,8 @@
 --     closed-alike    what the share of a closed side held is never told
 --     anew            an opening that is done forgets the record and the share that it found
 -- Assumes nothing.
-use Rattle.rules.proofs.Common.{ℕ, _*_, _≤_, _<_, Bool, true, false, cond, false≢true, List, _≡_, refl, sym, ap, _∙_, eqb, ltb, length, Float}
+use Rattle.rules.proofs.Common.{ℕ, _*_, _≤_, _<_, Bool, true, false, cond, false≢true, List, _≡_, refl, sym, ap, _∙_}
+use Rattle.rules.proofs.Common.{eqb, ltb, length, Float}
 use native.Mathlib.Omega.{arith}
 use mathlib.Core.Logic.{_⊎_, inl, inr, ⊎-elim}
 use borrow.Author.Tests.{ltb-true, ltb-false, eqb-true, ne-eqb}
@@ -22,7 +23,8 @@ use Rattle.frame.specs.declared.Way.{Way}
 use Rattle.desk.specs.declared.Answer.{Answer}
 use Rattle.desk.specs.declared.Record.{Record}
 use Rattle.desk.specs.Gate.{shareOf, gate, inRange, allZero, idle}
-use Rattle.desk.specs.Desk.{Ask, opening, call1, call2, call2Own, call3, call4, firstHalf, secondHalf, piece, resume, callOf, closed, opened, onShare, admitted, desk}
+use Rattle.desk.specs.Desk.{Ask, opening, call1, call2, call2Own, call3, call4, firstHalf, secondHalf, piece}
+use Rattle.desk.specs.Desk.{resume, callOf, closed, opened, onShare, admitted, desk}
 pub use Rattle.desk.specs.Laws.{placed}
 use Rattle.desk.specs.Laws.{SharesApart, ItsOwn, SameLength, OtherShare, AnsweredAlike, ClosedAlike, OpensAnew}
 pub use Rattle.desk.proofs.Answered.{givenOf}
@@ -65,7 +67,8 @@ module _ (n side : ℕ) (b : Record) (store : List Float) (ask : Ask) (l : lengt
     fits : length share ≡ SHARE
     fits = length-get (shareOf side) store within
 
-    asked : desk n side b store ask ≡ placed side store (givenOf b ask (admitted b share ask (gate 1 0 b SHARE (callOf ask))))
+    asked : desk n side b store ask
+        ≡ placed side store (givenOf b ask (admitted b share ask (gate 1 0 b SHARE (callOf ask))))
     unfolding desk
     asked = rw (gate-own n side b (length store) (callOf ask) h l)
 
@@ -85,7 +88,8 @@ module _ (n side : ℕ) (b : Record) (store : List Float) (ask : Ask) (l : lengt
   pub no-side : n ≤ side → after ≡ store
   unfolding desk
   no-side h =
-      let shut : gate n side b (length store) (callOf ask) ≡ 0 → ⊥ = λ z. omega (arith, through n side b (length store) (callOf ask) z .0) in
+      let shut : gate n side b (length store) (callOf ask) ≡ 0 → ⊥ =
+      λ z. omega (arith, through n side b (length store) (callOf ask) z .0) in
       rw (ne-eqb (gate n side b (length store) (callOf ask)) 0 shut) (put-get (shareOf side) store)
 
   long : length after ≡ length store
@@ -98,7 +102,9 @@ module _ (n side : ℕ) (b : Record) (store : List Float) (ask : Ask) (l : lengt
   elsewhere : (s : ℕ) → (side ≡ s → ⊥) → get (shareOf s) after ≡ get (shareOf s) store
   elsewhere s ne =
       ⊎-elim
-      (λ h. ap (get (shareOf s)) (stored h) ∙ get-put-apart (shareOf side) (shareOf s) store (desk 1 0 b share ask .kept) (within h) (whole h) (apart side s ne))
+      (λ h. ap (get (shareOf s)) (stored h)
+      ∙ get-put-apart (shareOf side) (shareOf s) store (desk 1 0 b share ask .kept) (within h) (whole h)
+      (apart side s ne))
       (λ h. ap (get (shareOf s)) (no-side h))
       (lt-or-ge side n)
 
@@ -119,7 +125,8 @@ closed-alike b xs ys l k ask z = rw (one-bench b xs ask l, one-bench b ys ask k)
     number : ℕ
     number = gate 1 0 b SHARE (callOf ask)
 
-    opens : (read : Reading) (w : Way) (m : List ℕ) → AnsweredAlike (givenOf b (opening w m) (opened xs read)) (givenOf b (opening w m) (opened ys read))
+    opens : (read : Reading) (w : Way) (m : List ℕ)
+        → AnsweredAlike (givenOf b (opening w m) (opened xs read)) (givenOf b (opening w m) (opened ys read))
     opens (Good m) _ _ = record { answer = refl; written = refl; store = inl refl }
     opens (Unread n l) _ _ = record { answer = refl; written = refl; store = inr z }
 
@@ -136,7 +143,8 @@ closed-alike b xs ys l k ask z = rw (one-bench b xs ask l, one-bench b ys ask k)
     admit (piece x o s) e = absurd (omega arith)
     admit (resume x g m o s) e = absurd (omega arith)
 
-    go : (t : Bool) → eqb number 0 ≡ t → AnsweredAlike (givenOf b ask (admitted b xs ask number)) (givenOf b ask (admitted b ys ask number))
+    go : (t : Bool) → eqb number 0 ≡ t
+        → AnsweredAlike (givenOf b ask (admitted b xs ask number)) (givenOf b ask (admitted b ys ask number))
     go true e = rw e (admit ask (closed-opens 1 0 b SHARE (callOf ask) z (eqb-true number 0 e)))
     go false e = rw e (record { answer = refl; written = refl; store = inr z })
 
@@ -154,6 +162,7 @@ anew b xs ys l k w m = rw (one-bench b xs (opening w m) l, one-bench closed ys (
     opens (Unread n l) e h = absurd (false≢true h)
 
     go : (t : Bool) → passed (cond t (opened xs (readOf m)) (refusal (Refused number) xs) .answer) ≡ true
-        → givenOf b (opening w m) (cond t (opened xs (readOf m)) (refusal (Refused number) xs)) ≡ givenOf closed (opening w m) (admitted closed ys (opening w m) (gate 1 0 closed SHARE 0))
+        → givenOf b (opening w m) (cond t (opened xs (readOf m)) (refusal (Refused number) xs))
+        ≡ givenOf closed (opening w m) (admitted closed ys (opening w m) (gate 1 0 closed SHARE 0))
     go true h = opens (readOf m) refl h
     go false h = absurd (false≢true h)

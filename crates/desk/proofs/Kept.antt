@@ -20,7 +20,8 @@ use Rattle.pieces.specs.Pieces.{framePart, inPart}
 use Rattle.pieces.proofs.Kept.{piece-kept, resume-kept}
 use Rattle.desk.specs.declared.Record.{Record}
 use Rattle.desk.specs.Gate.{shareOf, gate}
-use Rattle.desk.specs.Desk.{Ask, opening, call1, call2, call2Own, call3, call4, firstHalf, secondHalf, piece, resume, callOf, opened, onShare, admitted, desk}
+use Rattle.desk.specs.Desk.{Ask, opening, call1, call2, call2Own, call3, call4, firstHalf, secondHalf, piece}
+use Rattle.desk.specs.Desk.{resume, callOf, opened, onShare, admitted, desk}
 use Rattle.desk.specs.Laws.{RefusedKeeps}
 use Rattle.desk.proofs.Answered.{done-alike, admitted-by}
 
@@ -40,12 +41,15 @@ module _ (b : Record) (share : List Float) where
   frame-kept : {f : Effect Reply} → Keeps part f → Kept share (inPart share f)
   frame-kept {f} k =
       record {
-        size = λ l. length-put framePart share (f .kept) (omega arith) (k .size ∙ length-get framePart share (omega arith)) ∙ l;
+        size =
+            λ l. length-put framePart share (f .kept) (omega arith) (k .size ∙ length-get framePart share (omega arith))
+            ∙ l;
         still = λ e. ap (put framePart share) (k .still e) ∙ put-get framePart share;
       }
 
   pub admitted-kept : (ask : Ask) (number : ℕ) → Kept share (admitted b share ask number)
-  admitted-kept ask number = admitted-by b ask share number (Kept share) (record { size = λ h. h; still = λ _. refl }) (λ _. kept ask)
+  admitted-kept ask number =
+      admitted-by b ask share number (Kept share) (record { size = λ h. h; still = λ _. refl }) (λ _. kept ask)
     where
       kept : (a : Ask) → Kept share (onShare b share a)
       kept (opening w m) = opened-kept (readOf m)
@@ -56,7 +60,8 @@ module _ (b : Record) (share : List Float) where
       kept (call4 x o) = frame-kept (call4-keeps part x o)
       kept (firstHalf x s) = frame-kept (first-half-keeps part (b .hearing .way) x s)
       kept (secondHalf l m o) = frame-kept (second-half-keeps part (b .hearing) l m o)
-      kept (piece x o s) = let k = piece-kept share (b .hearing .way) (b .waiting) x o s in record { size = k .size; still = k .still }
+      kept (piece x o s) = let k = piece-kept share (b .hearing .way) (b .waiting) x o s in
+          record { size = k .size; still = k .still }
       kept (resume x l m o s) =
           let k = resume-kept share (b .hearing) (b .piece) (b .progress) x l m o s in
           record { size = k .size; still = k .still }

@@ -5,11 +5,13 @@ use Rattle.frame.specs.Reply.{passed}
 use Rattle.frame.specs.declared.Reply.{Reply}
 use Rattle.desk.specs.declared.Record.{Record}
 use Rattle.desk.specs.Gate.{gate, shareOf}
-use Rattle.desk.specs.Desk.{Ask, opening, call1, call2, call2Own, call3, call4, firstHalf, secondHalf, piece, resume, callOf, advanced, numbered, recorded, admitted, desk}
+use Rattle.desk.specs.Desk.{Ask, opening, call1, call2, call2Own, call3, call4, firstHalf, secondHalf, piece}
+use Rattle.desk.specs.Desk.{resume, callOf, advanced, numbered, recorded, admitted, desk}
 use Rattle.desk.specs.Laws.{noted, NotedStays}
 use Rattle.desk.proofs.Leaves.{carried-leaves}
 
-moved : (b : Record) (ask : Ask) (reply : Reply) → (callOf ask ≡ 0 → ⊥) → noted (recorded b ask reply .hearing) ≡ noted (b .hearing)
+moved : (b : Record) (ask : Ask) (reply : Reply) → (callOf ask ≡ 0 → ⊥)
+    → noted (recorded b ask reply .hearing) ≡ noted (b .hearing)
 moved b (opening w m) reply other = absurd (other refl)
 moved b (call1 x w) reply other = refl
 moved b (call2 x l w s) reply other = refl
@@ -19,7 +21,8 @@ moved b (call4 x o) reply other = refl
 moved b (firstHalf x s) reply other = refl
 moved b (secondHalf l m o) reply other = refl
 moved b (piece x o s) reply other = carried-leaves (λ (r : Record). noted (r .hearing)) b (λ _ _ _ _. refl) _ _ _
-moved b (resume x l m o s) reply other = carried-leaves (λ (r : Record). noted (r .hearing)) (numbered (advanced b reply)) (λ _ _ _ _. refl) _ _ _
+moved b (resume x l m o s) reply other =
+    carried-leaves (λ (r : Record). noted (r .hearing)) (numbered (advanced b reply)) (λ _ _ _ _. refl) _ _ _
 
 pub noted-stays : NotedStays
 unfolding desk

@@ -19,8 +19,10 @@ module _ (benches side : ℕ) (b : Record) (len call : ℕ) where
 
   pub through : gate benches side b len call ≡ 0 → (side < benches) × (len ≡ benches * SHARE)
   through e =
-      let c = none e in
-      (ltb-true side benches (not-false (ltb side benches) (c .0)), eqb-true len (benches * SHARE) (not-false (eqb len (benches * SHARE)) (c .1 .0)))
+      let c = none e in (
+        ltb-true side benches (not-false (ltb side benches) (c .0)),
+        eqb-true len (benches * SHARE) (not-false (eqb len (benches * SHARE)) (c .1 .0)),
+      )
 
   pub gate-own : side < benches → len ≡ benches * SHARE → gate benches side b len call ≡ gate 1 0 b SHARE call
   unfolding gate

@@ -1,4 +1,5 @@
--- What is claimed of the desk's calls, for any number of benches. The proofs are in proofs/Kept, Ranged, Noted, Replies, Buffers, Halved, Apart and Zeros.
+-- Claims about the desk's calls, for any number of benches. Proofs: proofs/Kept, Ranged, Noted, Replies,
+-- Buffers, Halved, Apart, Zeros.
 use Rattle.rules.specs.Common.{ℕ, _+_, _*_, _≤_, _<_, true, false, cond, List, _≡_, length, drop, Float}
 use mathlib.Core.Logic.{_⊎_}
 use Rattle.rules.specs.Place.{get, put}
@@ -14,32 +15,34 @@ use Rattle.frame.specs.declared.Hearing.{Hearing}
 use Rattle.frame.specs.declared.Reply.{Reply}
 use Rattle.frame.specs.declared.Reply.the-variants.{Done, Silent, Heard, Numbered, Refused, Misread}
 use Rattle.frame.specs.declared.Way.{Way}
-use Rattle.frame.specs.declared.Way.the-variants.{Asked}
+use Rattle.frame.specs.declared.Way.the-variants.{Own}
 use Rattle.halves.specs.Halves.{lookedBack}
 use Rattle.halves.specs.Ways.{forwardBy, inverseBy}
 use Rattle.pieces.specs.Pieces.{framePart, waitingIn, paddedTo}
 use Rattle.desk.specs.Gate.{shareOf, inRange}
-use Rattle.desk.specs.Desk.{Ask, opening, call1, call2, call2Own, call3, call4, firstHalf, secondHalf, piece, resume, callOf, closed, desk}
+use Rattle.desk.specs.Desk.{Ask, opening, call1, call2, call2Own, call3, call4, firstHalf, secondHalf, piece}
+use Rattle.desk.specs.Desk.{resume, callOf, closed, desk}
 use Rattle.desk.specs.declared.Answer.{Answer}
 use Rattle.desk.specs.declared.Record.{Record}
 
 -- ---- one call
 
--- a refusal changes neither the record nor the store
+-- A refusal changes neither the record nor the store.
 abbrev pub RefusedKeeps : Type 0
 RefusedKeeps =
     (n side : ℕ) (rec : Record) (store : List Float) (ask : Ask)
     → let o = desk n side rec store ask in
     passed (o .answer .reply) ≡ false → (o .answer .rec ≡ rec) × (o .kept ≡ store)
 
--- where a call is done, the record given and the record handed back are in range: a host that hands back what it received is not turned away for it
+-- If a call is done, the record that it was given and the one that it returns are in range. So a host that
+-- hands back what it received is never refused for it.
 abbrev pub RangeKept : Type 0
 RangeKept =
     (n side : ℕ) (rec : Record) (store : List Float) (ask : Ask)
     → let o = desk n side rec store ask in
     passed (o .answer .reply) ≡ true → (inRange rec ≡ true) × (inRange (o .answer .rec) ≡ true)
 
--- what an opening noted stays until the next: of the hearing any other call moves the index alone
+-- What an opening noted stays until the next opening: of the hearing, any other call changes the index alone.
 abbrev pub noted : Hearing → ℕ × ℕ × ℕ × Way
 noted hearing = (hearing .vad, hearing .noise, hearing .denoise, hearing .way)
 
@@ -48,7 +51,7 @@ NotedStays =
     (n side : ℕ) (rec : Record) (store : List Float) (ask : Ask) → (callOf ask ≡ 0 → ⊥)
     → noted (desk n side rec store ask .answer .rec .hearing) ≡ noted (rec .hearing)
 
--- a 7 comes with a number of at most 22 and a layer of at most 6
+-- A refusal 7 has a number of at most 22 and a layer of at most 6.
 abbrev pub SmallSeven : Reply → Type 0
 SmallSeven (Misread n l) = (n ≤ 22) × (l ≤ 6)
 SmallSeven Done = Unit
@@ -58,9 +61,11 @@ SmallSeven (Numbered f h) = Unit
 SmallSeven (Refused n) = Unit
 
 abbrev pub SmallReplies : Type 0
-SmallReplies = (n side : ℕ) (rec : Record) (store : List Float) (ask : Ask) → SmallSeven (desk n side rec store ask .answer .reply)
+SmallReplies = (n side : ℕ) (rec : Record) (store : List Float) (ask : Ask)
+    → SmallSeven (desk n side rec store ask .answer .reply)
 
--- so many answer buffers are lent to a call; done, it writes to each, and refused, to none
+-- The number of answer buffers that a call is lent. A call that is done writes to each, a refused one to
+-- none.
 abbrev pub buffersOf : Ask → ℕ
 buffersOf (opening w m) = 0
 buffersOf (call1 x w) = 1
@@ -79,7 +84,8 @@ Buffers =
     → let o = desk n side rec store ask in
     length (o .written) ≡ cond (passed (o .answer .reply)) (buffersOf ask) 0
 
--- a closed record is in range; and with any that is, a right side and store, and a model that reads, an opening is done
+-- A closed record is in range. With any record in range, a side that exists, a store of the right length and
+-- a model that reads, an opening is done.
 abbrev pub Opens : Type 0
 Opens =
     (inRange closed ≡ true)
@@ -87,9 +93,11 @@ Opens =
     → side < n → length store ≡ n * SHARE → inRange rec ≡ true → readOf model ≡ Good m
     → desk n side rec store (opening way model) .answer .reply ≡ Done)
 
--- ---- request 08: accepted, a half is its two calls in turn, the second handed the record and the store as the first left them
+-- ---- request 08: accepted, a half is its two calls in turn, the second handed the record and the store as the first
+--      left them
 
--- a half that is two calls of the desk: both are done, it leaves the second's record and store, and this is its reply and what it writes
+-- A half is two calls of the desk: both are done, the half leaves the record and the store of the second, and
+-- this is its reply and what it writes.
 pub record InTurn (one two half : Effect Answer) (reply : Reply) (written : List Written) : Type 0 where
   pub first : passed (one .answer .reply) ≡ true
   pub last : passed (two .answer .reply) ≡ true
@@ -98,16 +106,17 @@ pub record InTurn (one two half : Effect Answer) (reply : Reply) (written : List
   pub stores : half .kept ≡ two .kept
   pub writes : half .written ≡ written
 
--- by the way that is asked: call 1, and call 2's sister with the plain sums of its window
+-- In way 0 the first half is call 1 and then call 2's sister, given the plain sums of the window.
 abbrev pub FirstInTurn : Type 0
 FirstInTurn =
     (n side : ℕ) (rec : Record) (store samples : List Float) (sums : ℕ)
     → let one = desk n side rec store (call1 samples 960) in
     let two = desk n side (one .answer .rec) (one .kept) (call2Own (forwardOf (firstIn (one .written))) 960 sums) in
     let half = desk n side rec store (firstHalf samples sums) in
-    rec .hearing .way ≡ Asked → passed (half .answer .reply) ≡ true → InTurn one two half (two .answer .reply) (drop 1 (two .written))
+    rec .hearing .way ≡ Own → passed (half .answer .reply) ≡ true
+    → InTurn one two half (two .answer .reply) (drop 1 (two .written))
 
--- by either way; and call 4's numbers stand in the record
+-- In either way the second half is call 3 and call 4; and the record has call 4's two numbers.
 abbrev pub SecondInTurn : Type 0
 SecondInTurn =
     (n side : ℕ) (rec : Record) (store logs : List Float) (model : List ℕ) (out : ℕ)
@@ -122,22 +131,23 @@ SecondInTurn =
 
 -- ---- what the law of isolation rests on
 
--- no two sides' shares have a place in common
+-- The shares of two sides have no place in common.
 abbrev pub SharesApart : Type 0
 SharesApart =
-    (a b : ℕ) → (a ≡ b → ⊥) → let p = shareOf a in let q = shareOf b in (p .at + p .size ≤ q .at) ⊎ (q .at + q .size ≤ p .at)
+    (a b : ℕ) → (a ≡ b → ⊥) → let p = shareOf a in let q = shareOf b in
+    (p .at + p .size ≤ q .at) ⊎ (q .at + q .size ≤ p .at)
 
--- an outcome on a store that is the share of a side, in the store that the share is a part of
+-- An outcome on the share of a side alone, put back into the store.
 abbrev pub placed : ℕ → List Float → Effect Answer → Effect Answer
 placed side store o = record { answer = o .answer; kept = put (shareOf side) store (o .kept); written = o .written }
 
--- a call on a side is what a desk of one bench makes of it, with the side's share for its store
+-- A call on a side is what a desk of one bench makes of it, with the side's share as its store.
 abbrev pub ItsOwn : Type 0
 ItsOwn =
     (n side : ℕ) (rec : Record) (store : List Float) (ask : Ask) → length store ≡ n * SHARE → side < n
     → desk n side rec store ask ≡ placed side store (desk 1 0 rec (get (shareOf side) store) ask)
 
--- the store keeps its length, and no other side's share changes
+-- The store keeps its length, and the share of no other side changes.
 abbrev pub SameLength : Type 0
 SameLength =
     (n side : ℕ) (rec : Record) (store : List Float) (ask : Ask) → length store ≡ n * SHARE
@@ -148,19 +158,19 @@ OtherShare =
     (n side : ℕ) (rec : Record) (store : List Float) (ask : Ask) → length store ≡ n * SHARE → (s : ℕ) → (side ≡ s → ⊥)
     → get (shareOf s) (desk n side rec store ask .kept) ≡ get (shareOf s) store
 
--- two outcomes that answer alike, and leave the same store or a closed record
+-- Two outcomes with the same answer that leave the same store, or a closed record.
 pub record AnsweredAlike (o u : Effect Answer) : Type 0 where
   pub answer : o .answer ≡ u .answer
   pub written : o .written ≡ u .written
   pub store : (o .kept ≡ u .kept) ⊎ (o .answer .rec .due ≡ 0)
 
--- what the share of a closed side held is never told
+-- Nothing ever reports what the share of a closed side held.
 abbrev pub ClosedAlike : Type 0
 ClosedAlike =
     (rec : Record) (xs ys : List Float) → length xs ≡ SHARE → length ys ≡ SHARE → (ask : Ask) → rec .due ≡ 0
     → AnsweredAlike (desk 1 0 rec xs ask) (desk 1 0 rec ys ask)
 
--- an opening that is done forgets the record and the share that it found
+-- An opening that is done does not depend on the record and the share that it found.
 abbrev pub OpensAnew : Type 0
 OpensAnew =
     (rec : Record) (xs ys : List Float) → length xs ≡ SHARE → length ys ≡ SHARE → (way : Way) (model : List ℕ)
@@ -169,20 +179,23 @@ OpensAnew =
 
 -- ---- request 12: the unused places are zero
 
--- the places for samples that wait hold those that the record counts, and zeros behind them
+-- The places for samples that wait hold as many as the record counts, followed by zeros.
 abbrev pub ZerosBehind : ℕ → Record → List Float → Type 0
 ZerosBehind side rec store =
     let share = get (shareOf side) store in waitingIn 479 share ≡ paddedTo 479 (waitingIn (rec .waiting) share)
 
--- a side's record, and a store, that an opening of the side and any calls behind it led to, its own and other sides'
+-- A record and a store that are reached by an opening of the side and any calls after it, its own and other
+-- sides'.
 pub data Reached (n side : ℕ) : Record → List Float → Type 0 where
   opened : (rec : Record) (store : List Float) (way : Way) (model : List ℕ)
       → passed (desk n side rec store (opening way model) .answer .reply) ≡ true
-      → Reached n side (desk n side rec store (opening way model) .answer .rec) (desk n side rec store (opening way model) .kept)
+      → Reached n side (desk n side rec store (opening way model) .answer .rec)
+      (desk n side rec store (opening way model) .kept)
   asked : {rec : Record} {store : List Float} → Reached n side rec store
       → (ask : Ask) → Reached n side (desk n side rec store ask .answer .rec) (desk n side rec store ask .kept)
   beside : {rec : Record} {store : List Float} → Reached n side rec store
-      → (other : ℕ) → (other ≡ side → ⊥) → (its : Record) (ask : Ask) → Reached n side rec (desk n other its store ask .kept)
+      → (other : ℕ) → (other ≡ side → ⊥) → (its : Record) (ask : Ask)
+      → Reached n side rec (desk n other its store ask .kept)
 
 abbrev pub UnusedZero : Type 0
 UnusedZero = (n side : ℕ) (rec : Record) (store : List Float) → Reached n side rec store → ZerosBehind side rec store

@@ -2,4 +2,4 @@ pub mod Gate
 pub mod Desk
 pub mod Surface
 pub mod Laws
-pub mod Parts
+pub mod Private

@@ -1,12 +1,17 @@
-// The desk: an opening, frame calls and pieces of dictation on one of sixteen sides of one lent store. What is refused changes nothing.
+// The desk: an opening, frame calls and pieces of dictation on one of sixteen sides of one lent store. What is refused
+// changes nothing.
 ghost use mathlib.Core.Path.{_≡_};
 ghost use Prim.Native.Nat.{_≤_};
 ghost use mathlib.Core.Bool.{true};
 ghost use mathlib.Core.List.{[], _∷_};
 ghost use lib.ListN.{length};
-ghost use Rattle.desk.specs.Gate.{BENCHES, sideOf, idle, wayNumber, allZero, inCounts, resting, underWay, inPieces, inRange, isDue, gate};
-ghost use Rattle.desk.specs.Desk.{opening, call1, call2, call2Own, call3, call4, firstHalf, secondHalf, piece, resume, recordOf, holding, nextIndex, nextHearing, nextHeard, nextDue, numbered, carried, desk};
-ghost use Rattle.desk.specs.Parts.{Admits, turnedAway, toldOf, toldFourth, toldFirst, toldSecond, toldPiece, toldResume, openedOf};
+ghost use Rattle.desk.specs.Gate.{BENCHES, sideOf, idle, wayNumber, allZero, inCounts, resting, underWay};
+ghost use Rattle.desk.specs.Gate.{inPieces, inRange, isDue, gate};
+ghost use Rattle.desk.specs.Desk.{opening, call1, call2, call2Own, call3, call4, firstHalf, secondHalf, piece};
+ghost use Rattle.desk.specs.Desk.{resume, recordOf, holding, nextIndex, nextHearing, nextHeard, nextDue};
+ghost use Rattle.desk.specs.Desk.{numbered, carried, desk};
+ghost use Rattle.desk.specs.Private.{Admits, turnedAway, toldOf, toldFourth, toldFirst, toldSecond, toldPiece};
+ghost use Rattle.desk.specs.Private.{toldResume, openedOf};
 ghost use Rattle.frame.specs.Effect.{Worked};
 ghost use Rattle.frame.specs.Reply.{passed};
 use frame::Hearing;
@@ -16,9 +21,10 @@ use frame::Way;
 use model::Reading;
 
 // A side, which is a bench: 0 to 15, the even ones left and the odd ones right.
-pub struct Side(pub usize);
+pub struct Bench(pub usize);
 
-// A side's record, which goes in and comes back by value; closed, it is all zeros, and its way is what is asked. It is called `rec`: `record` is a word of the logic.
+// A side's record, which goes in and comes back by value; closed, it is all zeros, and its way is what is asked. It is
+// called `rec`: `record` is a word of the logic.
 pub struct Record {
     pub due: usize,
     pub hearing: Hearing,
@@ -49,7 +55,7 @@ pub const PIECE: usize = 5;
 const RESUME: usize = 6;
 
 // Left or right, 0 or 1: a bench's parity.
-pub fn side_of(side: Side) -> usize
+pub fn side_of(side: Bench) -> usize
     ensures { λ r. ⌜ r ≡ sideOf (side .0) ⌝ }
 {
     side.0 % 2
@@ -101,8 +107,8 @@ pub fn way_number(way: Way) -> u32
     ensures { λ r. ⌜ r ≡ wayNumber way ⌝ }
 {
     match way {
-        Way::Asked => 0,
-        Way::Crate => 1,
+        Way::Own => 0,
+        Way::Nnnoiseless => 1,
     }
 }
 
@@ -241,7 +247,7 @@ fn is_due(rec: Record, call: usize) -> bool
 }
 
 // Refusals 1 to 4, or 0: `call` is the call asked for, and 0 an opening.
-pub fn gate(side: Side, rec: Record, len: usize, call: usize) -> u32
+pub fn gate(side: Bench, rec: Record, len: usize, call: usize) -> u32
     ensures { λ r. ⌜ r ≡ gate BENCHES (side .0) rec len call ⌝ }
 {
     if side.0 >= BENCHES {
@@ -273,7 +279,7 @@ struct Admission {
     end: usize,
 }
 
-fn admit(side: Side, rec: Record, len: usize, call: usize) -> Admission
+fn admit(side: Bench, rec: Record, len: usize, call: usize) -> Admission
     ensures { λ r. ⌜ Admits BENCHES (side .0) rec len call r ⌝ }
 {
     let number = gate(side, rec, len, call);
@@ -495,7 +501,7 @@ fn opened(rec: Record, way: Way, read: Reading) -> Answer
 }
 
 // An opening in a way: a model that reads wipes the side's share and makes call 1 due. It has no answer buffer.
-pub fn open(side: Side, rec: Record, store: &mut [f32], way: Way, model: &[u8]) -> Answer
+pub fn open(side: Bench, rec: Record, store: &mut [f32], way: Way, model: &[u8]) -> Answer
     ensures { λ r. ⌜ Worked
         (desk BENCHES (side .0) rec (now (store .entry)) (opening way (now (model .entry))))
         r (now (store .exit)) [] [] ⌝ }
@@ -520,7 +526,7 @@ pub fn open(side: Side, rec: Record, store: &mut [f32], way: Way, model: &[u8]) 
 
 // Call 1: 480 samples in, 960 windowed numbers written.
 pub fn call1(
-    side: Side,
+    side: Bench,
     rec: Record,
     store: &mut [f32],
     samples: &[f32],
@@ -546,7 +552,7 @@ pub fn call1(
 
 // Call 2: the first spectrum and a lag in, 960 windowed numbers and 22 sums written.
 pub fn call2(
-    side: Side,
+    side: Bench,
     rec: Record,
     store: &mut [f32],
     spectrum: &[f32],
@@ -557,7 +563,8 @@ pub fn call2(
     ensures { λ r. ⌜ Worked
         (desk BENCHES (side .0) rec (now (store .entry))
         (call2 (now (spectrum .entry)) (lag .0) (length (now (window .entry))) (length (now (sums .entry)))))
-        r (now (store .exit)) (now (window .entry) ∷ now (sums .entry) ∷ []) (now (window .exit) ∷ now (sums .exit) ∷ []) ⌝ }
+        r (now (store .exit)) (now (window .entry) ∷ now (sums .entry) ∷ [])
+        (now (window .exit) ∷ now (sums .exit) ∷ []) ⌝ }
 {
     let Admission {
         number,
@@ -572,9 +579,10 @@ pub fn call2(
     told(rec, reply)
 }
 
-// Call 2 with our own lag, found in the side's `input_mem`: the first spectrum in, 960 windowed numbers and 22 sums written.
+// Call 2 with our own lag, found in the side's `input_mem`: the first spectrum in, 960 windowed numbers and 22 sums
+// written.
 pub fn call2_own(
-    side: Side,
+    side: Bench,
     rec: Record,
     store: &mut [f32],
     spectrum: &[f32],
@@ -584,7 +592,8 @@ pub fn call2_own(
     ensures { λ r. ⌜ Worked
         (desk BENCHES (side .0) rec (now (store .entry))
         (call2Own (now (spectrum .entry)) (length (now (window .entry))) (length (now (sums .entry)))))
-        r (now (store .exit)) (now (window .entry) ∷ now (sums .entry) ∷ []) (now (window .exit) ∷ now (sums .exit) ∷ []) ⌝ }
+        r (now (store .exit)) (now (window .entry) ∷ now (sums .entry) ∷ [])
+        (now (window .exit) ∷ now (sums .exit) ∷ []) ⌝ }
 {
     let Admission {
         number,
@@ -599,9 +608,10 @@ pub fn call2_own(
     told(rec, reply)
 }
 
-// Call 3: the second spectrum, 22 logarithms and the model in, 961 numbers written; silent, or heard with voice and energy.
+// Call 3: the second spectrum, 22 logarithms and the model in, 961 numbers written; silent, or heard with voice and
+// energy.
 pub fn call3(
-    side: Side,
+    side: Bench,
     rec: Record,
     store: &mut [f32],
     spectrum: &[f32],
@@ -635,7 +645,13 @@ pub fn call3(
 }
 
 // Call 4: 960 inverse samples in, 480 numbers written; the frames and the heard frames so far.
-pub fn call4(side: Side, rec: Record, store: &mut [f32], inverse: &[f32], out: &mut [f32]) -> Answer
+pub fn call4(
+    side: Bench,
+    rec: Record,
+    store: &mut [f32],
+    inverse: &[f32],
+    out: &mut [f32],
+) -> Answer
     ensures { λ r. ⌜ Worked
         (desk BENCHES (side .0) rec (now (store .entry))
         (call4 (now (inverse .entry)) (length (now (out .entry)))))
@@ -656,7 +672,7 @@ pub fn call4(side: Side, rec: Record, store: &mut [f32], inverse: &[f32], out: &
 
 // The first half of a frame, calls 1 and 2: 480 samples in, 22 sums written.
 pub fn first_half(
-    side: Side,
+    side: Bench,
     rec: Record,
     store: &mut [f32],
     samples: &[f32],
@@ -682,9 +698,10 @@ pub fn first_half(
     told_first(rec, reply)
 }
 
-// The second half of a frame, calls 3 and 4: 22 logarithms and the model in, 480 numbers written; silent, or heard with voice and energy.
+// The second half of a frame, calls 3 and 4: 22 logarithms and the model in, 480 numbers written; silent, or heard with
+// voice and energy.
 pub fn second_half(
-    side: Side,
+    side: Bench,
     rec: Record,
     store: &mut [f32],
     logs: &[f32],
@@ -709,9 +726,10 @@ pub fn second_half(
     told_second(rec, reply)
 }
 
-// A piece of dictation: 1 to 4,096 samples in. They wait, or 480 of those waiting and of them begin a frame, and 22 sums are written.
+// A piece of dictation: 1 to 4,096 samples in. They wait, or 480 of those waiting and of them begin a frame, and 22
+// sums are written.
 pub fn piece(
-    side: Side,
+    side: Bench,
     rec: Record,
     store: &mut [f32],
     samples: &[f32],
@@ -738,10 +756,10 @@ pub fn piece(
     told_piece(rec, samples.len(), reply)
 }
 
-// A resume: the same piece, 22 logarithms and the model in. The frame under way is written to its place of the output; the rest of the samples
-// waits, or 480 of them begin the next frame, and 22 sums are written.
+// A resume: the same piece, 22 logarithms and the model in. The frame under way is written to its place of the output;
+// the rest of the samples waits, or 480 of them begin the next frame, and 22 sums are written.
 pub fn resume(
-    side: Side,
+    side: Bench,
     rec: Record,
     store: &mut [f32],
     samples: &[f32],
@@ -752,7 +770,8 @@ pub fn resume(
 ) -> Answer
     ensures { λ r. ⌜ Worked
         (desk BENCHES (side .0) rec (now (store .entry))
-        (resume (now (samples .entry)) (now (logs .entry)) (now (model .entry)) (length (now (out .entry))) (length (now (sums .entry)))))
+        (resume (now (samples .entry)) (now (logs .entry)) (now (model .entry)) (length (now (out .entry)))
+        (length (now (sums .entry)))))
         r (now (store .exit)) (now (out .entry) ∷ now (sums .entry) ∷ []) (now (out .exit) ∷ now (sums .exit) ∷ []) ⌝ }
 {
     let Admission {

@@ -1,4 +1,5 @@
--- The resume that follows a pause, on a side of a store: it is a frame of the dictation, and then onward with what is left.
+-- The resume that follows a pause, on a side of a store: it is a frame of the dictation, and then onward with what is
+-- left.
 --     own-back, own-own     a share that is put on its side is read there, and put anew
 --     follows               a resume that is not refused
 --     admits                one that no test turns away
@@ -28,7 +29,8 @@ abbrev pub place : ℕ → ℕ
 place progress = 480 * (frameAt progress - 1)
 
 module _ (n side : ℕ) (h : side < n) (store : List Float) (size : length store ≡ n * SHARE) where
-  pub own-back : (share : List Float) → length share ≡ SHARE → get (shareOf side) (put (shareOf side) store share) ≡ share
+  pub own-back : (share : List Float) → length share ≡ SHARE
+      → get (shareOf side) (put (shareOf side) store share) ≡ share
   own-back share k = get-put (shareOf side) store share (omega arith) k
 
   pub own-own : (share : List Float) → length share ≡ SHARE → (new : List Float)
@@ -53,7 +55,8 @@ module _ (n side : ℕ) (h : side < n) (store : List Float) (size : length store
     abbrev pub next : Effect Answer
     next =
         onward side store (recAfter rec share rest l) (second rec share rest l .answer) (shareAfter rec share rest l)
-        (drop 480 rest) (length samples) (progress + 480) (from (place progress) (firstIn (second rec share rest l .written)))
+        (drop 480 rest) (length samples) (progress + 480)
+        (from (place progress) (firstIn (second rec share rest l .written)))
 
     part : length (first rec share rest l .kept) ≡ PART
     part = first-part rec share rest l k
@@ -69,20 +72,33 @@ module _ (n side : ℕ) (h : side < n) (store : List Float) (size : length store
 
     -- what is known of it, where it is not refused
     abbrev pub Known : Type 0
-    Known = Resume (get (shareOf side) storeHere) (rec .hearing) (length samples) progress samples (itsLogs rec share rest l) (l .model) room 22
+    Known =
+        Resume (get (shareOf side) storeHere) (rec .hearing) (length samples) progress samples
+        (itsLogs rec share rest l) (l .model) room 22
 
     pub fits-in : Known → place progress + 480 ≤ room
     fits-in t = omega (arith, t .room, t .begun, t .within)
 
     pub halved : Known → Halved 480 (second rec share rest l)
-    halved t = rw (back, front) at (half-passes n side recHere storeHere samples (itsLogs rec share rest l) (l .model) room 22 t)
+    halved t =
+        rw (
+          back,
+          front,
+        ) at (half-passes n side recHere storeHere samples (itsLogs rec share rest l) (l .model) room 22 t)
 
     goes-on : goes n side recHere storeHere samples (itsLogs rec share rest l) (l .model) room 22 ≡ next
     goes-on =
-        rw (back, front, frame-frame share k (first rec share rest l .kept) part (second rec share rest l .kept), same, own-own shareHere here-length)
+        rw (
+          back,
+          front,
+          frame-frame share k (first rec share rest l .kept) part (second rec share rest l .kept),
+          same,
+          own-own shareHere here-length,
+        )
 
     pub follows : passed (following .answer .reply) ≡ true → Known × (following ≡ next)
-    follows p = let t = resume-passed n side recHere storeHere samples (itsLogs rec share rest l) (l .model) room 22 p in (t .1, t .2 ∙ goes-on)
+    follows p = let t = resume-passed n side recHere storeHere samples (itsLogs rec share rest l)
+        (l .model) room 22 p in (t .1, t .2 ∙ goes-on)
 
     pub admits : gate n side recHere (length storeHere) 6 ≡ 0 → Known → following ≡ next
     admits e t =

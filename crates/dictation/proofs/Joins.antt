@@ -1,5 +1,7 @@
--- Laws of a dictation: that it is blind to what waited in the share before, and that it can be broken off and gone on with. Assumes nothing.
-use Rattle.rules.proofs.Common.{ℕ, _+_, _*_, _≤_, _<_, List, [], _∷_, _++_, _≡_, refl, length, take, drop, length-drop, Float}
+-- Laws of a dictation: that it is blind to what waited in the share before, and that it can be broken off and gone on
+-- with. Assumes nothing.
+use Rattle.rules.proofs.Common.{ℕ, _+_, _*_, _≤_, _<_, List, [], _∷_, _++_, _≡_, refl, length, take, drop, length-drop}
+use Rattle.rules.proofs.Common.{Float}
 use native.Mathlib.Omega.{arith}
 use mathlib.Core.List.{append-assoc}
 use lib.Seq.{take-append-le, drop-append-le}
@@ -11,7 +13,8 @@ use Rattle.frame.specs.Share.{SHARE, PART}
 use Rattle.halves.specs.Halves.{firstHalf, secondHalf}
 use Rattle.pieces.specs.Pieces.{framePart, waits}
 use Rattle.pieces.proofs.Halved.{first-length, second-length}
-use Rattle.pieces.proofs.Shares.{part-length, waits-length, waits-waits, frame-waits, waiting-back, frame-length, waits-frame}
+use Rattle.pieces.proofs.Shares.{part-length, waits-length, waits-waits, frame-waits, waiting-back, frame-length}
+use Rattle.pieces.proofs.Shares.{waits-frame}
 use Rattle.desk.specs.declared.Record.{Record}
 use Rattle.desk.specs.Desk.{holding, advanced, numbered}
 use Rattle.dictation.specs.Dictation.{Lent, Told, Dictated, dictate, dictatedOn}
@@ -55,21 +58,25 @@ framed told ys d = record { rec = d .rec; kept = d .kept; told = told ∷ d .tol
 
 pub dictate-more : (rec : Record) (share xs : List Float) (l : Lent) (more : List Lent)
     → dictate rec share xs (l ∷ more)
-    ≡ framed (toldThere rec share xs l) (firstIn (second rec share xs l .written)) (dictate (recAfter rec share xs l) (shareAfter rec share xs l) (drop 480 xs) more)
+    ≡ framed (toldThere rec share xs l) (firstIn (second rec share xs l .written))
+    (dictate (recAfter rec share xs l) (shareAfter rec share xs l) (drop 480 xs) more)
 unfolding dictate
 dictate-more rec share xs l more = refl
 
 pub dictate-none : (rec : Record) (share xs : List Float)
-    → dictate rec share xs [] ≡ record { rec = holding 1 rec (length xs) 0 0; kept = waits share xs; told = []; out = [] }
+    → dictate rec share xs []
+    ≡ record { rec = holding 1 rec (length xs) 0 0; kept = waits share xs; told = []; out = [] }
 unfolding dictate
 dictate-none rec share xs = refl
 
 -- ---- what a share is left with
 
-pub share-size : (rec : Record) (share xs : List Float) (lent : List Lent) → length share ≡ SHARE → length (dictate rec share xs lent .kept) ≡ SHARE
+pub share-size : (rec : Record) (share xs : List Float) (lent : List Lent) → length share ≡ SHARE
+    → length (dictate rec share xs lent .kept) ≡ SHARE
 unfolding dictate
 share-size rec share xs [] k = waits-length share k xs
-share-size rec share xs (l ∷ more) k = share-size (recAfter rec share xs l) (shareAfter rec share xs l) (drop 480 xs) more (after-length rec share xs l k)
+share-size rec share xs (l ∷ more) k =
+    share-size (recAfter rec share xs l) (shareAfter rec share xs l) (drop 480 xs) more (after-length rec share xs l k)
 
 -- ---- what waited before is of no account
 
@@ -81,7 +88,8 @@ washed rec share ws xs (l ∷ more) k =
     rw (
       frame-waits share k ws,
       waits-frame share k (second rec share xs l .kept) (second-part rec share xs l k) ws,
-      washed (recAfter rec share xs l) (shareAfter rec share xs l) ws (drop 480 xs) more (after-length rec share xs l k),
+      washed (recAfter rec share xs l) (shareAfter rec share xs l) ws (drop 480 xs) more
+          (after-length rec share xs l k),
     )
 
 -- ---- broken off, and gone on with
@@ -95,7 +103,8 @@ abbrev pub again : Dictated → List Float → List Lent → Dictated
 again d ys ms = dictatedOn (d .rec) (d .kept) ys ms
 
 -- what waits and which call is due are no part of what a dictation starts from
-rested : (rec : Record) (share xs : List Float) (w : ℕ) (lent : List Lent) → dictate (holding 1 rec w 0 0) share xs lent ≡ dictate rec share xs lent
+rested : (rec : Record) (share xs : List Float) (w : ℕ) (lent : List Lent)
+    → dictate (holding 1 rec w 0 0) share xs lent ≡ dictate rec share xs lent
 unfolding dictate
 rested rec share xs w [] = refl
 rested rec share xs w (l ∷ more) = refl
@@ -105,13 +114,18 @@ pub rejoin : (rec : Record) (share xs ys : List Float) (ls ms : List Lent) → l
     → dictate rec share (xs ++ ys) (ls ++ ms) ≡ then (dictate rec share xs ls) (again (dictate rec share xs ls) ys ms)
 unfolding dictate
 rejoin rec share xs ys [] ms k low high =
-    rw (waiting-back share k xs (omega arith), rested rec (waits share xs) (xs ++ ys) (length xs) ms, washed rec share xs (xs ++ ys) ms k)
+    rw (
+      waiting-back share k xs (omega arith),
+      rested rec (waits share xs) (xs ++ ys) (length xs) ms,
+      washed rec share xs (xs ++ ys) ms k,
+    )
 rejoin rec share xs ys (l ∷ ls) ms k low high =
     let enough : 480 ≤ length xs = omega arith in
     let rest = length-drop 480 xs in
     rw (
       take-append-le 480 xs ys enough,
       drop-append-le 480 xs ys enough,
-      rejoin (recAfter rec share xs l) (shareAfter rec share xs l) (drop 480 xs) ys ls ms (after-length rec share xs l k) (omega arith) (omega arith),
+      rejoin (recAfter rec share xs l) (shareAfter rec share xs l) (drop 480 xs) ys ls ms
+          (after-length rec share xs l k) (omega arith) (omega arith),
       append-assoc,
     )

@@ -1,4 +1,5 @@
--- Dictation by frames, request 12: 480 samples at a time, each with what is lent to a frame, and the rest waits. It knows of no piece.
+-- Dictation by frames (request 12): 480 samples at a time, each frame with what is lent to it; the rest
+-- waits. There are no pieces here.
 use Rattle.rules.specs.Common.{ℕ, List, [], _∷_, _++_, length, take, drop, Float}
 use Rattle.rules.specs.Place.{get, put}
 use Rattle.frame.specs.Written.{firstIn}
@@ -11,23 +12,25 @@ use Rattle.desk.specs.declared.Record.{Record}
 use Rattle.desk.specs.Gate.{shareOf}
 use Rattle.desk.specs.Desk.{holding, advanced, numbered}
 
--- to a frame are lent logarithms, as a function of its 22 sums, and a model
+-- What is lent to a frame: its logarithms, as a function of its 22 sums, and a model.
 pub record Lent : Type 0 where
   pub logs : List Float → List Float
   pub model : List ℕ
 
--- what is told of a frame: its sums, its reply and the record behind it
+-- What is reported of a frame: its sums, its reply, and the record after it.
 abbrev pub Told : Type 0
 Told = List Float × Reply × Record
 
--- the record at the end, and the share or the store that is kept; what is told of each frame; and the output
+-- The outcome of a dictation: the record at the end, the share or store that is left, what is reported of
+-- each frame, and the output.
 pub record Dictated : Type 0 where
   pub rec : Record
   pub kept : List Float
   pub told : List Told
   pub out : List Float
 
--- one frame over a share: a first half, its sums to what is lent, and a second half. After the first half call 3 is due; the second moves the record on
+-- One frame on a share: a first half, then a second half with what is lent for the first one's sums. After
+-- the first half call 3 is due; the second half moves the record on.
 abbrev pub sumsOf : Record → List Float → List Float → List Float
 sumsOf rec share xs = firstIn (firstHalf (get framePart share) (rec .hearing .way) xs 22 .written)
 
@@ -36,9 +39,13 @@ frameOn rec share xs l =
     let f = firstHalf (get framePart share) (rec .hearing .way) xs 22 in
     let s = secondHalf (f .kept) (rec .hearing) (l .logs (sumsOf rec share xs)) (l .model) 480 in
     let after = numbered (advanced (holding 3 rec 0 0 0) (s .answer)) in
-    record { answer = record { reply = s .answer; rec = after }; kept = put framePart share (s .kept); written = s .written }
+    record {
+      answer = record { reply = s .answer; rec = after };
+      kept = put framePart share (s .kept);
+      written = s .written;
+    }
 
--- as many frames as are lent to; what is left of the samples waits
+-- As many frames as something is lent to. What is left of the samples waits.
 unfoldable pub dictate : Record → List Float → List Float → List Lent → Dictated
 dictate rec share xs [] = record { rec = holding 1 rec (length xs) 0 0; kept = waits share xs; told = []; out = [] }
 dictate rec share xs (l ∷ more) =
@@ -47,11 +54,11 @@ dictate rec share xs (l ∷ more) =
     let here : Told = (sumsOf rec share (take 480 xs), o .answer .reply, o .answer .rec) in
     record { rec = d .rec; kept = d .kept; told = here ∷ d .told; out = firstIn (o .written) ++ d .out }
 
--- the samples that wait in a share, and these behind them
+-- The dictation of the samples that wait in a share, followed by these.
 abbrev pub dictatedOn : Record → List Float → List Float → List Lent → Dictated
 dictatedOn rec share samples lent = dictate rec share (waitingIn (rec .waiting) share ++ samples) lent
 
--- and so on a side of a store
+-- The same on a side of a store.
 abbrev pub dictated : ℕ → Record → List Float → List Float → List Lent → Dictated
 dictated side rec store samples lent =
     let d = dictatedOn rec (get (shareOf side) store) samples lent in

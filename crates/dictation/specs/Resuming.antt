@@ -1,4 +1,4 @@
--- Laws of a record and of one piece: what is claimed. The proofs are in proofs/Cuts.antt and proofs/Resumes.antt.
+-- Claims about a record and about one piece. Proofs: proofs/Cuts.antt, proofs/Resumes.antt.
 use Rattle.rules.specs.Common.{ℕ, _+_, _*_, _≤_, _<_, true, List, [], _∷_, _≡_, length, Float}
 use Rattle.rules.specs.Place.{get}
 use Rattle.frame.specs.Written.{from, over}
@@ -14,7 +14,8 @@ use Rattle.desk.specs.Gate.{shareOf, inRange}
 use Rattle.dictation.specs.Dictation.{Lent, Dictated, dictated}
 use Rattle.dictation.specs.Cutting.{handedIn, Led}
 
--- any record that passes with a piece unfinished says which frame of it is under way and how many samples waited, and no other two numbers fit it
+-- A record in range with an unfinished piece says which frame is under way and how many samples waited, and
+-- no other two numbers fit it.
 abbrev pub FrameKnown : Type 0
 FrameKnown =
     (rec : Record) → inRange rec ≡ true → (rec .piece ≡ 0 → ⊥)
@@ -22,8 +23,8 @@ FrameKnown =
     (1 ≤ j) × (j ≤ completes w (rec .piece)) × (w ≤ 479) × (w + rec .progress ≡ 480 * j)
     × ((i v : ℕ) → v ≤ 479 → v + rec .progress ≡ 480 * i → (i ≡ j) × (v ≡ w))
 
--- where call 1 is due, a piece is accepted: 1 to 4,096 samples, nothing to refuse in them and in those that wait, and room for the frames that they
--- complete
+-- If call 1 is due, a piece is accepted: 1 to 4,096 good samples, good samples waiting, and room for the
+-- frames that they complete.
 abbrev pub Accepts : Type 0
 Accepts =
     (n side : ℕ) (rec : Record) (store samples held : List Float)
@@ -32,7 +33,8 @@ Accepts =
     → good (waitingIn (rec .waiting) (get (shareOf side) store)) ≡ true → good samples ≡ true
     → handedIn n side rec store samples held .answer .reply ≡ Done
 
--- a piece that is resumed to its end has as many frames as it completes; they fill its output from the front, and the places behind them stay
+-- A piece that is resumed to its end has as many frames as it completes. They fill its output from the front,
+-- and the places after them stay.
 abbrev pub FillsFront : Type 0
 FillsFront =
     (n side : ℕ) (rec : Record) (store samples held : List Float) (lent : List Lent) (d : Dictated)
@@ -41,14 +43,15 @@ FillsFront =
     (length lent ≡ completes (rec .waiting) (length samples)) × (length (e .out) ≡ 480 * length lent)
     × (d ≡ record { rec = e .rec; kept = e .kept; told = e .told; out = over (from 0 (e .out)) held })
 
--- to each frame 22 logarithms are lent, and a model that reads with the opening's counts
+-- Each frame is lent 22 logarithms, and a model that reads and has the GRU sizes that the opening noted.
 abbrev pub Fitting : Record → List Lent → Type 0
 Fitting rec [] = Unit
 Fitting rec (l ∷ more) =
-    ((sums : List Float) → length (l .logs sums) ≡ 22) × (checked (counted (rec .hearing)) (readOf (l .model)) ≡ Done) × Fitting rec more
+    ((sums : List Float) → length (l .logs sums) ≡ 22) × (checked (counted (rec .hearing)) (readOf (l .model)) ≡ Done)
+    × Fitting rec more
 
--- a piece that is accepted comes to its end: with the same samples and output, and what fits each frame, no resume is refused. And so it is a cut,
--- by `last`: what the law of cutting asks for can be met
+-- A piece that is accepted comes to its end: with the same samples and output, and what fits each frame, no
+-- resume is refused. So it is a cut, by `last`, and what the law of cutting asks for can be met.
 abbrev pub ComesToItsEnd : Type 0
 ComesToItsEnd =
     (n side : ℕ) (rec : Record) (store samples held : List Float) (lent : List Lent)

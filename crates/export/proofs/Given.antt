@@ -3,7 +3,8 @@
 --     Telling                what is known of a call with three numbers besides, by the places of `out` that it is lent
 --     three, told-three      it is lent `out`, or no place of it where `answer` has another length than three
 -- Assumes nothing.
-use Rattle.rules.proofs.Common.{ℕ, suc, _-_, _≤_, _<_, Bool, true, false, cond, false≢true, List, [], _∷_, _++_, _≡_, refl, sym, ap, ap₂, _∙_, eqb, length}
+use Rattle.rules.proofs.Common.{ℕ, suc, _-_, _≤_, _<_, Bool, true, false, cond, false≢true, List, [], _∷_, _++_, _≡_}
+use Rattle.rules.proofs.Common.{refl, sym, ap, ap₂, _∙_, eqb, length}
 use Rattle.rules.proofs.Common.{drop, Float}
 use native.Mathlib.Omega.{arith}
 use mathlib.Core.List.{append-nil}
@@ -21,7 +22,7 @@ use Rattle.desk.specs.Gate.{BENCHES, inRange}
 use Rattle.desk.specs.Surface.{RECORD, recordIn, numbersOf, replyNumber, heardOf, outOf, telling, handed}
 use Rattle.desk.proofs.Ranged.{bounded}
 use Rattle.desk.proofs.Replies.{SmallSeven}
-use Rattle.export.specs.Parts.{HandsBack}
+use Rattle.export.specs.Private.{HandsBack}
 
 -- ---- the answer as numbers
 
@@ -40,7 +41,8 @@ all-places side ns e = go (eqb (length ns) RECORD) refl
     go true h = eqb-true (length ns) RECORD h
     go false h = absurd (false≢true (rw h at e))
 
-pub hands-back : (side : ℕ) (ns : List ℕ) (b : Record) {a given : Answer} → b ≡ recordIn side ns → Sound side b a → given ≡ a → HandsBack side ns given
+pub hands-back : (side : ℕ) (ns : List ℕ) (b : Record) {a given : Answer} → b ≡ recordIn side ns → Sound side b a
+    → given ≡ a → HandsBack side ns given
 hands-back side ns b {a} {given} read sound e =
     rw e
     (record {
@@ -76,7 +78,8 @@ module _ (out : List Float) where
 
   replaced : (end : ℕ) (new : List Float) → length out ≤ end → put (upTo end) out new ≡ new
   unfolding put
-  replaced end new h = ap (λ (t : List Float). new ++ t) (drop-of-length-le out {i = end - 0} (omega arith)) ∙ append-nil new
+  replaced end new h =
+      ap (λ (t : List Float). new ++ t) (drop-of-length-le out {i = end - 0} (omega arith)) ∙ append-nil new
 
   empty : get (upTo 0) out ≡ []
   unfolding get
@@ -87,16 +90,22 @@ module _ (out : List Float) where
   kept [] h = refl
   kept (x ∷ xs) h = absurd (omega arith)
 
-joined : (p : Bool) (ws : List Written) (held left : List (List Float)) (told t t′ : List Float) → length ws ≡ cond p (length held) 0
-    → left ≡ onto ws held → t′ ≡ cond p told t → left ++ (t′ ∷ []) ≡ onto (ws ++ cond p (all told ∷ []) []) (held ++ (t ∷ []))
-joined true ws held left told t t′ l e f = ap₂ (λ (x : List (List Float)) (y : List Float). x ++ (y ∷ [])) e f ∙ sym (onto-more ws (all told ∷ []) held (t ∷ []) l)
+joined : (p : Bool) (ws : List Written) (held left : List (List Float)) (told t t′ : List Float)
+    → length ws ≡ cond p (length held) 0
+    → left ≡ onto ws held → t′ ≡ cond p told t
+    → left ++ (t′ ∷ []) ≡ onto (ws ++ cond p (all told ∷ []) []) (held ++ (t ∷ []))
+joined true ws held left told t t′ l e f =
+    ap₂ (λ (x : List (List Float)) (y : List Float). x ++ (y ∷ [])) e f
+    ∙ sym (onto-more ws (all told ∷ []) held (t ∷ []) l)
 joined false [] held left told t t′ l e f = ap₂ (λ (x : List (List Float)) (y : List Float). x ++ (y ∷ [])) e f
 joined false (w ∷ ws) held left told t t′ l e f = absurd (omega arith)
 
 -- `others` are the buffers between `out` and `answer`
-module _ (side : ℕ) (ns : List ℕ) (store′ : List Float) (give : ℕ → Effect Answer) (out answer new : List Float) (others others′ : List (List Float)) (given : Answer) (end : ℕ)
+module _ (side : ℕ) (ns : List ℕ) (store′ : List Float) (give : ℕ → Effect Answer) (out answer new : List Float)
+    (others others′ : List (List Float)) (given : Answer) (end : ℕ)
     (known : Telling (suc (length others)) give) (ends : end ≡ outOf (length answer) (length out))
-    (served : Worked (give (length (get (upTo end) out))) given store′ (get (upTo end) out ∷ others) (new ∷ others′)) where
+    (served : Worked (give (length (get (upTo end) out))) given store′ (get (upTo end) out ∷ others)
+    (new ∷ others′)) where
   -- of another length, the call is refused
   shut : eqb (length answer) 3 ≡ false → passed (given .reply) ≡ false
   shut e =
@@ -130,7 +139,8 @@ module _ (side : ℕ) (ns : List ℕ) (store′ : List Float) (give : ℕ → Ef
             answers = rw (← s .answers) (ap₂ (λ (n : ℕ) (ms : List ℕ). (n, ms)) (h .0) (h .1));
             keeps = s .keeps;
             writes =
-                joined (passed (o .answer .reply)) (o .written) (out ∷ others) (new ∷ others′) (heardOf (o .answer .reply)) answer answer′
+                joined (passed (o .answer .reply)) (o .written) (out ∷ others) (new ∷ others′)
+                (heardOf (o .answer .reply)) answer answer′
                 (known .writes (length out)) (s .writes) (rw (s .answers) at told);
           })
       go false e =
@@ -144,5 +154,7 @@ module _ (side : ℕ) (ns : List ℕ) (store′ : List Float) (give : ℕ → Ef
           (record {
             answers = rw (← s .answers) (ap₂ (λ (n : ℕ) (ms : List ℕ). (n, ms)) (h .0) (h .1));
             keeps = s .keeps;
-            writes = rw (unwritten, known .no-place) (ap₂ (λ (x : List (List Float)) (y : List Float). out ∷ x ++ (y ∷ [])) untouched (rw no at told));
+            writes =
+                rw (unwritten, known .no-place)
+                (ap₂ (λ (x : List (List Float)) (y : List Float). out ∷ x ++ (y ∷ [])) untouched (rw no at told));
           })

@@ -3,4 +3,4 @@ pub mod OfLag
 pub mod OfNetwork
 pub mod OfNumbers
 pub mod OfPitch
-pub mod Parts
+pub mod Private

@@ -7,7 +7,7 @@ use Rattle.network.specs.declared.Computed.the-variants.{Done, Refused, Misread
 use Rattle.desk.specs.Surface.{sevenOf}
 
 -- an activation is 0, 1 or 2
-pub record Known (activation : ℕ) (Fits : Type 0) : Type 0 where
+pub record KnownActivation (activation : ℕ) (Fits : Type 0) : Type 0 where
   pub known : activation ≤ 2
   pub fits : Fits
 

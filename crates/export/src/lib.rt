@@ -11,6 +11,7 @@ pub mod of_network;
 pub mod of_numbers;
 pub mod of_pcm;
 pub mod of_pitch;
+pub mod of_recorder;
 pub mod of_recording;
 pub mod of_sheet;
 pub mod of_transforms;

@@ -1,4 +1,5 @@
-// bands: correlation and gain in bands, the cosine transform and the window. 5 is a wrong length.
+// bands: correlation and gains in 22 bands, the cosine transform, and the window. Refusal 5: a slice has a wrong
+// length.
 ghost use mathlib.Core.Path.{_≡_};
 ghost use lib.ListN.{length};
 ghost use Rattle.rules.specs.Leaf.{Leaf, _leaving_};
@@ -6,7 +7,7 @@ ghost use Rattle.bands.specs.Bands.{bandCorr, BandFits, bandGain, GainFits};
 ghost use Rattle.bands.specs.Dct.{dctOf, DctFits};
 ghost use Rattle.bands.specs.Windowed.{windowed, WindowFits};
 
-// The correlation of two spectra in 22 bands: `out` has 22 numbers, `x` and `p` have 961 each.
+// The correlation of two spectra in 22 bands. `out` has 22 numbers, `x` and `p` have 961 each.
 #[no_mangle]
 pub extern "C" fn tuppence_band_corr(out: &mut [f32], x: &[f32], p: &[f32]) -> u32
     ensures { λ r. ⌜ Leaf (BandFits (length (now (out .entry))) (length (now (x .entry))) (length (now (p .entry))))
@@ -17,7 +18,7 @@ pub extern "C" fn tuppence_band_corr(out: &mut [f32], x: &[f32], p: &[f32]) -> u
     bands::compute_band_corr(out, x, p)
 }
 
-// The gains of 22 bands laid over all bins: `out` has 481 numbers, `bands` 22.
+// Spreads the gains of 22 bands over all frequency bins. `out` has 481 numbers, `bands` has 22.
 #[no_mangle]
 pub extern "C" fn tuppence_band_gain(out: &mut [f32], bands: &[f32]) -> u32
     ensures { λ r. ⌜ Leaf (GainFits (length (now (out .entry))) (length (now (bands .entry))))
@@ -28,7 +29,7 @@ pub extern "C" fn tuppence_band_gain(out: &mut [f32], bands: &[f32]) -> u32
     bands::interp_band_gain(out, bands)
 }
 
-// The cosine transform of 22 numbers: `out` and `x` have 22 each.
+// The cosine transform of 22 numbers. `out` and `x` have 22 each.
 #[no_mangle]
 pub extern "C" fn tuppence_dct(out: &mut [f32], x: &[f32]) -> u32
     ensures { λ r. ⌜ Leaf (DctFits (length (now (out .entry))) (length (now (x .entry))))
@@ -39,7 +40,7 @@ pub extern "C" fn tuppence_dct(out: &mut [f32], x: &[f32]) -> u32
     bands::dct(out, x)
 }
 
-// Windowed samples: `out` and `x` have 960 numbers each.
+// Multiplies samples by the window. `out` and `x` have 960 numbers each.
 #[no_mangle]
 pub extern "C" fn tuppence_window(out: &mut [f32], x: &[f32]) -> u32
     ensures { λ r. ⌜ Leaf (WindowFits (length (now (out .entry))) (length (now (x .entry))))
@@ -50,7 +51,7 @@ pub extern "C" fn tuppence_window(out: &mut [f32], x: &[f32]) -> u32
     bands::apply_window(out, x)
 }
 
-// The same in place: `xs` has 960 numbers.
+// The window in place: `xs` has 960 numbers.
 #[no_mangle]
 pub extern "C" fn tuppence_window_in_place(xs: &mut [f32]) -> u32
     ensures { λ r. ⌜ Leaf (length (now (xs .entry)) ≡ 960)

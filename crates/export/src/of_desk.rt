@@ -1,12 +1,15 @@
-// desk: an opening, the frame calls and pieces of dictation, for a host that has numbers alone. `record` is a side's record as twelve numbers: due
-// call, cepstral index, the three GRU counts, frames, heard frames, the samples that wait, the size of an unfinished piece and its progress, the
-// side's way: 0 for our own lag and the plain sums, 1 for nnnoiseless's lag and the fast transforms; and the side plus 1, which an opening notes, so
-// that no other side takes the record. A closed record is all zeros. `answer` is call 3's as three: heard or not, voice, energy. Returned is 0 or
-// the refusal.
-// `store` is the one of all benches, of the length that is published, and `model` the bytes of a model file. Refusals,
-// the first that is due: 1 no such side; 2 another length of `store` or `record`, a record out of range, or another side's; 3 the side is
-// closed; 4 another call is due; 5 another wrong length; 6 a lag above 768; 7 + 256 times its refusal + 65,536 times the
-// layer, a model that does not read; 8 other counts than at the opening; 9 a sample outside of -32,768 to 32,767.
+// desk: opening a bench, the four calls of a frame, and pieces of dictation. `side` is the bench's number, 0 to 15;
+// even benches are left, odd ones right. `record` is the bench's record, twelve numbers: the call that is due, the
+// cepstral index, the three GRU sizes, the frames since the opening, the heard frames, the samples that wait, the
+// length of an unfinished piece and its progress, the way (0: our own lag and plain sums; 1: nnnoiseless's lag and
+// fast transforms), and the bench's number plus 1. A closed record is all zeros. `store` has TUPPENCE_STORE numbers
+// and serves all benches. `model` is the contents of a model file. `answer` is what call 3 answers, as three
+// numbers: heard (1 or 0), voice, energy.
+// Each call returns 0 if it is done, or the first of these refusals that applies: 1 there is no such bench; 2
+// `store` or `record` has a wrong length, or the record is out of range or another bench's; 3 the bench is closed; 4
+// another call is due; 5 another slice has a wrong length; 6 the lag is above 768; 7 the model does not read (7 +
+// 256 times the model's refusal + 65,536 times the layer); 8 the model has other GRU sizes than at the opening; 9 a
+// sample is not from -32,768 to 32,767.
 ghost use mathlib.Core.Path.{_≡_};
 ghost use mathlib.Core.Bool.{true, cond};
 ghost use mathlib.Core.List.{[], _∷_};
@@ -14,23 +17,25 @@ ghost use lib.ListN.{length, getD};
 ghost use Prim.Native.Nat.{_<_};
 ghost use lib.Dec.{eqb};
 ghost use Rattle.frame.specs.Reply.{passed};
-ghost use Rattle.frame.specs.declared.Way.the-variants.{Asked, Crate};
+ghost use Rattle.frame.specs.declared.Way.the-variants.{Own, Nnnoiseless};
 ghost use Rattle.desk.specs.Gate.{BENCHES, sideOf};
-ghost use Rattle.desk.specs.Desk.{recordOf, noHearing, opening, call1, call2, call2Own, call3, call4, firstHalf, secondHalf, piece, resume};
+ghost use Rattle.desk.specs.Desk.{recordOf, noHearing, opening, call1, call2, call2Own, call3, call4, firstHalf};
+ghost use Rattle.desk.specs.Desk.{secondHalf, piece, resume};
 ghost use Rattle.frame.specs.Effect.{Worked};
-ghost use Rattle.desk.specs.Surface.{RECORD, benchNumber, numbersOf, wayIn, hearingIn, recordIn, replyNumber, heardOf, outOf, hosted, handed};
+ghost use Rattle.desk.specs.Surface.{RECORD, benchNumber, numbersOf, wayIn, hearingIn, recordIn, replyNumber, heardOf};
+ghost use Rattle.desk.specs.Surface.{outOf, hosted, handed};
 ghost use Rattle.desk.proofs.Ranged.{Bounded};
 ghost use Rattle.desk.proofs.Replies.{SmallSeven};
-ghost use Rattle.export.specs.Parts.{HandsBack};
+ghost use Rattle.export.specs.Private.{HandsBack};
 use desk::Answer;
+use desk::Bench;
 use desk::Record;
-use desk::Side;
 use frame::Hearing;
 use frame::Lag;
 use frame::Reply;
 use frame::Way;
 
-// How many numbers a record is.
+// The length of a record.
 const RECORD: usize = 12;
 
 fn wide(x: u32) -> usize
@@ -39,17 +44,17 @@ fn wide(x: u32) -> usize
     x as usize
 }
 
-// A way from its number.
+// The way that a number means.
 fn way_in(number: u32) -> Way
     ensures { λ r. ⌜ r ≡ wayIn number ⌝ }
 {
     if number == 0 {
-        return Way::Asked;
+        return Way::Own;
     }
-    Way::Crate
+    Way::Nnnoiseless
 }
 
-// What a bench needs to hear, from a record's numbers.
+// What a bench needs to hear a frame, from a record's numbers.
 fn hearing_in(record: &[u32]) -> Hearing
     requires { ⌜ length (now «record») ≡ RECORD ⌝ }
     ensures { λ r. ⌜ r ≡ hearingIn (now («record» .entry)) ⌝ }
@@ -63,7 +68,7 @@ fn hearing_in(record: &[u32]) -> Hearing
     }
 }
 
-// A record that is out of range.
+// A record that is out of range, so that every call refuses it.
 fn no_record() -> Record
     ensures { λ r. ⌜ r ≡ recordOf 5 noHearing 0 0 ⌝ }
 {
@@ -72,12 +77,12 @@ fn no_record() -> Record
         vad: 0,
         noise: 0,
         denoise: 0,
-        way: Way::Asked,
+        way: Way::Own,
     };
     desk::record_of(5, hearing, 0, 0)
 }
 
-// The last number of a record: the bench's own plus 1 if the record is open, and 0 if it is closed.
+// The last number of a record: the bench's number plus 1 if the record is open, and 0 if it is closed.
 fn bench_number(side: u32, due: usize) -> usize
     ensures { λ r. ⌜ r ≡ benchNumber side due ⌝ }
 {
@@ -87,16 +92,18 @@ fn bench_number(side: u32, due: usize) -> usize
     side as usize + 1
 }
 
-// Whether the last of a record's numbers is this side's.
+// Whether the last number of a record is the one of this bench.
 fn belongs(side: u32, record: &[u32]) -> bool
     requires { ⌜ length (now «record») ≡ RECORD ⌝ }
-    ensures { λ r. ⌜ r ≡ eqb (getD (now («record» .entry)) 11 0) (benchNumber side (getD (now («record» .entry)) 0 0)) ⌝ }
+    ensures { λ r. ⌜ r ≡ eqb (getD (now («record» .entry)) 11 0)
+        (benchNumber side (getD (now («record» .entry)) 0 0)) ⌝ }
 {
     let due = wide(record[0]);
     wide(record[11]) == bench_number(side, due)
 }
 
-// The record of a side from its numbers. A list of another length, one with a number that is no way's, and another bench's are out of range.
+// A bench's record from its numbers. If there are not twelve, or one of them is no way, or they are another bench's,
+// the record is out of range.
 pub(crate) fn record_in(side: u32, record: &[u32]) -> Record
     ensures { λ r. ⌜ r ≡ recordIn side (now («record» .entry)) ⌝ }
 {
@@ -119,7 +126,7 @@ pub(crate) fn record_in(side: u32, record: &[u32]) -> Record
     )
 }
 
-// A side's record as its numbers.
+// A bench's record as numbers.
 fn put_record(side: u32, record: &mut [u32], rec: Record)
     requires { ⌜ (length (now «record») ≡ RECORD) × Bounded rec × (side < BENCHES) ⌝ }
     ensures { λ _. ⌜ now («record» .exit) ≡ numbersOf side rec ⌝ }
@@ -140,7 +147,7 @@ fn put_record(side: u32, record: &mut [u32], rec: Record)
     record[11] = bench_number(side, rec.due) as u32;
 }
 
-// A reply as a number.
+// A reply as a number: 0, or the refusal.
 fn number_of(reply: Reply) -> u32
     requires { ⌜ SmallSeven reply ⌝ }
     ensures { λ r. ⌜ r ≡ replyNumber reply ⌝ }
@@ -155,11 +162,12 @@ fn number_of(reply: Reply) -> u32
     }
 }
 
-// The record of a call that is done is handed back, and the number returned.
+// Writes back the record of a call that is done, and returns the reply's number. A refused call leaves the record.
 pub(crate) fn hand_back(side: u32, record: &mut [u32], given: Answer) -> u32
     requires { ⌜ HandsBack side (now «record») given ⌝ }
     ensures { λ r. ⌜ (r ≡ replyNumber (given .reply))
-        × (now («record» .exit) ≡ cond (passed (given .reply)) (numbersOf side (given .rec)) (now («record» .entry))) ⌝ }
+        × (now («record» .exit) ≡ cond (passed (given .reply)) (numbersOf side (given .rec))
+        (now («record» .entry))) ⌝ }
 {
     let reply = given.reply;
     if !frame::passed(reply) {
@@ -169,15 +177,16 @@ pub(crate) fn hand_back(side: u32, record: &mut [u32], given: Answer) -> u32
     number_of(reply)
 }
 
-// A bench's side: 0 left for an even one, 1 right for an odd one.
+// The side of a bench: 0 (left) for an even number, 1 (right) for an odd one.
 #[no_mangle]
 pub extern "C" fn tuppence_side_of(bench: u32) -> u32
     ensures { λ r. ⌜ r ≡ sideOf bench ⌝ }
 {
-    desk::side_of(Side(bench as usize)) as u32
+    desk::side_of(Bench(bench as usize)) as u32
 }
 
-// Opens a side, at any moment: what it held is wiped, and call 1 is due.
+// Opens a bench, at any time. Its share is wiped, and call 1 is due. It finds the lag by our own rule and uses plain
+// sums.
 #[no_mangle]
 pub extern "C" fn tuppence_open(
     record: &mut [u32],
@@ -187,21 +196,21 @@ pub extern "C" fn tuppence_open(
 ) -> u32
     ensures { λ r. ⌜ Worked
         (handed side (now («record» .entry))
-        (hosted BENCHES side (now («record» .entry)) (now (store .entry)) (opening Asked (now (model .entry)))))
+        (hosted BENCHES side (now («record» .entry)) (now (store .entry)) (opening Own (now (model .entry)))))
         (r, now («record» .exit)) (now (store .exit)) [] [] ⌝ }
 {
     let given = desk::open(
-        Side(side as usize),
+        Bench(side as usize),
         record_in(side, record),
         store,
-        Way::Asked,
+        Way::Own,
         model,
     );
     hand_back(side, record, given)
 }
 
-// Opens a side likewise, for nnnoiseless's lag and the fast transforms: its halves and pieces, frames, takes and feeds
-// go that way until the next opening.
+// Opens a bench in nnnoiseless's way: its lag and fast transforms, for halves, pieces, frames, takes and feeds until
+// the next opening.
 #[no_mangle]
 pub extern "C" fn tuppence_open_crate(
     record: &mut [u32],
@@ -211,20 +220,20 @@ pub extern "C" fn tuppence_open_crate(
 ) -> u32
     ensures { λ r. ⌜ Worked
         (handed side (now («record» .entry))
-        (hosted BENCHES side (now («record» .entry)) (now (store .entry)) (opening Crate (now (model .entry)))))
+        (hosted BENCHES side (now («record» .entry)) (now (store .entry)) (opening Nnnoiseless (now (model .entry)))))
         (r, now («record» .exit)) (now (store .exit)) [] [] ⌝ }
 {
     let given = desk::open(
-        Side(side as usize),
+        Bench(side as usize),
         record_in(side, record),
         store,
-        Way::Crate,
+        Way::Nnnoiseless,
         model,
     );
     hand_back(side, record, given)
 }
 
-// Call 1: `samples` are a frame's 480, `window` gets 960 windowed numbers, to be transformed.
+// Call 1. `samples` are the 480 of a frame. `window` gets 960 windowed numbers, which the caller transforms.
 #[no_mangle]
 pub extern "C" fn tuppence_call1(
     record: &mut [u32],
@@ -240,7 +249,7 @@ pub extern "C" fn tuppence_call1(
         (r, now («record» .exit)) (now (store .exit)) (now (window .entry) ∷ []) (now (window .exit) ∷ []) ⌝ }
 {
     let given = desk::call1(
-        Side(side as usize),
+        Bench(side as usize),
         record_in(side, record),
         store,
         samples,
@@ -249,8 +258,8 @@ pub extern "C" fn tuppence_call1(
     hand_back(side, record, given)
 }
 
-// Call 2: `spectrum` is the window's, 961 numbers, and `lag` at most 768. `window` gets 960 numbers, to be transformed,
-// and `sums` 22, of which call 3 is lent the logarithms.
+// Call 2. `spectrum` is the transform of call 1's window, 961 numbers, and `lag` is at most 768. `window` gets 960
+// numbers, which the caller transforms. `sums` gets 22 numbers; call 3 is lent their logarithms.
 #[no_mangle]
 pub extern "C" fn tuppence_call2(
     record: &mut [u32],
@@ -269,7 +278,7 @@ pub extern "C" fn tuppence_call2(
         (now (window .entry) ∷ now (sums .entry) ∷ []) (now (window .exit) ∷ now (sums .exit) ∷ []) ⌝ }
 {
     let given = desk::call2(
-        Side(side as usize),
+        Bench(side as usize),
         record_in(side, record),
         store,
         spectrum,
@@ -280,7 +289,7 @@ pub extern "C" fn tuppence_call2(
     hand_back(side, record, given)
 }
 
-// Call 2 with our own lag: `spectrum`, `window` and `sums` as there.
+// Call 2 with our own lag. `spectrum`, `window` and `sums` are those of call 2.
 #[no_mangle]
 pub extern "C" fn tuppence_call2_own(
     record: &mut [u32],
@@ -298,7 +307,7 @@ pub extern "C" fn tuppence_call2_own(
         (now (window .entry) ∷ now (sums .entry) ∷ []) (now (window .exit) ∷ now (sums .exit) ∷ []) ⌝ }
 {
     let given = desk::call2_own(
-        Side(side as usize),
+        Bench(side as usize),
         record_in(side, record),
         store,
         spectrum,
@@ -308,7 +317,7 @@ pub extern "C" fn tuppence_call2_own(
     hand_back(side, record, given)
 }
 
-// What call 3, the second half and a resume answer is written as three numbers, where the call is done.
+// Writes the answer of call 3, of the second half or of a resume as three numbers, if the call is done.
 pub(crate) fn tell(answer: &mut [f32], reply: Reply)
     requires { ⌜ (passed reply ≡ true → length (now answer) ≡ 3) ⌝ }
     ensures { λ _. ⌜ now (answer .exit) ≡ cond (passed reply) (heardOf reply) (now (answer .entry)) ⌝ }
@@ -322,7 +331,8 @@ pub(crate) fn tell(answer: &mut [f32], reply: Reply)
     answer[2] = three.energy;
 }
 
-// An `answer` of another length than three is a wrong length among the others: then the call is lent no place of `out`, and refuses.
+// The places of `out` that a call is lent. If `answer` has not three numbers, it is lent none, so that it refuses
+// with 5.
 pub(crate) fn places(answer: usize, out: usize) -> usize
     ensures { λ r. ⌜ r ≡ outOf answer out ⌝ }
 {
@@ -332,8 +342,8 @@ pub(crate) fn places(answer: usize, out: usize) -> usize
     out
 }
 
-// Call 3: `spectrum` is the second window's, 961 numbers, and `logs` are 22. `out` gets the 961 numbers of the spectrum
-// to be transformed back, and `answer` its three.
+// Call 3. `spectrum` is the transform of call 2's window, 961 numbers, and `logs` are the 22 logarithms of the sums.
+// `out` gets the 961 numbers of the spectrum to be transformed back, and `answer` gets three numbers.
 #[no_mangle]
 pub extern "C" fn tuppence_call3(
     record: &mut [u32],
@@ -355,7 +365,7 @@ pub extern "C" fn tuppence_call3(
 {
     let end = places(answer.len(), out.len());
     let given = desk::call3(
-        Side(side as usize),
+        Bench(side as usize),
         record_in(side, record),
         store,
         spectrum,
@@ -368,7 +378,7 @@ pub extern "C" fn tuppence_call3(
     hand_back(side, record, given)
 }
 
-// Call 4: `inverse` are the 960 numbers of the inverse transform, and `out` gets the frame's 480 samples.
+// Call 4. `inverse` are the 960 numbers of the inverse transform. `out` gets the 480 samples of the frame.
 #[no_mangle]
 pub extern "C" fn tuppence_call4(
     record: &mut [u32],
@@ -384,7 +394,7 @@ pub extern "C" fn tuppence_call4(
         (r, now («record» .exit)) (now (store .exit)) (now (out .entry) ∷ []) (now (out .exit) ∷ []) ⌝ }
 {
     let given = desk::call4(
-        Side(side as usize),
+        Bench(side as usize),
         record_in(side, record),
         store,
         inverse,
@@ -393,7 +403,8 @@ pub extern "C" fn tuppence_call4(
     hand_back(side, record, given)
 }
 
-// Calls 1 and 2 with the transforms and the lag of the side's way: `samples` are a frame's 480, `sums` gets 22 numbers.
+// The first half of a frame: calls 1 and 2, with the transforms and the lag of the bench's way. `samples` are the
+// 480 of a frame. `sums` gets 22 numbers.
 #[no_mangle]
 pub extern "C" fn tuppence_first_half(
     record: &mut [u32],
@@ -409,7 +420,7 @@ pub extern "C" fn tuppence_first_half(
         (r, now («record» .exit)) (now (store .exit)) (now (sums .entry) ∷ []) (now (sums .exit) ∷ []) ⌝ }
 {
     let given = desk::first_half(
-        Side(side as usize),
+        Bench(side as usize),
         record_in(side, record),
         store,
         samples,
@@ -418,7 +429,8 @@ pub extern "C" fn tuppence_first_half(
     hand_back(side, record, given)
 }
 
-// Calls 3 and 4: `logs` are the 22 logarithms of the sums, `out` gets 480 samples, and `answer` its three.
+// The second half of a frame: calls 3 and 4. `logs` are the 22 logarithms of the sums. `out` gets 480 samples, and
+// `answer` three numbers.
 #[no_mangle]
 pub extern "C" fn tuppence_second_half(
     record: &mut [u32],
@@ -432,13 +444,14 @@ pub extern "C" fn tuppence_second_half(
     ensures { λ r. ⌜ Worked
         (handed side (now («record» .entry))
         (hosted BENCHES side (now («record» .entry)) (now (store .entry))
-        (secondHalf (now (logs .entry)) (now (model .entry)) (outOf (length (now (answer .entry))) (length (now (out .entry)))))))
+        (secondHalf (now (logs .entry)) (now (model .entry))
+        (outOf (length (now (answer .entry))) (length (now (out .entry)))))))
         (r, now («record» .exit)) (now (store .exit))
         (now (out .entry) ∷ now (answer .entry) ∷ []) (now (out .exit) ∷ now (answer .exit) ∷ []) ⌝ }
 {
     let end = places(answer.len(), out.len());
     let given = desk::second_half(
-        Side(side as usize),
+        Bench(side as usize),
         record_in(side, record),
         store,
         logs,
@@ -450,8 +463,8 @@ pub extern "C" fn tuppence_second_half(
     hand_back(side, record, given)
 }
 
-// A piece of 1 to 4,096 `samples`. `out` has room for 480 for each frame that they complete with those that wait, and
-// `sums` for 22: those of the first frame, where there is one, and the piece then waits to be resumed.
+// Begins a piece of 1 to 4,096 `samples`. `out` has room for 480 samples of each frame that the piece completes.
+// `sums` has room for 22: it gets those of the first frame, if there is one, and the piece then waits to be resumed.
 #[no_mangle]
 pub extern "C" fn tuppence_piece(
     record: &mut [u32],
@@ -469,7 +482,7 @@ pub extern "C" fn tuppence_piece(
         (now (out .entry) ∷ now (sums .entry) ∷ []) (now (out .exit) ∷ now (sums .exit) ∷ []) ⌝ }
 {
     let given = desk::piece(
-        Side(side as usize),
+        Bench(side as usize),
         record_in(side, record),
         store,
         samples,
@@ -479,8 +492,8 @@ pub extern "C" fn tuppence_piece(
     hand_back(side, record, given)
 }
 
-// Goes on with a piece: the same `samples` and the same `out`, and the 22 `logs` of the sums. `sums` gets those of the
-// next frame, where there is one, and `answer` the three of the frame that is done.
+// Goes on with a piece: the same `samples` and the same `out`, and the 22 `logs` of the sums. `sums` gets those of
+// the next frame, if there is one, and `answer` the three numbers of the frame that is now done.
 #[no_mangle]
 pub extern "C" fn tuppence_resume(
     record: &mut [u32],
@@ -499,11 +512,12 @@ pub extern "C" fn tuppence_resume(
         (resume (now (samples .entry)) (now (logs .entry)) (now (model .entry))
         (outOf (length (now (answer .entry))) (length (now (out .entry)))) (length (now (sums .entry))))))
         (r, now («record» .exit)) (now (store .exit))
-        (now (out .entry) ∷ now (sums .entry) ∷ now (answer .entry) ∷ []) (now (out .exit) ∷ now (sums .exit) ∷ now (answer .exit) ∷ []) ⌝ }
+        (now (out .entry) ∷ now (sums .entry) ∷ now (answer .entry) ∷ [])
+        (now (out .exit) ∷ now (sums .exit) ∷ now (answer .exit) ∷ []) ⌝ }
 {
     let end = places(answer.len(), out.len());
     let given = desk::resume(
-        Side(side as usize),
+        Bench(side as usize),
         record_in(side, record),
         store,
         samples,

@@ -7,11 +7,12 @@ ghost use Rattle.frame.specs.Effect.{WorkedBoth};
 ghost use Rattle.desk.specs.Surface.{handed};
 ghost use Rattle.feed.specs.Feed.{blockOf};
 ghost use Rattle.feed.specs.Surface.{hostedFeed};
-use desk::Side;
+use desk::Bench;
 
-// `bytes` are 1 to 4,096 whole samples of all channels, little end first; `format` is 16, 24, 32 for floats, or 33 for 32-bit integers; of so many
-// channels by turns one is the bench's. For each frame that its samples complete `out` has 960 bytes, `entries` one number
-// and `answers` three, or more, which stay.
+// `bytes` are 1 to 4,096 whole samples of all channels, little end first; `format` is 16, 24, 32 for floats, or 33 for
+// 32-bit integers; of so many channels by turns one is the bench's. For each frame that its samples complete `out` has
+// 960 bytes, `records` the 8 bytes of its record in the side sheet, with the bench's own side, and `answers` three
+// numbers, or more, which stay.
 #[no_mangle]
 pub extern "C" fn tuppence_feed(
     record: &mut [u32],
@@ -23,18 +24,20 @@ pub extern "C" fn tuppence_feed(
     channel: u32,
     model: &[u8],
     out: &mut [u8],
-    entries: &mut [u64],
+    records: &mut [u8],
     answers: &mut [f32],
 ) -> u32
     ensures { λ r. ⌜ WorkedBoth
         (handed side (now («record» .entry))
-        (hostedFeed BENCHES side (now («record» .entry)) (now (store .entry)) (blockOf (now (bytes .entry)) format channels channel)
-        (now (model .entry)) (length (now (out .entry))) (length (now (entries .entry))) (length (now (answers .entry)))))
+        (hostedFeed BENCHES side (now («record» .entry)) (now (store .entry))
+        (blockOf (now (bytes .entry)) format channels channel)
+        (now (model .entry)) (length (now (out .entry))) (length (now (records .entry)))
+        (length (now (answers .entry)))))
         (r, now («record» .exit)) (now (store .exit)) (now (answers .entry) ∷ []) (now (answers .exit) ∷ [])
-        (now (out .entry) ∷ now (entries .entry) ∷ []) (now (out .exit) ∷ now (entries .exit) ∷ []) ⌝ }
+        (now (out .entry) ∷ now (records .entry) ∷ []) (now (out .exit) ∷ now (records .exit) ∷ []) ⌝ }
 {
     let given = feed::feed(
-        Side(side as usize),
+        Bench(side as usize),
         crate::of_desk::record_in(side, record),
         store,
         bytes,
@@ -43,7 +46,7 @@ pub extern "C" fn tuppence_feed(
         channel as usize,
         model,
         out,
-        entries,
+        records,
         answers,
     );
     crate::of_desk::hand_back(side, record, given)

@@ -1,10 +1,11 @@
-// fft: each leaf as it stands there.
+// fft: the two transforms in their fast form. Refusal 5: a slice has a wrong length.
 ghost use lib.ListN.{length};
 ghost use Rattle.rules.specs.Leaf.{Leaf, _leaving_};
 ghost use Rattle.transforms.specs.Transform.{ForwardFits, InverseFits};
 ghost use Rattle.fft.specs.Single.{fastForward, fastInverse};
 
-// `spectrum` has 961 places, `samples` 960.
+// From samples to a spectrum: `samples` has 960 numbers, `spectrum` gets 961: bin 0, then the real and imaginary
+// parts of bins 1 to 480.
 #[no_mangle]
 pub extern "C" fn tuppence_fft_forward(spectrum: &mut [f32], samples: &[f32]) -> u32
     ensures { λ r. ⌜ Leaf (ForwardFits (length (now (spectrum .entry))) (length (now (samples .entry))))
@@ -15,7 +16,7 @@ pub extern "C" fn tuppence_fft_forward(spectrum: &mut [f32], samples: &[f32]) ->
     fft::forward(spectrum, samples)
 }
 
-// `samples` has 960 places, `spectrum` 961.
+// From a spectrum to samples, not normalised: `spectrum` has 961 numbers, `samples` gets 960.
 #[no_mangle]
 pub extern "C" fn tuppence_fft_inverse(samples: &mut [f32], spectrum: &[f32]) -> u32
     ensures { λ r. ⌜ Leaf (InverseFits (length (now (samples .entry))) (length (now (spectrum .entry))))

@@ -1,5 +1,5 @@
-// network: the layers, with the activation as a number, and the six layers for one frame. 5 is a wrong length, and of a
-// model that does not read 7 + 256 times its refusal + 65,536 times the layer.
+// network: a dense layer, a GRU layer, and all six layers of a model for one frame. Refusals: 5, a slice has a wrong
+// length; and if the model does not read, 7 + 256 times the model's refusal + 65,536 times the layer.
 ghost use mathlib.Core.Path.{_≡_};
 ghost use lib.ListN.{length};
 ghost use Rattle.rules.specs.Leaf.{Leaf, _leaving_};
@@ -7,7 +7,7 @@ ghost use Rattle.model.specs.Layer.{activationOf};
 ghost use Rattle.network.specs.Layers.{denseOf, DenseFits, gruOf, GruFits};
 ghost use Rattle.network.specs.Compute.{layeredOf, computed};
 ghost use Rattle.network.proofs.Callers.{Answered};
-ghost use Rattle.export.specs.OfNetwork.{Known, computedNumber, computedTold};
+ghost use Rattle.export.specs.OfNetwork.{KnownActivation, computedNumber, computedTold};
 use model::Activation;
 use network::Computed;
 
@@ -21,8 +21,8 @@ fn activation_of(number: u32) -> Activation
     }
 }
 
-// A dense layer of 1 to 127 inputs i and neurons n: `output` has n numbers, `weights` i*n, `bias` n, `input` i.
-// `activation` is 0 for tanh, 1 for sigmoid, 2 for relu.
+// A dense layer with i inputs and n neurons, 1 to 127 each. `output` has n numbers, `weights` has i*n, `bias` has n,
+// `input` has i. `activation` is 0 for tanh, 1 for sigmoid, 2 for relu.
 #[no_mangle]
 pub extern "C" fn tuppence_dense(
     output: &mut [f32],
@@ -32,8 +32,9 @@ pub extern "C" fn tuppence_dense(
     input: &[f32],
 ) -> u32
     ensures { λ r. ⌜ Leaf
-        (Known activation (DenseFits
-        (length (now (output .entry))) (length (now (weights .entry))) (length (now (bias .entry))) (length (now (input .entry)))))
+        (KnownActivation activation (DenseFits
+        (length (now (output .entry))) (length (now (weights .entry))) (length (now (bias .entry)))
+        (length (now (input .entry)))))
         (r leaving now (output .exit))
         (0 leaving denseOf (now (weights .entry)) (now (bias .entry)) (activationOf activation) (now (input .entry)))
         (5 leaving now (output .entry)) ⌝ }
@@ -44,8 +45,8 @@ pub extern "C" fn tuppence_dense(
     network::dense(output, weights, bias, activation_of(activation), input)
 }
 
-// A GRU layer: `state` has n numbers, and is left as the frame's output; `weights` 3*i*n, `recurrent` 3*n*n, `bias`
-// 3*n, `input` i.
+// A GRU layer. `state` has n numbers and is replaced by the frame's output. `weights` has 3*i*n, `recurrent` 3*n*n,
+// `bias` 3*n, `input` i.
 #[no_mangle]
 pub extern "C" fn tuppence_gru(
     state: &mut [f32],
@@ -56,8 +57,9 @@ pub extern "C" fn tuppence_gru(
     input: &[f32],
 ) -> u32
     ensures { λ r. ⌜ Leaf
-        (Known activation (GruFits
-        (length (now (state .entry))) (length (now (weights .entry))) (length (now (recurrent .entry))) (length (now (bias .entry)))
+        (KnownActivation activation (GruFits
+        (length (now (state .entry))) (length (now (weights .entry))) (length (now (recurrent .entry)))
+        (length (now (bias .entry)))
         (length (now (input .entry)))))
         (r leaving now (state .exit))
         (0 leaving gruOf
@@ -78,7 +80,7 @@ pub extern "C" fn tuppence_gru(
     )
 }
 
-// 0, 5, or 7 with the number and the layer of a model that does not read.
+// A reply as a number: 0, 5, or 7 with the number and the layer of a model that does not read.
 fn number_of(answer: Computed) -> u32
     requires { ⌜ Answered answer ⌝ }
     ensures { λ r. ⌜ r ≡ computedNumber answer ⌝ }
@@ -90,8 +92,8 @@ fn number_of(answer: Computed) -> u32
     }
 }
 
-// `gains` has 22 places, `voice` one, the states `vad`, `noise` and `denoise` 128 each; `features` are 42, and `model`
-// is a file's bytes.
+// The six layers for one frame. `gains` gets 22 numbers, `voice` one. The states `vad`, `noise` and `denoise` have
+// 128 numbers each. `features` are 42, and `model` is the contents of a model file.
 #[no_mangle]
 pub extern "C" fn tuppence_network(
     gains: &mut [f32],

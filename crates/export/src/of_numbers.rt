@@ -1,4 +1,4 @@
-// numbers: activations, root, the larger and the smaller, and the filter. 5 is a wrong length.
+// numbers: activations, square root, maximum and minimum, and the filter. Refusal 5: a slice has a wrong length.
 ghost use mathlib.Core.Path.{_≡_};
 ghost use lib.Ieee.{binary32};
 ghost use lib.ListN.{length};
@@ -11,7 +11,7 @@ ghost use Rattle.numbers.specs.Root.{root};
 ghost use Rattle.numbers.specs.Filter.{memoryOf, memoryList};
 ghost use Rattle.export.specs.OfNumbers.{BiquadFits, biquadOf};
 
-// The crate's table of the hyperbolic tangent, with its interpolation.
+// The hyperbolic tangent by nnnoiseless's table and interpolation. NaN gives 0.
 #[no_mangle]
 pub extern "C" fn tuppence_tansig(x: f32) -> f32
     ensures { λ r. ⌜ r ≡ tansigApprox x ⌝ }
@@ -19,7 +19,7 @@ pub extern "C" fn tuppence_tansig(x: f32) -> f32
     numbers::tansig_approx(x)
 }
 
-// The sigmoid, by that table.
+// The sigmoid, by the same table. NaN gives 0.5.
 #[no_mangle]
 pub extern "C" fn tuppence_sigmoid(x: f32) -> f32
     ensures { λ r. ⌜ r ≡ sigmoidApprox x ⌝ }
@@ -27,7 +27,7 @@ pub extern "C" fn tuppence_sigmoid(x: f32) -> f32
     numbers::sigmoid_approx(x)
 }
 
-// x where it is above 0, else 0; NaN gives 0.
+// x if it is above 0, otherwise 0. NaN gives 0.
 #[no_mangle]
 pub extern "C" fn tuppence_relu(x: f32) -> f32
     ensures { λ r. ⌜ r ≡ rectified x ⌝ }
@@ -35,7 +35,7 @@ pub extern "C" fn tuppence_relu(x: f32) -> f32
     numbers::relu(x)
 }
 
-// The root, rounded to nearest.
+// The square root, rounded to nearest.
 #[no_mangle]
 pub extern "C" fn tuppence_sqrt(x: f32) -> f32
     ensures { λ r. ⌜ r ≡ root binary32 x ⌝ }
@@ -43,7 +43,7 @@ pub extern "C" fn tuppence_sqrt(x: f32) -> f32
     numbers::sqrt(x)
 }
 
-// The larger; the other where one is NaN; the left one where they compare equal.
+// The larger of two numbers. +0 is larger than -0. If one is NaN, the other one.
 #[no_mangle]
 pub extern "C" fn tuppence_max(a: f32, b: f32) -> f32
     ensures { λ r. ⌜ r ≡ larger a b ⌝ }
@@ -51,7 +51,7 @@ pub extern "C" fn tuppence_max(a: f32, b: f32) -> f32
     numbers::max(a, b)
 }
 
-// The smaller; the other where one is NaN; the left one where they compare equal.
+// The smaller of two numbers; the left one if they compare equal. If one is NaN, the other one.
 #[no_mangle]
 pub extern "C" fn tuppence_min(a: f32, b: f32) -> f32
     ensures { λ r. ⌜ r ≡ smaller a b ⌝ }
@@ -59,7 +59,7 @@ pub extern "C" fn tuppence_min(a: f32, b: f32) -> f32
     numbers::min(a, b)
 }
 
-// x within two ends; NaN stays NaN.
+// x limited to the range from low to high. NaN stays NaN.
 #[no_mangle]
 pub extern "C" fn tuppence_clamp(x: f32, low: f32, high: f32) -> f32
     ensures { λ r. ⌜ r ≡ clamped x low high ⌝ }
@@ -67,7 +67,7 @@ pub extern "C" fn tuppence_clamp(x: f32, low: f32, high: f32) -> f32
     numbers::clamp(x, low, high)
 }
 
-// The nearest f32.
+// The nearest f32 to an f64.
 #[no_mangle]
 pub extern "C" fn tuppence_narrow(x: f64) -> f32
     ensures { λ r. ⌜ r ≡ narrowed x ⌝ }
@@ -75,7 +75,7 @@ pub extern "C" fn tuppence_narrow(x: f64) -> f32
     numbers::narrow(x)
 }
 
-// A filter of the second order: `output` is as long as `input`; `memory` holds m0 and m1, and is left as they then are;
+// A filter of the second order. `output` is as long as `input`. `memory` has m0 and m1, and gets the new ones.
 // `coefficients` are a0, a1, b0 and b1.
 #[no_mangle]
 pub extern "C" fn tuppence_filter(
@@ -86,10 +86,12 @@ pub extern "C" fn tuppence_filter(
 ) -> u32
     ensures { λ r. ⌜ Leaf
         (BiquadFits
-        (length (now (output .entry))) (length (now (memory .entry))) (length (now (coefficients .entry))) (length (now (input .entry))))
+        (length (now (output .entry))) (length (now (memory .entry))) (length (now (coefficients .entry)))
+        (length (now (input .entry))))
         (r leaving now (output .exit) leaving now (memory .exit))
         (0 leaving outputs (biquadOf (now (coefficients .entry))) (memoryOf (now (memory .entry))) (now (input .entry))
-        leaving memoryList (memoryAfter (biquadOf (now (coefficients .entry))) (memoryOf (now (memory .entry))) (now (input .entry))))
+        leaving memoryList (memoryAfter (biquadOf (now (coefficients .entry))) (memoryOf (now (memory .entry)))
+        (now (input .entry))))
         (5 leaving now (output .entry) leaving now (memory .entry)) ⌝ }
 {
     if memory.len() != 2 {

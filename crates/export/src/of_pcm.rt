@@ -1,10 +1,11 @@
-// pcm: recorded bytes as samples, and samples as bytes.
+// pcm: recorded bytes to samples, and samples to bytes.
 ghost use lib.ListN.{length};
 ghost use Rattle.rules.specs.Leaf.{Leaf, _leaving_};
 ghost use Rattle.pcm.specs.Pcm.{UnpackFits, unpacked, PackFits, packed};
 
-// `format` is 16, 24, 32 for floats, or 33 for 32-bit integers; of so many channels by turns, one is unpacked. `bytes` are whole samples of all
-// channels, little end first, and `out` has a place for each.
+// Unpacks one channel. `bytes` are whole samples of all channels in turn, least significant byte first. `format` is
+// 16 or 24 for integers of that many bits, 33 for 32-bit integers, 32 for floats. `out` has a place for each sample
+// of the channel.
 #[no_mangle]
 pub extern "C" fn tuppence_unpack(
     out: &mut [f32],
@@ -21,7 +22,7 @@ pub extern "C" fn tuppence_unpack(
     pcm::unpack(out, bytes, format, channels as usize, channel as usize)
 }
 
-// `out` has two bytes for each of the `samples`, as many as there are.
+// Packs samples as 16-bit integers. `out` has two bytes for each of the `samples`.
 #[no_mangle]
 pub extern "C" fn tuppence_pack(out: &mut [u8], samples: &[f32]) -> u32
     ensures { λ r. ⌜ Leaf (PackFits (length (now (out .entry))) (length (now (samples .entry))))

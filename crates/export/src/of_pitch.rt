@@ -1,4 +1,5 @@
-// pitch: the arithmetic of the pitch; what a leaf writes comes first. 5 is a wrong length.
+// pitch: the arithmetic of the pitch search. The slice that a function writes comes first. Refusal 5: a slice has a
+// wrong length.
 ghost use mathlib.Core.Path.{_≡_};
 ghost use mathlib.Core.List.{[], _∷_};
 ghost use Prim.Native.Nat.{_<_};
@@ -13,7 +14,7 @@ ghost use Rattle.pitch.specs.Autocorr.{celtAutocorr, AutocorrFits};
 ghost use Rattle.pitch.specs.Downsample.{downsampled, DownsampleFits};
 ghost use Rattle.export.specs.OfPitch.{SumFits, PitchesFit};
 
-// The sum of n products: `sum` has one place, for it; `xs` and `ys` have n numbers or more.
+// The sum of n products. `sum` has one place, for it. `xs` and `ys` have n numbers or more.
 #[no_mangle]
 pub extern "C" fn tuppence_inner_prod(sum: &mut [f32], xs: &[f32], ys: &[f32], n: usize) -> u32
     ensures { λ r. ⌜ Leaf (SumFits (length (now (sum .entry))) (length (now (xs .entry))) (length (now (ys .entry))) n)
@@ -33,7 +34,7 @@ pub extern "C" fn tuppence_inner_prod(sum: &mut [f32], xs: &[f32], ys: &[f32], n
     0
 }
 
-// Linear prediction: `ac` has at least one number more than `lpc`.
+// Linear prediction. `ac` has at least one number more than `lpc`.
 #[no_mangle]
 pub extern "C" fn tuppence_lpc(lpc: &mut [f32], ac: &[f32]) -> u32
     ensures { λ r. ⌜ Leaf (length (now (lpc .entry)) < length (now (ac .entry)))
@@ -44,11 +45,12 @@ pub extern "C" fn tuppence_lpc(lpc: &mut [f32], ac: &[f32]) -> u32
     pitch::lpc(lpc, ac)
 }
 
-// `xcorr` gets a correlation of `xs` and `ys` for each of its places. Where it has any, `ys` has at least the lengths
-// of the two others less 1, and at least both lengths rounded down to a multiple of 4.
+// `xcorr` gets a correlation of `xs` and `ys` in each of its places. If it has any, `ys` is at least as long as the
+// two others together less 1, and as both lengths rounded down to a multiple of 4.
 #[no_mangle]
 pub extern "C" fn tuppence_pitch_xcorr(xcorr: &mut [f32], xs: &[f32], ys: &[f32]) -> u32
-    ensures { λ r. ⌜ Leaf (XcorrFits (length (now (xs .entry))) (length (now (ys .entry))) (length (now (xcorr .entry))))
+    ensures { λ r. ⌜ Leaf (XcorrFits (length (now (xs .entry))) (length (now (ys .entry)))
+        (length (now (xcorr .entry))))
         (r leaving now (xcorr .exit))
         (0 leaving pitchXcorr (now (xs .entry)) (now (ys .entry)) (length (now (xcorr .entry))))
         (5 leaving now (xcorr .entry)) ⌝ }
@@ -56,7 +58,7 @@ pub extern "C" fn tuppence_pitch_xcorr(xcorr: &mut [f32], xs: &[f32], ys: &[f32]
     pitch::pitch_xcorr(xs, ys, xcorr)
 }
 
-// The two best lags: `pitches` has two places, for them; `ys` has at least `xcorr`'s length and len more.
+// The two best lags. `pitches` has two places, for them. `ys` has at least len numbers more than `xcorr`.
 #[no_mangle]
 pub extern "C" fn tuppence_find_best_pitch(
     pitches: &mut [u64],
@@ -64,9 +66,11 @@ pub extern "C" fn tuppence_find_best_pitch(
     ys: &[f32],
     len: usize,
 ) -> u32
-    ensures { λ r. ⌜ Leaf (PitchesFit (length (now (pitches .entry))) (length (now (xcorr .entry))) (length (now (ys .entry))) len)
+    ensures { λ r. ⌜ Leaf (PitchesFit (length (now (pitches .entry))) (length (now (xcorr .entry)))
+        (length (now (ys .entry))) len)
         (r leaving now (pitches .exit))
-        (0 leaving best (now (xcorr .entry)) (now (ys .entry)) len .bestPitch ∷ best (now (xcorr .entry)) (now (ys .entry)) len .secondBestPitch ∷ [])
+        (0 leaving best (now (xcorr .entry)) (now (ys .entry)) len .bestPitch
+        ∷ best (now (xcorr .entry)) (now (ys .entry)) len .secondBestPitch ∷ [])
         (5 leaving now (pitches .entry)) ⌝ }
 {
     if pitches.len() != 2 {
@@ -82,7 +86,7 @@ pub extern "C" fn tuppence_find_best_pitch(
     0
 }
 
-// A filter of five taps in place: `xs` has any length, `num` five numbers.
+// A filter of five taps, in place. `xs` has any length, `num` has five numbers.
 #[no_mangle]
 pub extern "C" fn tuppence_fir5(xs: &mut [f32], num: &[f32]) -> u32
     ensures { λ r. ⌜ Leaf (length (now (num .entry)) ≡ 5)
@@ -93,7 +97,7 @@ pub extern "C" fn tuppence_fir5(xs: &mut [f32], num: &[f32]) -> u32
     pitch::fir5_in_place(xs, num)
 }
 
-// Autocorrelation: `ac` has five places, `x` five numbers or more.
+// Autocorrelation. `ac` has five places, `x` five numbers or more.
 #[no_mangle]
 pub extern "C" fn tuppence_autocorr(ac: &mut [f32], x: &[f32]) -> u32
     ensures { λ r. ⌜ Leaf (AutocorrFits (length (now (x .entry))) (length (now (ac .entry))))
@@ -104,7 +108,7 @@ pub extern "C" fn tuppence_autocorr(ac: &mut [f32], x: &[f32]) -> u32
     pitch::celt_autocorr(x, ac)
 }
 
-// Half the rate: `x` has 1,728 numbers, `x_lp` 864.
+// Halves the sampling rate. `x` has 1,728 numbers, `x_lp` gets 864.
 #[no_mangle]
 pub extern "C" fn tuppence_downsample(x_lp: &mut [f32], x: &[f32]) -> u32
     ensures { λ r. ⌜ Leaf (DownsampleFits (length (now (x .entry))) (length (now («x_lp» .entry))))

@@ -1,9 +1,10 @@
-// transforms: from samples to a spectrum and back. 5 is a wrong length.
+// transforms: the two transforms as plain sums. Refusal 5: a slice has a wrong length.
 ghost use lib.ListN.{length};
 ghost use Rattle.rules.specs.Leaf.{Leaf, _leaving_};
 ghost use Rattle.transforms.specs.Transform.{forwardOf, ForwardFits, inverseOf, InverseFits};
 
-// `samples` are 960, `spectrum` has 961 numbers: bin 0, then re and im of bins 1 to 480.
+// From samples to a spectrum: `samples` has 960 numbers, `spectrum` gets 961: bin 0, then the real and imaginary
+// parts of bins 1 to 480.
 #[no_mangle]
 pub extern "C" fn tuppence_forward(spectrum: &mut [f32], samples: &[f32]) -> u32
     ensures { λ r. ⌜ Leaf (ForwardFits (length (now (spectrum .entry))) (length (now (samples .entry))))
@@ -14,7 +15,7 @@ pub extern "C" fn tuppence_forward(spectrum: &mut [f32], samples: &[f32]) -> u32
     transforms::forward(spectrum, samples)
 }
 
-// The other way, not normalised: `samples` has 960 places, and `spectrum` is 961 numbers.
+// From a spectrum to samples, not normalised: `spectrum` has 961 numbers, `samples` gets 960.
 #[no_mangle]
 pub extern "C" fn tuppence_inverse(samples: &mut [f32], spectrum: &[f32]) -> u32
     ensures { λ r. ⌜ Leaf (InverseFits (length (now (samples .entry))) (length (now (spectrum .entry))))

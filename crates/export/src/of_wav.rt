@@ -1,4 +1,4 @@
-// checksum and wav: a checksum, a recording's two seals, and the head of a WAV file.
+// checksum and wav: a checksum, the two seals of a recording, and the head of a WAV file.
 ghost use mathlib.Core.Path.{_≡_};
 ghost use Rattle.rules.specs.Leaf.{_leaving_};
 ghost use Rattle.checksum.specs.Checksum.{crc32};
@@ -8,7 +8,8 @@ ghost use Rattle.wav.specs.Seal.{sealSummary, sealWritten};
 ghost use Rattle.wav.specs.declared.seal.Word.the-variants.{Begins, Ends};
 use wav::seal::Word;
 
-// The checksum of what was handed in `before`, 0 of nothing, and of these `bytes` behind it, as many as there are.
+// The CRC-32 of the bytes so far, followed by these `bytes`. `before` is the checksum of the bytes so far, 0 at
+// first.
 #[no_mangle]
 pub extern "C" fn tuppence_checksum(before: u32, bytes: &[u8]) -> u32
     ensures { λ r. ⌜ r ≡ crc32 before (now (bytes .entry)) ⌝ }
@@ -16,8 +17,8 @@ pub extern "C" fn tuppence_checksum(before: u32, bytes: &[u8]) -> u32
     checksum::crc32(before, bytes)
 }
 
-// `out` has 24 bytes. The end seal of a recording of a side, 0 for left, 1 for right, whose audio has `size` bytes with this
-// `checksum`.
+// Writes the end seal of a recording. `out` has 24 bytes. `side` is 0 for left, 1 for right; the audio has `size`
+// bytes with this `checksum`.
 #[no_mangle]
 pub extern "C" fn tuppence_seal_write(out: &mut [u8], side: u32, size: u64, checksum: u32) -> u32
     ensures { λ r. ⌜ (r leaving now (out .exit)) ≡ sealWritten Ends side size checksum (now (out .entry)) ⌝ }
@@ -25,8 +26,8 @@ pub extern "C" fn tuppence_seal_write(out: &mut [u8], side: u32, size: u64, chec
     wav::seal::write(out, Word::Ends, side, size, checksum)
 }
 
-// `numbers` has three places: the side, how many bytes of audio, and their checksum. `file` is what is there from the end
-// seal on, of any length.
+// Reads an end seal. `numbers` has three places: the side, the number of bytes of audio, and their checksum. `file`
+// is whatever there is from the end seal on.
 #[no_mangle]
 pub extern "C" fn tuppence_seal_read(numbers: &mut [u64], file: &[u8]) -> u32
     ensures { λ r. ⌜ (r leaving now (numbers .exit)) ≡ sealSummary Ends (now (file .entry)) (now (numbers .entry)) ⌝ }
@@ -34,8 +35,8 @@ pub extern "C" fn tuppence_seal_read(numbers: &mut [u64], file: &[u8]) -> u32
     wav::seal::summary(numbers, Word::Ends, file)
 }
 
-// `out` has 24 bytes. The front seal of a recording of a side, which `began` so many seconds after 1970 began, 0 if nobody
-// knows, and whose `first` frame has this number.
+// Writes the front seal of a recording. `out` has 24 bytes. The recording began `began` seconds after the start of
+// 1970, 0 if nobody knows, and its `first` frame has this number.
 #[no_mangle]
 pub extern "C" fn tuppence_front_write(out: &mut [u8], side: u32, began: u64, first: u32) -> u32
     ensures { λ r. ⌜ (r leaving now (out .exit)) ≡ sealWritten Begins side began first (now (out .entry)) ⌝ }
@@ -43,8 +44,8 @@ pub extern "C" fn tuppence_front_write(out: &mut [u8], side: u32, began: u64, fi
     wav::seal::write(out, Word::Begins, side, began, first)
 }
 
-// `numbers` has three places: the side, when it began, and the number of its first frame. `file` is what is there from the
-// front seal on, of any length.
+// Reads a front seal. `numbers` has three places: the side, when the recording began, and the number of its first
+// frame. `file` is whatever there is from the front seal on.
 #[no_mangle]
 pub extern "C" fn tuppence_front_read(numbers: &mut [u64], file: &[u8]) -> u32
     ensures { λ r. ⌜ (r leaving now (numbers .exit)) ≡ sealSummary Begins (now (file .entry)) (now (numbers .entry)) ⌝ }
@@ -52,7 +53,8 @@ pub extern "C" fn tuppence_front_read(numbers: &mut [u64], file: &[u8]) -> u32
     wav::seal::summary(numbers, Word::Begins, file)
 }
 
-// `out` has 44 bytes. So many bytes of audio at a rate, and of chunks `behind` it.
+// Writes the head of a WAV file. `out` has 44 bytes. The audio has `size` bytes at this rate, and the chunks
+// `behind` it have so many bytes.
 #[no_mangle]
 pub extern "C" fn tuppence_wav_head(out: &mut [u8], rate: u32, size: u32, behind: u32) -> u32
     ensures { λ r. ⌜ (r leaving now (out .exit)) ≡ headWritten rate size behind (now (out .entry)) ⌝ }
@@ -60,7 +62,9 @@ pub extern "C" fn tuppence_wav_head(out: &mut [u8], rate: u32, size: u32, behind
     wav::head::write(out, rate, size, behind)
 }
 
-// `numbers` has five places: place, format, channels, rate and size; all 0 at first. `file` is lent from the place on.
+// Reads the head of a WAV file, a chunk at a time. `numbers` has five places, all 0 at first: the place in the file,
+// the format, the channels, the rate and the size of the audio. `file` has the bytes from that place on, 34 or more
+// unless the file ends. 40 means: call again.
 #[no_mangle]
 pub extern "C" fn tuppence_wav_read(numbers: &mut [u64], file: &[u8]) -> u32
     ensures { λ r. ⌜ (r leaving now (numbers .exit)) ≡ stepTold (now (file .entry)) (now (numbers .entry)) ⌝ }

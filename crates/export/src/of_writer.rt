@@ -1,12 +1,14 @@
-// model: a file from six layers' counts, activations and arrays. A refusal r of layer l, as when it is read, or 24 where
-// `out` is too short, is r + 65,536 l; 5 is a wrong length of `shapes`.
+// model: writes a model file from the sizes, activations and arrays of its six layers. Refusals: 5, `shapes` has a
+// wrong length; otherwise r + 65,536 times the layer, with r 12 to 22 as when a model is read, or 24 if `out` is too
+// short.
 ghost use mathlib.Core.Path.{_≡_};
 ghost use Rattle.rules.specs.Leaf.{_leaving_};
 ghost use Rattle.model.specs.Writer.{arraysOf, writeModel};
 
-// `shapes` are six times inputs, neurons and activation. The arrays are signed bytes, input weights, recurrent ones and
-// biases: `w0`, `b0` of input_dense, `w1`, `r1`, `b1` of vad_gru, `w2`, `r2`, `b2` of noise_gru, `w3`, `r3`, `b3` of
-// denoise_gru, `w4`, `b4` of denoise_output, `w5`, `b5` of vad_output. `out` has the file's length, or more, which stays.
+// `shapes` has 18 numbers: inputs, neurons and activation of each layer. The arrays are signed bytes: `w0`, `b0`
+// (weights and biases) of input_dense; `w1`, `r1`, `b1` (weights, recurrent weights, biases) of vad_gru; `w2`, `r2`,
+// `b2` of noise_gru; `w3`, `r3`, `b3` of denoise_gru; `w4`, `b4` of denoise_output; `w5`, `b5` of vad_output. `out`
+// has the length of the file; what it has beyond that stays.
 #[no_mangle]
 pub extern "C" fn tuppence_write_model(
     out: &mut [u8],

@@ -8,6 +8,7 @@ pub sound-in-paper : SoundInPaper
 unfolding soundOf
 sound-in-paper e = go (isSilent e)
   where
-    go : (t : Bool) → let s : Sound = cond t Sound.Silent (Sound.Heard e) in (soundNumber s ≡ 0) × (soundValues s ≡ cond t [] (e ∷ []))
+    go : (t : Bool) → let s : Sound = cond t Sound.Silent (Sound.Heard e) in
+        (soundNumber s ≡ 0) × (soundValues s ≡ cond t [] (e ∷ []))
     go true = (refl, refl)
     go false = (refl, refl)

@@ -33,16 +33,20 @@ pub length-cepstrum : (logs : List Float) → length (cepstrum logs) ≡ 22
 unfolding cepstrum
 length-cepstrum logs = simp length-set (length-dct (followLogs logs))
 
-pub length-deltas : (of : Float → Float → Float → Float) (mem : List Float) (c0 c1 c2 : ℕ) → length (deltas of mem c0 c1 c2) ≡ 6
+pub length-deltas : (of : Float → Float → Float → Float) (mem : List Float) (c0 c1 c2 : ℕ)
+    → length (deltas of mem c0 c1 c2) ≡ 6
 unfolding deltas
 length-deltas of mem c0 c1 c2 = length-tab 6 _
 
-pub length-with-cepstrum : (logs mem : List Float) (index : ℕ) → length mem ≡ 176 → index ≤ 7 → length (withCepstrum logs mem index) ≡ 176
+pub length-with-cepstrum : (logs mem : List Float) (index : ℕ) → length mem ≡ 176 → index ≤ 7
+    → length (withCepstrum logs mem index) ≡ 176
 unfolding withCepstrum
 length-with-cepstrum logs mem index rows inside =
-    length-put (row index) mem _ (omega arith) (simp (length-append, length-drop, length-deltas, length-cepstrum)) ∙ rows
+    length-put (row index) mem _ (omega arith) (simp (length-append, length-drop, length-deltas, length-cepstrum))
+    ∙ rows
 
-pub length-features : (exp : List Float) (lag : Float) (logs mem : List Float) (index : ℕ) → length (featuresOf exp lag logs mem index) ≡ 42
+pub length-features : (exp : List Float) (lag : Float) (logs mem : List Float) (index : ℕ)
+    → length (featuresOf exp lag logs mem index) ≡ 42
 unfolding featuresOf laid
 length-features exp lag logs mem index =
     simp (length-append, length-drop, length-deltas, length-pitch, length-cepstrum)

@@ -1,5 +1,6 @@
 -- Where the features lie among the 42, and what stays where others are written. Assumes nothing.
-use Rattle.rules.proofs.Common.{ℕ, _+_, List, [], _∷_, _++_, _≡_, sym, ap, _∙_, length, take, drop, set, length-take, length-drop, length-append}
+use Rattle.rules.proofs.Common.{ℕ, _+_, List, [], _∷_, _++_, _≡_, sym, ap, _∙_, length, take, drop, set, length-take}
+use Rattle.rules.proofs.Common.{length-drop, length-append}
 use Rattle.rules.proofs.Common.{Float}
 use mathlib.Core.Logic.{inl}
 use mathlib.Core.List.{append-assoc}
@@ -14,7 +15,8 @@ abbrev pub place : ℕ → ℕ → Place
 place at size = record { at = at; size = size }
 
 -- a store to the last place
-at-the-end : (front : List Float) (n : ℕ) (rest : List Float) (v : Float) → length front ≡ n → length rest ≡ 1 → set (front ++ rest) n v ≡ front ++ v ∷ []
+at-the-end : (front : List Float) (n : ℕ) (rest : List Float) (v : Float) → length front ≡ n → length rest ≡ 1
+    → set (front ++ rest) n v ≡ front ++ v ∷ []
 at-the-end front n [] v e one = absurd (omega arith)
 at-the-end front n (x ∷ []) v e one = set-at front x [] v n e
 at-the-end front n (x ∷ y ∷ rest) v e one = absurd (omega arith)
@@ -24,7 +26,8 @@ cut : (l : List Float) (k n : ℕ) → drop k l ≡ take n (drop k l) ++ drop (k
 cut l k n = sym (take-append-drop n (drop k l)) ∙ ap (λ (t : List Float). take n (drop k l) ++ t) (drop-drop n k l)
 
 -- the stores of `add_deltas`
-module _ (l sums slopes bends : List Float) (v : Float) (all : length l ≡ 42) (p : length sums ≡ 6) (q : length slopes ≡ 6) (r : length bends ≡ 6) where
+module _ (l sums slopes bends : List Float) (v : Float) (all : length l ≡ 42) (p : length sums ≡ 6)
+    (q : length slopes ≡ 6) (r : length bends ≡ 6) where
   first : put (place 0 6) l sums ≡ sums ++ part 6 22 l ++ drop 22 l
   unfolding put
   first = ap (λ (t : List Float). sums ++ t) (cut l 6 16) ∙ sym (append-assoc sums (part 6 22 l) (drop 22 l))
@@ -32,7 +35,8 @@ module _ (l sums slopes bends : List Float) (v : Float) (all : length l ≡ 42) 
   second : put (place 22 6) (put (place 0 6) l sums) slopes ≡ sums ++ part 6 22 l ++ slopes ++ drop 28 l
   second =
       ap (λ (t : List Float). put (place 22 6) t slopes) first
-      ∙ put-behind (place 22 6) (sums ++ part 6 22 l) (drop 22 l) slopes (simp (length-append, length-take, length-drop) (omega arith))
+      ∙ put-behind (place 22 6) (sums ++ part 6 22 l) (drop 22 l) slopes
+      (simp (length-append, length-take, length-drop) (omega arith))
       ∙ ap (λ (t : List Float). sums ++ part 6 22 l ++ slopes ++ t) (drop-drop 6 22 l)
 
   abbrev front : List Float
@@ -41,7 +45,8 @@ module _ (l sums slopes bends : List Float) (v : Float) (all : length l ≡ 42) 
   third : put (place 28 6) (put (place 22 6) (put (place 0 6) l sums) slopes) bends ≡ front ++ drop 41 l
   third =
       ap (λ (t : List Float). put (place 28 6) t bends) second
-      ∙ put-behind (place 28 6) (sums ++ part 6 22 l ++ slopes) (drop 28 l) bends (simp (length-append, length-take, length-drop) (omega arith))
+      ∙ put-behind (place 28 6) (sums ++ part 6 22 l ++ slopes) (drop 28 l) bends
+      (simp (length-append, length-take, length-drop) (omega arith))
       ∙ ap (λ (t : List Float). sums ++ part 6 22 l ++ slopes ++ bends ++ t) (drop-drop 6 28 l ∙ cut l 34 7)
       ∙ sym (append-assoc (sums ++ part 6 22 l ++ slopes ++ bends) (part 34 41 l) (drop 41 l))
 
@@ -49,7 +54,8 @@ module _ (l sums slopes bends : List Float) (v : Float) (all : length l ≡ 42) 
       ≡ sums ++ part 6 22 l ++ slopes ++ bends ++ part 34 41 l ++ v ∷ []
   laid-out =
       ap (λ (t : List Float). set t 41 v) third
-      ∙ at-the-end front 41 (drop 41 l) v (simp (length-append, length-take, length-drop) (omega arith)) (simp length-drop (omega arith))
+      ∙ at-the-end front 41 (drop 41 l) v (simp (length-append, length-take, length-drop) (omega arith))
+      (simp length-drop (omega arith))
 
 -- the pitch's features are written, and then the cepstrum
 module _ (l pitch ceps : List Float) (all : length l ≡ 42) (p : length pitch ≡ 7) (q : length ceps ≡ 22) where

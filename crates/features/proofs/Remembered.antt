@@ -1,4 +1,5 @@
--- The two laws of remembered gains, for any gains g, NaN among them: no remembered gain becomes NaN, and each is at least 0.6 of its predecessor. Assumes nothing.
+-- The two laws of remembered gains, for any gains g, NaN among them: no remembered gain becomes NaN, and each is at
+-- least 0.6 of its predecessor. Assumes nothing.
 use Rattle.rules.proofs.Common.{ℕ, _<_, true, false, List, _≡_, Float, nan, le, isNan}
 use Rattle.rules.specs.F32.{at}
 use Rattle.rules.proofs.Lists.{getD-tab}

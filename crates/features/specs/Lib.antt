@@ -2,6 +2,6 @@ pub mod Cepstra
 pub mod Features
 pub mod Gains
 pub mod Laws
-pub mod Parts
+pub mod Private
 pub mod Pitch
 pub mod Silence

@@ -4,27 +4,30 @@ use Rattle.rules.specs.Loop.{loop}
 use Rattle.rules.specs.F32.{_⊕_, at, f32}
 use Rattle.features.specs.declared.Sound.{Sound}
 
--- e += ex[i]
+-- Rust: e += ex[i].
 abbrev pub energyStep : List Float → ℕ → Float → Float
 energyStep ex i e = e ⊕ at ex i
 
+-- The sum of the band energies.
 unfoldable pub energy : List Float → Float
 energy ex = loop 22 (energyStep ex) (f32 0)
 
--- e < 0.04
+-- Rust: e < 0.04. A NaN is not silent.
 abbrev pub isSilent : Float → Bool
 isSilent e = lt e (f32 0x3D23D70A)
 
--- What document 01 says of an answer: its number, 0 or the refusal, and its values, a heard frame's energy sum.
+-- The number that document 01 gives an answer: 0, or the number of the refusal.
 abbrev pub soundNumber : Sound → ℕ
 soundNumber Sound.Silent = 0
 soundNumber (Sound.Heard e) = 0
 soundNumber (Sound.Refused n) = n
 
+-- The values that document 01 gives an answer: the sum of the energies of a heard frame.
 abbrev pub soundValues : Sound → List Float
 soundValues Sound.Silent = []
 soundValues (Sound.Heard e) = e ∷ []
 soundValues (Sound.Refused n) = []
 
+-- Whether a frame with this sum of energies is heard.
 unfoldable pub soundOf : Float → Sound
 soundOf e = cond (isSilent e) Sound.Silent (Sound.Heard e)

@@ -1,14 +1,16 @@
-// The logarithms' lower bounds, the cepstral memory of 8 rows of 22, and the features that are made of it.
+// Smoothed logarithms, the cepstral memory of 8 rows of 22, and the features that are made of it.
 ghost use mathlib.Core.Path.{_≡_};
 ghost use Prim.Native.Nat.{_≤_};
 ghost use lib.ListN.{length};
 ghost use Rattle.rules.specs.Place.{put};
 ghost use Rattle.rules.specs.F32.{part};
 ghost use Rattle.features.specs.Features.{laid};
-ghost use Rattle.features.specs.Cepstra.{followLogs, cepstrum, row, back, deltas, distance, nearestStep, nearest, variability};
-ghost use Rattle.features.specs.Parts.{deltaOf};
+ghost use Rattle.features.specs.Cepstra.{followLogs, cepstrum, row, back, deltas, cepstralDistance, nearestStep};
+ghost use Rattle.features.specs.Cepstra.{nearest, variability};
+ghost use Rattle.features.specs.Private.{deltaOf};
 
-// Each band's logarithm, but no lower than 7 below the largest so far, and falling by no more than 1.5 a band.
+// Smooths the logarithms: none is more than 7 below the largest before it, and from band to band they fall by at most
+// 1.5.
 fn follow_logs(ly: &mut [f32], logs: &[f32])
     requires { ⌜ (length (now ly) ≡ 22) × (length (now logs) ≡ 22) ⌝ }
     ensures { λ _. ⌜ now (ly .exit) ≡ followLogs (now (logs .entry)) ⌝ }
@@ -23,6 +25,7 @@ fn follow_logs(ly: &mut [f32], logs: &[f32])
     }
 }
 
+// The cepstrum of these logarithms.
 pub(crate) fn cepstrum_of(out: &mut [f32], logs: &[f32])
     requires { ⌜ (length (now out) ≡ 22) × (length (now logs) ≡ 22) ⌝ }
     ensures { λ _. ⌜ now (out .exit) ≡ cepstrum (now (logs .entry)) ⌝ }
@@ -34,7 +37,7 @@ pub(crate) fn cepstrum_of(out: &mut [f32], logs: &[f32])
     out[1] = out[1] - 4.0;
 }
 
-// Row `index` of the memory becomes the cepstrum.
+// Stores the cepstrum in row `index` of the memory.
 pub(crate) fn remember(mem: &mut [f32], index: usize, ceps: &[f32])
     requires { ⌜ (length (now mem) ≡ 176) × (length (now ceps) ≡ 22) × (index ≤ 7) ⌝ }
     ensures { λ _. ⌜ now (mem .exit) ≡ put (row index) (now (mem .entry)) (now (ceps .entry)) ⌝ }
@@ -43,7 +46,7 @@ pub(crate) fn remember(mem: &mut [f32], index: usize, ceps: &[f32])
     rules::copy(&mut mem[at..at + 22], ceps);
 }
 
-// The row k rows before `index`, of 8 in a ring.
+// The row k rows before `index`; before row 0 comes row 7.
 fn row_back(index: usize, k: usize) -> usize
     requires { ⌜ (index ≤ 7) × (k ≤ 8) × (1 ≤ k) ⌝ }
     ensures { λ r. ⌜ (r ≡ back index k) × (r ≤ 7) ⌝ }
@@ -54,13 +57,17 @@ fn row_back(index: usize, k: usize) -> usize
     index - k
 }
 
-// What is made of three cepstra at a place.
+// What is made of three cepstra at one place.
 enum Delta {
+    // Their sum.
     Smoothed,
+    // The newest minus the oldest.
     Slope,
+    // Their second difference.
     Bend,
 }
 
+// One of these for three numbers, the newest first.
 fn combine(kind: Delta, ceps0: f32, ceps1: f32, ceps2: f32) -> f32
     ensures { λ r. ⌜ r ≡ deltaOf kind ceps0 ceps1 ceps2 ⌝ }
 {
@@ -71,7 +78,7 @@ fn combine(kind: Delta, ceps0: f32, ceps1: f32, ceps2: f32) -> f32
     }
 }
 
-// The first six places of three rows.
+// One of these at the first six places of three rows.
 fn delta_rows(out: &mut [f32], kind: Delta, mem: &[f32], c0: usize, c1: usize, c2: usize)
     requires { ⌜ (length (now out) ≡ 6) × (length (now mem) ≡ 176) × (c0 ≤ 7) × (c1 ≤ 7) × (c2 ≤ 7) ⌝ }
     ensures { λ _. ⌜ now (out .exit) ≡ deltas (deltaOf kind) (now (mem .entry)) c0 c1 c2 ⌝ }
@@ -87,7 +94,7 @@ fn delta_rows(out: &mut [f32], kind: Delta, mem: &[f32], c0: usize, c1: usize, c
 // The squared distance of two rows.
 fn row_distance(mem: &[f32], i: usize, j: usize) -> f32
     requires { ⌜ (length (now mem) ≡ 176) × (i ≤ 7) × (j ≤ 7) ⌝ }
-    ensures { λ r. ⌜ r ≡ distance (now (mem .entry)) i j ⌝ }
+    ensures { λ r. ⌜ r ≡ cepstralDistance (now (mem .entry)) i j ⌝ }
 {
     let mut dist = 0.0f32;
     for k in 0..22 {
@@ -97,7 +104,7 @@ fn row_distance(mem: &[f32], i: usize, j: usize) -> f32
     dist
 }
 
-// The lesser of `least` and the distance of rows i and j, if they are two.
+// The smaller of `least` and the distance of rows i and j, if i and j differ.
 fn nearer(mem: &[f32], i: usize, j: usize, least: f32) -> f32
     requires { ⌜ (length (now mem) ≡ 176) × (i ≤ 7) × (j ≤ 7) ⌝ }
     ensures { λ r. ⌜ r ≡ nearestStep (now (mem .entry)) i j least ⌝ }
@@ -108,7 +115,7 @@ fn nearer(mem: &[f32], i: usize, j: usize, least: f32) -> f32
     numbers::min(least, row_distance(mem, i, j))
 }
 
-// The least distance of row i from another row.
+// The smallest distance of row i from another row.
 fn nearest_row(mem: &[f32], i: usize) -> f32
     requires { ⌜ (length (now mem) ≡ 176) × (i ≤ 7) ⌝ }
     ensures { λ r. ⌜ r ≡ nearest (now (mem .entry)) i ⌝ }
@@ -120,7 +127,7 @@ fn nearest_row(mem: &[f32], i: usize) -> f32
     least
 }
 
-// How far the rows of the memory lie from each other.
+// How far apart the rows of the memory are.
 fn spectral_variability(mem: &[f32]) -> f32
     requires { ⌜ length (now mem) ≡ 176 ⌝ }
     ensures { λ r. ⌜ r ≡ variability (now (mem .entry)) ⌝ }
@@ -132,7 +139,7 @@ fn spectral_variability(mem: &[f32]) -> f32
     sum / 8.0 - 2.1
 }
 
-// The features that are made of the memory. The cepstrum from its place 6 on, and the pitch's features, stay.
+// Adds the features that are made of the memory. Places 6 to 21 and 34 to 40 stay.
 pub(crate) fn add_deltas(features: &mut [f32], mem: &[f32], index: usize)
     requires { ⌜ (length (now features) ≡ 42) × (length (now mem) ≡ 176) × (index ≤ 7) ⌝ }
     ensures { λ _. ⌜ now (features .exit)

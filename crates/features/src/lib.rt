@@ -1,5 +1,5 @@
-// The arithmetic of a heard frame, from features.rs and denoise.rs, over plain slices. Each public function refuses, with 5 and
-// nothing changed, exactly where a length does not fit.
+// The arithmetic of a heard frame, from features.rs and denoise.rs, on plain slices. Each public function refuses with
+// 5, and changes nothing, exactly if a length does not fit.
 ghost use mathlib.Core.Path.{_≡_};
 ghost use lib.ListN.{length};
 ghost use Rattle.rules.specs.Leaf.{Leaf, _leaving_};
@@ -12,14 +12,17 @@ mod cepstra;
 mod heard;
 mod pitch;
 
-// A frame is silent, or heard with the sum of its band energies; or the number of the refusal.
+// The answer of `listen`.
 pub enum Sound {
+    // The sum of the band energies is below 0.04.
     Silent,
+    // The frame is heard; this is the sum of its band energies.
     Heard(f32),
+    // The number of a refusal.
     Refused(u32),
 }
 
-// Whether an energy sum is below 0.04. A NaN is not.
+// Silent if the sum is below 0.04. A NaN is not.
 fn sound_of(e: f32) -> Sound
     ensures { λ r. ⌜ r ≡ soundOf e ⌝ }
 {
@@ -43,8 +46,8 @@ pub fn listen(ex: &[f32]) -> Sound
     sound_of(e)
 }
 
-// The features of a heard frame and its normalised correlations. Its cepstrum becomes row `index` of the memory of 8 rows of 22.
-// `logs` are the logarithms of 0.01 + ex, and `lag` is the lag of p behind x.
+// The features of a heard frame, and its normalised correlations. Its cepstrum becomes row `index` of the memory, which
+// has 8 rows of 22. `logs` are the logarithms of 0.01 + ex, and `lag` is how far p is behind x.
 pub fn compute_features(
     features: &mut [f32],
     exp: &mut [f32],
@@ -57,7 +60,8 @@ pub fn compute_features(
     lag: f32,
     logs: &[f32],
 ) -> u32
-    ensures { λ r. ⌜ Leaf (FeaturesFit (length (now (features .entry))) (length (now (exp .entry))) (length (now (mem .entry))) index
+    ensures { λ r. ⌜ Leaf (FeaturesFit (length (now (features .entry))) (length (now (exp .entry)))
+        (length (now (mem .entry))) index
         (length (now (x .entry))) (length (now (p .entry))) (length (now (ex .entry))) (length (now (ep .entry)))
         (length (now (logs .entry))))
         (r leaving now (features .exit) leaving now (exp .exit) leaving now (mem .exit))
@@ -99,7 +103,7 @@ pub fn compute_features(
     0
 }
 
-// Each gain becomes at least 0.6 of the remembered one, and is remembered.
+// Raises each gain to at least 0.6 times the remembered one, and remembers it.
 pub fn hold_gains(g: &mut [f32], last: &mut [f32]) -> u32
     ensures { λ r. ⌜ Leaf (GainsFit (length (now (g .entry))) (length (now (last .entry))))
         (r leaving now (g .exit) leaving now (last .exit))
@@ -140,7 +144,8 @@ pub fn apply_gains(x: &mut [f32], gains: &[f32]) -> u32
     0
 }
 
-// Attenuates what has little of its pitch: by the network's gains, the correlations and both energies.
+// Adds the lagged spectrum to the spectrum in proportion to the pitch in each band, and restores the energies of the
+// bands. This weakens what has little pitch.
 pub fn pitch_filter(
     x: &mut [f32],
     p: &[f32],
@@ -149,10 +154,12 @@ pub fn pitch_filter(
     ex: &[f32],
     ep: &[f32],
 ) -> u32
-    ensures { λ r. ⌜ Leaf (PitchFilterFits (length (now (x .entry))) (length (now (p .entry))) (length (now (gains .entry)))
+    ensures { λ r. ⌜ Leaf (PitchFilterFits (length (now (x .entry))) (length (now (p .entry)))
+        (length (now (gains .entry)))
         (length (now (exp .entry))) (length (now (ex .entry))) (length (now (ep .entry))))
         (r leaving now (x .exit))
-        (0 leaving pitchFiltered (now (x .entry)) (now (p .entry)) (now (gains .entry)) (now (exp .entry)) (now (ex .entry))
+        (0 leaving pitchFiltered (now (x .entry)) (now (p .entry)) (now (gains .entry)) (now (exp .entry))
+        (now (ex .entry))
         (now (ep .entry)))
         (5 leaving now (x .entry)) ⌝ }
 {

@@ -5,7 +5,7 @@ use native.Mathlib.Omega.{arith}
 use Rattle.pcm.specs.Pcm.{width, unpacked}
 use Rattle.pcm.specs.Laws.{interleaved, sampleOf}
 use Rattle.pcm.proofs.Channels.{recorded-length, channels-apart}
-use Rattle.feed.specs.Feed.{Block, samplesIn, sizeOf, samplesOf}
+use Rattle.feed.specs.Feed.{Block, samplesIn, blockSize, samplesOf}
 use Rattle.feed.specs.Laws.{Carries, OwnSamples}
 use Rattle.feed.proofs.Blocks.{whole}
 
@@ -14,13 +14,14 @@ module _ (b : Block) (own : List (List ℕ)) (h : Carries b own) where
   row = length (h .channels) * width (b .format)
 
   -- there are as many as the list has
-  as-many : sizeOf b ≡ length own
+  as-many : blockSize b ≡ length own
   as-many =
       let long : length (b .bytes) ≡ length own * row =
       ap length (h .bytes) ∙ recorded-length (width (b .format)) (length own) (h .channels) (h .recorded) in
       let some : 0 < row = mul-pos (omega (arith, h .among)) (h .known) in
       ap (λ (k : ℕ). samplesIn (length (b .bytes)) (b .format) k (b .channel)) (h .many)
-      ∙ sym (whole (length (b .bytes)) (b .format) (length (h .channels)) (b .channel) (width (b .format)) refl (h .known) (h .few) (h .among)
+      ∙ sym (whole (length (b .bytes)) (b .format) (length (h .channels)) (b .channel) (width (b .format)) refl
+      (h .known) (h .few) (h .among)
       (ap (λ (k : ℕ). k % row) long ∙ mul-mod-left (length own) row))
       ∙ ap (λ (k : ℕ). k / row) long ∙ mul-div-cancel (length own) some
 
@@ -28,6 +29,7 @@ pub own-samples : OwnSamples
 own-samples b own h =
     ap (λ (k : ℕ). unpacked k (b .bytes) (b .format) (b .channels) (b .channel)) (as-many b own h)
     ∙ ap (λ (s : List ℕ). unpacked (length own) s (b .format) (b .channels) (b .channel)) (h .bytes)
-    ∙ ap (λ (k : ℕ). unpacked (length own) (interleaved (length own) (h .channels)) (b .format) k (b .channel)) (h .many)
+    ∙ ap (λ (k : ℕ). unpacked (length own) (interleaved (length own) (h .channels)) (b .format) k (b .channel))
+    (h .many)
     ∙ channels-apart (b .format) (length own) (h .channels) (h .known) (h .recorded) (b .channel) (h .among)
     ∙ ap (map (sampleOf (b .format))) (sym (h .mine))

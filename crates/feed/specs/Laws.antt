@@ -2,11 +2,11 @@
 use Rattle.rules.specs.Common.{ℕ, _≤_, _<_, List, [], map, _≡_, length, getD, Float}
 use Rattle.pcm.specs.Pcm.{width}
 use Rattle.pcm.specs.Laws.{interleaved, Recorded, sampleOf}
-use Rattle.feed.specs.Feed.{Block, samplesOf, entryOf}
+use Rattle.feed.specs.Feed.{Block, samplesOf, frameEntry}
 
 -- an entry is one that the side sheet takes
 abbrev pub EntrySmall : Type 0
-EntrySmall = (frame j : ℕ) (heard : Float) → entryOf frame j heard < 8589934592
+EntrySmall = (frame j : ℕ) (heard : Float) → frameEntry frame j heard < 8589934592
 
 -- a block is the bytes of a recording, and the bench's own channel in it is this list of samples
 pub record Carries (b : Block) (own : List (List ℕ)) : Type 0 where

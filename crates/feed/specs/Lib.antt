@@ -1,4 +1,4 @@
 pub mod Feed
 pub mod Laws
 pub mod Surface
-pub mod Parts
+pub mod Private

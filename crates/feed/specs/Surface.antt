@@ -6,4 +6,5 @@ use Rattle.desk.specs.Surface.{recordIn}
 use Rattle.feed.specs.Feed.{Block, feed}
 
 unfoldable pub hostedFeed : ℕ → ℕ → List ℕ → List Float → Block → List ℕ → ℕ → ℕ → ℕ → Effect Answer
-hostedFeed benches side ns store b model cleaned entries answers = feed benches side (recordIn side ns) store b model cleaned entries answers
+hostedFeed benches bench ns store b model cleaned records answers =
+    feed benches bench (recordIn bench ns) store b model cleaned records answers

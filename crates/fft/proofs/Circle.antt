@@ -1,5 +1,6 @@
 -- Complex numbers over a commutative ring, the points of the circle by its cosines, and finite sums. Assumes nothing.
-use Rattle.rules.proofs.Common.{ℕ, zero, suc, _+_, _*_, _/_, _%_, _<_, List, [], _∷_, _++_, _≡_, refl, sym, ap, _∙_, getD}
+use Rattle.rules.proofs.Common.{ℕ, zero, suc, _+_, _*_, _/_, _%_, _<_, List, [], _∷_, _++_, _≡_, refl, sym, ap, _∙_}
+use Rattle.rules.proofs.Common.{getD}
 use native.Mathlib.Nat.{add-zero, add-suc, mul-zero, mul-suc}
 use native.Mathlib.Omega.{arith}
 use Rattle.fft.specs.Ops.{Ops, Complex}
@@ -41,7 +42,8 @@ module _ {A : Type 0} (o : Ops A) (R : Ring o) where
   pub both : {a b c d : A} → a ≡ b → c ≡ d → _≡_ {A = Complex A} (record { re = a; im = c }) (record { re = b; im = d })
   both p q = cc
 
-  pub solveC : (l : List A) (a b : Complex Expr) → ordered (gains (a .re) ++ losses (b .re)) ≡ ordered (gains (b .re) ++ losses (a .re))
+  pub solveC : (l : List A) (a b : Complex Expr)
+      → ordered (gains (a .re) ++ losses (b .re)) ≡ ordered (gains (b .re) ++ losses (a .re))
       → ordered (gains (a .im) ++ losses (b .im)) ≡ ordered (gains (b .im) ++ losses (a .im)) → evalC l a ≡ evalC l b
   solveC l a b p q = both (solve o R (env l) (a .re) (b .re) p) (solve o R (env l) (a .im) (b .im) q)
 
@@ -54,14 +56,19 @@ module _ {A : Type 0} (o : Ops A) (R : Ring o) where
     plus-assocC = both (R .plus-assoc (x .re) (y .re) (z .re)) (R .plus-assoc (x .im) (y .im) (z .im))
 
     pub times-assocC : timesC o (timesC o x y) z ≡ timesC o x (timesC o y z)
-    times-assocC = solveC six (timesC exprs (timesC exprs (pairE 0 1) (pairE 2 3)) (pairE 4 5)) (timesC exprs (pairE 0 1) (timesC exprs (pairE 2 3) (pairE 4 5))) refl refl
+    times-assocC =
+        solveC six (timesC exprs (timesC exprs (pairE 0 1) (pairE 2 3)) (pairE 4 5))
+        (timesC exprs (pairE 0 1) (timesC exprs (pairE 2 3) (pairE 4 5))) refl refl
 
     pub plus-timesC : timesC o (plusC o x y) z ≡ plusC o (timesC o x z) (timesC o y z)
-    plus-timesC = solveC six (timesC exprs (plusC exprs (pairE 0 1) (pairE 2 3)) (pairE 4 5)) (plusC exprs (timesC exprs (pairE 0 1) (pairE 4 5)) (timesC exprs (pairE 2 3) (pairE 4 5))) refl refl
+    plus-timesC =
+        solveC six (timesC exprs (plusC exprs (pairE 0 1) (pairE 2 3)) (pairE 4 5))
+        (plusC exprs (timesC exprs (pairE 0 1) (pairE 4 5)) (timesC exprs (pairE 2 3) (pairE 4 5))) refl refl
 
   pub plus-swapC : (x y z w : Complex A) → plusC o (plusC o x y) (plusC o z w) ≡ plusC o (plusC o x z) (plusC o y w)
   plus-swapC x y z w = solveC (x .re ∷ x .im ∷ y .re ∷ y .im ∷ z .re ∷ z .im ∷ w .re ∷ w .im ∷ [])
-      (plusC exprs (plusC exprs (pairE 0 1) (pairE 2 3)) (plusC exprs (pairE 4 5) (pairE 6 7))) (plusC exprs (plusC exprs (pairE 0 1) (pairE 4 5)) (plusC exprs (pairE 2 3) (pairE 6 7))) refl refl
+      (plusC exprs (plusC exprs (pairE 0 1) (pairE 2 3)) (plusC exprs (pairE 4 5) (pairE 6 7)))
+      (plusC exprs (plusC exprs (pairE 0 1) (pairE 4 5)) (plusC exprs (pairE 2 3) (pairE 6 7))) refl refl
 
   pub plus-zeroC : (x : Complex A) → plusC o x (zeroC o) ≡ x
   plus-zeroC x = both (R .plus-nought (x .re)) (R .plus-nought (x .im))
@@ -90,17 +97,22 @@ module _ {A : Type 0} (o : Ops A) (R : Ring o) where
   pub sum-plus : (n : ℕ) (f g : ℕ → Complex A) → sumC n (λ i. plusC o (f i) (g i)) ≡ plusC o (sumC n f) (sumC n g)
   unfolding sumC
   sum-plus zero f g = sym (plus-zeroC (zeroC o))
-  sum-plus (suc n) f g = ap (λ (s : Complex A). plusC o s (plusC o (f n) (g n))) (sum-plus n f g) ∙ plus-swapC (sumC n f) (sumC n g) (f n) (g n)
+  sum-plus (suc n) f g =
+      ap (λ (s : Complex A). plusC o s (plusC o (f n) (g n))) (sum-plus n f g)
+      ∙ plus-swapC (sumC n f) (sumC n g) (f n) (g n)
 
   pub sum-times : (n : ℕ) (f : ℕ → Complex A) (w : Complex A) → timesC o (sumC n f) w ≡ sumC n (λ i. timesC o (f i) w)
   unfolding sumC
   sum-times zero f w = zero-timesC w
-  sum-times (suc n) f w = plus-timesC (sumC n f) (f n) w ∙ ap (λ (s : Complex A). plusC o s (timesC o (f n) w)) (sum-times n f w)
+  sum-times (suc n) f w =
+      plus-timesC (sumC n f) (f n) w ∙ ap (λ (s : Complex A). plusC o s (timesC o (f n) w)) (sum-times n f w)
 
   pub sum-on : (m n : ℕ) (f : ℕ → Complex A) → sumC (m + n) f ≡ plusC o (sumC m f) (sumC n (λ i. f (m + i)))
   unfolding sumC
   sum-on m zero f = rw (add-zero m) (sym (plus-zeroC (sumC m f)))
-  sum-on m (suc n) f = rw (add-suc m n) (ap (λ (s : Complex A). plusC o s (f (m + n))) (sum-on m n f) ∙ plus-assocC (sumC m f) (sumC n (λ i. f (m + i))) (f (m + n)))
+  sum-on m (suc n) f =
+      rw (add-suc m n) (ap (λ (s : Complex A). plusC o s (f (m + n))) (sum-on m n f)
+      ∙ plus-assocC (sumC m f) (sumC n (λ i. f (m + i))) (f (m + n)))
 
   -- a sum of r * s terms, dealt out to r sums
   pub sum-dealt : (r s : ℕ) (f : ℕ → Complex A) → sumC (r * s) f ≡ sumC r (λ j. sumC s (λ t. f (r * t + j)))
@@ -125,7 +137,8 @@ module _ {A : Type 0} (o : Ops A) (R : Ring o) where
     c-turn : (m : ℕ) → c (m + 960) ≡ c m
     c-turn m =
         let two-halves : m + 960 ≡ m + 480 + 480 = omega arith in
-        rw two-halves (K .opposite (m + 480) ∙ ap (λ (v : A). o .minus (o .nought) v) (K .opposite m) ∙ less-opposite (c m))
+        rw two-halves (K .opposite (m + 480) ∙ ap (λ (v : A). o .minus (o .nought) v) (K .opposite m)
+        ∙ less-opposite (c m))
 
     pub c-turns : (m t : ℕ) → c (m + 960 * t) ≡ c m
     c-turns m zero = ap c (add-zero m)
@@ -139,10 +152,14 @@ module _ {A : Type 0} (o : Ops A) (R : Ring o) where
         both (c-turns m t) (rw on (c-turns (m + 240) t))
 
     pub c-within : (m : ℕ) → c (m % 960) ≡ c m
-    c-within m = let whole : m % 960 + 960 * (m / 960) ≡ m = omega arith in sym (c-turns (m % 960) (m / 960)) ∙ ap c whole
+    c-within m = let whole : m % 960 + 960 * (m / 960) ≡ m = omega arith in
+        sym (c-turns (m % 960) (m / 960)) ∙ ap c whole
 
-    sine-sum : (x y z w : A) → o .minus (o .times x y) (o .times z (o .minus (o .nought) w)) ≡ o .plus (o .times x y) (o .times z w)
-    sine-sum x y z w = solve o R (env (x ∷ y ∷ z ∷ w ∷ [])) (sub (mul (var 0) (var 1)) (mul (var 2) (sub nil (var 3)))) (add (mul (var 0) (var 1)) (mul (var 2) (var 3))) refl
+    sine-sum : (x y z w : A)
+        → o .minus (o .times x y) (o .times z (o .minus (o .nought) w)) ≡ o .plus (o .times x y) (o .times z w)
+    sine-sum x y z w =
+        solve o R (env (x ∷ y ∷ z ∷ w ∷ [])) (sub (mul (var 0) (var 1)) (mul (var 2) (sub nil (var 3))))
+        (add (mul (var 0) (var 1)) (mul (var 2) (var 3))) refl
 
     pub e-plus : (m n : ℕ) → e (m + n) ≡ timesC o (e m) (e n)
     e-plus m n =
@@ -155,7 +172,9 @@ module _ {A : Type 0} (o : Ops A) (R : Ring o) where
     pub c-mirror : (m n u : ℕ) → m + n ≡ 960 * u → c m ≡ c n
     c-mirror m n u h =
         ⊎-elim
-        (λ z. let whole : m % 960 + n % 960 ≡ 960 = omega arith in sym (c-within m) ∙ K .mirror (m % 960) (n % 960) whole ∙ c-within n)
+        (λ z.
+        let whole : m % 960 + n % 960 ≡ 960 = omega arith in
+        sym (c-within m) ∙ K .mirror (m % 960) (n % 960) whole ∙ c-within n)
         (λ z. let same : m % 960 ≡ n % 960 = omega arith in sym (c-within m) ∙ ap c same ∙ c-within n)
         (below-or 0 (m % 960 + n % 960))
 

@@ -1,4 +1,5 @@
--- With the operations of f32 and the table of `transforms`, the plain sums are the definitions of `transforms`. Assumes nothing.
+-- With the operations of f32 and the table of `transforms`, the plain sums are the definitions of `transforms`.
+-- Assumes nothing.
 use mathlib.Core.Path.{refl}
 use Rattle.transforms.specs.Transform.{forwardOf, inverseOf}
 use Rattle.fft.specs.Laws.{SameForward, SameInverse}

@@ -2,6 +2,6 @@ pub mod Exact
 pub mod Fast
 pub mod Laws
 pub mod Ops
-pub mod Parts
+pub mod Private
 pub mod Plain
 pub mod Single

@@ -2,7 +2,7 @@
 ghost use mathlib.Core.Path.{_≡_};
 ghost use Rattle.fft.specs.Fast.{ofTwo, ofThree, ofFour, ofFive};
 ghost use Rattle.fft.specs.Single.{single, of};
-ghost use Rattle.fft.specs.Parts.{complexOf, twos, threes, fours, fives};
+ghost use Rattle.fft.specs.Private.{complexOf, twos, threes, fours, fives};
 use crate::complex::Cx;
 
 pub(crate) struct Twos {
@@ -31,6 +31,7 @@ pub(crate) struct Fives {
     pub f: Cx,
 }
 
+// The transform of two numbers.
 pub(crate) fn two(a: Cx, b: Cx) -> Twos
     ensures { λ r. ⌜ r ≡ twos (ofTwo single (complexOf a) (complexOf b)) ⌝ }
 {
@@ -46,6 +47,7 @@ pub(crate) fn two(a: Cx, b: Cx) -> Twos
     }
 }
 
+// The transform of three numbers.
 pub(crate) fn three(c: &[f32; 960], a: Cx, b: Cx, d: Cx) -> Threes
     ensures { λ r. ⌜ r ≡ threes (ofThree single (of (now (c .entry))) (complexOf a) (complexOf b) (complexOf d)) ⌝ }
 {
@@ -73,6 +75,7 @@ pub(crate) fn three(c: &[f32; 960], a: Cx, b: Cx, d: Cx) -> Threes
     }
 }
 
+// The transform of four numbers.
 pub(crate) fn four(a: Cx, b: Cx, d: Cx, e: Cx) -> Fours
     ensures { λ r. ⌜ r ≡ fours (ofFour single (complexOf a) (complexOf b) (complexOf d) (complexOf e)) ⌝ }
 {
@@ -104,8 +107,10 @@ pub(crate) fn four(a: Cx, b: Cx, d: Cx, e: Cx) -> Fours
     }
 }
 
+// The transform of five numbers.
 pub(crate) fn five(c: &[f32; 960], a: Cx, b: Cx, d: Cx, e: Cx, f: Cx) -> Fives
-    ensures { λ r. ⌜ r ≡ fives (ofFive single (of (now (c .entry))) (complexOf a) (complexOf b) (complexOf d) (complexOf e) (complexOf f)) ⌝ }
+    ensures { λ r. ⌜ r ≡ fives
+        (ofFive single (of (now (c .entry))) (complexOf a) (complexOf b) (complexOf d) (complexOf e) (complexOf f)) ⌝ }
 {
     let pr = b.re + f.re;
     let pi = b.im + f.im;

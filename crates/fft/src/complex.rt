@@ -4,13 +4,14 @@ ghost use Prim.Native.Nat.{_+_, _≤_, _<_};
 ghost use lib.ListN.{length};
 ghost use Rattle.fft.specs.Fast.{complexAt, turnedBack};
 ghost use Rattle.fft.specs.Single.{single, of};
-ghost use Rattle.fft.specs.Parts.{cx, putFour, putComplex};
+ghost use Rattle.fft.specs.Private.{cx, putFour, putComplex};
 
 pub(crate) struct Cx {
     pub re: f32,
     pub im: f32,
 }
 
+// Entry i of a list.
 pub(crate) fn entry(z: &[f32; 960], i: usize) -> Cx
     requires { ⌜ i < 480 ⌝ }
     ensures { λ r. ⌜ r ≡ cx (complexAt single (now (z .entry)) i) ⌝ }
@@ -36,6 +37,7 @@ pub(crate) fn turned(c: &[f32; 960], z: &[f32; 960], i: usize, t: usize) -> Cx
     }
 }
 
+// Stores four neighbouring numbers.
 pub(crate) fn put_four(out: &mut [f32], at: usize, a: f32, b: f32, c: f32, d: f32)
     requires { ⌜ at + 4 ≤ length (now out) ⌝ }
     ensures { λ _. ⌜ now (out .exit) ≡ putFour (now (out .entry)) at a b c d ⌝ }
@@ -46,6 +48,7 @@ pub(crate) fn put_four(out: &mut [f32], at: usize, a: f32, b: f32, c: f32, d: f3
     out[at + 3] = d;
 }
 
+// Stores four neighbouring complex numbers.
 pub(crate) fn put(out: &mut [f32], at: usize, w: Cx, x: Cx, y: Cx, v: Cx)
     requires { ⌜ (length (now out) ≡ 960) × (at + 4 ≤ 480) ⌝ }
     ensures { λ _. ⌜ now (out .exit) ≡ putComplex (now (out .entry)) at w x y v ⌝ }

@@ -1,16 +1,17 @@
-// Before and after the complex transform of the forward one: samples in, bins out.
+// What comes before and after the complex transform in the forward transform: samples in, bins out.
 ghost use mathlib.Core.Path.{_≡_};
 ghost use Prim.Native.Nat.{_+_, _*_, _-_, _≤_, _<_};
 ghost use lib.ListN.{length};
 ghost use Rattle.rules.specs.Tab.{tab};
-ghost use Rattle.fft.specs.Fast.{pair, packed, split, binOut, numberOut};
+ghost use Rattle.fft.specs.Fast.{pair, asComplex, split, binOut, numberOut};
 ghost use Rattle.fft.specs.Single.{single, of};
-ghost use Rattle.fft.specs.Parts.{cx, complexOf, Laid, Filled};
+ghost use Rattle.fft.specs.Private.{cx, complexOf, Laid, Filled};
 use crate::complex::Cx;
 use crate::complex::entry;
 use crate::complex::put;
 use crate::complex::put_four;
 
+// Two samples as a complex number.
 fn pair(x: &[f32], i: usize) -> Cx
     requires { ⌜ (length (now x) ≡ 960) × (i < 480) ⌝ }
     ensures { λ r. ⌜ r ≡ cx (pair single (now (x .entry)) i) ⌝ }
@@ -21,6 +22,7 @@ fn pair(x: &[f32], i: usize) -> Cx
     }
 }
 
+// Four of them.
 fn pack_block(out: &mut [f32], x: &[f32], i: usize)
     requires { ⌜ Laid 1 480 (λ b a. pair single (now x) b) i (now out) ⌝ }
     requires { ⌜ (length (now x) ≡ 960) × (i + 4 ≤ 480) ⌝ }
@@ -33,9 +35,10 @@ fn pack_block(out: &mut [f32], x: &[f32], i: usize)
     put(out, i, w, y, u, v);
 }
 
+// All samples as complex numbers.
 pub(crate) fn pack(out: &mut [f32], x: &[f32])
     requires { ⌜ (length (now out) ≡ 960) × (length (now x) ≡ 960) ⌝ }
-    ensures { λ _. ⌜ now (out .exit) ≡ packed single (now (x .entry)) ⌝ }
+    ensures { λ _. ⌜ now (out .exit) ≡ asComplex single (now (x .entry)) ⌝ }
 {
     for b in 0..120 {
         pack_block(out, x, 4 * b);
@@ -60,6 +63,7 @@ fn split(c: &[f32; 960], k: usize, a: Cx, b: Cx) -> Cx
     }
 }
 
+// Bin k, for k from 1 to 479.
 fn bin(c: &[f32; 960], z: &[f32; 960], k: usize) -> Cx
     requires { ⌜ (0 < k) × (k < 480) ⌝ }
     ensures { λ r. ⌜ r ≡ cx (binOut single (of (now (c .entry))) (now (z .entry)) k) ⌝ }
@@ -69,7 +73,7 @@ fn bin(c: &[f32; 960], z: &[f32; 960], k: usize) -> Cx
     split(c, k, a, b)
 }
 
-// Bin 480 too, which the general rule would read past the end.
+// Bin k, for any k up to 480. For bin 480 the rule of the others would read after the end.
 fn any_bin(c: &[f32; 960], z: &[f32; 960], k: usize) -> Cx
     requires { ⌜ k ≤ 480 ⌝ }
     ensures { λ r. ⌜ r ≡ cx (binOut single (of (now (c .entry))) (now (z .entry)) k) ⌝ }
@@ -79,10 +83,12 @@ fn any_bin(c: &[f32; 960], z: &[f32; 960], k: usize) -> Cx
     split(c, k, a, b)
 }
 
+// Stores four bins.
 fn four_bins(out: &mut [f32], c: &[f32; 960], z: &[f32; 960], k: usize)
     requires { ⌜ Filled 961 (numberOut single (of (now c)) (now z)) (2 * k - 1) (now out) ⌝ }
     requires { ⌜ (0 < k) × (k + 4 ≤ 480) ⌝ }
-    ensures { λ _. ⌜ Filled 961 (numberOut single (of (now (c .entry))) (now (z .entry))) (2 * k + 7) (now (out .exit)) ⌝ }
+    ensures { λ _. ⌜ Filled 961 (numberOut single (of (now (c .entry))) (now (z .entry))) (2 * k + 7)
+        (now (out .exit)) ⌝ }
 {
     let w = bin(c, z, k);
     let x = bin(c, z, k + 1);
@@ -92,6 +98,7 @@ fn four_bins(out: &mut [f32], c: &[f32; 960], z: &[f32; 960], k: usize)
     put_four(out, 2 * k + 3, y.re, y.im, v.re, v.im);
 }
 
+// Stores bins 477 to 480.
 fn last_bins(out: &mut [f32], c: &[f32; 960], z: &[f32; 960])
     requires { ⌜ Filled 961 (numberOut single (of (now c)) (now z)) 953 (now out) ⌝ }
     ensures { λ _. ⌜ Filled 961 (numberOut single (of (now (c .entry))) (now (z .entry))) 961 (now (out .exit)) ⌝ }
@@ -104,6 +111,7 @@ fn last_bins(out: &mut [f32], c: &[f32; 960], z: &[f32; 960])
     put_four(out, 957, y.re, y.im, v.re, v.im);
 }
 
+// Stores bins 1 to 476.
 fn middle_bins(out: &mut [f32], c: &[f32; 960], z: &[f32; 960])
     requires { ⌜ Filled 961 (numberOut single (of (now c)) (now z)) 1 (now out) ⌝ }
     ensures { λ _. ⌜ Filled 961 (numberOut single (of (now (c .entry))) (now (z .entry))) 953 (now (out .exit)) ⌝ }
@@ -113,6 +121,7 @@ fn middle_bins(out: &mut [f32], c: &[f32; 960], z: &[f32; 960])
     }
 }
 
+// Stores bin 0.
 fn bin_0(out: &mut [f32], c: &[f32; 960], z: &[f32; 960])
     requires { ⌜ length (now out) ≡ 961 ⌝ }
     ensures { λ _. ⌜ Filled 961 (numberOut single (of (now (c .entry))) (now (z .entry))) 1 (now (out .exit)) ⌝ }
@@ -120,6 +129,7 @@ fn bin_0(out: &mut [f32], c: &[f32; 960], z: &[f32; 960])
     out[0] = z[0] + z[480];
 }
 
+// Stores all bins.
 pub(crate) fn spectrum(out: &mut [f32], c: &[f32; 960], z: &[f32; 960])
     requires { ⌜ length (now out) ≡ 961 ⌝ }
     ensures { λ _. ⌜ now (out .exit) ≡ tab 961 (numberOut single (of (now (c .entry))) (now (z .entry))) ⌝ }

@@ -1,14 +1,15 @@
-// Before and after the complex transform of the inverse one: bins in, samples out.
+// What comes before and after the complex transform in the inverse transform: bins in, samples out.
 ghost use mathlib.Core.Path.{_≡_};
 ghost use Prim.Native.Nat.{_+_, _*_, _-_, _≤_, _<_};
 ghost use lib.ListN.{length};
 ghost use Rattle.rules.specs.Tab.{tab};
 ghost use Rattle.fft.specs.Fast.{binIn, merged, mergedAt, mergedOf, sampleOut};
 ghost use Rattle.fft.specs.Single.{single, of};
-ghost use Rattle.fft.specs.Parts.{cx, complexOf, Laid};
+ghost use Rattle.fft.specs.Private.{cx, complexOf, Laid};
 use crate::complex::Cx;
 use crate::complex::put;
 
+// Bin k of a spectrum, for k from 1 to 479.
 fn bin_in(x: &[f32], k: usize) -> Cx
     requires { ⌜ (length (now x) ≡ 961) × (0 < k) × (k < 480) ⌝ }
     ensures { λ r. ⌜ r ≡ cx (binIn single (now (x .entry)) k) ⌝ }
@@ -19,7 +20,7 @@ fn bin_in(x: &[f32], k: usize) -> Cx
     }
 }
 
-// Bins 0 and 480 too, which are real.
+// Bin k, also for k = 0 and k = 480, whose bins are real.
 fn any_bin_in(x: &[f32], k: usize) -> Cx
     requires { ⌜ (length (now x) ≡ 961) × (k ≤ 480) ⌝ }
     ensures { λ r. ⌜ r ≡ cx (binIn single (now (x .entry)) k) ⌝ }
@@ -36,7 +37,7 @@ fn any_bin_in(x: &[f32], k: usize) -> Cx
     bin_in(x, k)
 }
 
-// Bin k of the pairs from bins k and 480 - k of the samples, its parts swapped.
+// Bin k of the pairs, from bins k and 480 - k of the samples. Its parts are swapped.
 fn merge(c: &[f32; 960], k: usize, a: Cx, b: Cx) -> Cx
     requires { ⌜ k ≤ 480 ⌝ }
     ensures { λ r. ⌜ r ≡ cx (merged single (of (now (c .entry))) k (complexOf a) (complexOf b)) ⌝ }
@@ -51,6 +52,7 @@ fn merge(c: &[f32; 960], k: usize, a: Cx, b: Cx) -> Cx
     }
 }
 
+// The same from a spectrum, for k from 1 to 479.
 fn merged(c: &[f32; 960], x: &[f32], k: usize) -> Cx
     requires { ⌜ (length (now x) ≡ 961) × (0 < k) × (k < 480) ⌝ }
     ensures { λ r. ⌜ r ≡ cx (mergedAt single (of (now (c .entry))) (now (x .entry)) k) ⌝ }
@@ -60,6 +62,7 @@ fn merged(c: &[f32; 960], x: &[f32], k: usize) -> Cx
     merge(c, k, a, b)
 }
 
+// The same for any k.
 fn any_merged(c: &[f32; 960], x: &[f32], k: usize) -> Cx
     requires { ⌜ (length (now x) ≡ 961) × (k ≤ 480) ⌝ }
     ensures { λ r. ⌜ r ≡ cx (mergedAt single (of (now (c .entry))) (now (x .entry)) k) ⌝ }
@@ -69,10 +72,12 @@ fn any_merged(c: &[f32; 960], x: &[f32], k: usize) -> Cx
     merge(c, k, a, b)
 }
 
+// Stores four of them.
 fn merge_block(out: &mut [f32], c: &[f32; 960], x: &[f32], i: usize)
     requires { ⌜ Laid 1 480 (λ b a. mergedAt single (of (now c)) (now x) b) i (now out) ⌝ }
     requires { ⌜ (length (now x) ≡ 961) × (0 < i) × (i + 4 ≤ 480) ⌝ }
-    ensures { λ _. ⌜ Laid 1 480 (λ b a. mergedAt single (of (now (c .entry))) (now (x .entry)) b) (i + 4) (now (out .exit)) ⌝ }
+    ensures { λ _. ⌜ Laid 1 480 (λ b a. mergedAt single (of (now (c .entry))) (now (x .entry)) b) (i + 4)
+        (now (out .exit)) ⌝ }
 {
     let w = merged(c, x, i);
     let y = merged(c, x, i + 1);
@@ -81,9 +86,11 @@ fn merge_block(out: &mut [f32], c: &[f32; 960], x: &[f32], i: usize)
     put(out, i, w, y, u, v);
 }
 
+// Stores the first four.
 fn first_block(out: &mut [f32], c: &[f32; 960], x: &[f32])
     requires { ⌜ (length (now out) ≡ 960) × (length (now x) ≡ 961) ⌝ }
-    ensures { λ _. ⌜ Laid 1 480 (λ b a. mergedAt single (of (now (c .entry))) (now (x .entry)) b) 4 (now (out .exit)) ⌝ }
+    ensures { λ _. ⌜ Laid 1 480 (λ b a. mergedAt single (of (now (c .entry))) (now (x .entry)) b) 4
+        (now (out .exit)) ⌝ }
 {
     let w = any_merged(c, x, 0);
     let y = any_merged(c, x, 1);
@@ -92,6 +99,7 @@ fn first_block(out: &mut [f32], c: &[f32; 960], x: &[f32])
     put(out, 0, w, y, u, v);
 }
 
+// Stores the others.
 fn other_blocks(out: &mut [f32], c: &[f32; 960], x: &[f32])
     requires { ⌜ Laid 1 480 (λ b a. mergedAt single (of (now c)) (now x) b) 4 (now out) ⌝ }
     requires { ⌜ length (now x) ≡ 961 ⌝ }
@@ -102,6 +110,7 @@ fn other_blocks(out: &mut [f32], c: &[f32; 960], x: &[f32])
     }
 }
 
+// Stores all of them.
 pub(crate) fn merge_all(out: &mut [f32], c: &[f32; 960], x: &[f32])
     requires { ⌜ (length (now out) ≡ 960) × (length (now x) ≡ 961) ⌝ }
     ensures { λ _. ⌜ now (out .exit) ≡ mergedOf single (of (now (c .entry))) (now (x .entry)) ⌝ }
@@ -110,6 +119,7 @@ pub(crate) fn merge_all(out: &mut [f32], c: &[f32; 960], x: &[f32])
     other_blocks(out, c, x);
 }
 
+// The samples. The parts are swapped, so even samples are imaginary parts.
 pub(crate) fn samples(out: &mut [f32], z: &[f32; 960])
     requires { ⌜ length (now out) ≡ 960 ⌝ }
     ensures { λ _. ⌜ now (out .exit) ≡ tab 960 (sampleOut single (now (z .entry))) ⌝ }

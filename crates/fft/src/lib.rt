@@ -1,6 +1,6 @@
-// The forward and the inverse 960-point real transforms of `transforms`, fast: by way of a complex transform of 480 numbers in stages (stages), over the one table of
-// 960 cosines. Read without rounding, they are the plain sums of `transforms`.
-// Each leaf refuses lengths other than its arrays' with 5, and then changes nothing.
+// The forward and the inverse 960-point real transforms of `transforms`, but fast: through a complex transform of 480
+// numbers in stages (stages), with the one table of 960 cosines. Without rounding they would be the plain sums of
+// `transforms`. Both refuse other lengths than those of their arrays with 5, and then change nothing.
 ghost use mathlib.Core.Path.{_≡_};
 ghost use lib.ListN.{length};
 ghost use Rattle.rules.specs.Leaf.{Leaf, _leaving_};
@@ -14,6 +14,7 @@ mod inverses;
 mod puts;
 mod stages;
 
+// `forward` for lengths that fit.
 fn forward_core(out: &mut [f32], x: &[f32])
     requires { ⌜ ForwardFits (length (now out)) (length (now x)) ⌝ }
     ensures { λ _. ⌜ now (out .exit) ≡ fastForward (now (x .entry)) ⌝ }
@@ -43,6 +44,7 @@ pub fn forward(out: &mut [f32], x: &[f32]) -> u32
     0
 }
 
+// `inverse` for lengths that fit.
 fn inverse_core(out: &mut [f32], x: &[f32])
     requires { ⌜ InverseFits (length (now out)) (length (now x)) ⌝ }
     ensures { λ _. ⌜ now (out .exit) ≡ fastInverse (now (x .entry)) ⌝ }
@@ -55,7 +57,7 @@ fn inverse_core(out: &mut [f32], x: &[f32])
     inverses::samples(out, &y);
 }
 
-// The samples of a spectrum, 960 times over: bins 1 to 479 are taken twice, bin 0 and the real part of bin 480 once.
+// The samples of a spectrum, times 960: bins 1 to 479 count twice, bin 0 and the real part of bin 480 once.
 pub fn inverse(out: &mut [f32], x: &[f32]) -> u32
     ensures { λ r. ⌜ Leaf (InverseFits (length (now (out .entry))) (length (now (x .entry))))
         (r leaving now (out .exit))

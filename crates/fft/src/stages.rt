@@ -1,11 +1,13 @@
-// The five stages of the complex transform. Each runs over its lanes four at a time: what the four need is read and worked out before anything is stored, and the
-// compiler packs them. A turn does several fours, so that there are fewer than 16 turns: else the compiler packs four turns instead, by gathers, and loses a quarter.
+// The five stages of the complex transform. Each goes over its lanes four at a time: what the four need is read and
+// computed before anything is stored, so that the compiler uses vector instructions for the four. A turn of the loop
+// does several fours, so that there are fewer than 16 turns. With more, the compiler would vectorise over four turns
+// instead, with gathers, and lose a quarter of the speed.
 ghost use mathlib.Core.Path.{_≡_};
 ghost use Prim.Native.Nat.{_+_, _*_, _/_, _%_, _≤_, _<_};
 ghost use lib.ListN.{length};
 ghost use Rattle.fft.specs.Fast.{complexAt, turnedBack, ofFour, row2, row3, row4, row5, stage, transformed};
 ghost use Rattle.fft.specs.Single.{single, of};
-ghost use Rattle.fft.specs.Parts.{twos, threes, fours, fives, Laid};
+ghost use Rattle.fft.specs.Private.{twos, threes, fours, fives, Laid};
 use crate::bins::Fives;
 use crate::bins::Fours;
 use crate::bins::Threes;
@@ -213,7 +215,7 @@ fn last_stage(out: &mut [f32], c: &[f32; 960], z: &[f32; 960])
     }
 }
 
-// The transform of z, into y; z is used up.
+// The transform of z is written to y. z is overwritten.
 pub(crate) fn transform(y: &mut [f32; 960], z: &mut [f32; 960], c: &[f32; 960])
     requires { ⌜ (length (now y) ≡ 960) × (length (now z) ≡ 960) ⌝ }
     ensures { λ _. ⌜ now (y .exit) ≡ transformed single (of (now (c .entry))) (now (z .entry)) ⌝ }

@@ -1,5 +1,7 @@
--- A kept lag, as a whole number: it is at most 768 (`lag-small`), and of a whole number up to there it is that number (`lag-back`). Assumes nothing.
-use Rattle.rules.proofs.Common.{ℕ, zero, suc, _+_, _*_, _≤_, _<_, Bool, true, false, cond, true≢false, _≡_, refl, sym, ap, _∙_, leb, T, pos, Float}
+-- A kept lag, as a whole number: it is at most 768 (`lag-small`), and of a whole number up to there it is that number
+-- (`lag-back`). Assumes nothing.
+use Rattle.rules.proofs.Common.{ℕ, zero, suc, _+_, _*_, _≤_, _<_, Bool, true, false, cond, true≢false, _≡_, refl, sym}
+use Rattle.rules.proofs.Common.{ap, _∙_, leb, T, pos, Float}
 use Rattle.rules.proofs.Common.{binary32, nan, inf, fin, up, down}
 use Prim.Native.Nat.{min}
 use native.Mathlib.Nat.{mul-one, mul-right-comm, mul-lt-mul-of-pos-right}
@@ -48,9 +50,16 @@ above (fin false m e) (inf t) k l v w h = absurd w
 above (fin false m e) (fin true n d) k l v w h = absurd (true≢false (w .0))
 above (fin false m e) (fin false n d) k l v w h =
     let left : m * up e * down d ≡ k * down e * down d = ap (λ (a : ℕ). a * down d) (sym (mul-one (m * up e)) ∙ v .1) in
-    let right : n * up d * down e ≡ l * down e * down d = ap (λ (a : ℕ). a * down e) (sym (mul-one (n * up d)) ∙ w .1) ∙ mul-right-comm l (down d) (down e) in
-    let less : l * down e * down d < k * down e * down d = mul-lt-mul-of-pos-right (mul-lt-mul-of-pos-right h (down-pos e)) (down-pos d) in
-    rw (left, right, le-ltb (k * down e * down d) (l * down e * down d) (omega (arith, less)), ne-eqb (k * down e * down d) (l * down e * down d) (λ z. omega (arith, less)))
+    let right : n * up d * down e ≡ l * down e * down d =
+    ap (λ (a : ℕ). a * down e) (sym (mul-one (n * up d)) ∙ w .1) ∙ mul-right-comm l (down d) (down e) in
+    let less : l * down e * down d < k * down e * down d =
+    mul-lt-mul-of-pos-right (mul-lt-mul-of-pos-right h (down-pos e)) (down-pos d) in
+    rw (
+      left,
+      right,
+      le-ltb (k * down e * down d) (l * down e * down d) (omega (arith, less)),
+      ne-eqb (k * down e * down d) (l * down e * down d) (λ z. omega (arith, less)),
+    )
 
 module _ (lag : ℕ) (small : lag ≤ 768) where
   abbrev kept : Float
@@ -62,15 +71,18 @@ module _ (lag : ℕ) (small : lag ≤ 768) where
   counted zero h = omega arith
   counted (suc n) h = go (leb (1 + n) lag) refl (counted n (omega arith))
     where
-      go : (t : Bool) → leb (1 + n) lag ≡ t → {so-far : ℕ} → so-far ≡ min n lag → lagStep kept (1 + n) so-far ≡ min (suc n) lag
+      go : (t : Bool) → leb (1 + n) lag ≡ t → {so-far : ℕ} → so-far ≡ min n lag
+          → lagStep kept (1 + n) so-far ≡ min (suc n) lag
       go true e d =
           let below = leb-true (1 + n) lag e in
           rw (T-true (le (ofInt binary32 (pos (1 + n))) kept)
-          (le-of-values (ofInt binary32 (pos (1 + n))) kept (1 + n) 1 lag 1 (omega arith) (omega arith) (whole-value (1 + n) (omega arith)) (whole-value lag small) (omega arith)))
+          (le-of-values (ofInt binary32 (pos (1 + n))) kept (1 + n) 1 lag 1 (omega arith) (omega arith)
+          (whole-value (1 + n) (omega arith)) (whole-value lag small) (omega arith)))
           (omega arith)
       go false e d =
           let over = leb-false (1 + n) lag e in
-          rw (above (ofInt binary32 (pos (1 + n))) kept (1 + n) lag (whole-value (1 + n) (omega arith)) (whole-value lag small) over)
+          rw (above (ofInt binary32 (pos (1 + n))) kept (1 + n) lag (whole-value (1 + n) (omega arith))
+          (whole-value lag small) over)
           (d ∙ omega arith)
 
 pub lag-back : LagIsBack

@@ -1,5 +1,6 @@
 -- How far the places reach: no index leaves its list, and the period is 60 to 767. Assumes nothing.
-use Rattle.rules.proofs.Common.{ℕ, zero, suc, _+_, _-_, _*_, _/_, _≤_, _<_, Bool, true, false, cond, _&&_, List, _≡_, refl, eqb, leb, ltb, T, length}
+use Rattle.rules.proofs.Common.{ℕ, zero, suc, _+_, _-_, _*_, _/_, _≤_, _<_, Bool, true, false, cond, _&&_, List, _≡_}
+use Rattle.rules.proofs.Common.{refl, eqb, leb, ltb, T, length}
 use Rattle.rules.proofs.Common.{drop, Float, lt}
 use native.Mathlib.Nat.{div-lt-iff-lt-mul, mul-le-mul}
 use native.Mathlib.Omega.{arith}
@@ -16,7 +17,8 @@ use Rattle.pitch_search.proofs.Firsts.{first-below, second-below}
 use Rattle.finder.specs.declared.doubling.Asked.{Asked}
 use Rattle.finder.specs.declared.doubling.Chosen.{Chosen}
 use Rattle.finder.specs.Search.{leaning, everySecond, coarse, fine, interpolated, pitchSearch}
-use Rattle.finder.specs.Doubling.{shortened, secondCheck, secondPlace, pitchGain, productAt, threshold, preferred, shorterStep, shorter, periodAt, removed}
+use Rattle.finder.specs.Doubling.{shortened, secondCheck, secondPlace, pitchGain, productAt, threshold, preferred}
+use Rattle.finder.specs.Doubling.{shorterStep, shorter, periodAt, removed}
 use Rattle.finder.specs.Finder.{process}
 use Rattle.finder.specs.Laws.{PeriodInRange}
 
@@ -39,8 +41,10 @@ unfolding coarse pitchXcorr
 coarse-small buf =
     let x4 = everySecond 240 (drop 384 buf) in
     let y4 = everySecond 387 buf in
-    let size : length (pitchXcorr x4 y4 147) ≡ 147 = length-tab 147 _ in
-    (rw size at (first-below (pitchXcorr x4 y4 147) y4 240 (omega arith)), rw size at (second-below (pitchXcorr x4 y4 147) y4 240 (omega arith)))
+    let size : length (pitchXcorr x4 y4 147) ≡ 147 = length-tab 147 _ in (
+      rw size at (first-below (pitchXcorr x4 y4 147) y4 240 (omega arith)),
+      rw size at (second-below (pitchXcorr x4 y4 147) y4 240 (omega arith)),
+    )
 
 pub length-fine : (buf : List Float) (first second : ℕ) → length (fine buf first second) ≡ 294
 unfolding fine
@@ -54,7 +58,8 @@ interpolated-small : (xcorr : List Float) (best : ℕ) → best < 294 → interp
 interpolated-small xcorr best h = by (ltb 0 best) (ltb best 293) refl
   where
     by : (s t : Bool) → ltb best 293 ≡ t
-        → cond (s && t) (2 * best + 1 - leaning (at xcorr (best - 1)) (at xcorr best) (at xcorr (best + 1))) (2 * best) ≤ 586
+        → cond (s && t) (2 * best + 1 - leaning (at xcorr (best - 1)) (at xcorr best) (at xcorr (best + 1))) (2 * best)
+        ≤ 586
     by true true e = omega (arith, ltb-true best 293 e)
     by true false e = omega arith
     by false t e = omega arith
@@ -63,13 +68,15 @@ pub search-small : (buf : List Float) → pitchSearch buf ≤ 586
 unfolding pitchSearch
 search-small buf =
     let xcorr = fine buf (firstOf (coarse buf)) (secondOf (coarse buf)) in
-    interpolated-small xcorr (firstOf (bestOf xcorr buf 480)) (best-small buf (firstOf (coarse buf)) (secondOf (coarse buf)))
+    interpolated-small xcorr (firstOf (bestOf xcorr buf 480))
+    (best-small buf (firstOf (coarse buf)) (secondOf (coarse buf)))
 
 -- ---- the shorter periods
 
 pub shortened-small : (t0 k : ℕ) → t0 ≤ 383 → 2 ≤ k → shortened t0 k ≤ 383
 shortened-small t0 k h g =
-    let below : (2 * t0 + k) / (2 * k) < 384 = div-lt-iff-lt-mul {k = 2 * k} {x = 2 * t0 + k} {y = 384} (omega arith) .1 (omega arith) in
+    let below : (2 * t0 + k) / (2 * k) < 384 =
+    div-lt-iff-lt-mul {k = 2 * k} {x = 2 * t0 + k} {y = 384} (omega arith) .1 (omega arith) in
     omega arith
 
 -- from 3 on no more than k of k parts
@@ -81,7 +88,8 @@ pub check-small : {table : List ℕ} (k : ℕ) → table ≡ secondCheck → k �
 unfolding secondCheck right
 check-small k same h other = rw same (leb→le _ _ (rw (ne-eqb k 2 other) at (at-each 16 right tt k (omega arith))))
 
-pub check-product : {table : List ℕ} (t0 k : ℕ) → table ≡ secondCheck → t0 ≤ 383 → k ≤ 15 → (k ≡ 2 → ⊥) → 2 * natAt table k * t0 ≤ 2 * k * 383
+pub check-product : {table : List ℕ} (t0 k : ℕ) → table ≡ secondCheck → t0 ≤ 383 → k ≤ 15 → (k ≡ 2 → ⊥)
+    → 2 * natAt table k * t0 ≤ 2 * k * 383
 check-product t0 k same h g other = mul-le-mul (omega (arith, check-small k same g other)) h
 
 pub square-small : (k : ℕ) → k ≤ 15 → 5 * k * k ≤ 75 * 15
@@ -107,7 +115,8 @@ pub record Inner (t : ℕ) : Type 0 where
   pub most : t ≤ 383
 
 -- what each turn keeps is kept
-walk-kept : {S : Type 0} (body : ℕ → S → Flow S) (P : S → Type 0) → ((i : ℕ) (s : S) → P s → P (value (body i s))) → (n : ℕ) (s : S) → P s
+walk-kept : {S : Type 0} (body : ℕ → S → Flow S) (P : S → Type 0) → ((i : ℕ) (s : S) → P s → P (value (body i s)))
+    → (n : ℕ) (s : S) → P s
     → P (value (walk n body s))
 unfolding walk
 walk-kept body P turn zero s h = h
@@ -117,7 +126,8 @@ walk-kept {S} body P turn (suc n) s h = on (walk n body s) (walk-kept body P tur
     on (go t) p = turn n t p
     on (stop t) p = p
 
-preferred-inner : (x lookup : List Float) (a : Asked) (t1 k : ℕ) (best : Chosen) → Inner t1 → Inner (best .t) → Inner (preferred x lookup a t1 k best .t)
+preferred-inner : (x lookup : List Float) (a : Asked) (t1 k : ℕ) (best : Chosen) → Inner t1 → Inner (best .t)
+    → Inner (preferred x lookup a t1 k best .t)
 unfolding preferred
 preferred-inner x lookup a t1 k best p q =
     let t1b = secondPlace (a .t0) t1 k in
@@ -130,7 +140,8 @@ preferred-inner x lookup a t1 k best p q =
     by true new p = p
     by false new p = q
 
-pub shorter-inner : (x lookup : List Float) (a : Asked) (start : Chosen) → a .t0 ≤ 383 → Inner (start .t) → Inner (shorter x lookup a start .t)
+pub shorter-inner : (x lookup : List Float) (a : Asked) (start : Chosen) → a .t0 ≤ 383 → Inner (start .t)
+    → Inner (shorter x lookup a start .t)
 unfolding shorter
 shorter-inner x lookup a start h = walk-kept (shorterStep x lookup a) (λ best. Inner (best .t)) turn 14 start
   where
@@ -142,18 +153,24 @@ shorter-inner x lookup a start h = walk-kept (shorterStep x lookup a) (λ best. 
         by true e = p
         by false e =
             preferred-inner x lookup a (shortened (a .t0) (i + 2)) (i + 2) best
-            (record { least = ltb-false (shortened (a .t0) (i + 2)) 30 e; most = shortened-small (a .t0) (i + 2) h (omega arith) }) p
+            (record {
+              least = ltb-false (shortened (a .t0) (i + 2)) 30 e;
+              most = shortened-small (a .t0) (i + 2) h (omega arith);
+            }) p
 
-pub best-inner : (x lookup : List Float) (a : Asked) (start : Chosen) {best : Chosen} → best ≡ shorter x lookup a start → a .t0 ≤ 383 → Inner (start .t) → Inner (best .t)
+pub best-inner : (x lookup : List Float) (a : Asked) (start : Chosen) {best : Chosen} → best ≡ shorter x lookup a start
+    → a .t0 ≤ 383 → Inner (start .t) → Inner (best .t)
 best-inner x lookup a start e h p = rw e (shorter-inner x lookup a start h p)
 
 -- ---- the period
 
 pub period-small : (x : List Float) (t : ℕ) → Inner t → (60 ≤ periodAt x t) × (periodAt x t ≤ 767)
-period-small x t h = (omega arith, omega (arith, lean-small (productAt x (t - 1)) (productAt x t) (productAt x (t + 1))))
+period-small x t h =
+    (omega arith, omega (arith, lean-small (productAt x (t - 1)) (productAt x t) (productAt x (t + 1))))
 
 pub period-in-range : PeriodInRange
 unfolding process removed
 period-in-range lastPeriod lastGain input =
     let buf = downsampled input in
-    period-small buf _ (shorter-inner buf _ _ _ (omega arith) (record { least = omega (arith, search-small buf); most = omega arith }))
+    period-small buf _ (shorter-inner buf _ _ _ (omega arith)
+    (record { least = omega (arith, search-small buf); most = omega arith }))

@@ -1,5 +1,7 @@
--- `pitch_gain` and `remove_doubling` of pitch.rs. `x` is the text's `pitch_buf`, 864 numbers; max_period is 384, min_period 30, and n 480.
-use Rattle.rules.specs.Common.{ℕ, _+_, _-_, _*_, _/_, min, cond, _&&_, List, [], _∷_, eqb, leb, ltb, drop, Float, binary32, lt, le}
+-- `pitch_gain` and `remove_doubling` of pitch.rs. `x` is the text's `pitch_buf`, 864 numbers; max_period is 384,
+-- min_period 30, and n 480.
+use Rattle.rules.specs.Common.{ℕ, _+_, _-_, _*_, _/_, min, cond, _&&_, List, [], _∷_, eqb, leb, ltb, drop, Float}
+use Rattle.rules.specs.Common.{binary32, lt, le}
 use Prim.Native.Nat.{max}
 use Rattle.rules.specs.F32.{_⊕_, _⊖_, _⊗_, _⊘_, at, natAt, f32, one, two}
 use Rattle.rules.specs.Loop.{range, walk, Flow, go, stop, value}
@@ -45,16 +47,18 @@ secondCheck = 0 ∷ 0 ∷ 3 ∷ 2 ∷ 3 ∷ 2 ∷ 5 ∷ 2 ∷ 3 ∷ 2 ∷ 3 ∷ 
 
 -- t1b = if k == 2 { if t1 + t0 > max_period { t0 } else { t0 + t1 } } else { (2 * SECOND_CHECK[k] * t0 + k) / (2 * k) }
 unfoldable pub secondPlace : ℕ → ℕ → ℕ → ℕ
-secondPlace t0 t1 k = cond (eqb k 2) (cond (ltb 384 (t1 + t0)) t0 (t0 + t1)) ((2 * natAt secondCheck k * t0 + k) / (2 * k))
+secondPlace t0 t1 k =
+    cond (eqb k 2) (cond (ltb 384 (t1 + t0)) t0 (t0 + t1)) ((2 * natAt secondCheck k * t0 + k) / (2 * k))
 
--- cont = if (t1 - prev_period).abs() <= 1 { last_gain } else if (t1 - prev_period).abs() <= 2 && 5 * k * k < t0 { last_gain / 2.0 } else { 0.0 }
+-- cont = if (t1 - prev_period).abs() <= 1 { last_gain } else if (t1 - prev_period).abs() <= 2 && 5 * k * k < t0 {
+-- last_gain / 2.0 } else { 0.0 }
 abbrev pub continuity : Asked → ℕ → ℕ → Float
 continuity a t1 k =
     let far = apart t1 (a .prev) in
     cond (leb far 1) (a .last) (cond (leb far 2 && ltb (5 * k * k) (a .t0)) (a .last ⊘ two) (f32 0))
 
--- thresh: (0.85 * g0 - cont).max(0.4) below 3 * min_period, (0.9 * g0 - cont).max(0.5) below 2 * min_period, which the text asks behind
--- the first and never reaches, and else (0.7 * g0 - cont).max(0.3)
+-- thresh: (0.85 * g0 - cont).max(0.4) below 3 * min_period, (0.9 * g0 - cont).max(0.5) below 2 * min_period, which the
+-- text asks behind the first and never reaches, and else (0.7 * g0 - cont).max(0.3)
 abbrev pub threshold : Asked → ℕ → ℕ → Float
 threshold a t1 k =
     let cont = continuity a t1 k in
@@ -62,7 +66,8 @@ threshold a t1 k =
     (cond (ltb t1 60) (larger (f32 0x3F666666 ⊗ a .g0 ⊖ cont) (f32 0x3F000000))
     (larger (f32 0x3F333333 ⊗ a .g0 ⊖ cont) (f32 0x3E99999A)))
 
--- the better of t1 and the best so far: xy = (xy + xy2) / 2.0; yy = (yy_lookup[t1] + yy_lookup[t1b]) / 2.0; if g1 > thresh { .. }
+-- the better of t1 and the best so far: xy = (xy + xy2) / 2.0; yy = (yy_lookup[t1] + yy_lookup[t1b]) / 2.0; if g1 >
+-- thresh { .. }
 unfoldable pub preferred : List Float → List Float → Asked → ℕ → ℕ → Chosen → Chosen
 preferred x lookup a t1 k best =
     let t1b = secondPlace (a .t0) t1 k in

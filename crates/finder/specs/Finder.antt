@@ -1,4 +1,5 @@
--- `PitchFinder::process` of pitch.rs, with `last_period` and `last_gain` as two numbers that go in. They come out as the period and the gain.
+-- `PitchFinder::process` of pitch.rs, with `last_period` and `last_gain` as two numbers that go in. They come out as
+-- the period and the gain.
 use Rattle.rules.specs.Common.{ℕ, _-_, List, Float}
 use Rattle.rules.specs.F32.{f32}
 use Rattle.pitch.specs.Downsample.{downsampled}
@@ -9,7 +10,8 @@ use Rattle.finder.specs.declared.Found.{Found}
 use Rattle.finder.specs.declared.Pitch.{Pitch}
 
 unfoldable pub process : ℕ → Float → List Float → Pitch
-process lastPeriod lastGain input = let buf = downsampled input in removeDoubling buf (768 - pitchSearch buf) lastPeriod lastGain
+process lastPeriod lastGain input = let buf = downsampled input in
+    removeDoubling buf (768 - pitchSearch buf) lastPeriod lastGain
 
 -- with a last period that may be any number
 abbrev pub find : Float → Float → List Float → Pitch

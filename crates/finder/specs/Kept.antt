@@ -1,4 +1,5 @@
--- A kept lag, or a kept period, as a whole number: the largest of 0 to 768 that is not above x; 0 where there is none, and for a NaN.
+-- A kept lag, or a kept period, as a whole number: the largest of 0 to 768 that is not above x; 0 where there is none,
+-- and for a NaN.
 use Rattle.rules.specs.Common.{ℕ, cond, pos, Float, binary32, ofInt, le}
 use Rattle.rules.specs.Loop.{range}
 

@@ -5,7 +5,8 @@ use Rattle.finder.specs.Kept.{wholeLag}
 
 -- whatever it is given and remembers, the period is 60 to 767: a lag that call 2 takes
 abbrev pub PeriodInRange : Type 0
-PeriodInRange = (lastPeriod lastGain : Float) (input : List Float) → let p = find lastPeriod lastGain input in (60 ≤ p .period) × (p .period ≤ 767)
+PeriodInRange = (lastPeriod lastGain : Float) (input : List Float) → let p = find lastPeriod lastGain input in
+    (60 ≤ p .period) × (p .period ≤ 767)
 
 -- a kept lag is at most 768, and a whole number up to there is read back as itself
 abbrev pub LagIsSmall : Type 0

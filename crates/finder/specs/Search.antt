@@ -34,7 +34,8 @@ coarse buf =
 unfoldable pub peakAt : List Float → ℕ → Float
 peakAt buf i = larger (innerProd (drop 384 buf) (drop i buf) 480) (neg one)
 
--- xcorr[i] = 0.0; if (i - 2 * best_pitch).abs() > 2 && (i - 2 * second_best_pitch).abs() > 2 { continue; } xcorr[i] = ..
+-- xcorr[i] = 0.0; if (i - 2 * best_pitch).abs() > 2 && (i - 2 * second_best_pitch).abs() > 2 { continue; } xcorr[i] =
+-- ..
 abbrev pub fineAt : List Float → ℕ → ℕ → ℕ → Float
 fineAt buf first second i = cond (ltb 2 (apart i (2 * first)) && ltb 2 (apart i (2 * second))) (f32 0) (peakAt buf i)
 
@@ -44,7 +45,8 @@ fine buf first second = tab 294 (fineAt buf first second)
 -- 2 * best_pitch - offset, where the offset is 0 for the first lag and the last
 abbrev pub interpolated : List Float → ℕ → ℕ
 interpolated xcorr best =
-    cond (ltb 0 best && ltb best 293) (2 * best + 1 - leaning (at xcorr (best - 1)) (at xcorr best) (at xcorr (best + 1))) (2 * best)
+    cond (ltb 0 best && ltb best 293)
+    (2 * best + 1 - leaning (at xcorr (best - 1)) (at xcorr best) (at xcorr (best + 1))) (2 * best)
 
 unfoldable pub pitchSearch : List Float → ℕ
 pitchSearch buf =

@@ -2,7 +2,8 @@
 ghost use mathlib.Core.Path.{_≡_};
 ghost use Prim.Native.Nat.{_/_, _≤_, min};
 ghost use lib.ListN.{length};
-ghost use Rattle.finder.specs.Doubling.{pitchGain, productAt, yyLookup, shortened, secondCheck, secondPlace, continuity, threshold};
+ghost use Rattle.finder.specs.Doubling.{pitchGain, productAt, yyLookup, shortened, secondCheck, secondPlace};
+ghost use Rattle.finder.specs.Doubling.{continuity, threshold};
 ghost use Rattle.finder.specs.Doubling.{preferred, shorter, explained, gainOf, periodAt, removed, removeDoubling};
 use crate::Pitch;
 use crate::search;
@@ -10,8 +11,8 @@ use crate::search;
 // `SECOND_CHECK` of pitch.rs.
 const SECOND_CHECK: [usize; 16] = [0, 0, 3, 2, 3, 2, 5, 2, 3, 2, 3, 2, 5, 2, 3, 2];
 
-// What each shorter period is held against: the period found, half of the last one, the last gain, the energy, and the gain at the
-// period found.
+// What each shorter period is held against: the period found, half of the last one, the last gain, the energy, and the
+// gain at the period found.
 pub struct Asked {
     // The period that the search found, halved: `t0` of the text.
     pub t0: usize,
@@ -128,7 +129,8 @@ fn threshold_at(a: Asked, t1: usize, k: usize) -> f32
 
 // The better of a period of t1 and the best so far.
 fn consider(x: &[f32], lookup: &[f32], a: Asked, t1: usize, k: usize, best: Chosen) -> Chosen
-    requires { ⌜ (length (now x) ≡ 864) × (length (now lookup) ≡ 385) × (a .t0 ≤ 383) × (t1 ≤ 383) × (2 ≤ k) × (k ≤ 15) ⌝ }
+    requires { ⌜ (length (now x) ≡ 864) × (length (now lookup) ≡ 385) × (a .t0 ≤ 383) × (t1 ≤ 383) × (2 ≤ k)
+        × (k ≤ 15) ⌝ }
     ensures { λ r. ⌜ r ≡ preferred (now (x .entry)) (now (lookup .entry)) a t1 k best ⌝ }
 {
     let t1b = second_place(a.t0, t1, k);

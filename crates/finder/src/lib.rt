@@ -1,5 +1,5 @@
-// `PitchFinder::process` of pitch.rs: the period and the gain of the 1,728 numbers that a bench remembers of its input. What the Rust's
-// finder keeps from frame to frame, the last period and the last gain, goes in and comes out.
+// `PitchFinder::process` of pitch.rs: the period and the gain of the 1,728 numbers that a bench remembers of its input.
+// What the Rust's finder keeps from frame to frame, the last period and the last gain, goes in and comes out.
 //     kept        a kept lag or period as a whole number
 //     search      `pitch_search`
 //     doubling    `remove_doubling` and `pitch_gain`

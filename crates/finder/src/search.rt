@@ -1,8 +1,10 @@
-// `pitch_search` of pitch.rs: a coarse search over every second number, a finer one around its two best, and an interpolation.
+// `pitch_search` of pitch.rs: a coarse search over every second number, a finer one around its two best, and an
+// interpolation.
 ghost use mathlib.Core.Path.{_≡_};
 ghost use Prim.Native.Nat.{_*_, _<_, _≤_};
 ghost use lib.ListN.{length};
-ghost use Rattle.finder.specs.Search.{apart, leaning, everySecond, coarse, peakAt, fineAt, fine, interpolated, pitchSearch};
+ghost use Rattle.finder.specs.Search.{apart, leaning, everySecond, coarse, peakAt, fineAt, fine, interpolated};
+ghost use Rattle.finder.specs.Search.{pitchSearch};
 use pitch_search::Pitches;
 
 // How far a and b are apart.
@@ -40,7 +42,8 @@ fn every_second(out: &mut [f32], xs: &[f32])
 
 // The two best of 147 lags over every second number, in lent scratch.
 fn coarse_in(x_lp4: &mut [f32], y_lp4: &mut [f32], xcorr: &mut [f32], buf: &[f32]) -> Pitches
-    requires { ⌜ (length (now «x_lp4») ≡ 240) × (length (now «y_lp4») ≡ 387) × (length (now xcorr) ≡ 147) × (length (now buf) ≡ 864) ⌝ }
+    requires { ⌜ (length (now «x_lp4») ≡ 240) × (length (now «y_lp4») ≡ 387) × (length (now xcorr) ≡ 147)
+        × (length (now buf) ≡ 864) ⌝ }
     ensures { λ r. ⌜ r ≡ coarse (now (buf .entry)) ⌝ }
 {
     every_second(x_lp4, &buf[384..]);

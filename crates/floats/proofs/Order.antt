@@ -1,6 +1,8 @@
 -- The order of floats, for all of them: where one is NaN there is none.
---     not-lt, lt-asym       of two that compare equal, neither is below the other; what is above the other is not below it
---     even, not-below       of two numbers of which neither is below the other, they compare equal; what is not below is at least the other
+--     not-lt, lt-asym       of two that compare equal, neither is below the other; what is above the other is not below
+--                           it
+--     even, not-below       of two numbers of which neither is below the other, they compare equal; what is not below
+--                           is at least the other
 --     itself, le-refl       a number compares equal to itself, and is at most itself
 --     le-trans              `le` goes on from one to the next
 --     product-mono          a rounded product by a factor above zero keeps it
@@ -9,7 +11,8 @@ use mathlib.Core.Path.{_≡_, refl, sym, _∙_, subst}
 use mathlib.Core.Bool.{Bool, true, false, not, _&&_, _||_, Bool·beq, Bool·not-not, or-true, false≢true}
 use mathlib.Core.Logic.{_⊎_, inl, inr}
 use Prim.Native.Nat.{ℕ, zero, suc, _+_, _*_, _≤_, _<_}
-use native.Mathlib.Nat.{le-of-lt, le-of-eq, eq-or-lt-of-le, eq-of-mul-eq-mul-right, mul-mul-mul-comm, mul-le-mul-left, mul-pos, zero-mul, mul-zero}
+use native.Mathlib.Nat.{le-of-lt, le-of-eq, eq-or-lt-of-le, eq-of-mul-eq-mul-right, mul-mul-mul-comm, mul-le-mul-left}
+use native.Mathlib.Nat.{mul-pos, zero-mul, mul-zero}
 use native.Mathlib.Omega.{arith}
 use lib.Dec.{T, eqb, ltb, eqb·suc-zero, eqb→eq, ltb→lt, lt→ltb}
 use lib.IntN.{ℤ}
@@ -25,10 +28,12 @@ use Rattle.floats.proofs.Signs.{neg-round}
 
 -- ---- equal, below, above
 
-level-apart : (s : Bool) (a : ℕ) (t : Bool) (b : ℕ) → level s a t b ≡ true → (below s a t b ≡ false) × (below t b s a ≡ false)
+level-apart : (s : Bool) (a : ℕ) (t : Bool) (b : ℕ) → level s a t b ≡ true
+    → (below s a t b ≡ false) × (below t b s a ≡ false)
 level-apart s a t b h =
     let says : T (level s a t b) = subst T (sym h) tt in
-    go s t (eqb→eq a b (and-l (eqb a b) (Bool·beq s t || eqb a 0) says)) (and-r (eqb a b) (Bool·beq s t || eqb a 0) says)
+    go s t (eqb→eq a b (and-l (eqb a b) (Bool·beq s t || eqb a 0) says))
+    (and-r (eqb a b) (Bool·beq s t || eqb a 0) says)
   where
     go : (s t : Bool) → a ≡ b → T (Bool·beq s t || eqb a 0) → (below s a t b ≡ false) × (below t b s a ≡ false)
     go false false e z = (le-ltb a b (omega arith), le-ltb b a (omega arith))
@@ -47,7 +52,8 @@ not-lt (inf false) (inf false) h = (refl, refl, refl)
 not-lt (inf s) (fin t n d) h = absurd (false≢true h)
 not-lt (fin s m e) nan h = absurd (false≢true h)
 not-lt (fin s m e) (inf t) h = absurd (false≢true h)
-not-lt (fin s m e) (fin t n d) h = let k = level-apart s (m * up e * down d) t (n * up d * down e) h in (refl, k .0, k .1)
+not-lt (fin s m e) (fin t n d) h = let k = level-apart s (m * up e * down d) t (n * up d * down e) h in
+    (refl, k .0, k .1)
 
 above-apart : (s : Bool) (a : ℕ) (t : Bool) (b : ℕ) → below t b s a ≡ true → below s a t b ≡ false
 above-apart false a false b h = le-ltb a b (omega (arith, ltb-true b a h))
@@ -149,8 +155,12 @@ or-r true b t = tt
 or-r false b t = t
 
 under : (s : Bool) (a : ℕ) (t : Bool) (b : ℕ) → T (below s a t b || level s a t b) → Under s a t b
-under false a false b h = elim (either (ltb a b) (eqb a b && true) h) [ inl u ↦ le-of-lt (ltb→lt a b u) | inr u ↦ le-of-eq (eqb→eq a b (and-l (eqb a b) true u)) ]
-under true a true b h = elim (either (ltb b a) (eqb a b && true) h) [ inl u ↦ le-of-lt (ltb→lt b a u) | inr u ↦ le-of-eq (sym (eqb→eq a b (and-l (eqb a b) true u))) ]
+under false a false b h =
+    elim (either (ltb a b) (eqb a b && true) h)
+    [ inl u ↦ le-of-lt (ltb→lt a b u) | inr u ↦ le-of-eq (eqb→eq a b (and-l (eqb a b) true u)) ]
+under true a true b h =
+    elim (either (ltb b a) (eqb a b && true) h)
+    [ inl u ↦ le-of-lt (ltb→lt b a u) | inr u ↦ le-of-eq (sym (eqb→eq a b (and-l (eqb a b) true u))) ]
 under true a false b h = tt
 under false a true b h =
     let zero : a ≡ 0 = eqb→eq a 0 (and-r (eqb a b) (eqb a 0) h) in
@@ -172,8 +182,16 @@ most (fin s m e) (inf false) h = tt
 most (fin s m e) (fin t n d) h = under s (m * up e * down d) t (n * up d * down e) h
 
 ordered : (s : Bool) (a : ℕ) (t : Bool) (b : ℕ) → Under s a t b → T (below s a t b || level s a t b)
-ordered false a false b h = elim (eq-or-lt-of-le h) [ inl e ↦ or-r (ltb a b) (eqb a b && true) (and-i (eqb a b) true (eq→eqb e) tt) | inr l ↦ or-l (ltb a b) (eqb a b && true) (lt→ltb a b l) ]
-ordered true a true b h = elim (eq-or-lt-of-le h) [ inl e ↦ or-r (ltb b a) (eqb a b && true) (and-i (eqb a b) true (eq→eqb (sym e)) tt) | inr l ↦ or-l (ltb b a) (eqb a b && true) (lt→ltb b a l) ]
+ordered false a false b h =
+    elim (eq-or-lt-of-le h) [
+      | inl e ↦ or-r (ltb a b) (eqb a b && true) (and-i (eqb a b) true (eq→eqb e) tt)
+      | inr l ↦ or-l (ltb a b) (eqb a b && true) (lt→ltb a b l)
+    ]
+ordered true a true b h =
+    elim (eq-or-lt-of-le h) [
+      | inl e ↦ or-r (ltb b a) (eqb a b && true) (and-i (eqb a b) true (eq→eqb (sym e)) tt)
+      | inr l ↦ or-l (ltb b a) (eqb a b && true) (lt→ltb b a l)
+    ]
 ordered true zero false zero h = tt
 ordered true zero false (suc b) h = or-l (ltb 0 (0 + suc b)) _ (lt→ltb 0 (0 + suc b) (omega arith))
 ordered true (suc a) false b h = or-l (ltb 0 (suc a + b)) _ (lt→ltb 0 (suc a + b) (omega arith))
@@ -201,7 +219,8 @@ none : (n u : ℕ) → 0 < u → n * u ≡ 0 → n ≡ 0
 none n u h e = eq-of-mul-eq-mul-right u h n 0 (e ∙ sym (zero-mul u))
 
 -- x / p ≤ y / q ≤ z / r, with their signs
-under-trans : (s t u : Bool) (x y z p q r : ℕ) → 0 < p → 0 < q → 0 < r → Under s (x * q) t (y * p) → Under t (y * r) u (z * q) → Under s (x * r) u (z * p)
+under-trans : (s t u : Bool) (x y z p q r : ℕ) → 0 < p → 0 < q → 0 < r → Under s (x * q) t (y * p)
+    → Under t (y * r) u (z * q) → Under s (x * r) u (z * p)
 under-trans false false false x y z p q r P Q R h k = through x y z p q r Q h k
 under-trans true true true x y z p q r P Q R h k = through z y x r q p Q k h
 under-trans true t false x y z p q r P Q R h k = tt
@@ -244,7 +263,9 @@ most-trans (fin s m e) (inf false) z h k = rw (top z k) tt
 most-trans (fin s m e) (fin t n d) nan h k = absurd k
 most-trans (fin s m e) (fin t n d) (inf true) h k = absurd k
 most-trans (fin s m e) (fin t n d) (inf false) h k = tt
-most-trans (fin s m e) (fin t n d) (fin u l c) h k = under-trans s t u (m * up e) (n * up d) (l * up c) (down e) (down d) (down c) (down-pos e) (down-pos d) (down-pos c) h k
+most-trans (fin s m e) (fin t n d) (fin u l c) h k =
+    under-trans s t u (m * up e) (n * up d) (l * up c) (down e) (down d) (down c) (down-pos e) (down-pos d)
+    (down-pos c) h k
 
 -- ---- what is rounded
 
@@ -257,7 +278,8 @@ below-top f false = rounded f false (λ x. AtMost x (inf false)) tt (λ m e. tt)
 
 across : (f : Format) (a b c d : ℕ) → AtMost (round f true a b) (round f false c d)
 across f a b c d =
-    rounded f true (λ x. AtMost x (round f false c d)) (above-lowest f false c d) (λ m e. rounded f false (AtMost (fin true m e)) tt (λ n g. tt) c d) a b
+    rounded f true (λ x. AtMost x (round f false c d)) (above-lowest f false c d)
+    (λ m e. rounded f false (AtMost (fin true m e)) tt (λ n g. tt) c d) a b
 
 -- the other sign turns it
 under-turned : (s : Bool) (a : ℕ) (t : Bool) (b : ℕ) → Under s a t b → Under (not t) b (not s) a
@@ -293,15 +315,20 @@ zeros (fin s m e) (fin t n c) b d B D h k =
     rw (h .0, k .0, x₀, y₀) (zero-mul (down c), zero-mul (down e))
 
 -- ±a / b at most ±c / d, rounded
-round-order : (f : Format) (s t : Bool) (a b c d : ℕ) → 0 < b → 0 < d → Under s (a * d) t (c * b) → AtMost (round f s a b) (round f t c d)
+round-order : (f : Format) (s t : Bool) (a b c d : ℕ) → 0 < b → 0 < d → Under s (a * d) t (c * b)
+    → AtMost (round f s a b) (round f t c d)
 round-order f false false a b c d B D h = most (round f false a b) (round f false c d) (round-mono f a b c d B D h)
 round-order f true true a b c d B D h =
-    rw (neg-round f false a b, neg-round f false c d) (most-turned (round f false c d) (round f false a b) (most _ _ (round-mono f c d a b D B h)))
+    rw (neg-round f false a b, neg-round f false c d)
+    (most-turned (round f false c d) (round f false a b) (most _ _ (round-mono f c d a b D B h)))
 round-order f true false a b c d B D h = across f a b c d
 round-order f false true a b c d B D h =
     let a₀ = none a d D (h .0) in
     let c₀ = none c b B (h .1) in
-    rw (a₀, c₀) (zeros (round f false 0 b) (round f true 0 d) b d B D (zero-rounds f false b B) (zero-rounds f true d D))
+    rw (
+      a₀,
+      c₀,
+    ) (zeros (round f false 0 b) (round f true 0 d) b d B D (zero-rounds f false b B) (zero-rounds f true d D))
 
 -- ---- a product by a factor above zero
 
@@ -310,8 +337,10 @@ module _ (f : Format) (k : ℕ) (w : ℤ) where
   factor = fin false (suc k) w
 
   -- the factor goes into both sizes
-  scaled : (s t : Bool) (x y p q : ℕ) → Under s (x * q) t (y * p) → Under s (suc k * up w * x * (down w * q)) t (suc k * up w * y * (down w * p))
-  scaled s t x y p q h = rw (mul-mul-mul-comm (suc k * up w) x (down w) q, mul-mul-mul-comm (suc k * up w) y (down w) p) (times s t h)
+  scaled : (s t : Bool) (x y p q : ℕ) → Under s (x * q) t (y * p)
+      → Under s (suc k * up w * x * (down w * q)) t (suc k * up w * y * (down w * p))
+  scaled s t x y p q h =
+      rw (mul-mul-mul-comm (suc k * up w) x (down w) q, mul-mul-mul-comm (suc k * up w) y (down w) p) (times s t h)
     where
       g : ℕ
       g = suc k * up w * down w
@@ -336,7 +365,8 @@ module _ (f : Format) (k : ℕ) (w : ℤ) where
   product (fin s m e) (inf false) h = rw (eqb·suc-zero k) (below-top f (unlike false s) _ _)
   product (fin s m e) (fin t n d) h =
       rw (Bool·not-not s, Bool·not-not t)
-      (round-order f s t (suc k * up w * (m * up e)) (down w * down e) (suc k * up w * (n * up d)) (down w * down d) (mul-pos (down-pos w) (down-pos e)) (mul-pos (down-pos w) (down-pos d))
+      (round-order f s t (suc k * up w * (m * up e)) (down w * down e) (suc k * up w * (n * up d)) (down w * down d)
+      (mul-pos (down-pos w) (down-pos e)) (mul-pos (down-pos w) (down-pos d))
       (scaled s t (m * up e) (n * up d) (down e) (down d) h))
 
 -- ---- as equations
@@ -344,5 +374,6 @@ module _ (f : Format) (k : ℕ) (w : ℤ) where
 pub le-trans : (x y z : Float) → le x y ≡ true → le y z ≡ true → le x z ≡ true
 le-trans x y z h k = is-true _ (is-le x z (most-trans x y z (most x y (rw h tt)) (most y z (rw k tt))))
 
-pub product-mono : (f : Format) (k : ℕ) (w : ℤ) (x y : Float) → le x y ≡ true → le (mul f (fin false (suc k) w) x) (mul f (fin false (suc k) w) y) ≡ true
+pub product-mono : (f : Format) (k : ℕ) (w : ℤ) (x y : Float) → le x y ≡ true
+    → le (mul f (fin false (suc k) w) x) (mul f (fin false (suc k) w) y) ≡ true
 product-mono f k w x y h = is-true _ (is-le _ _ (product f k w x y (most x y (rw h tt))))

@@ -1,5 +1,6 @@
 -- What is written to a lent buffer.
---     over-none, over-next, lent-over     nothing is written; two writes that meet are one; a part of a buffer as the code lends it
+--     over-none, over-next, lent-over     nothing is written; two writes that meet are one; a part of a buffer as the
+--                                         code lends it
 --     onto-more, to-none                  buffers behind those that are written to; a call that writes to no buffer
 -- Assumes nothing.
 use Rattle.rules.proofs.Common.{ℕ, _+_, _-_, _≤_, List, [], _∷_, _++_, _≡_, refl, ap, length, Float}
@@ -22,7 +23,8 @@ pub lent-over : (start n : ℕ) (out new numbers : List Float) → new ≡ numbe
     → put (record { at = start; size = start + n - start }) out new ≡ over (from start numbers) out
 lent-over start n out new numbers e l = rw (add-sub-cancel-left start n, e, l)
 
-pub onto-more : (ws us : List Written) (hs gs : List (List Float)) → length ws ≡ length hs → onto (ws ++ us) (hs ++ gs) ≡ onto ws hs ++ onto us gs
+pub onto-more : (ws us : List Written) (hs gs : List (List Float)) → length ws ≡ length hs
+    → onto (ws ++ us) (hs ++ gs) ≡ onto ws hs ++ onto us gs
 onto-more [] us [] gs l = refl
 onto-more [] us (h ∷ hs) gs l = absurd (omega arith)
 onto-more (w ∷ ws) us [] gs l = absurd (omega arith)

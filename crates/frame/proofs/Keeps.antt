@@ -24,10 +24,12 @@ abbrev pub end : Place
 end = record { at = PART; size = 0 }
 
 module _ (share : List Float) where
-  pub unmoved : (reply : Reply) (out : List Written) → Keeps share (record { answer = reply; kept = share; written = out })
+  pub unmoved : (reply : Reply) (out : List Written)
+      → Keeps share (record { answer = reply; kept = share; written = out })
   unmoved reply out = record { size = refl; still = λ _. refl }
 
-  pub moved : (f : Effect Reply) → passed (f .answer) ≡ true → length share ≡ PART → Beside end share (f .kept) → Keeps share f
+  pub moved : (f : Effect Reply) → passed (f .answer) ≡ true → length share ≡ PART → Beside end share (f .kept)
+      → Keeps share f
   moved f e whole b = record { size = b .size ∙ sym whole; still = λ h. absurd (true≢false (sym e ∙ h)) }
 
   bad : (n : ℕ) → Keeps share (record { answer = Refused n; kept = share; written = [] })
@@ -36,21 +38,25 @@ module _ (share : List Float) where
   pub call1-keeps : (samples : List Float) (window : ℕ) → Keeps share (call1 share samples window)
   call1-keeps samples window =
       call1-by share (Keeps share) bad samples window
-      (λ whole l. moved (done1 share samples) refl whole (done1-beside end share samples (inl (omega arith), (inl (omega arith), tt)) whole l))
+      (λ whole l. moved (done1 share samples) refl whole
+      (done1-beside end share samples (inl (omega arith), (inl (omega arith), tt)) whole l))
 
   pub call2-keeps : (spectrum : List Float) (lag window sums : ℕ) → Keeps share (call2 share spectrum lag window sums)
   call2-keeps spectrum lag window sums =
       call2-by share (Keeps share) bad spectrum lag window sums
-      (λ whole. moved (done2 share spectrum lag) refl whole (done2-beside end share spectrum lag (inl (omega arith), (inl (omega arith), (inl (omega arith), tt))) whole))
+      (λ whole. moved (done2 share spectrum lag) refl whole
+      (done2-beside end share spectrum lag (inl (omega arith), (inl (omega arith), (inl (omega arith), tt))) whole))
 
   pub call3-keeps : (hearing : Hearing) (spectrum logs : List Float) (model : List ℕ) (out : ℕ)
       → Keeps share (call3 share hearing spectrum logs model out)
   call3-keeps hearing spectrum logs model out =
-      call3-by share (Keeps share) bad hearing spectrum logs model out (λ n l _. unmoved (Misread n l) _) (unmoved Silent _)
+      call3-by share (Keeps share) bad hearing spectrum logs model out (λ n l _. unmoved (Misread n l) _)
+      (unmoved Silent _)
       (λ e m good whole inside.
       moved (heard e (spoken share (hearing .index) spectrum logs model m)) refl whole
       (done3-beside end share (hearing .index) spectrum logs model m
-      (inl (omega arith), (inl (omega arith), (inl (omega arith), (inl (omega arith), (inl (omega arith), tt))))) good whole inside))
+      (inl (omega arith), (inl (omega arith), (inl (omega arith), (inl (omega arith), (inl (omega arith), tt))))) good
+      whole inside))
 
   pub call4-keeps : (inverse : List Float) (out : ℕ) → Keeps share (call4 share inverse out)
   call4-keeps inverse out =

@@ -1,4 +1,5 @@
--- The fields of a whole share have their sizes. Said here, where no function's facts are in reach, they cost nothing. Assumes nothing.
+-- The fields of a whole share have their sizes. Said here, where no function's facts are in reach, they cost nothing.
+-- Assumes nothing.
 use Rattle.rules.proofs.Common.{ℕ, _+_, _-_, _≤_, _<_, List, _≡_, sym, ap, _∙_, length, take, drop, Float}
 use native.Mathlib.Nat.{zero-add}
 use native.Mathlib.Omega.{arith}

@@ -1,9 +1,10 @@
 -- Laws of a table of refusals whose rows are replies. Assumes nothing.
-use Rattle.rules.proofs.Common.{ℕ, Bool, true, false, cond, true≢false, false≢true, List, [], _∷_, _≡_, refl, sym, _∙_, Float}
+use Rattle.rules.proofs.Common.{ℕ, Bool, true, false, cond, true≢false, false≢true, List, [], _∷_, _≡_, refl, sym, _∙_}
+use Rattle.rules.proofs.Common.{Float}
 use Rattle.frame.specs.declared.Reply.{Reply}
 use Rattle.frame.specs.declared.Reply.the-variants.{Done, Refused}
 use Rattle.frame.specs.Effect.{Effect, refusal, unless}
-use Rattle.frame.specs.Reply.{passed, _when_, firstRefusal}
+use Rattle.frame.specs.Reply.{passed, _refusedIf_, firstRefusal}
 
 -- no row refuses
 abbrev pub Clear : List Reply → Type 0
@@ -19,12 +20,13 @@ pub cleared : (rows : List Reply) → passed (firstRefusal rows) ≡ true → Cl
 cleared [] h = tt
 cleared (row ∷ rows) h = go (cleared rows) (passed row) refl h
   where
-    go : (passed (firstRefusal rows) ≡ true → Clear rows) → (t : Bool) → passed row ≡ t → passed (cond t (firstRefusal rows) row) ≡ true → Clear (row ∷ rows)
+    go : (passed (firstRefusal rows) ≡ true → Clear rows) → (t : Bool) → passed row ≡ t
+        → passed (cond t (firstRefusal rows) row) ≡ true → Clear (row ∷ rows)
     go more true e k = (e, more k)
     go more false e k = absurd (false≢true (sym e ∙ k))
 
 -- a row of a number and a test
-pub not-when : (n : ℕ) (t : Bool) → passed (n when t) ≡ true → t ≡ false
+pub not-when : (n : ℕ) (t : Bool) → passed (n refusedIf t) ≡ true → t ≡ false
 not-when n true h = absurd (false≢true h)
 not-when n false h = refl
 
@@ -34,7 +36,7 @@ module _ (P : Reply → Type 0) where
   Each [] = Unit
   Each (row ∷ rows) = (passed row ≡ false → P row) × Each rows
 
-  pub by-number : ((n : ℕ) → P (Refused n)) → (n : ℕ) (t : Bool) → passed (n when t) ≡ false → P (n when t)
+  pub by-number : ((n : ℕ) → P (Refused n)) → (n : ℕ) (t : Bool) → passed (n refusedIf t) ≡ false → P (n refusedIf t)
   by-number bad n true h = bad n
   by-number bad n false h = absurd (true≢false h)
 
@@ -57,7 +59,8 @@ module _ (P : Reply → Type 0) where
 
 -- the same of a call
 module _ (share : List Float) (f : Effect Reply) where
-  pub by-rows : (P : Effect Reply → Type 0) (rows : List Reply) → Each (λ reply. P (refusal reply share)) rows → (Clear rows → P f)
+  pub by-rows : (P : Effect Reply → Type 0) (rows : List Reply) → Each (λ reply. P (refusal reply share)) rows
+      → (Clear rows → P f)
       → P (unless rows share f)
   by-rows P rows bad good = go (passed (firstRefusal rows)) refl
     where
@@ -70,6 +73,8 @@ module _ (share : List Float) (f : Effect Reply) where
       → passed (unless rows share f .answer) ≡ true → Q (unless rows share f)
   by-accepted Q rows h = go (passed (firstRefusal rows)) refl
     where
-      go : (t : Bool) → passed (firstRefusal rows) ≡ t → passed (cond t f (refusal (firstRefusal rows) share) .answer) ≡ true → Q (cond t f (refusal (firstRefusal rows) share))
+      go : (t : Bool) → passed (firstRefusal rows) ≡ t
+          → passed (cond t f (refusal (firstRefusal rows) share) .answer) ≡ true
+          → Q (cond t f (refusal (firstRefusal rows) share))
       go true e p = h (cleared rows e) p
       go false e p = absurd (false≢true (sym e ∙ p))

@@ -1,5 +1,5 @@
--- A heard frame, stage by stage, from `compute_frame_features` of features.rs and `process_frame` of denoise.rs. A stage takes the
--- share as the stage before it left it.
+-- A heard frame, step by step, from `compute_frame_features` of features.rs and `process_frame` of
+-- denoise.rs. Each step takes the share as the step before left it.
 use Rattle.rules.specs.Common.{ℕ, List, Float}
 use Rattle.rules.specs.F32.{_⊗_, at}
 use Rattle.rules.specs.Place.{get, put}
@@ -13,15 +13,16 @@ use Rattle.features.specs.Pitch.{pitchFiltered, applied}
 use Rattle.features.specs.Features.{normalisedCorr, featuresOf, withCepstrum}
 use Rattle.frame.specs.Share.{keptX, keptEx, keptLag, lastg, cepstralMem, vadState, noiseState, denoiseState}
 
--- `transform_input`: *x *= norm
+-- Rust, `transform_input`: *x *= norm
 unfoldable pub scaled : List Float → List Float
 scaled spectrum = tab 961 (λ i. at spectrum i ⊗ wnorm)
 
--- `transform_input`: crate::compute_band_corr(ex, x, x)
+-- Rust, `transform_input`: crate::compute_band_corr(ex, x, x)
 unfoldable pub energies : List Float → List Float
 energies spectrum = bandCorr (scaled spectrum) (scaled spectrum)
 
--- `compute_frame_features`, from the band correlations on; p and ep are the lagged window's
+-- What `compute_frame_features` gives, from the band correlations on. p and ep are the spectrum and the band
+-- energies of the lagged window.
 pub record Featured : Type 0 where
   pub share : List Float
   pub features : List Float
@@ -37,7 +38,7 @@ featured share index p ep logs =
       exp = exp;
     }
 
--- `process_frame`: self.rnn.compute(&mut g[..], &mut vad_prob[..], self.feat.features())
+-- Rust, `process_frame`: self.rnn.compute(&mut g[..], &mut vad_prob[..], self.feat.features())
 pub record Rnn : Type 0 where
   pub share : List Float
   pub gains : List Float
@@ -52,11 +53,12 @@ rnnOf share features bytes m =
       voice = at (f .voice) 0;
     }
 
--- `process_frame`: g[i] = g[i].max(0.6 * self.lastg[i]); self.lastg[i] = g[i]
+-- Rust, `process_frame`: g[i] = g[i].max(0.6 * self.lastg[i]); self.lastg[i] = g[i]
 abbrev pub heldGains : List Float → List Float → List Float
 heldGains share gains = gained gains (get lastg share)
 
--- the whole: the share, the voice, and the spectrum for the inverse. `pitch_filter` has the network's gains, before the maximum
+-- What a heard frame gives: the share, the voice, and the spectrum to be transformed back. `pitch_filter`
+-- uses the network's gains as they are before the maximum.
 pub record Spoken : Type 0 where
   pub share : List Float
   pub voice : Float
@@ -70,6 +72,6 @@ spokenFrom share index p ep logs bytes m =
     let g = heldGains (n .share) (n .gains) in
     record { share = put lastg (n .share) g; voice = n .voice; spectrum = applied x (bandGain g) }
 
--- p and ep are what the second spectrum gives
+-- The same from the second spectrum, which gives p and ep.
 abbrev pub spoken : List Float → ℕ → List Float → List Float → List ℕ → Model → Spoken
 spoken share index spectrum logs bytes m = spokenFrom share index (scaled spectrum) (energies spectrum) logs bytes m

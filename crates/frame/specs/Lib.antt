@@ -4,4 +4,4 @@ pub mod Reply
 pub mod Share
 pub mod Heard
 pub mod Frame
-pub mod Parts
+pub mod Private

@@ -1,9 +1,10 @@
--- What a call writes to a lent buffer, whatever the buffer held. Laws: proofs/Buffers.antt.
+-- What a call writes to a lent buffer, whatever the buffer held before. Laws: proofs/Buffers.antt.
 use Rattle.rules.specs.Common.{ℕ, List, [], _∷_, _++_, length, getD, drop, Float}
 use Rattle.rules.specs.Place.{put}
 
--- all of it; or these numbers from a place on, where the others stay; or whole numbers, as bytes and entries are, at the front of a buffer of such, where
--- the others stay
+-- `all`: the whole buffer becomes these numbers. `from`: these numbers are written from a place on, and the
+-- rest stays. `front`: these whole numbers (bytes, entries) are written to the front of a buffer of whole
+-- numbers, and the rest stays.
 pub data Written : Type 0 where
   all : (numbers : List Float) → Written
   from : (at : ℕ) (numbers : List Float) → Written
@@ -12,7 +13,8 @@ pub data Written : Type 0 where
 abbrev pub nothing : Written
 nothing = from 0 []
 
--- the numbers that are written, and those that a call writes to the first of its buffers
+-- The floats that are written, the whole numbers that are written, and the floats that a call writes to its
+-- first buffer.
 abbrev pub numbersIn : Written → List Float
 numbersIn (all numbers) = numbers
 numbersIn (from at numbers) = numbers
@@ -26,19 +28,19 @@ wholesIn (front wholes) = wholes
 abbrev pub firstIn : List Written → List Float
 firstIn ws = numbersIn (getD ws 0 nothing)
 
--- a buffer that held these, afterwards
+-- A buffer of floats after the call, if it held `held` before.
 abbrev pub over : Written → List Float → List Float
 over (all numbers) held = numbers
 over (from at numbers) held = put (record { at = at; size = length numbers }) held numbers
 over (front wholes) held = held
 
--- the buffers that a call was lent, in order; a refusal writes to none
+-- The buffers of floats that a call was lent, in order. A refusal writes to none.
 abbrev pub onto : List Written → List (List Float) → List (List Float)
 onto [] held = held
 onto (w ∷ ws) [] = []
 onto (w ∷ ws) (h ∷ hs) = over w h ∷ onto ws hs
 
--- a buffer of whole numbers that held these, and the buffers of such that a call was lent, in order
+-- A buffer of whole numbers after the call, and all buffers of whole numbers that it was lent, in order.
 abbrev pub atFront : List ℕ → List ℕ → List ℕ
 atFront new held = new ++ drop (length new) held
 

@@ -12,13 +12,13 @@ ghost use Rattle.frame.specs.Share.{keptX, keptEx, lastg};
 ghost use Rattle.frame.specs.Heard.{energies, featured, rnnOf, heldGains, spokenFrom, spoken};
 ghost use Rattle.frame.specs.Effect.{Worked};
 ghost use Rattle.frame.specs.Frame.{done3, counted, checked};
-ghost use Rattle.frame.specs.Parts.{Reads, featuredAs, rnnAs, spokenAs, quiet, replyOf};
+ghost use Rattle.frame.specs.Private.{Reads, featuredAs, rnnAs, spokenAs, quiet, replyOf};
 use crate::Hearing;
 use crate::Reply;
 use features::Sound;
 use model::Reading;
 
-// Refusals 7 and 8, or done.
+// The reply of the model's test: refusal 7 or 8, or Done.
 fn judge(read: Reading, hearing: Hearing) -> Reply
     ensures { λ r. ⌜ r ≡ checked (counted hearing) read ⌝ }
 {
@@ -45,8 +45,9 @@ pub fn check(model: &[u8], hearing: Hearing) -> Reply
     judge(model::read(model), hearing)
 }
 
-// The features, the correlations and the new cepstrum; x and ex are as the share keeps them.
-fn sense(
+// Computes the features and the correlations, and stores the new cepstrum. x and ex are those that the share
+// keeps.
+fn compute_features(
     share: &mut [f32],
     features: &mut [f32],
     exp: &mut [f32],
@@ -78,8 +79,8 @@ fn sense(
     );
 }
 
-// The network, over the states in the share: the gains, and the voice.
-fn think(share: &mut [f32], gains: &mut [f32], model: &[u8], features: &[f32]) -> f32
+// Runs the network on the states in the share. Gives the gains and returns the voice.
+fn compute_rnn(share: &mut [f32], gains: &mut [f32], model: &[u8], features: &[f32]) -> f32
     requires { ⌜ (length (now share) ≡ 3778) × (length (now gains) ≡ 22) × (length (now features) ≡ 42) ⌝ }
     ensures { λ r. ⌜ Reads (now (model .entry))
         (λ m. rnnAs (now (share .exit)) (now (gains .exit)) r
@@ -106,18 +107,20 @@ fn apply(out: &mut [f32], gains: &[f32])
     apply_in(out, &mut gf, gains);
 }
 
-// The gains are raised, remembered and applied.
-fn raise(share: &mut [f32], out: &mut [f32], gains: &mut [f32])
+// Raises the gains to 0.6 of the last ones, remembers them, and applies them.
+fn apply_gain(share: &mut [f32], out: &mut [f32], gains: &mut [f32])
     requires { ⌜ (length (now share) ≡ 3778) × (length (now out) ≡ 961) × (length (now gains) ≡ 22) ⌝ }
-    ensures { λ _. ⌜ now (share .exit) ≡ put lastg (now (share .entry)) (heldGains (now (share .entry)) (now (gains .entry))) ⌝ }
-    ensures { λ _. ⌜ now (out .exit) ≡ applied (now (out .entry)) (bandGain (heldGains (now (share .entry)) (now (gains .entry)))) ⌝ }
+    ensures { λ _. ⌜ now (share .exit)
+        ≡ put lastg (now (share .entry)) (heldGains (now (share .entry)) (now (gains .entry))) ⌝ }
+    ensures { λ _. ⌜ now (out .exit)
+        ≡ applied (now (out .entry)) (bandGain (heldGains (now (share .entry)) (now (gains .entry)))) ⌝ }
 {
     features::hold_gains(gains, &mut share[3194..3216]);
     apply(out, gains);
 }
 
 // The pitch filter, with the network's own gains; then the gains are raised, remembered and applied.
-fn shape(
+fn filter_and_apply_gain(
     share: &mut [f32],
     out: &mut [f32],
     gains: &mut [f32],
@@ -128,17 +131,19 @@ fn shape(
 )
     requires { ⌜ (length (now share) ≡ 3778) × (length (now out) ≡ 961) × (length (now gains) ≡ 22) ⌝ }
     requires { ⌜ (length (now p) ≡ 961) × (length (now exp) ≡ 22) × (length (now ex) ≡ 22) × (length (now ep) ≡ 22) ⌝ }
-    ensures { λ _. ⌜ now (share .exit) ≡ put lastg (now (share .entry)) (heldGains (now (share .entry)) (now (gains .entry))) ⌝ }
+    ensures { λ _. ⌜ now (share .exit)
+        ≡ put lastg (now (share .entry)) (heldGains (now (share .entry)) (now (gains .entry))) ⌝ }
     ensures { λ _. ⌜ now (out .exit)
         ≡ applied
-        (pitchFiltered (now (out .entry)) (now (p .entry)) (now (gains .entry)) (now (exp .entry)) (now (ex .entry)) (now (ep .entry)))
+        (pitchFiltered (now (out .entry)) (now (p .entry)) (now (gains .entry)) (now (exp .entry)) (now (ex .entry))
+        (now (ep .entry)))
         (bandGain (heldGains (now (share .entry)) (now (gains .entry)))) ⌝ }
 {
     features::pitch_filter(out, p, gains, exp, ex, ep);
-    raise(share, out, gains);
+    apply_gain(share, out, gains);
 }
 
-fn speak_in(
+fn process_heard_in(
     share: &mut [f32],
     out: &mut [f32],
     features: &mut [f32],
@@ -156,16 +161,18 @@ fn speak_in(
     requires { ⌜ (length (now p) ≡ 961) × (length (now ep) ≡ 22) × (length (now logs) ≡ 22) ⌝ }
     requires { ⌜ (now out ≡ get keptX (now share)) × (now ex ≡ get keptEx (now share)) ⌝ }
     ensures { λ r. ⌜ Reads (now (model .entry)) (λ m. spokenAs (now (share .exit)) r (now (out .exit))
-        ≡ spokenFrom (now (share .entry)) index (now (p .entry)) (now (ep .entry)) (now (logs .entry)) (now (model .entry)) m) ⌝ }
+        ≡ spokenFrom (now (share .entry)) index (now (p .entry)) (now (ep .entry)) (now (logs .entry))
+        (now (model .entry)) m) ⌝ }
 {
-    sense(share, features, exp, index, out, p, ex, ep, logs);
-    let voice = think(share, gains, model, features);
-    shape(share, out, gains, p, exp, ex, ep);
+    compute_features(share, features, exp, index, out, p, ex, ep, logs);
+    let voice = compute_rnn(share, gains, model, features);
+    filter_and_apply_gain(share, out, gains, p, exp, ex, ep);
     voice
 }
 
-// A heard frame, from p and its energies on: out holds x, and becomes the spectrum for the inverse. Gives the voice back.
-fn speak(
+// A heard frame, from p and its energies on. `out` holds x and becomes the spectrum to be transformed back.
+// Returns the voice.
+fn process_heard(
     share: &mut [f32],
     out: &mut [f32],
     index: usize,
@@ -175,15 +182,17 @@ fn speak(
     logs: &[f32],
     model: &[u8],
 ) -> f32
-    requires { ⌜ (length (now share) ≡ 3778) × (index ≤ 7) × (length (now p) ≡ 961) × (length (now ep) ≡ 22) × (length (now logs) ≡ 22) ⌝ }
+    requires { ⌜ (length (now share) ≡ 3778) × (index ≤ 7) × (length (now p) ≡ 961) × (length (now ep) ≡ 22)
+        × (length (now logs) ≡ 22) ⌝ }
     requires { ⌜ (now out ≡ get keptX (now share)) × (now ex ≡ get keptEx (now share)) ⌝ }
     ensures { λ r. ⌜ Reads (now (model .entry)) (λ m. spokenAs (now (share .exit)) r (now (out .exit))
-        ≡ spokenFrom (now (share .entry)) index (now (p .entry)) (now (ep .entry)) (now (logs .entry)) (now (model .entry)) m) ⌝ }
+        ≡ spokenFrom (now (share .entry)) index (now (p .entry)) (now (ep .entry)) (now (logs .entry))
+        (now (model .entry)) m) ⌝ }
 {
     let mut features = [0.0f32; 42];
     let mut exp = [0.0f32; 22];
     let mut gains = [0.0f32; 22];
-    speak_in(
+    process_heard_in(
         share,
         out,
         &mut features,
@@ -217,10 +226,10 @@ fn hear_in(
 {
     rules::copy(ex, &share[3169..3191]);
     crate::lagged::transform(p, ep, spectrum);
-    speak(share, out, index, p, ex, ep, logs, model)
+    process_heard(share, out, index, p, ex, ep, logs, model)
 }
 
-// A heard frame: out holds x, and becomes the spectrum for the inverse. Gives the voice back.
+// A heard frame. `out` holds x and becomes the spectrum to be transformed back. Returns the voice.
 fn hear(
     share: &mut [f32],
     out: &mut [f32],
@@ -270,7 +279,7 @@ fn reply_of(sound: Sound, voice: f32) -> Reply
     }
 }
 
-// Silent, or heard; the spectrum is written.
+// Call 3 after its refusals: the frame is silent or heard, and the spectrum is written.
 pub(crate) fn listen(
     share: &mut [f32],
     out: &mut [f32],

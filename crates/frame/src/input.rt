@@ -11,7 +11,7 @@ ghost use Rattle.frame.specs.Frame.{shifted, recent};
 use numbers::Biquad;
 use numbers::Memory;
 
-// Moves the input memory down by a frame: its oldest 480 numbers leave.
+// Moves the input memory down by a frame, dropping its oldest 480 numbers.
 fn shift(mem: &mut [f32])
     requires { ⌜ length (now mem) ≡ 1728 ⌝ }
     ensures { λ _. ⌜ take 1248 (now (mem .exit)) ≡ tab 1248 (λ i. at (now (mem .entry)) (i + 480)) ⌝ }
@@ -21,7 +21,8 @@ fn shift(mem: &mut [f32])
     }
 }
 
-// The input memory takes 480 samples in, filtered, and its last 960 numbers are written, windowed. Gives the filter's memories back.
+// Takes 480 samples into the input memory, filtered, and writes its last 960 numbers, windowed. Returns the
+// memories of the filter.
 pub(crate) fn take_in(
     mem: &mut [f32],
     memory: Memory,

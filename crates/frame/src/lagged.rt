@@ -11,7 +11,7 @@ ghost use Rattle.frame.specs.Heard.{scaled, energies};
 ghost use Rattle.frame.specs.Frame.{plusHundredth, putKept};
 use crate::Lag;
 
-// out is the spectrum, each number times `wnorm`.
+// `out` becomes the spectrum, each number multiplied by `wnorm`.
 fn scale(out: &mut [f32], spectrum: &[f32])
     requires { ⌜ (length (now out) ≡ 961) × (length (now spectrum) ≡ 961) ⌝ }
     ensures { λ _. ⌜ now (out .exit) ≡ scaled (now (spectrum .entry)) ⌝ }
@@ -22,7 +22,7 @@ fn scale(out: &mut [f32], spectrum: &[f32])
     }
 }
 
-// p is the spectrum, scaled, and ep its band energies.
+// p becomes the scaled spectrum, and ep its band energies.
 pub(crate) fn transform(p: &mut [f32], ep: &mut [f32], spectrum: &[f32])
     requires { ⌜ (length (now p) ≡ 961) × (length (now ep) ≡ 22) × (length (now spectrum) ≡ 961) ⌝ }
     ensures { λ _. ⌜ now (p .exit) ≡ scaled (now (spectrum .entry)) ⌝ }
@@ -32,7 +32,7 @@ pub(crate) fn transform(p: &mut [f32], ep: &mut [f32], spectrum: &[f32])
     bands::compute_band_corr(ep, p, p);
 }
 
-// Adds 0.01 to each energy: what the logarithms are taken of.
+// Adds 0.01 to each energy. The logarithms are taken of these sums.
 fn lift(ex: &mut [f32])
     requires { ⌜ length (now ex) ≡ 22 ⌝ }
     ensures { λ _. ⌜ now (ex .exit) ≡ plusHundredth (now (ex .entry)) ⌝ }
@@ -42,7 +42,7 @@ fn lift(ex: &mut [f32])
     }
 }
 
-// The share keeps the scaled spectrum, and ex is its band energies.
+// Stores the scaled spectrum in the share, and its band energies in ex.
 fn analyse(share: &mut [f32], spectrum: &[f32], ex: &mut [f32])
     requires { ⌜ (length (now share) ≡ 3778) × (length (now spectrum) ≡ 961) × (length (now ex) ≡ 22) ⌝ }
     ensures { λ _. ⌜ now (share .exit) ≡ put keptX (now (share .entry)) (scaled (now (spectrum .entry))) ⌝ }
@@ -51,7 +51,7 @@ fn analyse(share: &mut [f32], spectrum: &[f32], ex: &mut [f32])
     transform(&mut share[2208..3169], ex, spectrum);
 }
 
-// The share keeps the band energies and the lag.
+// Stores the band energies and the lag in the share.
 fn keep(share: &mut [f32], ex: &[f32], lag: Lag)
     requires { ⌜ (length (now share) ≡ 3778) × (length (now ex) ≡ 22) × (lag .0 ≤ 768) ⌝ }
     ensures { λ _. ⌜ now (share .exit)
@@ -61,9 +61,10 @@ fn keep(share: &mut [f32], ex: &[f32], lag: Lag)
     share[3191] = lag.0 as f32;
 }
 
-// What call 2 does once its window is written.
+// What call 2 does after its window is written.
 pub(crate) fn note(share: &mut [f32], spectrum: &[f32], lag: Lag, sums: &mut [f32])
-    requires { ⌜ (length (now share) ≡ 3778) × (length (now spectrum) ≡ 961) × (length (now sums) ≡ 22) × (lag .0 ≤ 768) ⌝ }
+    requires { ⌜ (length (now share) ≡ 3778) × (length (now spectrum) ≡ 961) × (length (now sums) ≡ 22)
+        × (lag .0 ≤ 768) ⌝ }
     ensures { λ _. ⌜ now (share .exit) ≡ putKept (now (share .entry)) (now (spectrum .entry)) (lag .0) ⌝ }
     ensures { λ _. ⌜ now (sums .exit) ≡ plusHundredth (energies (now (spectrum .entry))) ⌝ }
 {

@@ -1,4 +1,5 @@
-// The four calls of a frame over its part of one share of the store: 3,778 numbers, that know of no side. What is refused changes nothing.
+// The four calls of a frame over its part of one share of the store: 3,778 numbers, that know of no side. What is
+// refused changes nothing.
 ghost use mathlib.Core.Path.{_≡_};
 ghost use mathlib.Core.List.{[], _∷_};
 ghost use lib.ListN.{length};
@@ -14,8 +15,8 @@ mod output;
 pub use heard::check;
 use numbers::Memory;
 
-// What a call is told: done, for call 3 silent or heard with voice and energy, for a desk's call 4 the frames and the heard frames so far;
-// refused with a number, or with 7 and the model's number and layer.
+// What a call is told: done, for call 3 silent or heard with voice and energy, for a desk's call 4 the frames and the
+// heard frames so far; refused with a number, or with 7 and the model's number and layer.
 pub enum Reply {
     Done,
     Silent,
@@ -42,11 +43,11 @@ pub fn passed(reply: Reply) -> bool
 // How long ago the pitch was, in samples.
 pub struct Lag(pub usize);
 
-// A bench's way, settled by its opening: what requests 04 and 08 ask, our own lag and the plain sums; or the crate's own, its finder and
-// the fast transforms.
+// A bench's way, settled by its opening: what requests 04 and 08 ask, our own lag and the plain sums; or the crate's
+// own, its finder and the fast transforms.
 pub enum Way {
-    Asked,
-    Crate,
+    Own,
+    Nnnoiseless,
 }
 
 // What a bench needs to hear a frame: where its cepstra go on, the GRU counts that its opening noted, and its way.
@@ -109,8 +110,10 @@ pub fn call2(
     sums: &mut [f32],
 ) -> Reply
     ensures { λ r. ⌜ Worked
-        (call2 (now (share .entry)) (now (spectrum .entry)) (lag .0) (length (now (window .entry))) (length (now (sums .entry))))
-        r (now (share .exit)) (now (window .entry) ∷ now (sums .entry) ∷ []) (now (window .exit) ∷ now (sums .exit) ∷ []) ⌝ }
+        (call2 (now (share .entry)) (now (spectrum .entry)) (lag .0) (length (now (window .entry)))
+        (length (now (sums .entry))))
+        r (now (share .exit)) (now (window .entry) ∷ now (sums .entry) ∷ [])
+        (now (window .exit) ∷ now (sums .exit) ∷ []) ⌝ }
 {
     if share.len() != PART {
         return Reply::Refused(5);
@@ -134,8 +137,8 @@ pub fn call2(
     Reply::Done
 }
 
-// Call 3: the second spectrum, 22 logarithms and the model in, 961 numbers written; silent, or heard with voice and energy. Of the
-// record it is told the hearing, of which it reads the cepstral index and the GRU counts.
+// Call 3: the second spectrum, 22 logarithms and the model in, 961 numbers written; silent, or heard with voice and
+// energy. Of the record it is told the hearing, of which it reads the cepstral index and the GRU counts.
 pub fn call3(
     share: &mut [f32],
     hearing: Hearing,

@@ -4,9 +4,11 @@ ghost use lib.ListN.{length};
 ghost use Rattle.bands.specs.Window.{window};
 ghost use Rattle.frame.specs.Frame.{windowBuf, overlapped, laterHalf};
 
-// The inverse, each number over 2 and windowed: its first half is added to what was kept and written, and its second half is kept.
+// Halves each number of the inverse transform and windows it. Its first half is added to what was kept and
+// written; its second half is kept.
 fn overlap(kept: &mut [f32], table: &[f32; 960], inverse: &[f32], out: &mut [f32])
-    requires { ⌜ (length (now kept) ≡ 480) × (now table ≡ window) × (length (now inverse) ≡ 960) × (length (now out) ≡ 480) ⌝ }
+    requires { ⌜ (length (now kept) ≡ 480) × (now table ≡ window) × (length (now inverse) ≡ 960)
+        × (length (now out) ≡ 480) ⌝ }
     ensures { λ _. ⌜ now (kept .exit) ≡ laterHalf (windowBuf (now (inverse .entry))) ⌝ }
     ensures { λ _. ⌜ now (out .exit) ≡ overlapped (windowBuf (now (inverse .entry))) (now (kept .entry)) ⌝ }
 {

@@ -1,5 +1,5 @@
--- What both ways have in common: a lag that call 2 takes (`lag-fits`), the lengths of a spectrum and of its samples, and that the finder's two numbers
--- alone are written (`remembered-beside`). Assumes nothing.
+-- What both ways have in common: a lag that call 2 takes (`lag-fits`), the lengths of a spectrum and of its samples,
+-- and that the finder's two numbers alone are written (`remembered-beside`). Assumes nothing.
 use Rattle.rules.proofs.Common.{ℕ, _≤_, List, _≡_, refl, length, Float}
 use native.Mathlib.Omega.{arith}
 use mathlib.Core.Logic.{inl}
@@ -14,30 +14,32 @@ use Rattle.fft.specs.Fast.{forwardOver, inverseOver}
 use Rattle.fft.specs.Single.{fastForward, fastInverse}
 use Rattle.frame.specs.Share.{PART, inputMem, finderMem}
 use Rattle.frame.specs.declared.Way.{Way}
-use Rattle.frame.specs.declared.Way.the-variants.{Asked, Crate}
+use Rattle.frame.specs.declared.Way.the-variants.{Own, Nnnoiseless}
 use Rattle.frame.proofs.Beside.{Beside, put-beside}
 use Rattle.frame.proofs.Keeps.{end}
 use Rattle.halves.specs.Ways.{lagBy, remembered, forwardBy, inverseBy}
 
 pub lag-fits : (way : Way) (part : List Float) → lagBy way part ≤ 768
 unfolding lagBy
-lag-fits Asked part = in-range (get inputMem part) .1
-lag-fits Crate part = omega (arith, period-in-range (at (get finderMem part) 0) (at (get finderMem part) 1) (get inputMem part) .1)
+lag-fits Own part = in-range (get inputMem part) .1
+lag-fits Nnnoiseless part =
+    omega (arith, period-in-range (at (get finderMem part) 0) (at (get finderMem part) 1) (get inputMem part) .1)
 
 pub length-forward : (way : Way) (samples : List Float) → length (forwardBy way samples) ≡ 961
 unfolding forwardBy forwardOf fastForward forwardOver
-length-forward Asked samples = length-tab 961 _
-length-forward Crate samples = length-tab 961 _
+length-forward Own samples = length-tab 961 _
+length-forward Nnnoiseless samples = length-tab 961 _
 
 pub length-inverse : (way : Way) (spectrum : List Float) → length (inverseBy way spectrum) ≡ 960
 unfolding inverseBy inverseOf fastInverse inverseOver
-length-inverse Asked spectrum = length-tab 960 _
-length-inverse Crate spectrum = length-tab 960 _
+length-inverse Own spectrum = length-tab 960 _
+length-inverse Nnnoiseless spectrum = length-tab 960 _
 
-pub remembered-beside : (q : Place) (part : List Float) (way : Way) → Apart finderMem q → length part ≡ PART → Beside q part (remembered way part)
+pub remembered-beside : (q : Place) (part : List Float) (way : Way) → Apart finderMem q → length part ≡ PART
+    → Beside q part (remembered way part)
 unfolding remembered
-remembered-beside q part Asked apart whole = record { size = whole; same = refl }
-remembered-beside q part Crate apart whole = put-beside q finderMem part _ (omega arith) apart whole refl
+remembered-beside q part Own apart whole = record { size = whole; same = refl }
+remembered-beside q part Nnnoiseless apart whole = put-beside q finderMem part _ (omega arith) apart whole refl
 
 pub whole-remembered : (part : List Float) (way : Way) → length part ≡ PART → length (remembered way part) ≡ PART
 whole-remembered part way whole = remembered-beside end part way (inl (omega arith)) whole .size

@@ -2,7 +2,8 @@
 --     first-done, three-passes        the first half, and call 3 of the second, where nothing is refused
 --     first-tests, second-tests       what is claimed
 -- Assumes nothing.
-use Rattle.rules.proofs.Common.{ℕ, _≤_, Bool, true, false, cond, not, true≢false, false≢true, List, [], _∷_, _≡_, refl, sym, ap, _∙_, ltb, length, Float}
+use Rattle.rules.proofs.Common.{ℕ, _≤_, Bool, true, false, cond, not, true≢false, false≢true, List, [], _∷_, _≡_, refl}
+use Rattle.rules.proofs.Common.{sym, ap, _∙_, ltb, length, Float}
 use borrow.Author.Tests.{eq-eqb, ltb-false}
 use Rattle.rules.specs.Place.{get}
 use Rattle.rules.specs.Refusals.{wrong}
@@ -18,7 +19,7 @@ use Rattle.frame.specs.declared.Reply.{Reply}
 use Rattle.frame.specs.declared.Reply.the-variants.{Done, Refused}
 use Rattle.frame.specs.declared.Way.{Way}
 use Rattle.frame.specs.Written.{firstIn}
-use Rattle.frame.specs.Reply.{passed, _when_, firstRefusal}
+use Rattle.frame.specs.Reply.{passed, _refusedIf_, firstRefusal}
 use Rattle.frame.specs.Share.{PART, keptEx}
 use Rattle.frame.specs.Heard.{Spoken, spoken}
 use Rattle.frame.specs.Effect.{Effect, refusal}
@@ -38,7 +39,8 @@ module _ (share : List Float) (way : Way) (samples : List Float) (sums : ℕ) wh
   sizes = (length share, PART) ∷ (length samples, 480) ∷ (sums, 22) ∷ []
 
   -- where nothing is refused, both calls are done
-  pub first-done : length share ≡ PART → length samples ≡ 480 → sums ≡ 22 → good samples ≡ true → firstHalf share way samples sums ≡ doneFirst share way samples
+  pub first-done : length share ≡ PART → length samples ≡ 480 → sums ≡ 22 → good samples ≡ true
+      → firstHalf share way samples sums ≡ doneFirst share way samples
   first-done whole l s g =
       let a = done1 share samples in
       let window = firstIn (a .written) in
@@ -46,14 +48,16 @@ module _ (share : List Float) (way : Way) (samples : List Float) (sums : ℕ) wh
       first-half-done share whole way samples sums l s
       ∙ rw (
         call1-done share whole samples 960 l refl g,
-        call2-done (remembered way (a .kept)) noted (forwardBy way window) (lagBy way (a .kept)) 960 sums (length-forward way window) refl s (lag-fits way (a .kept)),
+        call2-done (remembered way (a .kept)) noted (forwardBy way window) (lagBy way (a .kept)) 960 sums
+            (length-forward way window) refl s (lag-fits way (a .kept)),
       )
 
   misfit : wrong sizes ≡ true → firstHalf share way samples sums ≡ refusal (Refused 5) share
   unfolding firstHalf
   misfit e = rw e
 
-  call1-bad : length share ≡ PART → length samples ≡ 480 → good samples ≡ false → call1 share samples 960 ≡ refusal (Refused 9) share
+  call1-bad : length share ≡ PART → length samples ≡ 480 → good samples ≡ false
+      → call1 share samples 960 ≡ refusal (Refused 9) share
   unfolding call1
   call1-bad whole l g = simp (eq-eqb _ _ whole, eq-eqb _ _ l, g)
 
@@ -61,12 +65,13 @@ module _ (share : List Float) (way : Way) (samples : List Float) (sums : ℕ) wh
   bad r g = first-half-done share (r .0) way samples sums (r .1 .0) (r .1 .1 .0) ∙ rw (call1-bad (r .0) (r .1 .0) g)
 
   abbrev first-rows : Bool → Bool → List Reply
-  first-rows w g = 5 when w ∷ 9 when not g ∷ []
+  first-rows w g = 5 refusedIf w ∷ 9 refusedIf not g ∷ []
 
   first-tested : Tests (first-rows (wrong sizes) (good samples)) share (firstHalf share way samples sums)
   first-tested = go (wrong sizes) (good samples) refl refl
     where
-      go : (w g : Bool) → wrong sizes ≡ w → good samples ≡ g → Tests (first-rows w g) share (firstHalf share way samples sums)
+      go : (w g : Bool) → wrong sizes ≡ w → good samples ≡ g
+          → Tests (first-rows w g) share (firstHalf share way samples sums)
       go true g e d = record { refuses = λ _. misfit e; does = λ p. absurd (false≢true p) }
       go false false e d = record { refuses = λ _. bad (right sizes e) d; does = λ p. absurd (false≢true p) }
       go false true e d =
@@ -94,7 +99,9 @@ module _ (share : List Float) (hearing : Hearing) (logs : List Float) (model : L
   -- a frame is silent or heard
   sounds : (m : Model) → passed (three m .answer) ≡ true
   unfolding done3
-  sounds m = go (isSilent (energy (get keptEx share))) (energy (get keptEx share)) (spoken share (hearing .index) spectrum logs model m)
+  sounds m =
+      go (isSilent (energy (get keptEx share))) (energy (get keptEx share))
+      (spoken share (hearing .index) spectrum logs model m)
     where
       go : (t : Bool) (e : Float) (s : Spoken) → passed (cond t (silent share) (heard e s) .answer) ≡ true
       go true e s = refl
@@ -105,15 +112,19 @@ module _ (share : List Float) (hearing : Hearing) (logs : List Float) (model : L
   by-reading (Unread n k) e = e
   by-reading (Good m) e = go (counts m) e
     where
-      go : (t : Bool) → passed (cond t Done (Refused 8)) ≡ true → passed (cond t (three m) (refusal (Refused 8) share) .answer) ≡ true
+      go : (t : Bool) → passed (cond t Done (Refused 8)) ≡ true
+          → passed (cond t (three m) (refusal (Refused 8) share) .answer) ≡ true
       go true e = sounds m
       go false e = e
 
   module _ (whole : length share ≡ PART) (l : length logs ≡ 22) (i : hearing .index ≤ 7) where
     three-is : call3 share hearing spectrum logs model 961 ≡ modelled counts (readOf model) share three
-    three-is = call3-done share whole hearing spectrum logs model 961 (length-forward (hearing .way) (lookedBack share)) l refl i
+    three-is =
+        call3-done share whole hearing spectrum logs model 961
+        (length-forward (hearing .way) (lookedBack share)) l refl i
 
-    pub three-passes : passed (checked counts (readOf model)) ≡ true → passed (call3 share hearing spectrum logs model 961 .answer) ≡ true
+    pub three-passes : passed (checked counts (readOf model)) ≡ true
+        → passed (call3 share hearing spectrum logs model 961 .answer) ≡ true
     three-passes right = rw three-is (by-reading (readOf model) right)
 
   module _ (out : ℕ) where
@@ -127,12 +138,14 @@ module _ (share : List Float) (hearing : Hearing) (logs : List Float) (model : L
     unfolding secondHalf
     misplaced e = rw e
 
-    beyond : wrong places ≡ false → ltb 7 (hearing .index) ≡ true → secondHalf share hearing logs model out ≡ refusal (Refused 5) share
+    beyond : wrong places ≡ false → ltb 7 (hearing .index) ≡ true
+        → secondHalf share hearing logs model out ≡ refusal (Refused 5) share
     unfolding secondHalf
     beyond e d = rw (e, d)
 
     -- a model that is refused
-    unread : (r : Reading) → passed (checked counts r) ≡ false → onward (modelled counts r share three) second ≡ refusal (checked counts r) share
+    unread : (r : Reading) → passed (checked counts r) ≡ false
+        → onward (modelled counts r share three) second ≡ refusal (checked counts r) share
     unfolding checked
     unread (Unread n k) e = refl
     unread (Good m) e = go (counts m) e
@@ -143,18 +156,20 @@ module _ (share : List Float) (hearing : Hearing) (logs : List Float) (model : L
         go false e = refl
 
     abbrev second-rows : Bool → Bool → Reply → List Reply
-    second-rows w i reply = 5 when w ∷ 5 when i ∷ reply ∷ []
+    second-rows w i reply = 5 refusedIf w ∷ 5 refusedIf i ∷ reply ∷ []
 
     -- with right lengths and a right index, the model decides
     decided : (r : Right places) → hearing .index ≤ 7 → (t : Bool) → passed (checked counts (readOf model)) ≡ t
-        → Tests (second-rows false false (checked counts (readOf model))) share (secondHalf share hearing logs model out)
+        → Tests (second-rows false false (checked counts (readOf model))) share
+        (secondHalf share hearing logs model out)
     decided r i t e = go t e
       where
         is : secondHalf share hearing logs model out ≡ onward (call3 share hearing spectrum logs model 961) second
         is = second-half-done share (r .0) hearing logs model out (r .1 .0) (r .1 .1 .0) i refl
 
         go : (t : Bool) → passed (checked counts (readOf model)) ≡ t
-            → Tests (second-rows false false (checked counts (readOf model))) share (secondHalf share hearing logs model out)
+            → Tests (second-rows false false (checked counts (readOf model))) share
+            (secondHalf share hearing logs model out)
         go true e =
             let passes = three-passes (r .0) (r .1 .0) i e in
             record { refuses = λ p. absurd (true≢false (sym (rw e) ∙ p)); does = λ _. rw (is, passes) passes }
@@ -164,14 +179,16 @@ module _ (share : List Float) (hearing : Hearing) (logs : List Float) (model : L
               does = λ p. absurd (false≢true (sym e ∙ rw e at p));
             }
 
-    second-tested : Tests (second-rows (wrong places) (ltb 7 (hearing .index)) (checked counts (readOf model))) share (secondHalf share hearing logs model out)
+    second-tested : Tests (second-rows (wrong places) (ltb 7 (hearing .index)) (checked counts (readOf model))) share
+        (secondHalf share hearing logs model out)
     second-tested = go (wrong places) (ltb 7 (hearing .index)) refl refl
       where
         go : (w i : Bool) → wrong places ≡ w → ltb 7 (hearing .index) ≡ i
             → Tests (second-rows w i (checked counts (readOf model))) share (secondHalf share hearing logs model out)
         go true i e d = record { refuses = λ _. misplaced e; does = λ p. absurd (false≢true p) }
         go false true e d = record { refuses = λ _. beyond e d; does = λ p. absurd (false≢true p) }
-        go false false e d = decided (right places e) (ltb-false 7 (hearing .index) d) (passed (checked counts (readOf model))) refl
+        go false false e d =
+            decided (right places e) (ltb-false 7 (hearing .index) d) (passed (checked counts (readOf model))) refl
 
 pub second-tests : SecondTests
 second-tests = second-tested

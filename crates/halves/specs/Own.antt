@@ -1,4 +1,4 @@
--- The sister of call 2, request 04: call 2 with our own lag, of the share's own `input_mem`.
+-- The sister of call 2 (request 04): call 2 with our own lag, found in the share's own `input_mem`.
 use Rattle.rules.specs.Common.{ℕ, List, Float}
 use Rattle.rules.specs.Place.{get}
 use Rattle.lag.specs.Lag.{ownLag}

@@ -8,7 +8,7 @@ use frame::PART;
 use frame::Reply;
 use frame::Way;
 
-// Call 2 with the spectrum of call 1's window, in whose place it writes its own.
+// Call 2 with the spectrum of call 1's window. Its own window replaces that window.
 fn analyse(share: &mut [f32], way: Way, window: &mut [f32], sums: &mut [f32]) -> Reply
     requires { ⌜ (length (now share) ≡ 3778) × (length (now window) ≡ 960) × (length (now sums) ≡ 22) ⌝ }
     ensures { λ r. ⌜ Worked (analysed (now (share .entry)) way (now (window .entry)) (length (now (sums .entry))))
@@ -20,7 +20,7 @@ fn analyse(share: &mut [f32], way: Way, window: &mut [f32], sums: &mut [f32]) ->
     frame::call2(share, &spectrum, lag, window, sums)
 }
 
-// 480 samples in, 22 sums written, for the logarithms of the second half.
+// The first half. Takes 480 samples and writes 22 sums, whose logarithms the second half needs.
 pub fn first_half(share: &mut [f32], way: Way, samples: &[f32], sums: &mut [f32]) -> Reply
     ensures { λ r. ⌜ Worked (firstHalf (now (share .entry)) way (now (samples .entry)) (length (now (sums .entry))))
         r (now (share .exit)) (now (sums .entry) ∷ []) (now (sums .exit) ∷ []) ⌝ }

@@ -1,4 +1,5 @@
-// The second half of a frame: call 3 with the spectrum of the window that call 2 gave, and call 4 with the inverse of what call 3 wrote.
+// The second half of a frame: call 3 with the spectrum of the window that call 2 gave, and call 4 with the inverse of
+// what call 3 wrote.
 ghost use mathlib.Core.List.{[], _∷_};
 ghost use mathlib.Core.Path.{_≡_};
 ghost use lib.ListN.{length};
@@ -11,7 +12,7 @@ use frame::PART;
 use frame::Reply;
 use frame::Way;
 
-// The spectrum of the window that call 2 gave, for the lag that stands in the share.
+// The spectrum of the window that call 2 gave, for the lag that the share keeps.
 fn look_back(spectrum: &mut [f32], share: &[f32], way: Way)
     requires { ⌜ (length (now spectrum) ≡ 961) × (length (now share) ≡ 3778) ⌝ }
     ensures { λ _. ⌜ now (spectrum .exit) ≡ forwardBy way (lookedBack (now (share .entry))) ⌝ }
@@ -26,7 +27,8 @@ fn look_back(spectrum: &mut [f32], share: &[f32], way: Way)
 // Call 4 with the inverse of what call 3 wrote.
 fn synthesise(share: &mut [f32], way: Way, spectrum: &[f32], out: &mut [f32]) -> Reply
     requires { ⌜ length (now spectrum) ≡ 961 ⌝ }
-    ensures { λ r. ⌜ Worked (call4 (now (share .entry)) (inverseBy way (now (spectrum .entry))) (length (now (out .entry))))
+    ensures { λ r. ⌜ Worked (call4 (now (share .entry)) (inverseBy way (now (spectrum .entry)))
+        (length (now (out .entry))))
         r (now (share .exit)) (now (out .entry) ∷ []) (now (out .exit) ∷ []) ⌝ }
 {
     let mut samples = [0.0f32; 960];
@@ -34,7 +36,8 @@ fn synthesise(share: &mut [f32], way: Way, spectrum: &[f32], out: &mut [f32]) ->
     frame::call4(share, &samples, out)
 }
 
-// 22 logarithms and the model in, 480 samples written; silent, or heard with voice and energy.
+// The second half. Takes 22 logarithms and the model, and writes 480 samples. The frame is silent, or heard
+// with voice and energy.
 pub fn second_half(
     share: &mut [f32],
     hearing: Hearing,

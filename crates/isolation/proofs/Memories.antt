@@ -1,5 +1,6 @@
 -- What a bench remembers, over any run: what specs/Memory.antt claims. Assumes nothing.
-use Rattle.rules.proofs.Common.{ℕ, _<_, Bool, true, false, cond, false≢true, List, [], _∷_, _≡_, refl, sym, ap, _∙_, eqb, length, Float, nan}
+use Rattle.rules.proofs.Common.{ℕ, _<_, Bool, true, false, cond, false≢true, List, [], _∷_, _≡_, refl, sym, ap, _∙_}
+use Rattle.rules.proofs.Common.{eqb, length, Float, nan}
 use native.Mathlib.Omega.{arith}
 use mathlib.Core.Logic.{⊎-elim}
 use borrow.Author.Tests.{eqb-true}
@@ -18,9 +19,11 @@ use Rattle.memory.proofs.Calls.{Remembers, remembers, either}
 use Rattle.memory.proofs.Gains.{held-gains}
 use Rattle.isolation.specs.Run.{Kind, On, State, recordAt, after, ended, desks, Made, expand, Expands}
 use Rattle.isolation.specs.Numbering.{replied, callsIn}
-use Rattle.isolation.specs.Memory.{recalled, SilentLeaves, MadeOfHeard, Since, Faded, NeverNan, HeardHolds, Counts, itself, DeskCounts, ExpandedCounts}
+use Rattle.isolation.specs.Memory.{recalled, SilentLeaves, MadeOfHeard, Since, Faded, NeverNan, HeardHolds}
+use Rattle.isolation.specs.Memory.{Counts, itself, DeskCounts, ExpandedCounts}
 use Rattle.isolation.proofs.Runs.{expanding}
-use Rattle.isolation.proofs.Moved.{share, Whole, fits, kept-whole, lone, replies, kept-then, keptAt, calls, own-calls, own-moves, other-moves, run, fresh}
+use Rattle.isolation.proofs.Moved.{share, Whole, fits, kept-whole, lone, replies, kept-then, keptAt, calls}
+use Rattle.isolation.proofs.Moved.{own-calls, own-moves, other-moves, run, fresh}
 use Rattle.isolation.proofs.Numberings.{numbering}
 
 -- no frame
@@ -51,26 +54,34 @@ module _ (n s : ℕ) (inside : s < n) where
   numbers-after : (st : State) → Whole n s inside st → (c : On Ask) → Numbers st → Numbers (after desks n st c)
   numbers-after st l c numbers i band = go (eqb (c .side) s) refl
     where
-      hears : keptAt n s inside (after desks n st c) ≡ kept (keptAt n s inside st) (calls n s inside st c) → isNan (at (recalled s (after desks n st c) .gains) i) ≡ false
-      hears m = rw (gains (recalled-behind st (calls n s inside st c) m)) (held-gains i band (brought _ (calls n s inside st c)) (recalled s st) (numbers i band) .0)
+      hears : keptAt n s inside (after desks n st c) ≡ kept (keptAt n s inside st) (calls n s inside st c)
+          → isNan (at (recalled s (after desks n st c) .gains) i) ≡ false
+      hears m =
+          rw (gains (recalled-behind st (calls n s inside st c) m))
+          (held-gains i band (brought _ (calls n s inside st c)) (recalled s st) (numbers i band) .0)
 
       go : (t : Bool) → eqb (c .side) s ≡ t → isNan (at (recalled s (after desks n st c) .gains) i) ≡ false
       go true f =
           let e = eqb-true (c .side) s f in
-          ⊎-elim (λ o. rw (gains (ap (λ (k : Kept). k .recalled) (kept-then n s inside st l c e ∙ o .forgets))) (blank-number i band)) (λ r. hears (own-moves n s inside st l c e r))
+          ⊎-elim (λ o. rw (gains (ap (λ (k : Kept). k .recalled) (kept-then n s inside st l c e ∙ o .forgets)))
+          (blank-number i band)) (λ r. hears (own-moves n s inside st l c e r))
           (either (recordAt s st) (share n s inside st) (fits n s inside st l) (c .call))
       go false f = hears (other-moves n s inside st l c f)
 
-  numbers-run : (cs : List (On Ask)) (st : State) → Whole n s inside st → Numbers st → Numbers (ended desks n st cs) × Whole n s inside (ended desks n st cs)
+  numbers-run : (cs : List (On Ask)) (st : State) → Whole n s inside st → Numbers st
+      → Numbers (ended desks n st cs) × Whole n s inside (ended desks n st cs)
   unfolding ended
   numbers-run [] st l numbers = (numbers, l)
-  numbers-run (c ∷ cs) st l numbers = numbers-run cs (after desks n st c) (kept-whole n s inside st l c) (numbers-after st l c numbers)
+  numbers-run (c ∷ cs) st l numbers =
+      numbers-run cs (after desks n st c) (kept-whole n s inside st l c) (numbers-after st l c numbers)
 
-  since : {C : Type 0} (serve : Kind C) (asksOf : Made C) → Expands serve asksOf n → (st : State) → Since serve asksOf n s st → Numbers st × Whole n s inside st
+  since : {C : Type 0} (serve : Kind C) (asksOf : Made C) → Expands serve asksOf n → (st : State)
+      → Since serve asksOf n s st → Numbers st × Whole n s inside st
   since serve asksOf expanded st h =
       let f = fresh n s inside (h .start) (h .opened) in
       rw (← h .led, expanded (h .start) (h .calls))
-      (numbers-run (expand serve asksOf n (h .start) (h .calls)) (h .start) (f .1) (λ i band. rw (gains (ap (λ (k : Kept). k .recalled) (f .0))) (blank-number i band)))
+      (numbers-run (expand serve asksOf n (h .start) (h .calls)) (h .start) (f .1)
+      (λ i band. rw (gains (ap (λ (k : Kept). k .recalled) (f .0))) (blank-number i band)))
 
 -- ---- what is claimed
 
@@ -87,7 +98,8 @@ module _ (n s : ℕ) (inside : s < n) (st : State) (l : Whole n s inside st) (c 
   frames : List HeardFrame
   frames = brought (notedIn (share n s inside st)) (calls n s inside st c)
 
-  count : Remembers (recordAt s st) (share n s inside st) (c .call) (lone n s inside st l c e) → length frames ≡ cond (isHeard (replied n st c)) 1 0
+  count : Remembers (recordAt s st) (share n s inside st) (c .call) (lone n s inside st l c e)
+      → length frames ≡ cond (isHeard (replied n st c)) 1 0
   unfolding frames
   count r = rw (own-calls n s inside st l c e, replies n s inside st l c e) (r .counts _)
 
@@ -130,7 +142,8 @@ module _ {C : Type 0} (serve : Kind C) (asksOf : Made C) (n : ℕ) (expanded : E
       ap isHeard (sym (replies n s inside st (k .1) c e) ∙ r) in
       ⊎-elim (λ o. absurd (false≢true (sym (o .unheard) ∙ told)))
       (λ t.
-      let single : length (frames n s inside st (k .1) c e) ≡ 1 = count n s inside st (k .1) c e t ∙ rw (ap isHeard r) in
+      let single : length (frames n s inside st (k .1) c e) ≡ 1 =
+      count n s inside st (k .1) c e t ∙ rw (ap isHeard r) in
       rw (gains (recalled-behind n s inside st (calls n s inside st c) (own-moves n s inside st (k .1) c e t)))
       (rw single at (held-gains i band (frames n s inside st (k .1) c e) (recalled s st) (k .0 i band) .1)))
       (either (recordAt s st) (share n s inside st) (fits n s inside st (k .1)) (c .call))

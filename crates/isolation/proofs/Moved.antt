@@ -3,7 +3,8 @@
 --     run      so does a run
 --     fresh    an opening that is done leaves nothing of it
 -- Assumes nothing.
-use Rattle.rules.proofs.Common.{ℕ, _*_, _<_, Bool, true, false, cond, List, [], _∷_, _≡_, refl, sym, ap, ap₂, _∙_, eqb, length, Float}
+use Rattle.rules.proofs.Common.{ℕ, _*_, _<_, Bool, true, false, cond, List, [], _∷_, _≡_, refl, sym, ap, ap₂, _∙_, eqb}
+use Rattle.rules.proofs.Common.{length, Float}
 use native.Mathlib.Omega.{arith}
 use borrow.Author.Tests.{eq-eqb, eqb-true, eqb-false}
 use Rattle.rules.specs.Place.{get}
@@ -35,7 +36,8 @@ module _ (n s : ℕ) (inside : s < n) where
   fits st l = length-get (shareOf s) (st .store) (omega arith)
 
   pub kept-whole : (st : State) → Whole st → (c : On Ask) → Whole (after desks n st c)
-  kept-whole st l c = rw (store-after n st c) (same-length n (c .side) (recordAt (c .side) st) (st .store) (c .call) l ∙ l)
+  kept-whole st l c =
+      rw (store-after n st c) (same-length n (c .side) (recordAt (c .side) st) (st .store) (c .call) l ∙ l)
 
   -- ---- one call
 
@@ -56,7 +58,8 @@ module _ (n s : ℕ) (inside : s < n) where
     recorded : recordAt s (after desks n st c) ≡ lone .answer .rec
     recorded = rw (record-after n s st c, eq-eqb (c .side) s e) (ap (λ (a : Answer). a .rec) answers)
 
-    pub kept-then : keptIn (recordAt s (after desks n st c)) (share (after desks n st c)) ≡ keptIn (lone .answer .rec) (lone .kept)
+    pub kept-then : keptIn (recordAt s (after desks n st c)) (share (after desks n st c))
+        ≡ keptIn (lone .answer .rec) (lone .kept)
     kept-then = ap₂ keptIn recorded own
 
   -- what side s keeps, and the calls of its frame that a call on any side is made of
@@ -67,22 +70,26 @@ module _ (n s : ℕ) (inside : s < n) where
   calls st c = cond (eqb (c .side) s) (callsDone (recordAt s st) (share st) (c .call) (replied n st c)) []
 
   module _ (st : State) (l : Whole st) (c : On Ask) where
-    pub own-calls : (e : c .side ≡ s) → calls st c ≡ callsDone (recordAt s st) (share st) (c .call) (lone st l c e .answer .reply)
+    pub own-calls : (e : c .side ≡ s)
+        → calls st c ≡ callsDone (recordAt s st) (share st) (c .call) (lone st l c e .answer .reply)
     own-calls e = rw (eq-eqb (c .side) s e, replies st l c e)
 
-    pub own-moves : (e : c .side ≡ s) → Remembers (recordAt s st) (share st) (c .call) (lone st l c e) → keptAt (after desks n st c) ≡ kept (keptAt st) (calls st c)
+    pub own-moves : (e : c .side ≡ s) → Remembers (recordAt s st) (share st) (c .call) (lone st l c e)
+        → keptAt (after desks n st c) ≡ kept (keptAt st) (calls st c)
     own-moves e r = kept-then st l c e ∙ r .keeps ∙ ap (kept (keptAt st)) (sym (own-calls e))
 
     pub other-moves : eqb (c .side) s ≡ false → keptAt (after desks n st c) ≡ kept (keptAt st) (calls st c)
     unfolding kept
     other-moves f =
         let same : share (after desks n st c) ≡ share st =
-        rw (store-after n st c) (other-share n (c .side) (recordAt (c .side) st) (st .store) (c .call) l s (eqb-false (c .side) s f)) in
+        rw (store-after n st c) (other-share n (c .side) (recordAt (c .side) st) (st .store) (c .call) l s
+        (eqb-false (c .side) s f)) in
         let rec : recordAt s (after desks n st c) ≡ recordAt s st = rw (record-after n s st c, f) in
         let none : calls st c ≡ [] = rw f in
         ap₂ keptIn rec same ∙ ap (kept (keptAt st)) (sym none)
 
-    pub one : (c .side ≡ s → callOf (c .call) ≡ 0 → passed (replied n st c) ≡ false) → keptAt (after desks n st c) ≡ kept (keptAt st) (calls st c)
+    pub one : (c .side ≡ s → callOf (c .call) ≡ 0 → passed (replied n st c) ≡ false)
+        → keptAt (after desks n st c) ≡ kept (keptAt st) (calls st c)
     one shut = go (eqb (c .side) s) refl
       where
         go : (t : Bool) → eqb (c .side) s ≡ t → keptAt (after desks n st c) ≡ kept (keptAt st) (calls st c)
@@ -93,7 +100,8 @@ module _ (n s : ℕ) (inside : s < n) where
 
   -- ---- any run
 
-  pub run : (cs : List (On Ask)) (st : State) → Whole st → Unopened n s st cs → keptAt (ended desks n st cs) ≡ kept (keptAt st) (callsIn n s st cs)
+  pub run : (cs : List (On Ask)) (st : State) → Whole st → Unopened n s st cs
+      → keptAt (ended desks n st cs) ≡ kept (keptAt st) (callsIn n s st cs)
   unfolding ended callsIn Unopened kept
   run [] st l u = refl
   run (c ∷ cs) st l u =
@@ -106,5 +114,6 @@ module _ (n s : ℕ) (inside : s < n) where
   fresh st k =
       let was = k .before in
       let c = openingOf s (k .way) (k .model) in
-      let o = opens (recordAt s was) (share was) (fits was (k .sized)) (k .way) (k .model) (ap passed (sym (replies was (k .sized) c refl)) ∙ k .opens) in
+      let o = opens (recordAt s was) (share was) (fits was (k .sized)) (k .way) (k .model)
+      (ap passed (sym (replies was (k .sized) c refl)) ∙ k .opens) in
       rw (← k .now) (kept-then was (k .sized) c refl ∙ o .forgets, kept-whole was (k .sized) c)

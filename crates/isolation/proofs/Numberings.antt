@@ -21,7 +21,8 @@ next a n e = go (ltb n 4294967295) refl
     go true h = let below = ltb-true n 4294967295 h in omega arith
     go false h = let above = ltb-false n 4294967295 h in omega arith
 
-kept-frame : (k : Kept) (cs : List FrameCall) (a : ℕ) → k .frame ≡ a % 4294967296 → kept k cs .frame ≡ (a + framesEnded cs) % 4294967296
+kept-frame : (k : Kept) (cs : List FrameCall) (a : ℕ) → k .frame ≡ a % 4294967296
+    → kept k cs .frame ≡ (a + framesEnded cs) % 4294967296
 unfolding kept framesEnded
 kept-frame k [] a e = e ∙ omega arith
 kept-frame k (one ∷ cs) a e = kept-frame k cs a e
@@ -30,7 +31,8 @@ kept-frame k (three true x logs m ∷ cs) a e = kept-frame _ cs a e
 kept-frame k (three false x logs m ∷ cs) a e = kept-frame k cs a e
 kept-frame k (four ∷ cs) a e = kept-frame _ cs (a + 1) (next a (k .frame) e) ∙ omega arith
 
-kept-heard : (k : Kept) (n : Noted) (cs : List FrameCall) (a : ℕ) → k .heard ≡ a % 4294967296 → kept k cs .heard ≡ (a + length (brought n cs)) % 4294967296
+kept-heard : (k : Kept) (n : Noted) (cs : List FrameCall) (a : ℕ) → k .heard ≡ a % 4294967296
+    → kept k cs .heard ≡ (a + length (brought n cs)) % 4294967296
 unfolding kept brought
 kept-heard k n [] a e = e ∙ omega arith
 kept-heard k n (one ∷ cs) a e = kept-heard k n cs a e
@@ -39,7 +41,8 @@ kept-heard k n (three true x logs m ∷ cs) a e = kept-heard _ n cs (a + 1) (nex
 kept-heard k n (three false x logs m ∷ cs) a e = kept-heard k n cs a e
 kept-heard k n (four ∷ cs) a e = kept-heard _ n cs a e
 
-pub numbering : {C : Type 0} (serve : Kind C) (asksOf : Made C) (n : ℕ) (expanded : Expands serve asksOf n) → Numbering serve asksOf n
+pub numbering : {C : Type 0} (serve : Kind C) (asksOf : Made C) (n : ℕ) (expanded : Expands serve asksOf n)
+    → Numbering serve asksOf n
 numbering serve asksOf n expanded s inside st o calls u =
     let asks = expand serve asksOf n st calls in
     let cs = callsIn n s st asks in

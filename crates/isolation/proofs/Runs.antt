@@ -8,7 +8,7 @@ use Rattle.rules.proofs.Common.{ℕ, Bool, true, false, cond, List, [], _∷_, 
 use borrow.Author.Tests.{eq-eqb, eqb-true}
 use Rattle.frame.specs.Reply.{passed}
 use Rattle.frame.specs.declared.Way.{Way}
-use Rattle.frame.specs.declared.Way.the-variants.{Asked, Crate}
+use Rattle.frame.specs.declared.Way.the-variants.{Own, Nnnoiseless}
 use Rattle.desk.specs.declared.Answer.{Answer}
 use Rattle.desk.specs.declared.Record.{Record}
 use Rattle.desk.specs.Desk.{Ask, desk}
@@ -26,8 +26,8 @@ joined serve n (c ∷ first) rest st = joined serve n first rest (after serve n 
 -- ---- the desk's calls
 
 pub way-back : (w : Way) → (leb (wayNumber w) 1 ≡ true) × (wayIn (wayNumber w) ≡ w)
-way-back Asked = (refl, refl)
-way-back Crate = (refl, refl)
+way-back Own = (refl, refl)
+way-back Nnnoiseless = (refl, refl)
 
 pub reads : (s : ℕ) (b : Record) → recordIn s (numbersOf s b) ≡ b
 unfolding recordIn
@@ -37,7 +37,8 @@ reads s b =
     rw (k .0, eq-eqb number number refl, k .1)
 
 -- the record that is handed back, where a refusal leaves it
-handed : (s : ℕ) (ns : List ℕ) (a : Answer) → (passed (a .reply) ≡ false → a .rec ≡ recordIn s ns) → recordIn s (handedBack s a ns) ≡ a .rec
+handed : (s : ℕ) (ns : List ℕ) (a : Answer) → (passed (a .reply) ≡ false → a .rec ≡ recordIn s ns)
+    → recordIn s (handedBack s a ns) ≡ a .rec
 unfolding recordIn
 handed s ns a keeps = go (passed (a .reply)) refl
   where
@@ -46,7 +47,9 @@ handed s ns a keeps = go (passed (a .reply)) refl
     go false p = sym (keeps p)
 
 pub record-after : (n s : ℕ) (st : State) (c : On Ask)
-    → recordAt s (after desks n st c) ≡ cond (eqb (c .side) s) (desk n (c .side) (recordAt (c .side) st) (st .store) (c .call) .answer .rec) (recordAt s st)
+    → recordAt s (after desks n st c)
+    ≡ cond (eqb (c .side) s) (desk n (c .side) (recordAt (c .side) st) (st .store) (c .call) .answer .rec)
+    (recordAt s st)
 unfolding hosted
 record-after n s st c = go (eqb (c .side) s) refl
   where
@@ -59,11 +62,13 @@ record-after n s st c = go (eqb (c .side) s) refl
     own : recordIn (c .side) (handedBack (c .side) a ns) ≡ a .rec
     own = handed (c .side) ns a (λ p. refused-keeps n (c .side) (recordIn (c .side) ns) (st .store) (c .call) p .0)
 
-    go : (t : Bool) → eqb (c .side) s ≡ t → recordIn s (cond t (handedBack (c .side) a ns) (st .numbers s)) ≡ cond t (a .rec) (recordAt s st)
+    go : (t : Bool) → eqb (c .side) s ≡ t
+        → recordIn s (cond t (handedBack (c .side) a ns) (st .numbers s)) ≡ cond t (a .rec) (recordAt s st)
     go true e = ap (λ (k : ℕ). recordIn k (handedBack (c .side) a ns)) (sym (eqb-true (c .side) s e)) ∙ own
     go false e = refl
 
-pub store-after : (n : ℕ) (st : State) (c : On Ask) → after desks n st c .store ≡ desk n (c .side) (recordAt (c .side) st) (st .store) (c .call) .kept
+pub store-after : (n : ℕ) (st : State) (c : On Ask)
+    → after desks n st c .store ≡ desk n (c .side) (recordAt (c .side) st) (st .store) (c .call) .kept
 unfolding hosted
 store-after n st c = refl
 
@@ -71,7 +76,8 @@ store-after n st c = refl
 
 module _ {C : Type 0} (serve : Kind C) (asksOf : Made C) (n : ℕ) where
   pub expanding : ((st : State) (side : ℕ) (c : C)
-      → after serve n st (on side c) ≡ ended desks n st (map (on side) (asksOf n side (recordAt side st) (st .store) c)))
+      → after serve n st (on side c)
+      ≡ ended desks n st (map (on side) (asksOf n side (recordAt side st) (st .store) c)))
       → Expands serve asksOf n
   unfolding ended expand
   expanding made st [] = refl

@@ -1,1 +1,2 @@
-// No code. specs/ has the law of isolation, over runs of calls of any kind, and what is claimed of runs of the desk's calls; proofs/ shows it.
+// This crate has no code. specs/ states that benches stay apart, and what holds for runs of the desk's calls; proofs/
+// proves it.

@@ -13,7 +13,8 @@ unfolding correlations pitchXcorr
 length-correlations low = length-tab 294 _
 
 pub pitch-small : (low : List Float) → firstPitch low < 294
-pitch-small low = rw length-correlations at (first-below (correlations low) low 480 (rw length-correlations (omega arith)))
+pitch-small low =
+    rw length-correlations at (first-below (correlations low) low 480 (rw length-correlations (omega arith)))
 
 pub in-range : InRange
 unfolding ownLag
@@ -27,5 +28,6 @@ pub none-positive : OfNone
 unfolding ownLag
 none-positive mem none =
     let low = downsampled mem in
-    let first : firstPitch low ≡ 0 = first-none (correlations low) low 480 (λ i h. none i (rw length-correlations at h)) in
+    let first : firstPitch low ≡ 0 =
+    first-none (correlations low) low 480 (λ i h. none i (rw length-correlations at h)) in
     rw first

@@ -1,18 +1,19 @@
--- What is claimed of our own lag, for any numbers. The proofs are in proofs/Ranges.
+-- What is claimed of the lag that a bench finds by itself, whatever numbers it is given. The proofs are in
+-- proofs/Ranges.
 use Rattle.rules.specs.Common.{ℕ, _%_, _≤_, _<_, false, List, _≡_, Float, lt}
 use Rattle.rules.specs.F32.{at, f32}
 use Rattle.pitch.specs.Downsample.{downsampled}
 use Rattle.lag.specs.Lag.{correlations, ownLag}
 
--- its range (request 04), so that call 2 takes it
+-- The lag is from 182 to 768 (request 04), so call 2 never refuses it.
 abbrev pub InRange : Type 0
 InRange = (mem : List Float) → (182 ≤ ownLag mem) × (ownLag mem ≤ 768)
 
--- It is an even number of samples, because the search goes over every second one.
+-- The lag is an even number of samples, because the search goes over every second one.
 abbrev pub LagIsEven : Type 0
 LagIsEven = (mem : List Float) → ownLag mem % 2 ≡ 0
 
--- 768 where no correlation is positive
+-- If no correlation is positive, the lag is 768.
 abbrev pub OfNone : Type 0
 OfNone =
     (mem : List Float)

@@ -1,16 +1,18 @@
-// Lists a model's layers on standard output, or says why the file is refused.
+// Lists the layers of a model on standard output, or reports why the file is refused.
 use libc::STDIN_FILENO;
 use libc::STDOUT_FILENO;
 
+// Prints a text.
 fn text(t: &[u8]) {
     io::write_all(STDOUT_FILENO, t);
 }
 
+// Prints a number.
 fn number(n: usize) {
     io::print_decimal(STDOUT_FILENO, n as u64);
 }
 
-// layer, inputs, neurons, activation, offset, length
+// Prints the line of a layer: layer, inputs, neurons, activation, offset, length.
 fn line(bytes: &[u8], layer: usize) {
     let row = model::line(bytes, layer);
     number(row[0]);
@@ -21,6 +23,7 @@ fn line(bytes: &[u8], layer: usize) {
     text(b"\n");
 }
 
+// Prints the size of a model and its six layers.
 fn good(bytes: &[u8]) {
     text(b"model ");
     number(bytes.len());
@@ -31,6 +34,7 @@ fn good(bytes: &[u8]) {
     text(b"end\n");
 }
 
+// Prints a refusal and its layer.
 fn refused(refusal: usize, layer: usize) {
     text(b"refused ");
     number(refusal);
@@ -39,6 +43,7 @@ fn refused(refusal: usize, layer: usize) {
     text(b"\n");
 }
 
+// Lists the model in these bytes.
 pub fn list(bytes: &[u8]) {
     match model::read(bytes) {
         model::Reading::Good(_) => good(bytes),
@@ -46,7 +51,7 @@ pub fn list(bytes: &[u8]) {
     }
 }
 
-// The model on standard input, of at most 65,536 bytes; it may arrive in pieces.
+// Lists the model on standard input, of at most 65,536 bytes. It may arrive in pieces.
 pub fn list_input() {
     let mut space = [0u8; 65537];
     let n = io::read_full(STDIN_FILENO, &mut space);

@@ -1,7 +1,10 @@
--- What the constants' rule is for: m * centre - 1 and e * two_high + high lose nothing, whichever f32 above zero x is. Assumes nothing.
-use Rattle.rules.proofs.Common.{ℕ, zero, suc, _+_, _-_, _*_, _/_, _%_, _^_, _≤_, _<_, Bool, true, false, _≡_, refl, sym, ap, subst, _∙_, T, pos}
+-- What the constants' rule is for: m * centre - 1 and e * two_high + high lose nothing, whichever f32 above zero x is.
+-- Assumes nothing.
+use Rattle.rules.proofs.Common.{ℕ, zero, suc, _+_, _-_, _*_, _/_, _%_, _^_, _≤_, _<_, Bool, true, false, _≡_, refl, sym}
+use Rattle.rules.proofs.Common.{ap, subst, _∙_, T, pos}
 use Rattle.rules.proofs.Common.{Float, binary32, binary64, nan, inf, fin, up, down}
-use native.Mathlib.Nat.{le-trans, lt-of-le-of-lt, lt-of-lt-of-le, mul-le-mul, mul-assoc, mul-right-comm, mul-div-cancel, eq-of-mul-eq-mul-right}
+use native.Mathlib.Nat.{le-trans, lt-of-le-of-lt, lt-of-lt-of-le, mul-le-mul, mul-assoc, mul-right-comm, mul-div-cancel}
+use native.Mathlib.Nat.{eq-of-mul-eq-mul-right}
 use native.Mathlib.Omega.{arith}
 use lib.Dec.{lit<, lit≤}
 use lib.IntN.{ℤ, natAbs, _-ℤ_, _*ℤ_}
@@ -43,7 +46,8 @@ rescaled (inf t) s w l n d p h v = v
 rescaled (fin t m e) s w l n d p h v = (
   v .0,
   eq-of-mul-eq-mul-right l p (m * up e * d) (n * down e)
-      (mul-right-comm (m * up e) d l ∙ ap (λ (k : ℕ). k * d) (v .1) ∙ mul-right-comm w (down e) d ∙ ap (λ (k : ℕ). k * down e) (sym h) ∙ mul-right-comm n l (down e)),
+      (mul-right-comm (m * up e) d l ∙ ap (λ (k : ℕ). k * d) (v .1) ∙ mul-right-comm w (down e) d
+      ∙ ap (λ (k : ℕ). k * down e) (sym h) ∙ mul-right-comm n l (down e)),
 )
 
 module _ (bits : ℕ) (short : bits % 2 ^ 29 ≡ 0) where
@@ -53,9 +57,12 @@ module _ (bits : ℕ) (short : bits % 2 ^ 29 ≡ 0) where
       let all : 2 ^ 52 + d ≡ digitsOf bits * 2 ^ 29 = omega arith in
       let joined : 0 + (1022 * 2 ^ 52 + (2 ^ 52 + d)) ≡ 0x3FF0000000000000 + d = omega arith in
       rescaled (mantissaOf bits) false ((2 ^ 52 + d) * 2 ^ 1022) (2 ^ 1074) (digitsOf bits) (2 ^ 23) (pow-pos 1074)
-      (sym (ap (λ (k : ℕ). k * 2 ^ 1022 * 2 ^ 23) all ∙ ap (λ (k : ℕ). k * 2 ^ 23) (mul-assoc (digitsOf bits) (2 ^ 29) (2 ^ 1022)) ∙ mul-assoc (digitsOf bits) (2 ^ 29 * 2 ^ 1022) (2 ^ 23)))
+      (sym (ap (λ (k : ℕ). k * 2 ^ 1022 * 2 ^ 23) all
+      ∙ ap (λ (k : ℕ). k * 2 ^ 23) (mul-assoc (digitsOf bits) (2 ^ 29) (2 ^ 1022))
+      ∙ mul-assoc (digitsOf bits) (2 ^ 29 * 2 ^ 1022) (2 ^ 23)))
       (subst (λ (k : ℕ). HasValue (ofBits binary64 k) false ((2 ^ 52 + d) * 2 ^ 1022) (2 ^ 1074)) joined
-      (pattern-value binary64 false (2 ^ 52 + d) 1022 (omega arith, λ K. omega arith) (lt-of-lt-of-le (shl-lt 53 1022 (omega arith)) (pow-mono {i = 53 + 1022} {j = 2098} (lit≤ tt)))))
+      (pattern-value binary64 false (2 ^ 52 + d) 1022 (omega arith, λ K. omega arith)
+      (lt-of-lt-of-le (shl-lt 53 1022 (omega arith)) (pow-mono {i = 53 + 1022} {j = 2098} (lit≤ tt)))))
 
   pub rest-exact : RestExact bits
   unfolding offCentre
@@ -66,9 +73,11 @@ module _ (bits : ℕ) (short : bits % 2 ^ 29 ≡ 0) where
       let n = wholes 20 (rowAt i .centre) in
       let m-lt : m ≤ 2 ^ 24 = omega arith in
       let small : m * n ≤ 2 ^ 24 * 2 ^ 20 = mul-le-mul m-lt (c .to) in
-      difference-exact (mantissaOf bits *₆₄ rowAt i .centre) (f64 0x3FF0000000000000) (pos (m * n)) (2 ^ 43) 43 (lit< tt)
+      difference-exact (mantissaOf bits *₆₄ rowAt i .centre) (f64 0x3FF0000000000000) (pos (m * n)) (2 ^ 43) 43
+      (lit< tt)
       (lt-of-le-of-lt (abs-difference (pos (m * n)) (2 ^ 43)) (omega arith)) (lit≤ tt)
-      (product-exact (mantissaOf bits) (rowAt i .centre) (pos m) n 23 20 (omega (arith, c .from)) (omega arith) (lit≤ tt) mantissa-exact (c .value))
+      (product-exact (mantissaOf bits) (rowAt i .centre) (pos m) n 23 20 (omega (arith, c .from)) (omega arith)
+      (lit≤ tt) mantissa-exact (c .value))
       one-exact
 
 -- ---- e
@@ -80,7 +89,8 @@ module _ (bits : ℕ) (wide : bits < 2 ^ 64) where
   exponent-exact : Exactly (exponentOf bits) (pos (bits / 2 ^ 52) -ℤ pos 1023) (2 ^ 0)
   exponent-exact =
       let k = bits / 2 ^ 52 in
-      difference-exact (ofInt binary64 (pos k)) (f64 0x408FF80000000000) (pos k) 1023 0 (lit< tt) (lt-of-le-of-lt (abs-difference (pos k) 1023) (omega arith)) (lit≤ tt) field-exact bias-exact
+      difference-exact (ofInt binary64 (pos k)) (f64 0x408FF80000000000) (pos k) 1023 0 (lit< tt)
+      (lt-of-le-of-lt (abs-difference (pos k) 1023) (omega arith)) (lit≤ tt) field-exact bias-exact
 
   pub high-exact : HighExact bits
   unfolding highOf
@@ -92,8 +102,10 @@ module _ (bits : ℕ) (wide : bits < 2 ^ 64) where
       let e-le : natAbs z ≤ 2 ^ 13 = le-trans (abs-difference (pos (bits / 2 ^ 52)) 1023) (omega arith) in
       let small : natAbs z * two ≤ 2 ^ 13 * 2 ^ 39 = mul-le-mul e-le (two-rule .to) in
       sum-exact (exponentOf bits *₆₄ twoHigh) (rowAt i .high) (z *ℤ pos two) (pos (wholes 40 (rowAt i .high))) 40
-      (lt-of-le-of-lt (abs-sum (z *ℤ pos two) (pos (wholes 40 (rowAt i .high)))) (omega (arith, abs-product z two, h .to))) (lit≤ tt)
-      (product-exact (exponentOf bits) twoHigh z two 0 40 (two-rule .from) (omega arith) (lit≤ tt) exponent-exact (two-rule .value))
+      (lt-of-le-of-lt (abs-sum (z *ℤ pos two) (pos (wholes 40 (rowAt i .high))))
+      (omega (arith, abs-product z two, h .to))) (lit≤ tt)
+      (product-exact (exponentOf bits) twoHigh z two 0 40 (two-rule .from) (omega arith) (lit≤ tt) exponent-exact
+      (two-rule .value))
       (h .value)
 
 -- ---- the bits of an f32 above zero, as an f64: the last 29 are zeros
@@ -133,8 +145,10 @@ zeros-behind (fin false (suc m) e) held above =
     let n = suc m * up e * 2 ^ 1074 / down e in
     let k = size n - 53 in
     let is : n ≡ suc m * 2 ^ j = units (suc m) (up e) (down e) (at .0) (down-pos e) (at .1) in
-    let few : size n ≤ 24 + j = size-le n (24 + j) (subst (λ (x : ℕ). x < 2 ^ (24 + j)) (sym is) (shl-lt 24 j (says .0))) in
-    ends-in-zeros k (n / 2 ^ k) (suc m * 2 ^ (j - k - 29)) (ap (λ (x : ℕ). x / 2 ^ k) is ∙ shorter (suc m) k j (omega arith))
+    let few : size n ≤ 24 + j =
+    size-le n (24 + j) (subst (λ (x : ℕ). x < 2 ^ (24 + j)) (sym is) (shl-lt 24 j (says .0))) in
+    ends-in-zeros k (n / 2 ^ k) (suc m * 2 ^ (j - k - 29))
+    (ap (λ (x : ℕ). x / 2 ^ k) is ∙ shorter (suc m) k j (omega arith))
 
 exact : (x : Float) → T (fits binary32 x) → T (positive x) → Exact x
 exact x held above =

@@ -1,5 +1,7 @@
--- The last step by its cases: t stays where it is a NaN, off every midpoint of two f32, or lost nothing; else it moves by one bit, and stays a number. Assumes nothing.
-use Rattle.rules.proofs.Common.{ℕ, _+_, _-_, _*_, _%_, _^_, _≤_, _<_, Bool, true, false, cond, not, _&&_, _≡_, refl, eqb, T, Float, binary64, nan, lt}
+-- The last step by its cases: t stays where it is a NaN, off every midpoint of two f32, or lost nothing; else it moves
+-- by one bit, and stays a number. Assumes nothing.
+use Rattle.rules.proofs.Common.{ℕ, _+_, _-_, _*_, _%_, _^_, _≤_, _<_, Bool, true, false, cond, not, _&&_, _≡_, refl}
+use Rattle.rules.proofs.Common.{eqb, T, Float, binary64, nan, lt}
 use Rattle.rules.proofs.Common.{isNan}
 use mathlib.Core.Bool.{Bool·beq}
 use native.Mathlib.Omega.{arith}
@@ -30,7 +32,8 @@ module _ (t z : Float) where
       go x true = refl
       go x false = refl
 
-  pub moved : (s : Bool) → bits % 2 ^ 29 ≡ 2 ^ 28 → eq z (f64 0) ≡ false → Bool·beq (lt (f64 0) z) (lt (f64 0) t) ≡ s → nudged t z ≡ f64 (cond s (bits + 1) (bits - 1))
+  pub moved : (s : Bool) → bits % 2 ^ 29 ≡ 2 ^ 28 → eq z (f64 0) ≡ false → Bool·beq (lt (f64 0) z) (lt (f64 0) t) ≡ s
+      → nudged t z ≡ f64 (cond s (bits + 1) (bits - 1))
   unfolding nudged ne
   moved s middle lost way = rw (eq-eqb (bits % 2 ^ 29) (2 ^ 28) middle, lost, way)
 

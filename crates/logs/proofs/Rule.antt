@@ -1,5 +1,7 @@
--- The constants' rule: tests that antt computes once over the whole table, and what they say of each row. Assumes nothing.
-use Rattle.rules.proofs.Common.{ℕ, _+_, _*_, _/_, _%_, _^_, _<_, Bool, true, false, _&&_, refl, sym, ap, _∙_, eqb, leb, T, Float, nan, inf, fin, up}
+-- The constants' rule: tests that antt computes once over the whole table, and what they say of each row.
+-- Assumes nothing.
+use Rattle.rules.proofs.Common.{ℕ, _+_, _*_, _/_, _%_, _^_, _<_, Bool, true, false, _&&_, refl, sym, ap, _∙_, eqb, leb}
+use Rattle.rules.proofs.Common.{T, Float, nan, inf, fin, up}
 use Rattle.rules.proofs.Common.{down}
 use native.Mathlib.Nat.{div-add-mod', add-zero}
 use lib.Dec.{leb→le, eqb→eq}
@@ -26,7 +28,11 @@ passed p least most (fin false m e) t =
     let none = eqb→eq (n % down e) 0 (and-l (eqb (n % down e) 0) _ t) in
     let ends = and-r (eqb (n % down e) 0) (leb least (n / down e) && leb (n / down e) most) t in
     record {
-      value = (refl, sym (ap (λ (k : ℕ). n / down e * down e + k) (sym none) ∙ div-add-mod' n (down e)) ∙ add-zero (n / down e * down e));
+      value = (
+        refl,
+        sym (ap (λ (k : ℕ). n / down e * down e + k) (sym none) ∙ div-add-mod' n (down e))
+            ∙ add-zero (n / down e * down e),
+      );
       from = leb→le least (n / down e) (and-l (leb least (n / down e)) _ ends);
       to = leb→le (n / down e) most (and-r (leb least (n / down e)) (leb (n / down e) most) ends);
     }
@@ -34,7 +40,9 @@ passed p least most (fin false m e) t =
 pub rule : (i : ℕ) → i < 33 → Rule i
 unfolding rows rowBits ofBits
 rule i h = record {
-  centre = passed 20 (2 ^ 19) (2 ^ 20) (rowAt i .centre) (at-each 33 (λ k. grained 20 (2 ^ 19) (2 ^ 20) (rowAt k .centre)) tt i h);
+  centre =
+      passed 20 (2 ^ 19) (2 ^ 20) (rowAt i .centre)
+      (at-each 33 (λ k. grained 20 (2 ^ 19) (2 ^ 20) (rowAt k .centre)) tt i h);
   high = passed 40 0 (2 ^ 39) (rowAt i .high) (at-each 33 (λ k. grained 40 0 (2 ^ 39) (rowAt k .high)) tt i h);
 }
 

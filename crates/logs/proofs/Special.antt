@@ -1,5 +1,6 @@
 -- `log10Of` by what the tests `x > 0.0`, `x == 1.0 / 0.0` and `x == 0.0` tell. Assumes nothing.
-use Rattle.rules.proofs.Common.{zero, suc, Bool, true, false, true≢false, false≢true, _≡_, refl, T, Float, binary64, nan, inf, fin}
+use Rattle.rules.proofs.Common.{zero, suc, Bool, true, false, true≢false, false≢true, _≡_, refl, T, Float, binary64}
+use Rattle.rules.proofs.Common.{nan, inf, fin}
 use lib.Ieee.{toBits, eq}
 use lib.Ieee.Positive.{above}
 use Rattle.numbers.specs.Narrowed.{narrowed}
@@ -29,7 +30,8 @@ log-of-infinity (inf true) h = absurd (false≢true h)
 log-of-infinity (inf false) h = refl
 log-of-infinity (fin s m e) h = absurd (false≢true h)
 
-pub log-above : (x : Float) → T (above x) → eq x (inf false) ≡ false → narrowed (logOfBits (toBits binary64 x)) ≡ log10Of x
+pub log-above : (x : Float) → T (above x) → eq x (inf false) ≡ false
+    → narrowed (logOfBits (toBits binary64 x)) ≡ log10Of x
 unfolding eq log10Of
 log-above nan a h = absurd a
 log-above (inf true) a h = absurd a

@@ -1,6 +1,8 @@
-// Our own logarithm to base 10, the nearest f32 to the true one for every f32. x = 2^e * m, and 1 / m is near one of 33 centres, so that
+// Our own logarithm to base 10: the nearest f32 to the true logarithm, for every f32. With x = 2^e * m, and 1 / m near
+// one of 33 centres,
 //     log10(x) = e * log10(2) - log10(centre) + log10(1 + r),  r = m * centre - 1,
-// in plain f64. What the two large additions lose is kept and added, and the last step mends the one f32 at which rounding twice shows.
+// in plain f64. What the two large additions lose is kept and added at the end. The last step corrects the one f32 at
+// which rounding twice would show.
 ghost use mathlib.Core.Path.{_≡_};
 ghost use lib.ListN.{length};
 ghost use Rattle.rules.specs.Leaf.{Leaf, _leaving_};
@@ -9,12 +11,13 @@ ghost use Rattle.logs.specs.Log10.{series, lostOf, nudged, summed, logOf
 
 pub mod table;
 
-// Patterns of an f64: the weight of the exponent's field, and 1.0.
+// In the bits of an f64: 1 in the field of the exponent.
 const LEAD: u64 = 0x10_0000_0000_0000;
 
+// The bits of 1.0.
 const ONE: u64 = 0x3ff0_0000_0000_0000;
 
-// log10(1 + r) from r^2 on.
+// The series of log10(1 + r), from r^2 on.
 fn series_of(r: f64) -> f64
     ensures { λ y. ⌜ y ≡ series r ⌝ }
 {
@@ -22,7 +25,7 @@ fn series_of(r: f64) -> f64
     r * r * (table::SERIES_2 + r * (table::SERIES_3 + r * (table::SERIES_4 + r * rest)))
 }
 
-// What was lost in s = hi + p.
+// What rounding lost in s = hi + p.
 fn lost_of(hi: f64, p: f64, s: f64) -> f64
     ensures { λ y. ⌜ y ≡ lostOf hi p s ⌝ }
 {
@@ -30,7 +33,8 @@ fn lost_of(hi: f64, p: f64, s: f64) -> f64
     (hi - (s - back)) + (p - back)
 }
 
-// Where t = s + w lies on a midpoint of two f32, one bit towards what it lost. That is asked for there only. A NaN has no bits to read.
+// If t = s + w is half way between two f32, moves it by one bit towards what it lost, so that it is then rounded to the
+// right side. A NaN has no bits to read.
 fn nudge(t: f64, s: f64, w: f64) -> f64
     ensures { λ y. ⌜ y ≡ nudged t (w -₆₄ (t -₆₄ s)) ⌝ }
 {
@@ -61,7 +65,7 @@ fn sum_of(hi: f64, lo: f64, r: f64) -> f64
     nudge(s + w, s, w)
 }
 
-// The logarithm of what these are the bits of: a normal f64 above 0.
+// The logarithm of the number with these bits: a normal f64 above 0.
 fn log_of_bits(bits: u64) -> f64
     ensures { λ y. ⌜ y ≡ logOfBits bits ⌝ }
 {
@@ -74,7 +78,7 @@ fn log_of_bits(bits: u64) -> f64
     sum_of(hi, lo, m * row.centre - 1.0)
 }
 
-// The logarithm to base 10. Both zeros give minus infinity, and what is below zero a NaN.
+// The logarithm to base 10. Both zeros give minus infinity, and a number below zero gives a NaN.
 pub fn log10(x: f32) -> f32
     ensures { λ y. ⌜ y ≡ log10Of x ⌝ }
 {
@@ -87,7 +91,7 @@ pub fn log10(x: f32) -> f32
     if x == 0.0 { -1.0 / 0.0 } else { 0.0 / 0.0 }
 }
 
-// The logarithms of the 22 sums; 5 for another length of either.
+// The logarithms of the 22 sums. Refuses another length of either with 5.
 pub fn logs(out: &mut [f32], sums: &[f32]) -> u32
     ensures { λ r. ⌜ Leaf (LogsFits (length (now (out .entry))) (length (now (sums .entry))))
         (r leaving now (out .exit))

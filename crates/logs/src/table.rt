@@ -1,4 +1,5 @@
-// The constants of `log10`, made by tools/make_tables.sh. High parts are whole numbers of 2^-40, and what they lack is in the low parts.
+// The constants of `log10`, made by tools/make_tables.sh. A high part is a whole number of 2^-40, and
+// the low part is what it lacks.
 ghost use mathlib.Core.Path.{_≡_};
 ghost use Prim.Native.Nat.{_≤_};
 ghost use Rattle.logs.specs.Tables.{rowAt};

@@ -6,7 +6,7 @@ use lib.Signed.{mag}
 use mir.Syntax.{w16}
 use mir.Val.{toZ, ofZ}
 use Rattle.rules.proofs.Tests.{at-each}
-use Rattle.matrix.specs.Sums.{signed}
+use Rattle.matrix.specs.Sums.{signedByte}
 
 abbrev moved : ℕ → ℤ
 moved b = toZ w16 ((b + 128) % 256) -ℤ pos 128
@@ -26,5 +26,5 @@ same→ (negsuc m) (negsuc n) t = ap negsuc (eqb→eq m n t)
 pub moved-fits : (b : ℕ) → b < 256 → mag (moved b) < 2 ^ 15
 moved-fits b h = ltb→lt _ _ (at-each 256 (λ k. ltb (mag (moved k)) (2 ^ 15)) tt b h)
 
-pub moved-signed : (b : ℕ) → b < 256 → toZ w16 (ofZ w16 (moved b)) ≡ signed b
-moved-signed b h = same→ _ _ (at-each 256 (λ k. same (toZ w16 (ofZ w16 (moved k))) (signed k)) tt b h)
+pub moved-signed : (b : ℕ) → b < 256 → toZ w16 (ofZ w16 (moved b)) ≡ signedByte b
+moved-signed b h = same→ _ _ (at-each 256 (λ k. same (toZ w16 (ofZ w16 (moved k))) (signedByte k)) tt b h)

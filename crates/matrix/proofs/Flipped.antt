@@ -1,4 +1,5 @@
--- A model byte as the last digits of a large number, its top bit turned over, and that number less what then stands for 0: computed for all 256. Assumes nothing.
+-- A model byte as the last digits of a large number, its top bit turned over, and that number less what then stands for
+-- 0: computed for all 256. Assumes nothing.
 use Rattle.rules.proofs.Common.{ℕ, _*_, _<_, not, _≡_, T, binary32}
 use lib.Bits.{bitXor}
 use lib.Ieee.{ofBits, ofInt, sub, add, neg, sum, round, units, odd, climb, span, size, nanBits, ofFields}
@@ -23,4 +24,5 @@ high-real b h = at-each 256 (λ k. not (nanBits binary32 (bitXor (k * 256) 0x470
 
 pub high-signed : (b : ℕ) → b < 256 → f32 (bitXor (b * 256) 0x47008000) ⊖ f32 0x47008000 ≡ ofByte b
 unfolding sub add neg sum round units odd climb span size ofBits ofFields ofInt
-high-signed b h = floats _ _ (at-each 256 (λ k. same (f32 (bitXor (k * 256) 0x47008000) ⊖ f32 0x47008000) (ofByte k)) tt b h)
+high-signed b h =
+    floats _ _ (at-each 256 (λ k. same (f32 (bitXor (k * 256) 0x47008000) ⊖ f32 0x47008000) (ofByte k)) tt b h)

@@ -7,7 +7,10 @@ use Rattle.matrix.specs.Sums.{columnStep, addColumn, mulStep, mulAdd}
 pub length-addColumn : (out : List Float) (col : List ℕ) (x : Float) → length (addColumn out col x) ≡ length out
 length-addColumn out col x = same-length (columnStep col x) (λ j s. simp length-set) (length out) out
 
-pub length-mulAdd : (out : List Float) (weights : List ℕ) (stride offset : ℕ) (input : List Float) → length (mulAdd out weights stride offset input) ≡ length out
+pub length-mulAdd : (out : List Float) (weights : List ℕ) (stride offset : ℕ) (input : List Float)
+    → length (mulAdd out weights stride offset input) ≡ length out
 unfolding mulAdd
 length-mulAdd out weights stride offset input =
-    same-length (mulStep weights stride offset input) (λ i s. length-addColumn s (part (i * stride + offset) (i * stride + stride) weights) (at input i)) (length input) out
+    same-length (mulStep weights stride offset input)
+    (λ i s. length-addColumn s (part (i * stride + offset) (i * stride + stride) weights) (at input i))
+    (length input) out

@@ -1,2 +1,2 @@
-pub mod Parts
+pub mod Private
 pub mod Sums

@@ -1,18 +1,24 @@
-// The Rust's `SubMatrix`: weights borrowed, a stride and an offset. The work is `sums::mul_add`'s, over plain slices.
-// The borrow checker covers no function over a struct that holds a reference: `matrix`, `SubMatrix::mul_add` and `mul_add_at`
-// are proved by hand. Who calls `mul_add_at`, as the layers do, needs no such proof.
+// The Rust's `SubMatrix`: borrowed weights, a stride and an offset. The work is done by `sums::mul_add` on plain
+// slices. The borrow checker does not cover functions over a struct that holds a reference, so `matrix`,
+// `SubMatrix::mul_add` and `mul_add_at` are proved by hand. A caller of `mul_add_at`, such as a layer, needs no such
+// proof.
 ghost use mathlib.Core.Path.{_≡_};
 ghost use Rattle.matrix.specs.Sums.{MulAdd};
 
 mod lanes;
 pub mod sums;
 
+// Some rows of a matrix that is stored column by column.
 pub struct SubMatrix<'a> {
+    // The weights, a byte each.
     pub data: &'a [u8],
+    // The length of a column.
     pub stride: usize,
+    // The row of a column with which to start.
     pub offset: usize,
 }
 
+// The matrix with these weights.
 pub fn matrix<'a>(weights: &'a [u8], stride: usize, offset: usize) -> SubMatrix<'a>
     ensures { λ m. ⌜ (m .data ≡ weights .entry) × (m .stride ≡ stride) × (m .offset ≡ offset) ⌝ }
 {
@@ -24,9 +30,11 @@ pub fn matrix<'a>(weights: &'a [u8], stride: usize, offset: usize) -> SubMatrix<
 }
 
 impl<'a> SubMatrix<'a> {
-    // output[j] += data[i * stride + offset + j] * input[i], for each i in order; 5, and output as it was, where lengths do not fit.
+    // output[j] += data[i * stride + offset + j] * input[i], for each i in order. Refuses with 5, and leaves the output
+    // unchanged, if the lengths do not fit.
     pub fn mul_add(self, output: &mut [f32], input: &[f32]) -> u32
-        ensures { λ r. ⌜ MulAdd (now (output .entry)) (now (self .entry .data)) (self .entry .stride) (self .entry .offset)
+        ensures { λ r. ⌜ MulAdd (now (output .entry)) (now (self .entry .data)) (self .entry .stride)
+            (self .entry .offset)
             (now (input .entry))
             r (now (output .exit)) ⌝ }
     {
@@ -34,7 +42,7 @@ impl<'a> SubMatrix<'a> {
     }
 }
 
-// The same of a slice and the two numbers.
+// The same on a slice and the two numbers.
 pub fn mul_add_at(
     weights: &[u8],
     stride: usize,
@@ -42,7 +50,8 @@ pub fn mul_add_at(
     output: &mut [f32],
     input: &[f32],
 ) -> u32
-    ensures { λ r. ⌜ MulAdd (now (output .entry)) (now (weights .entry)) stride offset (now (input .entry)) r (now (output .exit)) ⌝ }
+    ensures { λ r. ⌜ MulAdd (now (output .entry)) (now (weights .entry)) stride offset (now (input .entry)) r
+        (now (output .exit)) ⌝ }
 {
     matrix(weights, stride, offset).mul_add(output, input)
 }

@@ -5,7 +5,7 @@ ghost use lib.Dec.{eqb};
 ghost use lib.ListN.{length};
 ghost use Rattle.matrix.specs.Sums.{ofByte, addColumn, mulAdd, MulAddFits, MulAdd};
 
-// A model byte as the f32 that it stands for. Without a branch, so that loops over it are vectorised.
+// A byte of the model as the weight that it stands for. There is no branch, so that loops over it are vectorised.
 pub fn weight(b: u8) -> f32
     ensures { λ r. ⌜ r ≡ ofByte b ⌝ }
 {
@@ -25,17 +25,19 @@ fn add_column(out: &mut [f32], col: &[u8], x: f32)
 // Two columns of `mul_add` in one pass: at each place first the one, then the other.
 fn add_two(out: &mut [f32], first: &[u8], x: f32, second: &[u8], y: f32)
     requires { ⌜ (length (now out) ≤ length (now first)) × (length (now out) ≤ length (now second)) ⌝ }
-    ensures { λ _. ⌜ now (out .exit) ≡ addColumn (addColumn (now (out .entry)) (now (first .entry)) x) (now (second .entry)) y ⌝ }
+    ensures { λ _. ⌜ now (out .exit)
+        ≡ addColumn (addColumn (now (out .entry)) (now (first .entry)) x) (now (second .entry)) y ⌝ }
 {
     for j in 0..out.len() {
         out[j] = out[j] + weight(first[j]) * x + weight(second[j]) * y;
     }
 }
 
-// The sums of `mul_add` column by column, for lengths that fit.
+// `mul_add` column by column, for lengths that fit.
 fn columns(out: &mut [f32], weights: &[u8], stride: usize, offset: usize, input: &[f32])
     requires { ⌜ MulAddFits (length (now out)) (length (now weights)) stride offset (length (now input)) ⌝ }
-    ensures { λ _. ⌜ now (out .exit) ≡ mulAdd (now (out .entry)) (now (weights .entry)) stride offset (now (input .entry)) ⌝ }
+    ensures { λ _. ⌜ now (out .exit)
+        ≡ mulAdd (now (out .entry)) (now (weights .entry)) stride offset (now (input .entry)) ⌝ }
 {
     let mut i = 0usize;
     while i + 1 < input.len() {
@@ -56,7 +58,7 @@ fn columns(out: &mut [f32], weights: &[u8], stride: usize, offset: usize, input:
     }
 }
 
-// How many sums go sixteen at a time.
+// How many of n sums are computed sixteen at a time.
 fn wide_of(n: usize) -> usize
     ensures { λ r. ⌜ (r ≤ n) × (r ≤ 128) × (r % 16 ≡ 0) ⌝ }
 {
@@ -66,7 +68,7 @@ fn wide_of(n: usize) -> usize
     128
 }
 
-// The sums of `mul_add`: as many as there is lent room for sixteen at a time, and the others column by column.
+// `mul_add`: as many sums as there are lent places are computed sixteen at a time, and the others column by column.
 fn both(
     out: &mut [f32],
     kept: &mut [f32],
@@ -77,7 +79,8 @@ fn both(
 )
     requires { ⌜ (length (now kept) ≤ length (now out)) × (length (now kept) % 16 ≡ 0)
         × MulAddFits (length (now out)) (length (now weights)) stride offset (length (now input)) ⌝ }
-    ensures { λ _. ⌜ now (out .exit) ≡ mulAdd (now (out .entry)) (now (weights .entry)) stride offset (now (input .entry)) ⌝ }
+    ensures { λ _. ⌜ now (out .exit)
+        ≡ mulAdd (now (out .entry)) (now (weights .entry)) stride offset (now (input .entry)) ⌝ }
 {
     let n = out.len();
     let m = kept.len();
@@ -88,17 +91,18 @@ fn both(
     }
 }
 
-// The sums of `mul_add`, for lengths that fit.
+// `mul_add` for lengths that fit.
 fn mul_add_core(out: &mut [f32], weights: &[u8], stride: usize, offset: usize, input: &[f32])
     requires { ⌜ MulAddFits (length (now out)) (length (now weights)) stride offset (length (now input)) ⌝ }
-    ensures { λ _. ⌜ now (out .exit) ≡ mulAdd (now (out .entry)) (now (weights .entry)) stride offset (now (input .entry)) ⌝ }
+    ensures { λ _. ⌜ now (out .exit)
+        ≡ mulAdd (now (out .entry)) (now (weights .entry)) stride offset (now (input .entry)) ⌝ }
 {
     let m = wide_of(out.len());
     let mut kept = [0.0f32; 128];
     both(out, &mut kept[0..m], weights, stride, offset, input);
 }
 
-// Whether len is a * b, a product that may be past the largest usize.
+// Whether len is a * b, even if the product is larger than any usize.
 fn is_product(len: usize, a: usize, b: usize) -> bool
     ensures { λ r. ⌜ r ≡ eqb len (a * b) ⌝ }
 {
@@ -111,9 +115,11 @@ fn is_product(len: usize, a: usize, b: usize) -> bool
     len / a == b
 }
 
-// out[j] += weights[i * stride + offset + j] * input[i], for each i in order; 5, and out as it was, where lengths do not fit.
+// out[j] += weights[i * stride + offset + j] * input[i], for each i in order. Refuses with 5, and leaves out unchanged,
+// if the lengths do not fit.
 pub fn mul_add(out: &mut [f32], weights: &[u8], stride: usize, offset: usize, input: &[f32]) -> u32
-    ensures { λ r. ⌜ MulAdd (now (out .entry)) (now (weights .entry)) stride offset (now (input .entry)) r (now (out .exit)) ⌝ }
+    ensures { λ r. ⌜ MulAdd (now (out .entry)) (now (weights .entry)) stride offset (now (input .entry)) r
+        (now (out .exit)) ⌝ }
 {
     if stride < offset {
         return 5;

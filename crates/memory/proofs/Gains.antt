@@ -18,5 +18,6 @@ unfolding hear heardAll faded
 held-gains i band [] m number = (number, le-refl (at (m .gains) i) number)
 held-gains i band (f ∷ fs) m number =
     let rest = held-gains i band fs (hear m f) (never-nan _ (m .gains) i band number) in
-    let first = faded-mono (length fs) (sixTenths (at (m .gains) i)) (at (hear m f .gains) i) (at-least-held _ (m .gains) i band number) in
+    let first = faded-mono (length fs) (sixTenths (at (m .gains) i)) (at (hear m f .gains) i)
+    (at-least-held _ (m .gains) i band number) in
     (rest .0, le-trans _ _ _ first (rest .1))

@@ -1,4 +1,5 @@
--- A heard frame on a share: what is remembered then is what `hear` makes of what was remembered before. Assumes nothing.
+-- A heard frame on a share: what is remembered then is what `hear` makes of what was remembered before.
+-- Assumes nothing.
 use Rattle.rules.proofs.Common.{ℕ, _+_, _≤_, List, _≡_, refl, ap, _∙_, length, Float}
 use native.Mathlib.Omega.{arith}
 use mathlib.Core.Logic.{inl, inr}
@@ -9,7 +10,7 @@ use Rattle.model.specs.Model.{readOf}
 use Rattle.model.specs.declared.Model.{Model}
 use Rattle.model.specs.declared.Reading.the-variants.{Good}
 use Rattle.network.specs.Compute.{Layered, Outcome, layersInPlace, computed}
-use Rattle.network.specs.Parts.{Lengths}
+use Rattle.network.specs.Private.{Lengths}
 use Rattle.network.proofs.Callers.{computed-done, kept}
 use Rattle.features.specs.Features.{normalisedCorr, featuresOf, withCepstrum}
 use Rattle.features.specs.Gains.{gained}
@@ -22,7 +23,8 @@ use Rattle.memory.proofs.Kept.{notedIn}
 
 -- ---- a field put into a whole share, and five one after another
 
-module _ (p : Place) (xs ys : List Float) (inside : p .at + p .size ≤ PART) (whole : length xs ≡ PART) (l : length ys ≡ p .size) where
+module _ (p : Place) (xs ys : List Float) (inside : p .at + p .size ≤ PART) (whole : length xs ≡ PART)
+    (l : length ys ≡ p .size) where
   still-whole : length (put p xs ys) ≡ PART
   still-whole = length-put p xs ys (omega arith) l ∙ whole
 
@@ -78,18 +80,21 @@ module _ (share c v n d : List Float) (whole : length share ≡ PART)
   old-gains = past-states lastg (omega arith) ∙ past-c lastg (inr (omega arith))
 
   all-put : (g : List Float) → length g ≡ 22 → (index : ℕ)
-      → recalledIn index (put lastg with-d g) ≡ record { gains = g; cepstra = c; index = index; vad = v; noise = n; denoise = d }
+      → recalledIn index (put lastg with-d g)
+      ≡ record { gains = g; cepstra = c; index = index; vad = v; noise = n; denoise = d }
   all-put g lg index =
       let past-g : (q : Place) → lastg .at + lastg .size ≤ q .at → get q (put lastg with-d g) ≡ get q with-d
       = λ q h. beside lastg with-d g (omega arith) d-whole lg q (inl h) in
       let g-is = here lastg with-d g (omega arith) d-whole lg in
-      let c-is = past-g cepstralMem (omega arith) ∙ past-states cepstralMem (omega arith) ∙ here cepstralMem share c (omega arith) whole lc in
+      let c-is = past-g cepstralMem (omega arith) ∙ past-states cepstralMem (omega arith)
+      ∙ here cepstralMem share c (omega arith) whole lc in
       let v-is =
       past-g vadState (omega arith)
       ∙ past-d vadState (inr (omega arith))
       ∙ past-n vadState (inr (omega arith))
       ∙ here vadState with-c v (omega arith) c-whole lv in
-      let n-is = past-g noiseState (omega arith) ∙ past-d noiseState (inr (omega arith)) ∙ here noiseState with-v n (omega arith) v-whole ln in
+      let n-is = past-g noiseState (omega arith) ∙ past-d noiseState (inr (omega arith))
+      ∙ here noiseState with-v n (omega arith) v-whole ln in
       let d-is = past-g denoiseState (omega arith) ∙ here denoiseState with-n d (omega arith) n-whole ld in
       cc (g-is, c-is, v-is, n-is, d-is)
 
@@ -107,7 +112,9 @@ module _ (share : List Float) (index : ℕ) (p logs : List Float) (bytes : List 
   sensed = put cepstralMem share ceps
 
   abbrev features : List Float
-  features = featuresOf (normalisedCorr (get keptX share) (scaled p) (get keptEx share) (energies p)) (at (get keptLag share) 0) logs mem index
+  features =
+      featuresOf (normalisedCorr (get keptX share) (scaled p) (get keptEx share) (energies p))
+      (at (get keptLag share) 0) logs mem index
 
   -- what the six layers leave of the states as they stand in a share
   abbrev leaves : List Float → Layered
@@ -126,7 +133,8 @@ module _ (share : List Float) (index : ℕ) (p logs : List Float) (bytes : List 
   same : leaves sensed ≡ leaves share
   same = rw (apart vadState (omega arith), apart noiseState (omega arith), apart denoiseState (omega arith))
 
-  fit : Lengths 22 1 (length (get vadState share)) (length (get noiseState share)) (length (get denoiseState share)) (length features)
+  fit : Lengths 22 1 (length (get vadState share)) (length (get noiseState share)) (length (get denoiseState share))
+      (length features)
   fit =
       record {
         gained = refl;
@@ -138,21 +146,29 @@ module _ (share : List Float) (index : ℕ) (p logs : List Float) (bytes : List 
       }
 
   abbrev left : Layered
-  left = computed (zeros 22) (zeros 1) (get vadState share) (get noiseState share) (get denoiseState share) bytes features .layers
+  left =
+      computed (zeros 22) (zeros 1) (get vadState share) (get noiseState share)
+      (get denoiseState share) bytes features .layers
 
   thought : leaves sensed ≡ left
-  thought = same ∙ ap (λ (o : Outcome). o .layers) (computed-done (zeros 22) (zeros 1) _ _ _ bytes features fit {m = m} {left = leaves share} good refl)
+  thought =
+      same ∙ ap (λ (o : Outcome). o .layers)
+      (computed-done (zeros 22) (zeros 1) _ _ _ bytes features fit {m = m} {left = leaves share} good refl)
 
   pub heard-frame : recalledIn (nextPlace index) (spoken share index p logs bytes m .share)
       ≡ hear (recalledIn index share) (heardFrame (notedIn share) p logs bytes)
   unfolding spokenFrom featured rnnOf hear
   heard-frame =
-      let k = kept (zeros 22) (zeros 1) (get vadState share) (get noiseState share) (get denoiseState share) bytes features in
+      let k = kept (zeros 22) (zeros 1) (get vadState share) (get noiseState share)
+      (get denoiseState share) bytes features in
       let l1 = k .first ∙ sized vadState (omega arith) in
       let l2 = k .second ∙ sized noiseState (omega arith) in
       let l3 = k .third ∙ sized denoiseState (omega arith) in
-      let put-back : Layered → List Float = λ f. put denoiseState (put noiseState (put vadState sensed (f .vad)) (f .noise)) (f .denoise) in
-      let put-all : Layered → List Float → Recalled = λ f last. recalledIn (nextPlace index) (put lastg (put-back f) (gained (f .gains) last)) in
+      let put-back : Layered → List Float =
+      λ f. put denoiseState (put noiseState (put vadState sensed (f .vad)) (f .noise)) (f .denoise) in
+      let put-all : Layered → List Float → Recalled =
+      λ f last. recalledIn (nextPlace index) (put lastg (put-back f) (gained (f .gains) last)) in
       ap (λ (f : Layered). put-all f (get lastg (put-back f))) thought
       ∙ ap (put-all left) (old-gains share ceps (left .vad) (left .noise) (left .denoise) whole rows l1 l2 l3)
-      ∙ all-put share ceps (left .vad) (left .noise) (left .denoise) whole rows l1 l2 l3 (gained (left .gains) (get lastg share)) (length-gained _ _) (nextPlace index)
+      ∙ all-put share ceps (left .vad) (left .noise) (left .denoise) whole rows l1 l2 l3
+      (gained (left .gains) (get lastg share)) (length-gained _ _) (nextPlace index)

@@ -34,7 +34,9 @@ keptIn rec share = keptOf (recalledIn (rec .hearing .index) share) (notedIn shar
 abbrev pub keeping : Kept → FrameCall → Kept
 keeping k one = k
 keeping k (two x lag) = keptOf (k .recalled) (noting x lag) (k .frame) (k .heard)
-keeping k (three heard x logs m) = cond heard (keptOf (hear (k .recalled) (heardFrame (k .noted) x logs m)) (k .noted) (k .frame) (oneMore (k .heard))) k
+keeping k (three heard x logs m) =
+    cond heard (keptOf (hear (k .recalled) (heardFrame (k .noted) x logs m)) (k .noted) (k .frame)
+    (oneMore (k .heard))) k
 keeping k four = keptOf (k .recalled) (k .noted) (oneMore (k .frame)) (k .heard)
 
 unfoldable pub kept : Kept → List FrameCall → Kept
@@ -46,7 +48,8 @@ unfolding kept
 kept-behind k [] ys = refl
 kept-behind k (c ∷ xs) ys = kept-behind (keeping k c) xs ys
 
-pub kept-recalled : (k : Kept) (cs : List FrameCall) → kept k cs .recalled ≡ heardAll (k .recalled) (brought (k .noted) cs)
+pub kept-recalled : (k : Kept) (cs : List FrameCall)
+    → kept k cs .recalled ≡ heardAll (k .recalled) (brought (k .noted) cs)
 unfolding kept brought heardAll
 kept-recalled k [] = refl
 kept-recalled k (one ∷ cs) = kept-recalled k cs

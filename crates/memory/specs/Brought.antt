@@ -1,5 +1,5 @@
--- What the calls of a frame bring to the memory of their side: call 2 the first spectrum and the lag, a heard call 3 the second spectrum, the
--- logarithms and the model. Nothing else does.
+-- What the calls of a frame bring to the memory of their bench: call 2 brings the first spectrum and the lag, and a
+-- heard call 3 the second spectrum, the logarithms and the model. Nothing else does.
 use Rattle.rules.specs.Common.{ℕ, cond, List, [], _∷_, pos, Float, binary32, ofInt}
 use Rattle.rules.specs.F32.{f32, zeros}
 use Rattle.rules.specs.Place.{get}
@@ -9,7 +9,7 @@ use Rattle.frame.specs.Heard.{scaled, energies}
 use Rattle.memory.specs.Hear.{Recalled, HeardFrame}
 use Rattle.memory.specs.Calls.{FrameCall, one, two, three, four}
 
--- what is remembered in a share; the index stands in the record
+-- What is remembered in a share. (The index of the cepstra is in the record.)
 abbrev pub recalledIn : ℕ → List Float → Recalled
 recalledIn index share =
     record {
@@ -21,24 +21,35 @@ recalledIn index share =
       denoise = get denoiseState share;
     }
 
--- what is noted from call 2 to call 3: the first spectrum, scaled, its band energies, and the lag; zeros at an opening
+-- What call 2 notes for call 3.
 pub record Noted : Type 0 where
+  -- The first spectrum, scaled.
   pub x : List Float
+  -- Its band energies.
   pub ex : List Float
+  -- The lag.
   pub lag : Float
 
+-- What is noted at an opening: zeros.
 abbrev pub unnoted : Noted
 unnoted = record { x = zeros 961; ex = zeros 22; lag = f32 0 }
 
+-- What call 2 notes of this spectrum and this lag.
 abbrev pub noting : List Float → ℕ → Noted
 noting spectrum lag = record { x = scaled spectrum; ex = energies spectrum; lag = ofInt binary32 (pos lag) }
 
--- with the second spectrum: the correlations of both, normalised by the energies of both
+-- The heard frame that call 3 makes of what was noted and of the second spectrum: their band correlations, normalised
+-- by the energies of both.
 abbrev pub heardFrame : Noted → List Float → List Float → List ℕ → HeardFrame
 heardFrame k p logs model =
-    record { logs = logs; correlations = normalisedCorr (k .x) (scaled p) (k .ex) (energies p); lag = k .lag; model = model }
+    record {
+      logs = logs;
+      correlations = normalisedCorr (k .x) (scaled p) (k .ex) (energies p);
+      lag = k .lag;
+      model = model;
+    }
 
--- the heard frames that calls bring, in order, where a call 2 before them noted k
+-- The heard frames that calls bring, in order, if the last call 2 before them noted k.
 unfoldable pub brought : Noted → List FrameCall → List HeardFrame
 brought k [] = []
 brought k (one ∷ cs) = brought k cs

@@ -3,9 +3,11 @@ use Rattle.rules.specs.Common.{ℕ, _<_, true, false, List, _≡_, length, Floa
 use Rattle.rules.specs.F32.{at}
 use Rattle.memory.specs.Hear.{Recalled, HeardFrame, heardAll, faded}
 
--- a gain that is a number stays one, and is at least its value before the frames multiplied by 0.6 for each, rounded each time
+-- A gain that is not NaN stays so. It is at least its value before the frames, multiplied by 0.6 for each frame and
+-- rounded each time.
 abbrev pub HeldGains : Type 0
 HeldGains =
     (i : ℕ) → i < 22
     → (fs : List HeardFrame) (m : Recalled) → isNan (at (m .gains) i) ≡ false
-    → let last = at (heardAll m fs .gains) i in (isNan last ≡ false) × (le (faded (length fs) (at (m .gains) i)) last ≡ true)
+    → let last = at (heardAll m fs .gains) i in
+    (isNan last ≡ false) × (le (faded (length fs) (at (m .gains) i)) last ≡ true)

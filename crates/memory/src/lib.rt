@@ -1,1 +1,2 @@
-// No code. specs/ has what a bench remembers and what its calls make of it; proofs/ shows it of one call.
+// This crate has no code. specs/ defines what a bench remembers and what its calls make of that; proofs/ proves it for
+// one call.

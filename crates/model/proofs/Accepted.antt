@@ -1,7 +1,8 @@
 -- What holds of layers that the writer accepts. Assumes nothing.
 --     accepted     no refusal: each layer's table is clear, the layers go together, and the buffer is long enough
 --     fit          they are layers that a file can hold
-use Rattle.rules.proofs.Common.{ℕ, zero, suc, _+_, _*_, _≤_, false, List, [], _∷_, _++_, map, _≡_, sym, ap, _∙_, ltb, length, getD, take, drop}
+use Rattle.rules.proofs.Common.{ℕ, zero, suc, _+_, _*_, _≤_, false, List, [], _∷_, _++_, map, _≡_, sym, ap, _∙_, ltb}
+use Rattle.rules.proofs.Common.{length, getD, take, drop}
 use Rattle.rules.proofs.Common.{length-drop, length-append}
 use mathlib.Core.List.{append-nil, append-assoc}
 use native.Mathlib.Nat.{zero-add}
@@ -15,8 +16,9 @@ use Rattle.rules.proofs.Refusals.{Clear, clear, cleared, due}
 use Rattle.model.specs.declared.Kind.{Kind}
 use Rattle.model.specs.Layer.{activationOf, activationNumber}
 use Rattle.model.specs.Model.{kinds, matchFaults}
-use Rattle.model.specs.Writer.{arraysOf, layersGiven, fileOf, layerFaults, inLayer, rowFaults, countsGiven, writerFaults, writeModel}
-use Rattle.model.specs.Parts.{faultIn, Few, headerBytes, layerBytes, threeBytes, overwritten, Put}
+use Rattle.model.specs.Writer.{arraysOf, layersGiven, fileOf, layerFaults, inLayer, rowFaults, countsGiven}
+use Rattle.model.specs.Writer.{writerFaults, writeModel}
+use Rattle.model.specs.Private.{faultIn, Few, headerBytes, layerBytes, threeBytes, overwritten, Put}
 use Rattle.model.proofs.Rows.{Some, shifted-clear, clear-both}
 use Rattle.model.proofs.Inverse.{number-of}
 
@@ -25,7 +27,8 @@ use Rattle.model.proofs.Inverse.{number-of}
 -- each layer's table is clear
 abbrev pub EachClear : List Kind → List ℕ → List ℕ → Type 0
 EachClear [] s ns = Unit
-EachClear (k ∷ ks) s ns = Clear (layerFaults k (getD s 0 0) (getD s 1 0) (getD s 2 0) (take 3 ns)) × EachClear ks (drop 3 s) (drop 3 ns)
+EachClear (k ∷ ks) s ns =
+    Clear (layerFaults k (getD s 0 0) (getD s 1 0) (getD s 2 0) (take 3 ns)) × EachClear ks (drop 3 s) (drop 3 ns)
 
 each-clear : (j : ℕ) (ks : List Kind) (s ns : List ℕ) → Clear (rowFaults j ks s ns) → EachClear ks s ns
 unfolding rowFaults
@@ -50,7 +53,8 @@ module _ (s ns : List ℕ) (file buffer : ℕ) where
   unfolding rowFaults
   clear-rows e none = cleared (rowFaults 0 kinds s ns) tt (sym e ∙ none)
 
-  pub bad-model : Clear (rowFaults 0 kinds s ns) → {r : ℕ} → r ≡ faultIn (inLayer 6 together) → Some r → r ≡ faultIn (writerFaults s ns file buffer)
+  pub bad-model : Clear (rowFaults 0 kinds s ns) → {r : ℕ} → r ≡ faultIn (inLayer 6 together) → Some r
+      → r ≡ faultIn (writerFaults s ns file buffer)
   unfolding writerFaults rowFaults
   bad-model c e some = sym (clear (λ r. r) _ (rowFaults 0 kinds s ns) c ∙ due (λ r. r) _ (inLayer 6 together) e some)
 
@@ -58,7 +62,8 @@ module _ (s ns : List ℕ) (file buffer : ℕ) where
       → faultIn (writerFaults s ns file buffer) ≡ faultIn (inLayer 6 last)
   unfolding writerFaults rowFaults
   good-model c e none =
-      clear (λ r. r) _ (rowFaults 0 kinds s ns) c ∙ clear (λ r. r) _ (inLayer 6 together) (cleared (inLayer 6 together) tt (sym e ∙ none))
+      clear (λ r. r) _ (rowFaults 0 kinds s ns) c
+      ∙ clear (λ r. r) _ (inLayer 6 together) (cleared (inLayer 6 together) tt (sym e ∙ none))
 
   pub few-given : Clear (rowFaults 0 kinds s ns) → Few (countsGiven kinds s)
   unfolding countsGiven
@@ -81,7 +86,11 @@ module _ (s ns : List ℕ) (file buffer : ℕ) where
   accepted c =
       let both = clear-both (rowFaults 0 kinds s ns) (inLayer 6 (together ++ last)) c in
       let more = clear-both (inLayer 6 together) (inLayer 6 last) (both .1) in
-      record { layers = each-clear 0 kinds s ns (both .0); together = shifted-clear 6 together (more .0); enough = ltb-false buffer file (more .1 .0) }
+      record {
+        layers = each-clear 0 kinds s ns (both .0);
+        together = shifted-clear 6 together (more .0);
+        enough = ltb-false buffer file (more .1 .0);
+      }
 
 -- ---- the numbers
 
@@ -97,7 +106,8 @@ bytes-given (k ∷ ks) s ns e c (suc (suc (suc i))) =
 
 -- ---- the bytes
 
-length-layer : (s : List ℕ) (at : ℕ) (w r b : List ℕ) → length (layerBytes s at w r b) ≡ 3 + (length w + (length r + length b))
+length-layer : (s : List ℕ) (at : ℕ) (w r b : List ℕ)
+    → length (layerBytes s at w r b) ≡ 3 + (length w + (length r + length b))
 unfolding layerBytes headerBytes
 length-layer s at w r b = simp length-append (omega arith)
 
@@ -121,7 +131,9 @@ pub record Arrays : Type 0 where
 
 module _ (s : List ℕ) (x : Arrays) where
   abbrev pub arrays : List (List ℕ)
-  arrays = arraysOf (x .w0) (x .b0) (x .w1) (x .r1) (x .b1) (x .w2) (x .r2) (x .b2) (x .w3) (x .r3) (x .b3) (x .w4) (x .b4) (x .w5) (x .b5)
+  arrays =
+      arraysOf (x .w0) (x .b0) (x .w1) (x .r1) (x .b1) (x .w2) (x .r2) (x .b2) (x .w3) (x .r3) (x .b3) (x .w4) (x .b4)
+      (x .w5) (x .b5)
 
   abbrev pub head : List ℕ
   head = threeBytes s 0 (x .w0) [] (x .b0) (x .w1) (x .r1) (x .b1) (x .w2) (x .r2) (x .b2)
@@ -150,7 +162,8 @@ module _ (s : List ℕ) (x : Arrays) where
       let n2 = simp getD-drop at (numbered (drop 3 (drop 3 s)) (c .1 .1 .0 .1 .1 .0)) in
       let n3 = simp getD-drop at (numbered (drop 3 (drop 3 (drop 3 s))) (c .1 .1 .1 .0 .1 .1 .0)) in
       let n4 = simp getD-drop at (numbered (drop 3 (drop 3 (drop 3 (drop 3 s)))) (c .1 .1 .1 .1 .0 .1 .1 .0)) in
-      let n5 = simp getD-drop at (numbered (drop 3 (drop 3 (drop 3 (drop 3 (drop 3 s))))) (c .1 .1 .1 .1 .1 .0 .1 .1 .0)) in
+      let n5 =
+      simp getD-drop at (numbered (drop 3 (drop 3 (drop 3 (drop 3 (drop 3 s))))) (c .1 .1 .1 .1 .1 .0 .1 .1 .0)) in
       simp (getD-drop, append-nil, append-assoc, numbered s (c .0 .1 .1 .0), n1, n2, n3, n4, n5)
 
   module _ (out : List ℕ) (eighteen : length s ≡ 18) {r : ℕ} (e : r ≡ faultIn (rows (length out))) where
@@ -170,9 +183,11 @@ module _ (s : List ℕ) (x : Arrays) where
 
     pub refused-so : Some r → (r leaving out) ≡ writeModel s arrays out
     unfolding writeModel
-    refused-so some = rw (eq-eqb (length s) 18 eighteen, length-file) (sym (due (λ n. n leaving out) _ (rows (length out)) e some))
+    refused-so some =
+        rw (eq-eqb (length s) 18 eighteen, length-file) (sym (due (λ n. n leaving out) _ (rows (length out)) e some))
 
-    pub written-so : r ≡ 0 → {next : ℕ} {after : List ℕ} → Put 0 (head ++ tail) out next after → (0 leaving after) ≡ writeModel s arrays out
+    pub written-so : r ≡ 0 → {next : ℕ} {after : List ℕ} → Put 0 (head ++ tail) out next after
+        → (0 leaving after) ≡ writeModel s arrays out
     unfolding writeModel overwritten
     written-so none put =
         rw (eq-eqb (length s) 18 eighteen, length-file)

@@ -28,7 +28,9 @@ unfolding readOf
 reads-back ls s h =
     let m = modelOf (headersAt 0 ls) in
     let r = row-reads kinds ls [] (h .fit) in
-    rw (h .file, ← append-nil (fileOf ls)) (row-clear _ 0 kinds (fileOf ls ++ []) (r .1) ∙ rw (r .0) (clear (λ n. Refused n 6) (Good m) (matchFaults (countsIn m) 0) (h .match)))
+    rw (h .file, ← append-nil (fileOf ls))
+    (row-clear _ 0 kinds (fileOf ls ++ []) (r .1)
+    ∙ rw (r .0) (clear (λ n. Refused n 6) (Good m) (matchFaults (countsIn m) 0) (h .match)))
 
 pub layers-read : (ls : List Layer) → FitAll kinds ls → layersRead (fileOf ls) ≡ ls
 layers-read ls f = rw (append-nil (fileOf ls)) at (ap (λ (r : List Layer × List ℕ). r .0) (row-reads kinds ls [] f .0))
@@ -48,7 +50,8 @@ WrittenIf s (Refused n j) = Unit
 
 none-left : (rest : List ℕ) → not (eqb (length rest) 0) ≡ false → rest ≡ []
 none-left [] e = refl
-none-left (x ∷ rest) e = absurd (let z = eqb-true (length (x ∷ rest)) 0 (not-false (eqb (length (x ∷ rest)) 0) e) in omega arith)
+none-left (x ∷ rest) e = absurd
+    (let z = eqb-true (length (x ∷ rest)) 0 (not-false (eqb (length (x ∷ rest)) 0) e) in omega arith)
 
 pub writes-back : (s : List ℕ) → WrittenIf s (readOf s)
 unfolding readOf
@@ -58,4 +61,12 @@ writes-back s =
     by-layers _ (WrittenIf s) 0 kinds s (λ n i. tt) (λ all.
     by-rows (λ n. Refused n 6) (Good m) (WrittenIf s) (matchFaults (countsIn m) (length (r .1))) (λ n. tt) (λ c.
     let f = row-fits kinds s all in
-    record { model = refl; holds = record { fit = f .0; match = (refl, c .1); file = f .1 ∙ rw (none-left (r .1) (c .0)) (append-nil (fileOf (r .0))) } }))
+    record {
+      model = refl;
+      holds =
+          record {
+            fit = f .0;
+            match = (refl, c .1);
+            file = f .1 ∙ rw (none-left (r .1) (c .0)) (append-nil (fileOf (r .0)));
+          };
+    }))

@@ -1,7 +1,8 @@
 -- The refusals of layers as they are given. Assumes nothing.
 --     bad-layer, first-differs ..     one layer's, by its tests
 --     stopped, on                     those of layers in a row, by the writer's loop
-use Rattle.rules.proofs.Common.{ℕ, zero, suc, _+_, _*_, _≤_, _<_, Bool, true, false, cond, List, [], _∷_, _++_, _≡_, refl, sym, _∙_, length, getD}
+use Rattle.rules.proofs.Common.{ℕ, zero, suc, _+_, _*_, _≤_, _<_, Bool, true, false, cond, List, [], _∷_, _++_, _≡_}
+use Rattle.rules.proofs.Common.{refl, sym, _∙_, length, getD}
 use Rattle.rules.proofs.Common.{take, drop}
 use native.Mathlib.Numerals.{add-one}
 use native.Mathlib.Omega.{arith}
@@ -16,12 +17,13 @@ use Rattle.model.specs.declared.Counts.{Counts}
 use Rattle.model.specs.Layer.{lengths, headerFaults}
 use Rattle.model.specs.Model.{kinds, matchFaults}
 use Rattle.model.specs.Writer.{differ, layerFaults, inLayer, rowFaults, countsGiven}
-use Rattle.model.specs.Parts.{faultIn, countsThere}
+use Rattle.model.specs.Private.{faultIn, countsThere}
 use Rattle.model.proofs.Rows.{Some, shifted, clear-shifted}
 use Rattle.model.proofs.Layer.{three}
 use Rattle.model.proofs.Places.{three-lengths}
 
-pub bad-layer : (k : Kind) (i n a : ℕ) (given : List ℕ) {r : ℕ} → r ≡ faultIn (headerFaults i n a) → Some r → r ≡ faultIn (layerFaults k i n a given)
+pub bad-layer : (k : Kind) (i n a : ℕ) (given : List ℕ) {r : ℕ} → r ≡ faultIn (headerFaults i n a) → Some r
+    → r ≡ faultIn (layerFaults k i n a given)
 bad-layer k i n a given e some = sym (due (λ r. r) _ (headerFaults i n a) e some)
 
 -- three lengths beside those that the counts give, where the header is good
@@ -58,22 +60,33 @@ rowsAt shapes given j =
     layerFaults (getD kinds j Dense) (getD shapes at 0) (getD shapes (at + 1) 0) (getD shapes (at + 2) 0)
     (getD given at 0 ∷ getD given (at + 1) 0 ∷ getD given (at + 2) 0 ∷ [])
 
-module _ (shapes given : List ℕ) (eighteen : length shapes ≡ 18) (eighteen′ : length given ≡ 18) (j : ℕ) (below : j < 6) where
+module _ (shapes given : List ℕ) (eighteen : length shapes ≡ 18) (eighteen′ : length given ≡ 18) (j : ℕ)
+    (below : j < 6) where
   next : rowsFrom shapes given j ≡ inLayer j (rowsAt shapes given j) ++ rowsFrom shapes given (j + 1)
   unfolding rowFaults
   next =
       let on : 3 * (j + 1) ≡ 3 * j + 3 = omega arith in
-      rw (on, add-one j, drop-cons kinds j Dense below, three shapes (3 * j) (omega arith), three given (3 * j) (omega arith))
+      rw (
+        on,
+        add-one j,
+        drop-cons kinds j Dense below,
+        three shapes (3 * j) (omega arith),
+        three given (3 * j) (omega arith),
+      )
 
-  pub stopped : {r : ℕ} → r ≡ faultIn (rowsAt shapes given j) → Some r → r + 65536 * j ≡ faultIn (rowsFrom shapes given j)
+  pub stopped : {r : ℕ} → r ≡ faultIn (rowsAt shapes given j) → Some r
+      → r + 65536 * j ≡ faultIn (rowsFrom shapes given j)
   stopped {r} e some =
       rw next
-      (sym (due (λ r. r) _ (inLayer j (rowsAt shapes given j)) (shifted j (rowsAt shapes given j) e some) (λ z. some (omega arith))))
+      (sym (due (λ r. r) _ (inLayer j (rowsAt shapes given j)) (shifted j (rowsAt shapes given j) e some)
+      (λ z. some (omega arith))))
 
-  pub on : {r : ℕ} → r ≡ faultIn (rowsAt shapes given j) → r ≡ 0 → faultIn (rowsFrom shapes given j) ≡ faultIn (rowsFrom shapes given (j + 1))
+  pub on : {r : ℕ} → r ≡ faultIn (rowsAt shapes given j) → r ≡ 0
+      → faultIn (rowsFrom shapes given j) ≡ faultIn (rowsFrom shapes given (j + 1))
   on e none =
       rw next
-      (clear (λ r. r) _ (inLayer j (rowsAt shapes given j)) (clear-shifted j (rowsAt shapes given j) (cleared (rowsAt shapes given j) tt (sym e ∙ none))))
+      (clear (λ r. r) _ (inLayer j (rowsAt shapes given j))
+      (clear-shifted j (rowsAt shapes given j) (cleared (rowsAt shapes given j) tt (sym e ∙ none))))
 
   pub fault-small : {r : ℕ} → r ≡ faultIn (rowsAt shapes given j) → r ≤ 16
   fault-small e = rw e (by-each (λ n. n) 0 (λ n. n ≤ 16) (rowsAt shapes given j) (omega arith) (omega arith))
@@ -85,7 +98,8 @@ none-behind shapes given = refl
 -- ---- the layers together
 
 pub six-counts : (s : List ℕ)
-    → countsThere s 0 ∷ countsThere s 3 ∷ countsThere s 6 ∷ countsThere s 9 ∷ countsThere s 12 ∷ countsThere s 15 ∷ [] ≡ countsGiven kinds s
+    → countsThere s 0 ∷ countsThere s 3 ∷ countsThere s 6 ∷ countsThere s 9 ∷ countsThere s 12 ∷ countsThere s 15 ∷ []
+    ≡ countsGiven kinds s
 unfolding countsGiven
 six-counts s = simp getD-drop
 

@@ -3,7 +3,7 @@ use Rattle.rules.proofs.Common.{ℕ, _+_, _*_, true, false, List, [], _∷_, _+
 use Rattle.rules.specs.Refusals.{Row, _when_}
 use Rattle.rules.proofs.Refusals.{Clear}
 use Rattle.model.specs.Writer.{inLayer}
-use Rattle.model.specs.Parts.{faultIn}
+use Rattle.model.specs.Private.{faultIn}
 
 -- a number that is not 0
 abbrev pub Some : ℕ → Type 0

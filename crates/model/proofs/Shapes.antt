@@ -16,7 +16,8 @@ same a b h = eqb-true a b (not-false (eqb a b) h)
 
 pub shape : (s : List ℕ) (m : Model) → Written s m → Shaped (length s) m
 shape s m w =
-    let match : Clear (matchFaults (countsIn m) 0) = subst (λ (m : Model). Clear (matchFaults (countsIn m) 0)) (w .model) (w .holds .match) in
+    let match : Clear (matchFaults (countsIn m) 0) =
+    subst (λ (m : Model). Clear (matchFaults (countsIn m) 0)) (w .model) (w .holds .match) in
     let in18 = neither _ _ (match .1 .0) in
     let in18′ = neither _ _ (in18 .1) in
     let in19 = neither _ _ (match .1 .1 .0) in

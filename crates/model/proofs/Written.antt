@@ -2,7 +2,8 @@
 --     written-reads     what is written reads back as the same layers
 --     read-writes       what reads is written back byte for byte
 --     none-shared       two models that differ never share a file
-use Rattle.rules.proofs.Common.{ℕ, zero, suc, _*_, _≤_, false, not, true≢false, List, [], _∷_, _++_, map, _≡_, refl, sym, ap, subst, _∙_, eqb, ltb}
+use Rattle.rules.proofs.Common.{ℕ, zero, suc, _*_, _≤_, false, not, true≢false, List, [], _∷_, _++_, map, _≡_, refl}
+use Rattle.rules.proofs.Common.{sym, ap, subst, _∙_, eqb, ltb}
 use Rattle.rules.proofs.Common.{length, getD, take, drop, length-drop}
 use mathlib.Core.List.{map-append}
 use native.Mathlib.Omega.{arith}
@@ -17,7 +18,8 @@ use Rattle.model.specs.declared.Kind.{Kind}
 use Rattle.model.specs.declared.Kind.the-variants.{Dense, Gru}
 use Rattle.model.specs.Layer.{lengths, Layer}
 use Rattle.model.specs.Model.{_≠_, kinds, headersAt, modelOf, countsIn, matchFaults, readOf}
-use Rattle.model.specs.Writer.{layersGiven, fileOf, differ, inLayer, rowFaults, countsGiven, writerFaults, writeModel}
+use Rattle.model.specs.Writer.{layersGiven, fileOf, differ, inLayer, rowFaults, countsGiven, writerFaults}
+use Rattle.model.specs.Writer.{writeModel}
 use Rattle.model.specs.Laws.{layersRead, shapesOf, arraysIn, ReadsBack, WritesBack, NoneShared, ArraysAreRead}
 use Rattle.model.proofs.Rows.{clear-shifted, clear-joined}
 use Rattle.model.proofs.Layer.{three}
@@ -61,44 +63,67 @@ three-arrays Gru i n xs h = as-many (lengths Gru i n) xs h
 
 -- ---- layers as they are given, and back
 
-given-fit : (ks : List Kind) (s : List ℕ) (xs : List (List ℕ)) → EachClear ks s (map length xs) → FitAll ks (layersGiven ks s xs)
+given-fit : (ks : List Kind) (s : List ℕ) (xs : List (List ℕ)) → EachClear ks s (map length xs)
+    → FitAll ks (layersGiven ks s xs)
 given-fit [] s xs c = tt
 given-fit (k ∷ ks) s xs c = (
   record {
     inputs = ltb-false 127 (getD s 0 0) (c .0 .0);
     neurons = ltb-false 127 (getD s 1 0) (c .0 .1 .0);
     some = eqb-false (getD s 1 0) 0 (c .0 .1 .1 .1 .0);
-    arrays = sized (lengths k (getD s 0 0) (getD s 1 0)) (take 3 xs) (rw (take-map length 3 xs) at (c .0 .1 .1 .1 .1 .0));
+    arrays =
+        sized (lengths k (getD s 0 0) (getD s 1 0)) (take 3 xs) (rw (take-map length 3 xs) at (c .0 .1 .1 .1 .1 .0));
   },
   given-fit ks (drop 3 s) (drop 3 xs) (rw (drop-map length 3 xs) at (c .1)),
 )
 
-shapes-back : (ks : List Kind) (s : List ℕ) (xs : List (List ℕ)) (ns : List ℕ) → length s ≡ 3 * length ks → EachClear ks s ns → shapesOf (layersGiven ks s xs) ≡ s
+shapes-back : (ks : List Kind) (s : List ℕ) (xs : List (List ℕ)) (ns : List ℕ) → length s ≡ 3 * length ks
+    → EachClear ks s ns → shapesOf (layersGiven ks s xs) ≡ s
 shapes-back [] [] xs ns e c = refl
 shapes-back [] (x ∷ s) xs ns e c = absurd (omega arith)
 shapes-back (k ∷ ks) s xs ns e c =
-    rw (number-of (getD s 2 0) (ltb-false 2 (getD s 2 0) (c .0 .1 .1 .0)), shapes-back ks (drop 3 s) (drop 3 xs) (drop 3 ns) (simp length-drop (omega arith)) (c .1))
+    rw (
+      number-of (getD s 2 0) (ltb-false 2 (getD s 2 0) (c .0 .1 .1 .0)),
+      shapes-back ks (drop 3 s) (drop 3 xs) (drop 3 ns) (simp length-drop (omega arith)) (c .1),
+    )
     (sym (three s 0 (omega arith)))
 
-arrays-back : (ks : List Kind) (s : List ℕ) (xs : List (List ℕ)) → length xs ≡ 3 * length ks → arraysIn (layersGiven ks s xs) ≡ xs
+arrays-back : (ks : List Kind) (s : List ℕ) (xs : List (List ℕ)) → length xs ≡ 3 * length ks
+    → arraysIn (layersGiven ks s xs) ≡ xs
 arrays-back [] s [] e = refl
 arrays-back [] s (x ∷ xs) e = absurd (omega arith)
-arrays-back (k ∷ ks) s xs e = rw (arrays-back ks (drop 3 s) (drop 3 xs) (simp length-drop (omega arith))) (take-append-drop 3 xs)
+arrays-back (k ∷ ks) s xs e =
+    rw (arrays-back ks (drop 3 s) (drop 3 xs) (simp length-drop (omega arith))) (take-append-drop 3 xs)
 
 given-back : (ks : List Kind) (ls : List Layer) → FitAll ks ls → layersGiven ks (shapesOf ls) (arraysIn ls) ≡ ls
 given-back [] [] f = refl
 given-back (k ∷ ks) (l ∷ ls) f =
     let long = three-arrays k (l .inputs) (l .neurons) (l .arrays) (f .0 .arrays) in
-    rw (activation-of (l .activation), take-at (l .arrays) (arraysIn ls) 3 long, drop-at (l .arrays) (arraysIn ls) 3 long, given-back ks ls (f .1))
+    rw (
+      activation-of (l .activation),
+      take-at (l .arrays) (arraysIn ls) 3 long,
+      drop-at (l .arrays) (arraysIn ls) 3 long,
+      given-back ks ls (f .1),
+    )
 
-clear-back : (j : ℕ) (ks : List Kind) (ls : List Layer) → FitAll ks ls → Clear (rowFaults j ks (shapesOf ls) (map length (arraysIn ls)))
+clear-back : (j : ℕ) (ks : List Kind) (ls : List Layer) → FitAll ks ls
+    → Clear (rowFaults j ks (shapesOf ls) (map length (arraysIn ls)))
 unfolding rowFaults
 clear-back j [] [] f = tt
 clear-back j (k ∷ ks) (l ∷ ls) f =
     let long = length-map (l .arrays) length ∙ three-arrays k (l .inputs) (l .neurons) (l .arrays) (f .0 .arrays) in
     let fits = unsized (lengths k (l .inputs) (l .neurons)) (l .arrays) (f .0 .arrays) in
-    rw (map-append length (l .arrays) (arraysIn ls), take-at (map length (l .arrays)) (map length (arraysIn ls)) 3 long, drop-at (map length (l .arrays)) (map length (arraysIn ls)) 3 long)
-    (le-ltb _ _ (f .0 .inputs), (le-ltb _ _ (f .0 .neurons), (le-ltb _ _ (number-small (l .activation)), (ne-eqb _ _ (f .0 .some), (fits, clear-back (suc j) ks ls (f .1))))))
+    rw (
+      map-append length (l .arrays) (arraysIn ls),
+      take-at (map length (l .arrays)) (map length (arraysIn ls)) 3 long,
+      drop-at (map length (l .arrays)) (map length (arraysIn ls)) 3 long,
+    ) (
+      le-ltb _ _ (f .0 .inputs),
+      (
+        le-ltb _ _ (f .0 .neurons),
+        (le-ltb _ _ (number-small (l .activation)), (ne-eqb _ _ (f .0 .some), (fits, clear-back (suc j) ks ls (f .1)))),
+      ),
+    )
 
 length-shapes : (ks : List Kind) (ls : List Layer) → FitAll ks ls → length (shapesOf ls) ≡ 3 * length ks
 length-shapes [] [] f = refl
@@ -112,14 +137,16 @@ record Done (s : List ℕ) (xs : List (List ℕ)) (out after : List ℕ) : Type 
   holds : Holds (layersGiven kinds s xs) (fileOf (layersGiven kinds s xs))
   left : after ≡ fileOf (layersGiven kinds s xs) ++ drop (length (fileOf (layersGiven kinds s xs))) out
 
-is-done : (s : List ℕ) (xs : List (List ℕ)) (out after : List ℕ) → (0 leaving after) ≡ writeModel s xs out → Done s xs out after
+is-done : (s : List ℕ) (xs : List (List ℕ)) (out after : List ℕ) → (0 leaving after) ≡ writeModel s xs out
+    → Done s xs out after
 unfolding writeModel writerFaults rowFaults countsGiven
 is-done s xs out after e =
     let file = fileOf (layersGiven kinds s xs) in
     let ns = map length xs in
     let rows = 5 when (length s ≠ 18) ∷ writerFaults s ns (length file) (length out) in
     let right : ℕ × List ℕ = (0 leaving file ++ drop (length file) out) in
-    let c = none-held (λ (p : ℕ × List ℕ). p .0) (λ n. n leaving out) right (λ n. refl) rows tt (ap (λ (p : ℕ × List ℕ). p .0) (sym e)) in
+    let c = none-held (λ (p : ℕ × List ℕ). p .0) (λ n. n leaving out) right (λ n. refl) rows tt
+    (ap (λ (p : ℕ × List ℕ). p .0) (sym e)) in
     let a = accepted s ns (length file) (length out) (c .1) in
     let done : (0 leaving after) ≡ right = e ∙ clear (λ n. n leaving out) right rows c in
     record {
@@ -133,20 +160,24 @@ pub written-reads : ReadsBack
 written-reads s xs out after e =
     let d = is-done s xs out after e in
     let ls = layersGiven kinds s xs in
-    let file : take (length (fileOf ls)) after ≡ fileOf ls = rw (d .left) (take-append-seam (fileOf ls) (drop (length (fileOf ls)) out)) in
+    let file : take (length (fileOf ls)) after ≡ fileOf ls =
+    rw (d .left) (take-append-seam (fileOf ls) (drop (length (fileOf ls)) out)) in
     (ap readOf file ∙ reads-back ls (fileOf ls) (d .holds), ap layersRead file ∙ layers-read ls (d .holds .fit))
 
 pub none-shared : NoneShared
 none-shared s s′ xs xs′ out out′ after after′ long long′ e e′ shared =
     let d = is-done s xs out after e in
     let d′ = is-done s′ xs′ out′ after′ e′ in
-    let both = same-layers (layersGiven kinds s xs) (layersGiven kinds s′ xs′) (d .holds .fit) (d′ .holds .fit) shared in (
-      sym (shapes-back kinds s xs (map length xs) (d .eighteen) (d .good)) ∙ ap shapesOf both ∙ shapes-back kinds s′ xs′ (map length xs′) (d′ .eighteen) (d′ .good),
+    let both = same-layers (layersGiven kinds s xs) (layersGiven kinds s′ xs′) (d .holds .fit)
+    (d′ .holds .fit) shared in (
+      sym (shapes-back kinds s xs (map length xs) (d .eighteen) (d .good)) ∙ ap shapesOf both
+          ∙ shapes-back kinds s′ xs′ (map length xs′) (d′ .eighteen) (d′ .good),
       sym (arrays-back kinds s xs long) ∙ ap arraysIn both ∙ arrays-back kinds s′ xs′ long′,
     )
 
 -- layers that fit and go together are written as their file
-writes-layers : (ls : List Layer) (out : List ℕ) → FitAll kinds ls → Clear (matchFaults (countsIn (modelOf (headersAt 0 ls))) 0) → length (fileOf ls) ≤ length out
+writes-layers : (ls : List Layer) (out : List ℕ) → FitAll kinds ls
+    → Clear (matchFaults (countsIn (modelOf (headersAt 0 ls))) 0) → length (fileOf ls) ≤ length out
     → (0 leaving fileOf ls ++ drop (length (fileOf ls)) out) ≡ writeModel (shapesOf ls) (arraysIn ls) out
 unfolding writeModel writerFaults countsGiven
 writes-layers ls out fit match enough =
@@ -154,8 +185,10 @@ writes-layers ls out fit match enough =
     let ns = map length (arraysIn ls) in
     let back = given-back kinds ls fit in
     let file = fileOf (layersGiven kinds s (arraysIn ls)) in
-    let match′ : Clear (matchFaults (countsGiven kinds s) 0) = subst (λ (ls : List Layer). Clear (matchFaults (countsIn (modelOf (headersAt 0 ls))) 0)) (sym back) match in
-    let enough′ : length file ≤ length out = subst (λ (ls : List Layer). length (fileOf ls) ≤ length out) (sym back) enough in
+    let match′ : Clear (matchFaults (countsGiven kinds s) 0) =
+    subst (λ (ls : List Layer). Clear (matchFaults (countsIn (modelOf (headersAt 0 ls))) 0)) (sym back) match in
+    let enough′ : length file ≤ length out =
+    subst (λ (ls : List Layer). length (fileOf ls) ≤ length out) (sym back) enough in
     let last = 24 when ltb (length out) (length file) ∷ [] in
     let together = matchFaults (countsGiven kinds s) 0 in
     let c =

@@ -2,6 +2,6 @@ pub mod Layer
 pub mod Model
 pub mod Array
 pub mod Laws
-pub mod Parts
+pub mod Private
 pub mod Summary
 pub mod Writer

@@ -1,4 +1,4 @@
--- A model file: six layers in a row (rnn.rs, `from_bytes_impl`).
+-- A model file: six layers one after the other (rnn.rs, `from_bytes_impl`).
 use Rattle.rules.specs.Common.{ℕ, suc, _+_, Bool, not, _||_, List, [], _∷_, map, eqb, length, getD}
 use Rattle.rules.specs.Refusals.{Row, _when_, refusing}
 use Rattle.model.specs.Layer.{Layer, bytesOf, layerOf, faultsOf, restOf, headerAt}
@@ -11,34 +11,36 @@ use Rattle.model.specs.declared.Model.{Model}
 use Rattle.model.specs.declared.Reading.{Reading}
 use Rattle.model.specs.declared.Reading.the-variants.{Good, Refused}
 
--- input_dense, vad_gru, noise_gru, denoise_gru, denoise_output, vad_output
+-- The kinds of the six layers: input_dense, vad_gru, noise_gru, denoise_gru, denoise_output and vad_output.
 abbrev pub kinds : List Kind
 kinds = Dense ∷ Gru ∷ Gru ∷ Gru ∷ Dense ∷ Dense ∷ []
 
--- let (layer, bytes) = read(bytes); for each kind in a row
+-- Rust: let (layer, bytes) = read(bytes), for each kind in turn. Gives the layers, and the bytes after them.
 unfoldable pub readLayers : List Kind → List ℕ → List Layer × List ℕ
 readLayers [] s = ([], s)
 readLayers (k ∷ ks) s = let r = readLayers ks (restOf k s) in (layerOf k s ∷ r .0, r .1)
 
--- the first refusal of these layers, the first of them layer j; or what is right
+-- The first refusal of these layers, of which the first is layer j; or `right` if there is none.
 unfoldable pub refusingLayers : ℕ → List Kind → List ℕ → Reading → Reading
 refusingLayers j [] s right = right
-refusingLayers j (k ∷ ks) s right = refusing (faultsOf k s) (λ n. Refused n j) (refusingLayers (suc j) ks (restOf k s) right)
+refusingLayers j (k ∷ ks) s right =
+    refusing (faultsOf k s) (λ n. Refused n j) (refusingLayers (suc j) ks (restOf k s) right)
 
--- the headers of layers in a row, the first of them at a place of the file
+-- The headers of these layers, of which the first starts at this place of the file.
 abbrev pub headersAt : ℕ → List Layer → List Header
 headersAt at [] = []
 headersAt at (l ∷ ls) = headerAt at l ∷ headersAt (at + length (bytesOf l)) ls
 
 infix 50 _≠_
+-- Whether two numbers differ.
 abbrev pub _≠_ : ℕ → ℕ → Bool
 m ≠ n = not (eqb m n)
 
--- the counts of layer j of some
+-- The counts of layer j.
 abbrev pub countsAt : List Counts → ℕ → Counts
 countsAt cs j = getD cs j (record { inputs = 0; neurons = 0 })
 
--- the refusals of six layers by their counts, where so many bytes are behind them
+-- The refusals of six layers by their counts, and by how many bytes are left after them.
 abbrev pub matchFaults : List Counts → ℕ → List Row
 matchFaults cs left =
     let l0 = countsAt cs 0 in
@@ -55,10 +57,11 @@ matchFaults cs left =
     ∷ 22 when (l3 .neurons ≠ l4 .inputs)
     ∷ []
 
--- the model of six headers
+-- Header j of some headers.
 abbrev pub headerIn : List Header → ℕ → Header
 headerIn hs j = getD hs j (record { inputs = 0; neurons = 0; activation = Tanh; start = 0 })
 
+-- The model with these six headers.
 abbrev pub modelOf : List Header → Model
 modelOf hs =
     record {
@@ -70,20 +73,24 @@ modelOf hs =
       «vad_output» = headerIn hs 5;
     }
 
--- and its headers in a row, and their counts
+-- The six headers of a model.
 abbrev pub headersIn : Model → List Header
-headersIn m = m .«input_dense» ∷ m .«vad_gru» ∷ m .«noise_gru» ∷ m .«denoise_gru» ∷ m .«denoise_output» ∷ m .«vad_output» ∷ []
+headersIn m =
+    m .«input_dense» ∷ m .«vad_gru» ∷ m .«noise_gru» ∷ m .«denoise_gru» ∷ m .«denoise_output» ∷ m .«vad_output» ∷ []
 
+-- The counts in a header.
 abbrev pub countsOf : Header → Counts
 countsOf h = record { inputs = h .inputs; neurons = h .neurons }
 
+-- The counts of the six layers of a model.
 abbrev pub countsIn : Model → List Counts
 countsIn m = map countsOf (headersIn m)
 
--- the model, unless its counts or bytes behind it refuse it
+-- The model, unless its counts, or bytes after it, refuse it.
 abbrev pub matchedWith : Model → ℕ → Reading
 matchedWith m left = refusing (matchFaults (countsIn m) left) (λ n. Refused n 6) (Good m)
 
--- what reading a file gives
+-- What reading a file gives.
 unfoldable pub readOf : List ℕ → Reading
-readOf s = let r = readLayers kinds s in refusingLayers 0 kinds s (matchedWith (modelOf (headersAt 0 (r .0))) (length (r .1)))
+readOf s = let r = readLayers kinds s in
+    refusingLayers 0 kinds s (matchedWith (modelOf (headersAt 0 (r .0))) (length (r .1)))

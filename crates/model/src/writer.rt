@@ -1,5 +1,5 @@
-// Writes a model file (request 01): six layers in a row, each a header of three bytes and its arrays. All is tested before
-// a byte is written.
+// Writes a model file (request 01): six layers in a row, each a header of three bytes and its arrays. All is tested
+// before a byte is written.
 ghost use mathlib.Core.Path.{_≡_};
 ghost use mathlib.Core.List.{[], _∷_};
 ghost use Prim.Native.Nat.{_+_, _≤_, _<_};
@@ -8,8 +8,9 @@ ghost use lib.ListN.{length};
 ghost use Rattle.rules.specs.Leaf.{_leaving_};
 ghost use Rattle.rules.specs.Lists.{Bytes, sum};
 ghost use Rattle.model.specs.Model.{kinds, matchFaults};
-ghost use Rattle.model.specs.Writer.{arraysOf, layerFaults, inLayer, rowFaults, countsGiven, writerFaults, writeModel};
-ghost use Rattle.model.specs.Parts.{faultIn, Few, countsThere, headerBytes, layerBytes, threeBytes, Put};
+ghost use Rattle.model.specs.Writer.{arraysOf, layerFaults, inLayer, rowFaults, countsGiven, writerFaults};
+ghost use Rattle.model.specs.Writer.{writeModel};
+ghost use Rattle.model.specs.Private.{faultIn, Few, countsThere, headerBytes, layerBytes, threeBytes, Put};
 use crate::Counts;
 use crate::Kind;
 
@@ -177,7 +178,8 @@ fn put_layer(
 ) -> usize
     requires { ⌜ (first + 2 < length (now shapes)) × Bytes (now shapes)
         × (at + length (layerBytes (now shapes) first (now weights) (now recurrent) (now bias)) ≤ length (now out)) ⌝ }
-    ensures { λ r. ⌜ Put at (layerBytes (now (shapes .entry)) first (now (weights .entry)) (now (recurrent .entry)) (now (bias .entry)))
+    ensures { λ r. ⌜ Put at (layerBytes (now (shapes .entry)) first (now (weights .entry)) (now (recurrent .entry))
+        (now (bias .entry)))
         (now (out .entry)) r (now (out .exit)) ⌝ }
 {
     let header = header_bytes(shapes, first);
@@ -204,9 +206,11 @@ fn put_three(
     b2: &[u8],
 ) -> usize
     requires { ⌜ (first + 8 < length (now shapes)) × Bytes (now shapes)
-        × (at + length (threeBytes (now shapes) first (now w0) (now r0) (now b0) (now w1) (now r1) (now b1) (now w2) (now r2) (now b2))
+        × (at + length (threeBytes (now shapes) first (now w0) (now r0) (now b0) (now w1) (now r1) (now b1) (now w2)
+        (now r2) (now b2))
         ≤ length (now out)) ⌝ }
-    ensures { λ r. ⌜ Put at (threeBytes (now (shapes .entry)) first (now (w0 .entry)) (now (r0 .entry)) (now (b0 .entry))
+    ensures { λ r. ⌜ Put at (threeBytes (now (shapes .entry)) first (now (w0 .entry)) (now (r0 .entry))
+        (now (b0 .entry))
         (now (w1 .entry)) (now (r1 .entry)) (now (b1 .entry)) (now (w2 .entry)) (now (r2 .entry)) (now (b2 .entry)))
         (now (out .entry)) r (now (out .exit)) ⌝ }
 {
@@ -215,8 +219,8 @@ fn put_three(
     put_layer(out, at, shapes, first + 6, w2, r2, b2)
 }
 
-// Eighteen numbers, inputs, neurons and activation of each layer, and the arrays as they stand: the file is written at the
-// front of the buffer. Another number of shapes is refused with 5, all else with 65,536 for each layer added.
+// Eighteen numbers, inputs, neurons and activation of each layer, and the arrays as they stand: the file is written at
+// the front of the buffer. Another number of shapes is refused with 5, all else with 65,536 for each layer added.
 pub fn write(
     out: &mut [u8],
     shapes: &[u32],

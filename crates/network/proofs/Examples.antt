@@ -32,5 +32,6 @@ examples :
     map (toBits binary32) (dense Tanh ++ gru Tanh ++ dense Sigmoid ++ gru Sigmoid ++ dense Relu ++ gru Relu)
     ≡ (0xBE9B59C4 ∷ 0xBE641C22 ∷ 0xBE7CE15B ∷ 0xBEA03C37 ∷ 0x3ED83983 ∷ 0x3EE31F9F ∷ 0x3E718EEA ∷ 0xBE170F44
     ∷ 0 ∷ 0 ∷ 0x3E0CD803 ∷ 0xBE9FD9CD ∷ [])
-unfolding denseOf gateSums gruOf mulAdd loop tansigIn sigmoidIn tansig isNan lt toBits ofBits neg add sub mul ofInt toUnsigned
+unfolding denseOf gateSums gruOf mulAdd loop tansigIn sigmoidIn tansig isNan lt toBits ofBits neg add sub mul ofInt
+    toUnsigned
 examples = refl

@@ -6,10 +6,11 @@ use Rattle.model.specs.declared.Kind.the-variants.{Gru}
 use Rattle.model.specs.declared.Model.{Model}
 use Rattle.model.specs.declared.Reading.the-variants.{Good}
 use Rattle.model.proofs.Shapes.{shaped}
-use Rattle.network.specs.Parts.{LayerFits, VoiceFits, DenoiseFits}
+use Rattle.network.specs.Private.{LayerFits, VoiceFits, DenoiseFits}
 
 module _ (bytes : List ℕ) (m : Model) (good : readOf bytes ≡ Good m) where
-  pub voice-fits : {hidden voice features : ℕ} → hidden ≡ m .«input_dense» .neurons → voice ≡ 1 → features ≡ 42 → VoiceFits m (length bytes) hidden voice features
+  pub voice-fits : {hidden voice features : ℕ} → hidden ≡ m .«input_dense» .neurons → voice ≡ 1 → features ≡ 42
+      → VoiceFits m (length bytes) hidden voice features
   voice-fits a v f =
       let s = shaped bytes (sym good) in
       record {
@@ -19,8 +20,10 @@ module _ (bytes : List ℕ) (m : Model) (good : readOf bytes ≡ Good m) where
       }
 
   pub noise-fits : {hidden features : ℕ} → hidden ≡ m .«input_dense» .neurons → features ≡ 42
-      → LayerFits Gru (m .«noise_gru») (length bytes) (m .«noise_gru» .neurons) (hidden + m .«vad_gru» .neurons + features)
-  noise-fits a f = let s = shaped bytes (sym good) in record { within = s .layer2; neurons = refl; inputs = omega (arith, s .noise-reads) }
+      → LayerFits Gru (m .«noise_gru») (length bytes) (m .«noise_gru» .neurons)
+      (hidden + m .«vad_gru» .neurons + features)
+  noise-fits a f = let s = shaped bytes (sym good) in
+      record { within = s .layer2; neurons = refl; inputs = omega (arith, s .noise-reads) }
 
   pub gains-fit : {gains features : ℕ} → gains ≡ 22 → features ≡ 42 → DenoiseFits m (length bytes) gains features
   gains-fit g f =
@@ -31,7 +34,12 @@ module _ (bytes : List ℕ) (m : Model) (good : readOf bytes ≡ Good m) where
       }
 
   -- a layer has at most 127 neurons
-  pub few : (m .«input_dense» .neurons ≤ 127) × (m .«vad_gru» .neurons ≤ 127) × (m .«noise_gru» .neurons ≤ 127) × (m .«denoise_gru» .neurons ≤ 127)
+  pub few : (m .«input_dense» .neurons ≤ 127) × (m .«vad_gru» .neurons ≤ 127) × (m .«noise_gru» .neurons ≤ 127)
+      × (m .«denoise_gru» .neurons ≤ 127)
   few =
-      let s = shaped bytes (sym good) in
-      (omega (arith, s .layer0 .neurons), omega (arith, s .layer1 .neurons), omega (arith, s .layer2 .neurons), omega (arith, s .layer3 .neurons))
+      let s = shaped bytes (sym good) in (
+        omega (arith, s .layer0 .neurons),
+        omega (arith, s .layer1 .neurons),
+        omega (arith, s .layer2 .neurons),
+        omega (arith, s .layer3 .neurons),
+      )

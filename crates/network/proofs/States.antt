@@ -4,7 +4,8 @@
 --     joined-in, parted    three slices that are joined in one, and taken out of it again
 --     six-joined           what the layers leave, one after the other, is what the definition says
 -- Assumes nothing.
-use Rattle.rules.proofs.Common.{ℕ, _+_, _≤_, List, _++_, _≡_, refl, sym, ap, _∙_, length, take, drop, length-take, length-drop, length-append, Float}
+use Rattle.rules.proofs.Common.{ℕ, _+_, _≤_, List, _++_, _≡_, refl, sym, ap, _∙_, length, take, drop, length-take}
+use Rattle.rules.proofs.Common.{length-drop, length-append, Float}
 use mathlib.Core.List.{append-assoc}
 use mathlib.Core.Logic.{inl, inr}
 use native.Mathlib.Omega.{arith}
@@ -16,8 +17,9 @@ use Rattle.rules.proofs.Places.{Apart, length-get, length-put, get-put, get-put
 use Rattle.model.specs.declared.Model.{Model}
 use Rattle.network.specs.declared.Computed.{Computed}
 use Rattle.network.specs.Laws.{SideBySide}
-use Rattle.network.specs.Compute.{denseAt, gruAt, sixLayers, layersInPlace, vadIn, noiseIn, denoiseIn, layeredOn, Outcome, outcomeOf, outcomeOn}
-use Rattle.network.specs.Parts.{stateAt, Lengths}
+use Rattle.network.specs.Compute.{denseAt, gruAt, sixLayers, layersInPlace, vadIn, noiseIn, denoiseIn, layeredOn}
+use Rattle.network.specs.Compute.{Outcome, outcomeOf, outcomeOn}
+use Rattle.network.specs.Private.{stateAt, Lengths}
 use Rattle.network.proofs.Lengths.{length-gruAt}
 
 -- ---- the three in one
@@ -36,7 +38,8 @@ module _ (s : List Float) where
         featured = f;
       }
 
-  pub whole-of : {gains voice features : ℕ} → Lengths gains voice (length (vadIn s)) (length (noiseIn s)) (length (denoiseIn s)) features → length s ≡ 384
+  pub whole-of : {gains voice features : ℕ}
+      → Lengths gains voice (length (vadIn s)) (length (noiseIn s)) (length (denoiseIn s)) features → length s ≡ 384
   unfolding denoiseIn
   whole-of fit = let third = sym (length-drop 256 s) ∙ fit .third in omega arith
 
@@ -48,21 +51,27 @@ side-by-side s =
     ∙ ap (λ (t : List Float). take 128 s ++ t) (take-append-drop 128 (drop 128 s))
     ∙ take-append-drop 128 s
 
-pub joined-in : (vad noise denoise s : List Float) → length vad ≡ 128 → length noise ≡ 128 → length denoise ≡ 128 → length s ≡ 384
-    → take (length vad + length noise + length denoise) s ≡ vad ++ noise ++ denoise → (vadIn s ≡ vad) × (noiseIn s ≡ noise) × (denoiseIn s ≡ denoise)
+pub joined-in : (vad noise denoise s : List Float) → length vad ≡ 128 → length noise ≡ 128 → length denoise ≡ 128
+    → length s ≡ 384
+    → take (length vad + length noise + length denoise) s ≡ vad ++ noise ++ denoise
+    → (vadIn s ≡ vad) × (noiseIn s ≡ noise) × (denoiseIn s ≡ denoise)
 unfolding vadIn noiseIn denoiseIn
 joined-in vad noise denoise s lv ln ld whole e =
     let two : length (vad ++ noise) ≡ 256 = simp length-append (omega arith) in
-    let all : s ≡ vad ++ noise ++ denoise = sym (take-all (length vad + length noise + length denoise) s (omega arith)) ∙ e in (
+    let all : s ≡ vad ++ noise ++ denoise = sym (take-all (length vad + length noise + length denoise) s (omega arith))
+    ∙ e in (
       ap (take 128) all ∙ take-append-le 128 (vad ++ noise) denoise (omega arith) ∙ take-at vad noise 128 lv,
       ap (λ (t : List Float). take 128 (drop 128 t)) all
-          ∙ ap (take 128) (drop-append-le 128 (vad ++ noise) denoise (omega arith) ∙ ap (λ (t : List Float). t ++ denoise) (drop-at vad noise 128 lv))
+          ∙ ap (take 128) (drop-append-le 128 (vad ++ noise) denoise (omega arith)
+          ∙ ap (λ (t : List Float). t ++ denoise) (drop-at vad noise 128 lv))
           ∙ take-at noise denoise 128 ln,
       ap (drop 256) all ∙ drop-at (vad ++ noise) denoise 256 two,
     )
 
-pub parted : (s : List Float) {answer : Computed} {gains voice vad noise denoise : List Float} {o : Outcome} → length s ≡ 384
-    → vad ≡ part 0 128 s → noise ≡ part 128 256 s → denoise ≡ part 256 384 s → outcomeOn answer gains voice s ≡ o → outcomeOf answer gains voice vad noise denoise ≡ o
+pub parted : (s : List Float) {answer : Computed} {gains voice vad noise denoise : List Float} {o : Outcome}
+    → length s ≡ 384
+    → vad ≡ part 0 128 s → noise ≡ part 128 256 s → denoise ≡ part 256 384 s → outcomeOn answer gains voice s ≡ o
+    → outcomeOf answer gains voice vad noise denoise ≡ o
 unfolding vadIn noiseIn denoiseIn
 parted s whole ev en ed e = rw (ev, en, ed, take-all 128 (drop 256 s) (simp length-drop (omega arith))) e
 
@@ -74,7 +83,8 @@ get-put-front : (p : Place) (n : ℕ) (xs ys : List Float) → p .at + p .size �
 unfolding put
 get-put-front p n xs ys w few l =
     let held = length-get p xs w in
-    ap (get p) (sym (put-in p n xs ys w few)) ∙ get-put p xs (ys ++ drop n (get p xs)) w (simp (length-append, length-drop) (omega arith))
+    ap (get p) (sym (put-in p n xs ys w few))
+    ∙ get-put p xs (ys ++ drop n (get p xs)) w (simp (length-append, length-drop) (omega arith))
 
 abbrev pub vadPlace : Place
 vadPlace = record { at = 0; size = 128 }
@@ -134,9 +144,12 @@ module _ (s v n d : List Float) {a b c : ℕ} (fa : a ≤ 127) (fb : b ≤ 127) 
       let w₁ = length-put A s v (omega arith) lv ∙ whole in
       let w₂ = length-put B one n (omega (arith, w₁)) ln ∙ w₁ in
       let w₃ = length-put C two d (omega (arith, w₂)) ld ∙ w₂ in
-      let past-a : (q : Place) → 128 ≤ q .at → get q one ≡ get q s = λ q h. get-put-apart A q s v (omega arith) lv (inl (omega arith)) in
-      let past-b : (q : Place) → Apart B q → get q two ≡ get q one = λ q h. get-put-apart B q one n (omega (arith, w₁)) ln h in
-      let past-c : (q : Place) → q .at + q .size ≤ 256 → get q three ≡ get q two = λ q h. get-put-apart C q two d (omega (arith, w₂)) ld (inr h) in
+      let past-a : (q : Place) → 128 ≤ q .at → get q one ≡ get q s =
+      λ q h. get-put-apart A q s v (omega arith) lv (inl (omega arith)) in
+      let past-b : (q : Place) → Apart B q → get q two ≡ get q one =
+      λ q h. get-put-apart B q one n (omega (arith, w₁)) ln h in
+      let past-c : (q : Place) → q .at + q .size ≤ 256 → get q three ≡ get q two =
+      λ q h. get-put-apart C q two d (omega (arith, w₂)) ld (inr h) in
       let here-a = get-put A s v (omega arith) lv in
       record {
         vad₁ = here-a;
@@ -156,7 +169,8 @@ module _ (s v n d : List Float) {a b c : ℕ} (fa : a ≤ 127) (fb : b ≤ 127) 
             ∙ ap (λ (t : List Float). n ++ drop b t) (past-a noisePlace (omega arith) ∙ sym (noise-in s));
         denoise-left = denoise-in three w₃
             ∙ get-put-front denoisePlace c two d (omega (arith, w₂)) (omega arith) ld
-            ∙ ap (λ (t : List Float). d ++ drop c t) (past-b denoisePlace (inl (omega arith)) ∙ past-a denoisePlace (omega arith) ∙ sym (denoise-in s whole));
+            ∙ ap (λ (t : List Float). d ++ drop c t)
+            (past-b denoisePlace (inl (omega arith)) ∙ past-a denoisePlace (omega arith) ∙ sym (denoise-in s whole));
       }
 
 module _ (bytes : List ℕ) (m : Model) (s features : List Float) (whole : length s ≡ 384)
@@ -199,7 +213,22 @@ module _ (bytes : List ℕ) (m : Model) (s features : List Float) (whole : lengt
       fronts s v n d (few .0) (few .1) (few .2) whole
       (length-gruAt bytes (m .«vad_gru») hidden (get vad s) ∙ length-get vad s (omega arith))
       (length-gruAt bytes (m .«noise_gru») (hidden ++ v ++ features) (get noise s) ∙ length-get noise s (omega arith))
-      (length-gruAt bytes (m .«denoise_gru») (v ++ n ++ features) (get denoise s) ∙ length-get denoise s (omega arith)) in
+      (length-gruAt bytes (m .«denoise_gru») (v ++ n ++ features) (get denoise s)
+      ∙ length-get denoise s (omega arith)) in
       let e2′ : s₂ ≡ put noise (put vad s v) n = e2 ∙ rw (e1, f .vad₁, f .noise₁) in
       let e3′ : s₃ ≡ put denoise (put noise (put vad s v) n) d = e3 ∙ rw (e2′, f .vad₂, f .noise₂, f .denoise₂) in
-      rw (eg, ev, e1, e3′, f .vad₁, f .denoise₃, f .vad-left, f .noise-left, f .denoise-left, eh, vad-front, noise-front, denoise-front)
+      rw (
+        eg,
+        ev,
+        e1,
+        e3′,
+        f .vad₁,
+        f .denoise₃,
+        f .vad-left,
+        f .noise-left,
+        f .denoise-left,
+        eh,
+        vad-front,
+        noise-front,
+        denoise-front,
+      )

@@ -2,6 +2,6 @@
 use Rattle.rules.specs.Common.{List, _++_, _≡_, Float}
 use Rattle.network.specs.Compute.{vadIn, noiseIn, denoiseIn}
 
--- a slice is its three states, side by side, whatever its length
+-- A slice is its three states next to each other, whatever its length.
 abbrev pub SideBySide : Type 0
 SideBySide = (states : List Float) → vadIn states ++ noiseIn states ++ denoiseIn states ≡ states

@@ -1,4 +1,4 @@
-// The layers for lengths that fit. The table of the activations is lent, so that a frame takes it once.
+// The layers for lengths that fit. The table of the activations is lent, so that a frame fills it only once.
 ghost use mathlib.Core.Path.{_≡_};
 ghost use mathlib.Core.List.{map};
 ghost use Prim.Native.Nat.{_+_, _*_, _≤_};
@@ -6,14 +6,15 @@ ghost use lib.ListN.{length};
 ghost use Rattle.rules.specs.F32.{_⊗_};
 ghost use Rattle.rules.specs.Loop.{loop};
 ghost use Rattle.numbers.specs.Tansig.{tansig};
-ghost use Rattle.network.specs.Layers.{weightsScale, copied, activated, updateStep, resetStep, blendStep, gateSums};
+ghost use Rattle.network.specs.Layers.{weightsScale, copied, activated, updateStep, resetStep, blendStep};
+ghost use Rattle.network.specs.Layers.{gateSums};
 ghost use Rattle.network.specs.Layers.{denseOf, DenseArrays, gruOf, GruArrays};
-ghost use Rattle.network.specs.Parts.{timesStep, mixStep, GateFits, ScratchFits};
+ghost use Rattle.network.specs.Private.{timesStep, mixStep, GateFits, ScratchFits};
 use model::Activation;
 
 const WEIGHTS_SCALE: f32 = 1.0 / 256.0;
 
-// Biases, as numbers.
+// Copies biases, as numbers.
 fn copy_weights(out: &mut [f32], bytes: &[u8])
     requires { ⌜ length (now out) ≡ length (now bytes) ⌝ }
     ensures { λ _. ⌜ now (out .exit) ≡ copied (now (bytes .entry)) ⌝ }
@@ -23,6 +24,7 @@ fn copy_weights(out: &mut [f32], bytes: &[u8])
     }
 }
 
+// Multiplies each sum by the scale of the weights.
 fn scale(xs: &mut [f32])
     ensures { λ _. ⌜ now (xs .exit) ≡ map (λ x. weightsScale ⊗ x) (now (xs .entry)) ⌝ }
 {
@@ -31,7 +33,7 @@ fn scale(xs: &mut [f32])
     }
 }
 
-// What the activation makes of the sums.
+// Applies the activation to each sum.
 fn activate(sums: &mut [f32], table: &[f32; 201], activation: Activation)
     requires { ⌜ now table ≡ tansig ⌝ }
     ensures { λ _. ⌜ now (sums .exit) ≡ map (λ x. activated activation (weightsScale ⊗ x)) (now (sums .entry)) ⌝ }
@@ -44,6 +46,7 @@ fn activate(sums: &mut [f32], table: &[f32; 201], activation: Activation)
     }
 }
 
+// A dense layer.
 pub(crate) fn dense(
     output: &mut [f32],
     table: &[f32; 201],
@@ -54,7 +57,8 @@ pub(crate) fn dense(
 )
     requires { ⌜ (now table ≡ tansig) × DenseArrays (length (now output)) (length (now weights)) (length (now bias))
         (length (now input)) ⌝ }
-    ensures { λ _. ⌜ now (output .exit) ≡ denseOf (now (weights .entry)) (now (bias .entry)) activation (now (input .entry)) ⌝ }
+    ensures { λ _. ⌜ now (output .exit)
+        ≡ denseOf (now (weights .entry)) (now (bias .entry)) activation (now (input .entry)) ⌝ }
 {
     let n = output.len();
     copy_weights(output, bias);
@@ -62,7 +66,7 @@ pub(crate) fn dense(
     activate(output, table, activation);
 }
 
-// Sums to gates.
+// Turns sums into gates.
 fn update(gates: &mut [f32], table: &[f32; 201])
     requires { ⌜ now table ≡ tansig ⌝ }
     ensures { λ _. ⌜ now (gates .exit) ≡ loop (length (now (gates .entry))) updateStep (now (gates .entry)) ⌝ }
@@ -71,20 +75,22 @@ fn update(gates: &mut [f32], table: &[f32; 201])
     numbers::lists::sigmoids(gates, table);
 }
 
-// Each reset gate times the old state.
+// Multiplies each reset gate by the old state.
 fn times(gates: &mut [f32], state: &[f32])
     requires { ⌜ length (now gates) ≡ length (now state) ⌝ }
-    ensures { λ _. ⌜ now (gates .exit) ≡ loop (length (now (gates .entry))) (timesStep (now (state .entry))) (now (gates .entry)) ⌝ }
+    ensures { λ _. ⌜ now (gates .exit)
+        ≡ loop (length (now (gates .entry))) (timesStep (now (state .entry))) (now (gates .entry)) ⌝ }
 {
     for j in 0..gates.len() {
         gates[j] = state[j] * gates[j];
     }
 }
 
-// Sums to reset gates, each times the old state.
+// Turns sums into reset gates, each multiplied by the old state.
 fn reset(r: &mut [f32], state: &[f32], table: &[f32; 201])
     requires { ⌜ (length (now r) ≡ length (now state)) × (now table ≡ tansig) ⌝ }
-    ensures { λ _. ⌜ now (r .exit) ≡ loop (length (now (r .entry))) (resetStep (now (state .entry))) (now (r .entry)) ⌝ }
+    ensures { λ _. ⌜ now (r .exit)
+        ≡ loop (length (now (r .entry))) (resetStep (now (state .entry))) (now (r .entry)) ⌝ }
 {
     update(r, table);
     times(r, state);
@@ -93,7 +99,8 @@ fn reset(r: &mut [f32], state: &[f32], table: &[f32; 201])
 // The new state, from the update gates and the candidates.
 fn mix(state: &mut [f32], z: &[f32], new: &[f32])
     requires { ⌜ (length (now z) ≡ length (now state)) × (length (now new) ≡ length (now state)) ⌝ }
-    ensures { λ _. ⌜ now (state .exit) ≡ loop (length (now (state .entry))) (mixStep (now (z .entry)) (now (new .entry))) (now (state .entry)) ⌝ }
+    ensures { λ _. ⌜ now (state .exit)
+        ≡ loop (length (now (state .entry))) (mixStep (now (z .entry)) (now (new .entry))) (now (state .entry)) ⌝ }
 {
     for j in 0..state.len() {
         let keep = z[j];
@@ -101,17 +108,19 @@ fn mix(state: &mut [f32], z: &[f32], new: &[f32])
     }
 }
 
-// The new state, from the update gates and the candidates' sums, which become the candidates.
+// The new state, from the update gates and the sums of the candidates; these become the candidates.
 fn blend(state: &mut [f32], z: &[f32], h: &mut [f32], activation: Activation, table: &[f32; 201])
-    requires { ⌜ (length (now z) ≡ length (now state)) × (length (now h) ≡ length (now state)) × (now table ≡ tansig) ⌝ }
-    ensures { λ _. ⌜ now (state .exit) ≡ loop (length (now (state .entry))) (blendStep activation (now (z .entry)) (now (h .entry)))
+    requires { ⌜ (length (now z) ≡ length (now state)) × (length (now h) ≡ length (now state))
+        × (now table ≡ tansig) ⌝ }
+    ensures { λ _. ⌜ now (state .exit)
+        ≡ loop (length (now (state .entry))) (blendStep activation (now (z .entry)) (now (h .entry)))
         (now (state .entry)) ⌝ }
 {
     activate(h, table, activation);
     mix(state, z, &h[..]);
 }
 
-// The sums of one gate, at this offset: bias, inputs, recurrent.
+// The sums of the gate at this offset: its bias, plus weights times input, plus recurrent weights times state.
 fn gate_sums(
     out: &mut [f32],
     weights: &[u8],
@@ -123,7 +132,8 @@ fn gate_sums(
 )
     requires { ⌜ GateFits (length (now out)) (length (now weights)) (length (now recurrent)) (length (now bias)) offset
         (length (now input)) (length (now state)) ⌝ }
-    ensures { λ _. ⌜ now (out .exit) ≡ gateSums (now (weights .entry)) (now (recurrent .entry)) (now (bias .entry)) (now (input .entry))
+    ensures { λ _. ⌜ now (out .exit)
+        ≡ gateSums (now (weights .entry)) (now (recurrent .entry)) (now (bias .entry)) (now (input .entry))
         (length (now (out .entry))) offset (now (state .entry)) ⌝ }
 {
     let n = out.len();
@@ -134,7 +144,7 @@ fn gate_sums(
     matrix::mul_add_at(recurrent, stride, offset, out, state);
 }
 
-// A GRU layer over lent scratch, one slice for each gate.
+// A GRU layer with lent places for its gates.
 pub(crate) fn gru(
     state: &mut [f32],
     z: &mut [f32],
@@ -149,8 +159,10 @@ pub(crate) fn gru(
 )
     requires { ⌜ GruArrays (length (now state)) (length (now weights)) (length (now recurrent)) (length (now bias))
         (length (now input)) ⌝ }
-    requires { ⌜ (now table ≡ tansig) × ScratchFits (length (now state)) (length (now z)) (length (now r)) (length (now h)) ⌝ }
-    ensures { λ _. ⌜ now (state .exit) ≡ gruOf (now (weights .entry)) (now (recurrent .entry)) (now (bias .entry)) activation
+    requires { ⌜ (now table ≡ tansig)
+        × ScratchFits (length (now state)) (length (now z)) (length (now r)) (length (now h)) ⌝ }
+    ensures { λ _. ⌜ now (state .exit)
+        ≡ gruOf (now (weights .entry)) (now (recurrent .entry)) (now (bias .entry)) activation
         (now (input .entry)) (now (state .entry)) ⌝ }
 {
     let n = state.len();
@@ -163,7 +175,7 @@ pub(crate) fn gru(
     blend(state, &z[..], h, activation, table);
 }
 
-// A GRU layer over scratch of its own.
+// A GRU layer with places of its own for its gates.
 pub(crate) fn gru_alone(
     state: &mut [f32],
     table: &[f32; 201],
@@ -174,8 +186,10 @@ pub(crate) fn gru_alone(
     input: &[f32],
 )
     requires { ⌜ (now table ≡ tansig) × (length (now state) ≤ 128)
-        × GruArrays (length (now state)) (length (now weights)) (length (now recurrent)) (length (now bias)) (length (now input)) ⌝ }
-    ensures { λ _. ⌜ now (state .exit) ≡ gruOf (now (weights .entry)) (now (recurrent .entry)) (now (bias .entry)) activation
+        × GruArrays (length (now state)) (length (now weights)) (length (now recurrent)) (length (now bias))
+        (length (now input)) ⌝ }
+    ensures { λ _. ⌜ now (state .exit)
+        ≡ gruOf (now (weights .entry)) (now (recurrent .entry)) (now (bias .entry)) activation
         (now (input .entry)) (now (state .entry)) ⌝ }
 {
     let n = state.len();

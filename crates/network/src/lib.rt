@@ -1,5 +1,5 @@
-// The network's layers, each proved equal to its definition. A layer refuses, with 5 and nothing changed, exactly where a length
-// does not fit or a count lies outside 1 to 127.
+// The layers of the network. Each is proved equal to its definition. A layer refuses with 5, and changes nothing,
+// exactly if a length does not fit or a count is outside 1 to 127.
 ghost use mathlib.Core.Path.{_≡_};
 ghost use lib.ListN.{length};
 ghost use Rattle.rules.specs.Leaf.{Leaf, _leaving_};
@@ -12,7 +12,7 @@ mod six;
 use model::Activation;
 use model::Reading;
 
-// A dense layer: output is what activation makes of bias and weights times input.
+// A dense layer: the output is the activation of the biases plus the weights times the input.
 pub fn dense(
     output: &mut [f32],
     weights: &[u8],
@@ -20,7 +20,8 @@ pub fn dense(
     activation: Activation,
     input: &[f32],
 ) -> u32
-    ensures { λ r. ⌜ Leaf (DenseFits (length (now (output .entry))) (length (now (weights .entry))) (length (now (bias .entry)))
+    ensures { λ r. ⌜ Leaf (DenseFits (length (now (output .entry))) (length (now (weights .entry)))
+        (length (now (bias .entry)))
         (length (now (input .entry))))
         (r leaving now (output .exit))
         (0 leaving denseOf (now (weights .entry)) (now (bias .entry)) activation (now (input .entry)))
@@ -51,7 +52,7 @@ pub fn dense(
     0
 }
 
-// A GRU layer: state becomes the next state.
+// A GRU layer: the state becomes the next state.
 pub fn gru(
     state: &mut [f32],
     weights: &[u8],
@@ -60,10 +61,12 @@ pub fn gru(
     activation: Activation,
     input: &[f32],
 ) -> u32
-    ensures { λ r. ⌜ Leaf (GruFits (length (now (state .entry))) (length (now (weights .entry))) (length (now (recurrent .entry)))
+    ensures { λ r. ⌜ Leaf (GruFits (length (now (state .entry))) (length (now (weights .entry)))
+        (length (now (recurrent .entry)))
         (length (now (bias .entry))) (length (now (input .entry))))
         (r leaving now (state .exit))
-        (0 leaving gruOf (now (weights .entry)) (now (recurrent .entry)) (now (bias .entry)) activation (now (input .entry))
+        (0 leaving gruOf (now (weights .entry)) (now (recurrent .entry)) (now (bias .entry)) activation
+        (now (input .entry))
         (now (state .entry)))
         (5 leaving now (state .entry)) ⌝ }
 {
@@ -96,15 +99,15 @@ pub fn gru(
     0
 }
 
-// What a frame's call answers: done, a wrong length (5), or a model that does not read, its number and layer.
+// The answer for a frame.
 pub enum Computed {
     Done,
     Refused(u32),
     Misread(u32, u32),
 }
 
-// The six layers for one frame: 22 gains and one voice probability from 42 features, and the three states, of 128 places each and
-// side by side in one slice of 384, moved on.
+// The six layers for one frame: 42 features give 22 gains and the probability of a voice. The three states, of 128
+// places each, are next to each other in a slice of 384, and are updated.
 pub fn compute_on(
     gains: &mut [f32],
     voice: &mut [f32],
@@ -113,7 +116,8 @@ pub fn compute_on(
     features: &[f32],
 ) -> Computed
     ensures { λ r. ⌜ outcomeOn r (now (gains .exit)) (now (voice .exit)) (now (states .exit))
-        ≡ computed (now (gains .entry)) (now (voice .entry)) (vadIn (now (states .entry))) (noiseIn (now (states .entry)))
+        ≡ computed (now (gains .entry)) (now (voice .entry)) (vadIn (now (states .entry)))
+        (noiseIn (now (states .entry)))
         (denoiseIn (now (states .entry))) (now (model .entry)) (now (features .entry)) ⌝ }
 {
     if gains.len() != 22 {
@@ -137,7 +141,7 @@ pub fn compute_on(
     }
 }
 
-// The same, with each state in a slice of its own.
+// The same with each state in a slice of its own.
 pub fn compute(
     gains: &mut [f32],
     voice: &mut [f32],
@@ -147,8 +151,10 @@ pub fn compute(
     model: &[u8],
     features: &[f32],
 ) -> Computed
-    ensures { λ r. ⌜ outcomeOf r (now (gains .exit)) (now (voice .exit)) (now (vad .exit)) (now (noise .exit)) (now (denoise .exit))
-        ≡ computed (now (gains .entry)) (now (voice .entry)) (now (vad .entry)) (now (noise .entry)) (now (denoise .entry))
+    ensures { λ r. ⌜ outcomeOf r (now (gains .exit)) (now (voice .exit)) (now (vad .exit)) (now (noise .exit))
+        (now (denoise .exit))
+        ≡ computed (now (gains .entry)) (now (voice .entry)) (now (vad .entry)) (now (noise .entry))
+        (now (denoise .entry))
         (now (model .entry)) (now (features .entry)) ⌝ }
 {
     if vad.len() != 128 {

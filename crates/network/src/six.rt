@@ -1,4 +1,5 @@
-// The six layers of a model that reads. `model::place_in` says where a layer's arrays are in the model's bytes.
+// The six layers of a model that reads. `model::place_in` gives the places of a layer's arrays in the bytes of the
+// model.
 ghost use mathlib.Core.Path.{_≡_};
 ghost use mathlib.Core.List.{_++_};
 ghost use Prim.Native.Nat.{_+_, _≤_};
@@ -9,26 +10,28 @@ ghost use Rattle.model.specs.declared.Reading.the-variants.{Good};
 ghost use Rattle.model.specs.Model.{readOf};
 ghost use Rattle.rules.specs.Place.{get, put};
 ghost use Rattle.network.specs.Compute.{denseAt, gruAt, layeredOn, layersInPlace, vadIn, noiseIn, denoiseIn};
-ghost use Rattle.network.specs.Parts.{stateAt, LayerFits, VoiceFits, DenoiseFits};
+ghost use Rattle.network.specs.Private.{stateAt, LayerFits, VoiceFits, DenoiseFits};
 use crate::layers;
 use model::Header;
 use model::Kind;
 use model::Model;
 
-// Puts src at this place: what stands before it stays.
+// Stores src from this place on; what comes before it stays.
 fn put(buf: &mut [f32], at: usize, src: &[f32])
     requires { ⌜ at + length (now src) ≤ length (now buf) ⌝ }
-    ensures { λ _. ⌜ take (at + length (now (src .entry))) (now (buf .exit)) ≡ take at (now (buf .entry)) ++ now (src .entry) ⌝ }
+    ensures { λ _. ⌜ take (at + length (now (src .entry))) (now (buf .exit))
+        ≡ take at (now (buf .entry)) ++ now (src .entry) ⌝ }
 {
     for i in 0..src.len() {
         buf[at + i] = src[i];
     }
 }
 
-// Three slices, one after the other, in the front of buf.
+// Stores three slices, one after the other, at the front of buf.
 pub(crate) fn join(buf: &mut [f32], first: &[f32], second: &[f32], third: &[f32])
     requires { ⌜ length (now first) + length (now second) + length (now third) ≤ length (now buf) ⌝ }
-    ensures { λ _. ⌜ take (length (now (first .entry)) + length (now (second .entry)) + length (now (third .entry))) (now (buf .exit))
+    ensures { λ _. ⌜ take (length (now (first .entry)) + length (now (second .entry)) + length (now (third .entry)))
+        (now (buf .exit))
         ≡ now (first .entry) ++ now (second .entry) ++ now (third .entry) ⌝ }
 {
     let a = first.len();
@@ -38,8 +41,10 @@ pub(crate) fn join(buf: &mut [f32], first: &[f32], second: &[f32], third: &[f32]
     put(buf, b, third);
 }
 
+// The dense layer with this header.
 fn dense(output: &mut [f32], table: &[f32; 201], bytes: &[u8], h: Header, input: &[f32])
-    requires { ⌜ (now table ≡ tansig) × LayerFits Dense h (length (now bytes)) (length (now output)) (length (now input)) ⌝ }
+    requires { ⌜ (now table ≡ tansig)
+        × LayerFits Dense h (length (now bytes)) (length (now output)) (length (now input)) ⌝ }
     ensures { λ _. ⌜ now (output .exit) ≡ denseAt (now (bytes .entry)) h (now (input .entry)) ⌝ }
 {
     let weights = model::place_in(bytes.len(), Kind::Dense, h, 0);
@@ -59,7 +64,7 @@ fn dense(output: &mut [f32], table: &[f32; 201], bytes: &[u8], h: Header, input:
     );
 }
 
-// The layer on the n numbers of `states` from `at` on.
+// The same with an input that is in `states` from `at` on.
 fn dense_on(
     output: &mut [f32],
     table: &[f32; 201],
@@ -69,14 +74,16 @@ fn dense_on(
     at: usize,
     n: usize,
 )
-    requires { ⌜ (now table ≡ tansig) × (at + n ≤ length (now states)) × LayerFits Dense h (length (now bytes)) (length (now output)) n ⌝ }
-    ensures { λ _. ⌜ now (output .exit) ≡ denseAt (now (bytes .entry)) h (get (record { at = at; size = n }) (now (states .entry))) ⌝ }
+    requires { ⌜ (now table ≡ tansig) × (at + n ≤ length (now states))
+        × LayerFits Dense h (length (now bytes)) (length (now output)) n ⌝ }
+    ensures { λ _. ⌜ now (output .exit)
+        ≡ denseAt (now (bytes .entry)) h (get (record { at = at; size = n }) (now (states .entry))) ⌝ }
 {
     let end = at + n;
     dense(output, table, bytes, h, &states[at..end]);
 }
 
-// The layer whose state stands in `states` from `at` on, a place for each neuron.
+// The GRU layer with this header, whose state is in `states` from `at` on.
 fn gru(states: &mut [f32], at: usize, table: &[f32; 201], bytes: &[u8], h: Header, input: &[f32])
     requires { ⌜ (now table ≡ tansig) × (at + h .neurons ≤ length (now states))
         × LayerFits Gru h (length (now bytes)) (h .neurons) (length (now input)) ⌝ }
@@ -119,8 +126,10 @@ fn voice_of(
         × VoiceFits m (length (now bytes)) (length (now hidden)) (length (now voice)) (length (now features)) ⌝ }
     ensures { λ _. ⌜ (now (hidden .exit) ≡ denseAt (now (bytes .entry)) (m .«input_dense») (now (features .entry)))
         × (now (states .exit) ≡ put (stateAt 0 (m .«vad_gru»)) (now (states .entry))
-        (gruAt (now (bytes .entry)) (m .«vad_gru») (now (hidden .exit)) (get (stateAt 0 (m .«vad_gru»)) (now (states .entry)))))
-        × (now (voice .exit) ≡ denseAt (now (bytes .entry)) (m .«vad_output») (get (stateAt 0 (m .«vad_gru»)) (now (states .exit)))) ⌝ }
+        (gruAt (now (bytes .entry)) (m .«vad_gru») (now (hidden .exit))
+        (get (stateAt 0 (m .«vad_gru»)) (now (states .entry)))))
+        × (now (voice .exit) ≡ denseAt (now (bytes .entry)) (m .«vad_output»)
+        (get (stateAt 0 (m .«vad_gru»)) (now (states .exit)))) ⌝ }
 {
     let input_dense = m.input_dense;
     let vad_gru = m.vad_gru;
@@ -131,7 +140,7 @@ fn voice_of(
     dense_on(voice, table, bytes, vad_output, &states[..], 0, n);
 }
 
-// noise_gru: its inputs are joined before its state is written.
+// noise_gru. Its inputs are joined before its state is written.
 fn noise_of(
     states: &mut [f32],
     table: &[f32; 201],
@@ -140,7 +149,8 @@ fn noise_of(
     hidden: &[f32],
     features: &[f32],
 )
-    requires { ⌜ (now table ≡ tansig) × (length (now states) ≡ 384) × LayerFits Gru (m .«noise_gru») (length (now bytes)) (m .«noise_gru» .neurons)
+    requires { ⌜ (now table ≡ tansig) × (length (now states) ≡ 384)
+        × LayerFits Gru (m .«noise_gru») (length (now bytes)) (m .«noise_gru» .neurons)
         (length (now hidden) + m .«vad_gru» .neurons + length (now features)) ⌝ }
     ensures { λ _. ⌜ now (states .exit) ≡ put (stateAt 128 (m .«noise_gru»)) (now (states .entry))
         (gruAt (now (bytes .entry)) (m .«noise_gru»)
@@ -155,14 +165,15 @@ fn noise_of(
     gru(states, 128, table, bytes, noise_gru, &buf[0..inputs]);
 }
 
-// denoise_gru, likewise.
+// denoise_gru. Its inputs are joined before its state is written.
 fn denoise_of(states: &mut [f32], table: &[f32; 201], bytes: &[u8], m: Model, features: &[f32])
     requires { ⌜ (now table ≡ tansig) × (length (now states) ≡ 384)
         × LayerFits Gru (m .«denoise_gru») (length (now bytes)) (m .«denoise_gru» .neurons)
         (m .«vad_gru» .neurons + m .«noise_gru» .neurons + length (now features)) ⌝ }
     ensures { λ _. ⌜ now (states .exit) ≡ put (stateAt 256 (m .«denoise_gru»)) (now (states .entry))
         (gruAt (now (bytes .entry)) (m .«denoise_gru»)
-        (get (stateAt 0 (m .«vad_gru»)) (now (states .entry)) ++ get (stateAt 128 (m .«noise_gru»)) (now (states .entry)) ++ now (features .entry))
+        (get (stateAt 0 (m .«vad_gru»)) (now (states .entry))
+        ++ get (stateAt 128 (m .«noise_gru»)) (now (states .entry)) ++ now (features .entry))
         (get (stateAt 256 (m .«denoise_gru»)) (now (states .entry)))) ⌝ }
 {
     let denoise_gru = m.denoise_gru;
@@ -187,9 +198,11 @@ fn gains_of(
         × DenoiseFits m (length (now bytes)) (length (now gains)) (length (now features)) ⌝ }
     ensures { λ _. ⌜ (now (states .exit) ≡ put (stateAt 256 (m .«denoise_gru»)) (now (states .entry))
         (gruAt (now (bytes .entry)) (m .«denoise_gru»)
-        (get (stateAt 0 (m .«vad_gru»)) (now (states .entry)) ++ get (stateAt 128 (m .«noise_gru»)) (now (states .entry)) ++ now (features .entry))
+        (get (stateAt 0 (m .«vad_gru»)) (now (states .entry))
+        ++ get (stateAt 128 (m .«noise_gru»)) (now (states .entry)) ++ now (features .entry))
         (get (stateAt 256 (m .«denoise_gru»)) (now (states .entry)))))
-        × (now (gains .exit) ≡ denseAt (now (bytes .entry)) (m .«denoise_output») (get (stateAt 256 (m .«denoise_gru»)) (now (states .exit)))) ⌝ }
+        × (now (gains .exit) ≡ denseAt (now (bytes .entry)) (m .«denoise_output»)
+        (get (stateAt 256 (m .«denoise_gru»)) (now (states .exit)))) ⌝ }
 {
     let denoise_output = m.denoise_output;
     let n = m.denoise_gru.neurons;
@@ -197,7 +210,7 @@ fn gains_of(
     dense_on(gains, table, bytes, denoise_output, &states[..], 256, n);
 }
 
-// The six layers, over a lent buffer for the first one's output.
+// The six layers, with a lent buffer for the output of the first.
 fn frame_in(
     hidden: &mut [f32],
     gains: &mut [f32],
@@ -208,7 +221,8 @@ fn frame_in(
     features: &[f32],
 )
     requires { ⌜ (readOf (now bytes) ≡ Good m) × (length (now hidden) ≡ m .«input_dense» .neurons)
-        × (length (now gains) ≡ 22) × (length (now voice) ≡ 1) × (length (now states) ≡ 384) × (length (now features) ≡ 42) ⌝ }
+        × (length (now gains) ≡ 22) × (length (now voice) ≡ 1) × (length (now states) ≡ 384)
+        × (length (now features) ≡ 42) ⌝ }
     ensures { λ _. ⌜ layeredOn (now (gains .exit)) (now (voice .exit)) (now (states .exit))
         ≡ layersInPlace (now (bytes .entry)) m (vadIn (now (states .entry))) (noiseIn (now (states .entry)))
         (denoiseIn (now (states .entry))) (now (features .entry)) ⌝ }
@@ -229,7 +243,8 @@ pub(crate) fn frame(
     features: &[f32],
 )
     requires { ⌜ (readOf (now bytes) ≡ Good m)
-        × (length (now gains) ≡ 22) × (length (now voice) ≡ 1) × (length (now states) ≡ 384) × (length (now features) ≡ 42) ⌝ }
+        × (length (now gains) ≡ 22) × (length (now voice) ≡ 1) × (length (now states) ≡ 384)
+        × (length (now features) ≡ 42) ⌝ }
     ensures { λ _. ⌜ layeredOn (now (gains .exit)) (now (voice .exit)) (now (states .exit))
         ≡ layersInPlace (now (bytes .entry)) m (vadIn (now (states .entry))) (noiseIn (now (states .entry)))
         (denoiseIn (now (states .entry))) (now (features .entry)) ⌝ }

@@ -1,4 +1,5 @@
--- The definitions of specs/ at single numbers, computed by antt from the definitions alone. `f32` takes the bit pattern of a number. Assumes nothing.
+-- The definitions of specs/ at single numbers, computed by antt from the definitions alone. `f32` takes the bit pattern
+-- of a number. Assumes nothing.
 --     narrowings         ties and the ends of the range, f64 pattern to f32 pattern
 --     filtered           three samples of the high-pass filter
 --     picks              which of two numbers `max`, `min` and `clamp` give
@@ -14,8 +15,9 @@ use Rattle.numbers.specs.Narrowed.{narrowed}
 abbrev narrow : ℕ → ℕ
 narrow b = toBits binary32 (narrowed (ofBits binary64 b))
 
--- 1 + 2 ^ -24 is a tie, and goes down to the even 1; the next up goes up; 1 + 3 * 2 ^ -24 is a tie, and goes up. Half way from the largest to 2 ^ 128 is an
--- infinity, and what is just below is not; 2 ^ -150 is 0, and what is just above is the smallest; the largest subnormal is rounded up to the smallest normal
+-- 1 + 2 ^ -24 is a tie, and goes down to the even 1; the next up goes up; 1 + 3 * 2 ^ -24 is a tie, and goes up. Half
+-- way from the largest to 2 ^ 128 is an infinity, and what is just below is not; 2 ^ -150 is 0, and what is just above
+-- is the smallest; the largest subnormal is rounded up to the smallest normal
 narrowings :
     map narrow
     (0x3ff0_0000_1000_0000
@@ -31,7 +33,8 @@ narrowings :
 unfolding narrowed ofBits toBits
 narrowings = refl
 
--- 3, 5 and 7 from zero memories, as the Rust has them. With y rounded before it is fed back the last output would end in C, and both memories would differ
+-- 3, 5 and 7 from zero memories, as the Rust has them. With y rounded before it is fed back the last output would end
+-- in C, and both memories would differ
 abbrev start : Memory
 start = record { m0 = f32 0; m1 = f32 0 }
 

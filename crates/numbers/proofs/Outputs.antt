@@ -1,5 +1,6 @@
 -- The filter's loop, and its promise as its callers read it. Assumes nothing.
-use Rattle.rules.proofs.Common.{ℕ, zero, suc, _+_, _≤_, _<_, List, [], _∷_, _++_, _≡_, refl, ap, _∙_, T, length, drop, set, length-append, Float}
+use Rattle.rules.proofs.Common.{ℕ, zero, suc, _+_, _≤_, _<_, List, [], _∷_, _++_, _≡_, refl, ap, _∙_, T, length, drop}
+use Rattle.rules.proofs.Common.{set, length-append, Float}
 use Rattle.rules.proofs.Common.{binary32, binary64}
 use mathlib.Core.List.{append-nil}
 use native.Mathlib.Numerals.{add-one}
@@ -43,15 +44,19 @@ module _ (k : Biquad) (mem : Memory) (input : List Float) where
   filter-begin d = record { memory = refl; front = refl }
 
   -- a turn is the filter over one sample
-  pub filter-more : (d : List Float) (i : ℕ) {kept next : Memory} {now : List Float} {y : Float} → Filtering d i kept now → i < length d
-      → next ≡ memoryAfter k kept (at input i ∷ []) → y ∷ [] ≡ outputs k kept (at input i ∷ []) → Filtering d (i + 1) next (set now i y)
+  pub filter-more : (d : List Float) (i : ℕ) {kept next : Memory} {now : List Float} {y : Float}
+      → Filtering d i kept now → i < length d
+      → next ≡ memoryAfter k kept (at input i ∷ []) → y ∷ [] ≡ outputs k kept (at input i ∷ [])
+      → Filtering d (i + 1) next (set now i y)
   unfolding loop filterStep filtered
   filter-more d i {now = now} {y = y} h room m o =
       let stored = front-more (after i .1) d now i y (as-many i) (h .front) room in
       let new = o ∙ ap (λ (n : Memory). outputs k n (at input i ∷ [])) (h .memory) in
       record {
         memory = rw (add-one i) (m ∙ ap (λ (n : Memory). memoryAfter k n (at input i ∷ [])) (h .memory));
-        front = rw (add-one i) (rw (add-one i) at (stored ∙ ap (λ (t : List Float). (after i .1 ++ t) ++ drop (i + 1) d) new));
+        front =
+            rw (add-one i) (rw (add-one i) at
+            (stored ∙ ap (λ (t : List Float). (after i .1 ++ t) ++ drop (i + 1) d) new));
       }
 
   filter-held : Held mem → (n : ℕ) → Held (after n .0)
@@ -61,12 +66,15 @@ module _ (k : Biquad) (mem : Memory) (input : List Float) where
       let x = at input n in
       let y = add binary64 x (after n .0 .m0) in
       record {
-        first = narrowed-fits (add binary64 (after n .0 .m1) (sub binary64 (mul binary64 (k .b0) x) (mul binary64 (k .a0) y)));
+        first =
+            narrowed-fits (add binary64 (after n .0 .m1)
+            (sub binary64 (mul binary64 (k .b0) x) (mul binary64 (k .a0) y)));
         second = narrowed-fits (sub binary64 (mul binary64 (k .b1) x) (mul binary64 (k .a1) y));
       }
 
   -- so what is kept of it as an `f64` is narrowed to itself
-  pub filter-ended : (d : List Float) (i : ℕ) {kept left : Memory} {now : List Float} → Filtering d i kept now → i ≡ length input → length d ≤ i
+  pub filter-ended : (d : List Float) (i : ℕ) {kept left : Memory} {now : List Float} → Filtering d i kept now
+      → i ≡ length input → length d ≤ i
       → Held mem → left .m0 ≡ narrowed (kept .m0) → left .m1 ≡ narrowed (kept .m1)
       → (left ≡ memoryAfter k mem input) × (now ≡ outputs k mem input)
   unfolding filtered
@@ -74,8 +82,10 @@ module _ (k : Biquad) (mem : Memory) (input : List Float) where
       let last = after (length input) .0 in
       let same = h .memory ∙ ap (λ (n : ℕ). after n .0) e in
       let held = filter-held start (length input) in
-      let a : left .m0 ≡ last .m0 = l₀ ∙ ap (λ (m : Memory). narrowed (m .m0)) same ∙ narrowed-held (last .m0) (held .first) in
-      let b : left .m1 ≡ last .m1 = l₁ ∙ ap (λ (m : Memory). narrowed (m .m1)) same ∙ narrowed-held (last .m1) (held .second) in
+      let a : left .m0 ≡ last .m0 =
+      l₀ ∙ ap (λ (m : Memory). narrowed (m .m0)) same ∙ narrowed-held (last .m0) (held .first) in
+      let b : left .m1 ≡ last .m1 =
+      l₁ ∙ ap (λ (m : Memory). narrowed (m .m1)) same ∙ narrowed-held (last .m1) (held .second) in
       ((λ i. record { m0 = a i; m1 = b i }), h .front ∙ rw (drop-of-length-le d all, append-nil (after i .1), e))
 
   pub length-outputs : length (outputs k mem input) ≡ length input
@@ -84,6 +94,8 @@ module _ (k : Biquad) (mem : Memory) (input : List Float) where
 
   -- equal lengths: 0 with the memory to go on with, and the outputs
   pub filters : {output got : List Float} {r : Filtered}
-      → Leaf (length output ≡ length input) (r leaving got) (answer 0 (memoryAfter k mem input) leaving outputs k mem input) (answer 5 mem leaving output)
+      → Leaf (length output ≡ length input) (r leaving got)
+      (answer 0 (memoryAfter k mem input) leaving outputs k mem input) (answer 5 mem leaving output)
       → length output ≡ length input → (r ≡ answer 0 (memoryAfter k mem input)) × (got ≡ outputs k mem input)
-  filters served same = let e = fitting served same in (ap (λ (p : Filtered × List Float). p .0) e, ap (λ (p : Filtered × List Float). p .1) e)
+  filters served same = let e = fitting served same in
+      (ap (λ (p : Filtered × List Float). p .0) e, ap (λ (p : Filtered × List Float). p .1) e)

@@ -1,9 +1,12 @@
--- An `f64` rounded to an `f32` where it stands: `shortened-bits` has its pattern. What an `f32` holds is narrowed to itself (`narrowed-held`). Assumes nothing.
-use Rattle.rules.proofs.Common.{ℕ, zero, suc, _+_, _-_, _*_, _/_, _%_, _^_, _≤_, _<_, Bool, true, false, _≡_, refl, sym, ap, subst, _∙_, T, Float}
+-- An `f64` rounded to an `f32` where it stands: `shortened-bits` has its pattern. What an `f32` holds is narrowed to
+-- itself (`narrowed-held`). Assumes nothing.
+use Rattle.rules.proofs.Common.{ℕ, zero, suc, _+_, _-_, _*_, _/_, _%_, _^_, _≤_, _<_, Bool, true, false, _≡_, refl, sym}
+use Rattle.rules.proofs.Common.{ap, subst, _∙_, T, Float}
 use Rattle.rules.proofs.Common.{binary32, binary64, nan, inf, fin, up, down}
 use mathlib.Core.Logic.{inl, inr}
 use Prim.Native.Nat.{min}
-use native.Mathlib.Nat.{le-of-eq, lt-of-lt-of-le, lt-of-le-of-lt, lt-of-mul-lt-mul-right, mul-assoc, mul-right-comm, zero-add, zero-mul, mul-lt-mul-of-pos-right}
+use native.Mathlib.Nat.{le-of-eq, lt-of-lt-of-le, lt-of-le-of-lt, lt-of-mul-lt-mul-right, mul-assoc, mul-right-comm}
+use native.Mathlib.Nat.{zero-add, zero-mul, mul-lt-mul-of-pos-right}
 use native.Mathlib.Omega.{arith}
 use lib.Pow.{pow-add, pow-pos, pow-mono, shl-lt}
 use lib.Ieee.{Format, low, round, fits, ofBits, toBits}
@@ -12,21 +15,24 @@ use lib.Ieee.Bits.{ofBits-toBits, ofBits-fits}
 use lib.Ieee.Exact.{HasValue, round-exact}
 use lib.Ieee.Nearest.{closest, closest-mono}
 use Rattle.numbers.specs.Narrowed.{narrowed}
-use Rattle.numbers.specs.Parts.{withSign}
+use Rattle.numbers.specs.Private.{withSign}
 use Rattle.numbers.proofs.Closest.{closest-add}
 use Rattle.numbers.proofs.Conversion.{bits-lt, narrowed-at, finite-narrows}
 use Rattle.numbers.proofs.Held.{fits-says, place, held-units}
 use Rattle.numbers.proofs.Pattern.{below-or-not, bits-of, pattern-value}
 
 -- two that a format holds are one where sign and size are
-held-same : (f : Format) (v w : Float) (s : Bool) (a : ℕ) → T (fits f v) → T (fits f w) → HasValue v s a (2 ^ low f) → HasValue w s a (2 ^ low f) → v ≡ w
-held-same f v w s a p q h k = sym (ofBits-toBits f v p) ∙ ap (ofBits f) (bits-of f v s a h ∙ sym (bits-of f w s a k)) ∙ ofBits-toBits f w q
+held-same : (f : Format) (v w : Float) (s : Bool) (a : ℕ) → T (fits f v) → T (fits f w) → HasValue v s a (2 ^ low f)
+    → HasValue w s a (2 ^ low f) → v ≡ w
+held-same f v w s a p q h k =
+    sym (ofBits-toBits f v p) ∙ ap (ofBits f) (bits-of f v s a h ∙ sym (bits-of f w s a k)) ∙ ofBits-toBits f w q
 
 -- ---- an `f32` as an `f64`
 finer : (v : Float) (s : Bool) (a c n : ℕ) → HasValue v s a c → HasValue v s (a * n) (c * n)
 finer nan s a c n h = h
 finer (inf t) s a c n h = h
-finer (fin t m e) s a c n h = (h .0, sym (mul-assoc (m * up e) c n) ∙ ap (λ (x : ℕ). x * n) (h .1) ∙ mul-right-comm a (down e) n)
+finer (fin t m e) s a c n h =
+    (h .0, sym (mul-assoc (m * up e) c n) ∙ ap (λ (x : ℕ). x * n) (h .1) ∙ mul-right-comm a (down e) n)
 
 -- with the field k + 1 and the digits q
 module _ (s : Bool) (q k : ℕ) (lead : 2 ^ 23 ≤ q) (q-lt : q < 2 ^ 24) (k-le : k ≤ 253) where
@@ -47,12 +53,14 @@ module _ (s : Bool) (q k : ℕ) (lead : 2 ^ 23 ≤ q) (q-lt : q < 2 ^ 24) (k-le 
   short-value =
       subst (λ (a : ℕ). HasValue short s a (2 ^ 1074)) size-is
       (finer short s (q * 2 ^ k) (2 ^ 149) (2 ^ 925)
-      (pattern-value binary32 s q k (omega arith, λ K. lead) (lt-of-lt-of-le (shl-lt 24 k q-lt) (pow-mono {j = 277} (omega arith)))))
+      (pattern-value binary32 s q k (omega arith, λ K. lead)
+      (lt-of-lt-of-le (shl-lt 24 k q-lt) (pow-mono {j = 277} (omega arith)))))
 
   long-value : HasValue long s (q * 2 ^ 29 * 2 ^ (k + 896)) (2 ^ 1074)
   long-value =
       let digits : q * 2 ^ 29 < 2 ^ 53 = omega arith in
-      pattern-value binary64 s (q * 2 ^ 29) (k + 896) (omega arith, λ K. omega arith) (lt-of-lt-of-le (shl-lt 53 (k + 896) digits) (pow-mono {j = 2098} (omega arith)))
+      pattern-value binary64 s (q * 2 ^ 29) (k + 896) (omega arith, λ K. omega arith)
+      (lt-of-lt-of-le (shl-lt 53 (k + 896) digits) (pow-mono {j = 2098} (omega arith)))
 
   widens : short ≡ long
   widens =
@@ -61,7 +69,8 @@ module _ (s : Bool) (q k : ℕ) (lead : 2 ^ 23 ≤ q) (q-lt : q < 2 ^ 24) (k-le 
       (ofBits-fits binary64 (withSign binary64 s ((k + 896) * 2 ^ 52 + q * 2 ^ 29)))
       short-value long-value
 
-widened : (s : Bool) (c : ℕ) → 2 ^ 23 ≤ c → c < 255 * 2 ^ 23 → ofBits binary32 (withSign binary32 s c) ≡ ofBits binary64 (withSign binary64 s (c * 2 ^ 29 + 896 * 2 ^ 52))
+widened : (s : Bool) (c : ℕ) → 2 ^ 23 ≤ c → c < 255 * 2 ^ 23
+    → ofBits binary32 (withSign binary32 s c) ≡ ofBits binary64 (withSign binary64 s (c * 2 ^ 29 + 896 * 2 ^ 52))
 widened s c from to =
     let q = 2 ^ 23 + c % 2 ^ 23 in
     let k = c / 2 ^ 23 - 1 in
@@ -90,7 +99,9 @@ module _ (a : ℕ) (from : 897 * 2 ^ 52 ≤ a) (to : a < 1150 * 2 ^ 52) where
   pub few : closest a (2 ^ 29) ≤ 1150 * 2 ^ 23
   few = rw moved (omega (arith, most))
 
-  short-pattern : (s : Bool) → ofBits binary64 (withSign binary64 s (closest a (2 ^ 29) * 2 ^ 29)) ≡ narrowed (ofBits binary64 (withSign binary64 s a))
+  short-pattern : (s : Bool)
+      → ofBits binary64 (withSign binary64 s (closest a (2 ^ 29) * 2 ^ 29))
+      ≡ narrowed (ofBits binary64 (withSign binary64 s a))
   short-pattern s =
       let c = closest v (2 ^ 29) in
       let up-to : min c (255 * 2 ^ 23) ≡ c = omega (arith, most) in
@@ -102,22 +113,27 @@ module _ (a : ℕ) (from : 897 * 2 ^ 52 ≤ a) (to : a < 1150 * 2 ^ 52) where
       ∙ ap (λ (x : ℕ). ofBits binary64 (withSign binary64 s x)) there)
 
 -- ---- with the sign's bit
-module _ (x : Float) (held : T (fits binary64 x)) (from : 897 * 2 ^ 52 ≤ toBits binary64 x % 2 ^ 63) (to : toBits binary64 x % 2 ^ 63 < 1150 * 2 ^ 52) where
+module _ (x : Float) (held : T (fits binary64 x)) (from : 897 * 2 ^ 52 ≤ toBits binary64 x % 2 ^ 63)
+    (to : toBits binary64 x % 2 ^ 63 < 1150 * 2 ^ 52) where
   abbrev b : ℕ
   b = toBits binary64 x
 
-  signed : (s : Bool) → withSign binary64 s (b % 2 ^ 63) ≡ b → closest b (2 ^ 29) * 2 ^ 29 ≡ withSign binary64 s (closest (b % 2 ^ 63) (2 ^ 29) * 2 ^ 29)
+  signed : (s : Bool) → withSign binary64 s (b % 2 ^ 63) ≡ b
+      → closest b (2 ^ 29) * 2 ^ 29 ≡ withSign binary64 s (closest (b % 2 ^ 63) (2 ^ 29) * 2 ^ 29)
   signed false e =
       let c = closest (b % 2 ^ 63) (2 ^ 29) in
       ap (λ (y : ℕ). closest y (2 ^ 29) * 2 ^ 29) (sym e ∙ zero-add (b % 2 ^ 63)) ∙ sym (zero-add (c * 2 ^ 29))
   signed true e =
       let c = closest (b % 2 ^ 63) (2 ^ 29) in
       let split : 2 ^ 34 * 2 ^ 29 + b % 2 ^ 63 ≡ b = e in
-      ap (λ (y : ℕ). closest y (2 ^ 29) * 2 ^ 29) (sym split) ∙ rw (closest-add (2 ^ 34) (b % 2 ^ 63) (2 ^ 29) (pow-pos 29) refl) (omega arith)
+      ap (λ (y : ℕ). closest y (2 ^ 29) * 2 ^ 29) (sym split)
+      ∙ rw (closest-add (2 ^ 34) (b % 2 ^ 63) (2 ^ 29) (pow-pos 29) refl) (omega arith)
 
-  at-sign : (s : Bool) → withSign binary64 s (b % 2 ^ 63) ≡ b → ofBits binary64 (closest b (2 ^ 29) * 2 ^ 29) ≡ narrowed x
+  at-sign : (s : Bool) → withSign binary64 s (b % 2 ^ 63) ≡ b
+      → ofBits binary64 (closest b (2 ^ 29) * 2 ^ 29) ≡ narrowed x
   at-sign s e =
-      ap (ofBits binary64) (signed s e) ∙ short-pattern (b % 2 ^ 63) from to s ∙ ap narrowed (ap (ofBits binary64) e ∙ ofBits-toBits binary64 x held)
+      ap (ofBits binary64) (signed s e) ∙ short-pattern (b % 2 ^ 63) from to s
+      ∙ ap narrowed (ap (ofBits binary64) e ∙ ofBits-toBits binary64 x held)
 
   -- no NaN's pattern, since the sign's bit is left where it was
   pub shortened-real : closest b (2 ^ 29) * 2 ^ 29 % 2 ^ 63 ≤ 2047 * 2 ^ 52
@@ -144,7 +160,8 @@ stays x s z h v l =
     let u = held-units binary32 x s z h v in
     narrowed-at x s z (2 ^ 149) (pow-pos 149) v
     ∙ held-same binary32 (round binary32 s z (2 ^ 149)) x s z (round-fits binary32 s z (2 ^ 149)) h
-    (round-exact binary32 s z (2 ^ 149) (u .0) (u .1) (pow-pos 149) (u .2) (subst (λ (y : ℕ). y < 2 ^ 277) (u .3) l) (ap (λ (y : ℕ). y * 2 ^ 149) (u .3)))
+    (round-exact binary32 s z (2 ^ 149) (u .0) (u .1) (pow-pos 149) (u .2) (subst (λ (y : ℕ). y < 2 ^ 277) (u .3) l)
+    (ap (λ (y : ℕ). y * 2 ^ 149) (u .3)))
     v
 
 pub narrowed-held : (x : Float) → T (fits binary32 x) → narrowed x ≡ x
@@ -155,8 +172,10 @@ narrowed-held (fin s zero e) h = stays (fin s zero e) s 0 h (refl, simp zero-mul
 narrowed-held (fin s (suc m) e) h =
     let says = fits-says binary32 s m e h in
     let at = place 149 e (says .1) in
-    let value : suc m * up e * 2 ^ 149 ≡ suc m * 2 ^ at .0 * down e = mul-assoc (suc m) (up e) (2 ^ 149) ∙ ap (λ (x : ℕ). suc m * x) (at .1) ∙ sym (mul-assoc (suc m) (2 ^ at .0) (down e)) in
+    let value : suc m * up e * 2 ^ 149 ≡ suc m * 2 ^ at .0 * down e = mul-assoc (suc m) (up e) (2 ^ 149)
+    ∙ ap (λ (x : ℕ). suc m * x) (at .1) ∙ sym (mul-assoc (suc m) (2 ^ at .0) (down e)) in
     stays (fin s (suc m) e) s (suc m * 2 ^ at .0) h (refl, value)
     (lt-of-mul-lt-mul-right (down e)
     (lt-of-le-of-lt (le-of-eq (sym value))
-    (lt-of-lt-of-le (mul-lt-mul-of-pos-right (says .2) (pow-pos 149)) (le-of-eq (mul-right-comm (2 ^ 128) (down e) (2 ^ 149))))))
+    (lt-of-lt-of-le (mul-lt-mul-of-pos-right (says .2) (pow-pos 149))
+    (le-of-eq (mul-right-comm (2 ^ 128) (down e) (2 ^ 149))))))

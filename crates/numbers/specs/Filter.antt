@@ -1,4 +1,4 @@
--- `Biquad::filter` of util.rs, in `f64`. Every `f32` is an `f64`, so `x as f64` is x itself; `x as f32` is `narrowed`.
+-- `Biquad::filter` of util.rs, in f64. Every f32 is an f64, so `x as f64` is x itself. `x as f32` is `narrowed`.
 use Rattle.rules.specs.Common.{ℕ, List, [], _∷_, _++_, length, Float}
 use Rattle.rules.specs.F32.{f32, at}
 use Rattle.rules.specs.F64.{_+₆₄_, _-₆₄_, _*₆₄_}
@@ -8,14 +8,15 @@ use Rattle.numbers.specs.declared.filter.Memory.{Memory}
 use Rattle.numbers.specs.declared.filter.Filtered.{Filtered}
 use Rattle.numbers.specs.Narrowed.{narrowed}
 
--- mem: [f32; 2], as the filter takes it and as a list
+-- The filter's memory, mem: [f32; 2], from a list.
 abbrev pub memoryOf : List Float → Memory
 memoryOf mem = record { m0 = at mem 0; m1 = at mem 1 }
 
+-- The memory as a list.
 abbrev pub memoryList : Memory → List Float
 memoryList mem = mem .m0 ∷ mem .m1 ∷ []
 
--- BIQUAD_HP: a is -1.99599 and 0.99600, and b is -2.0 and 1.0
+-- Rust: BIQUAD_HP, with a = [-1.99599, 0.99600] and b = [-2.0, 1.0].
 abbrev pub highPass : Biquad
 highPass = record { a0 = f32 0xBFFF7C9A; a1 = f32 0x3F7EF9DB; b0 = f32 0xC0000000; b1 = f32 0x3F800000 }
 
@@ -37,17 +38,19 @@ filterStep k input i s =
     let m1 = narrowed (k .b1 *₆₄ x64 -₆₄ k .a1 *₆₄ y64) in
     (record { m0 = m0; m1 = m1 }, s .1 ++ (narrowed y64 ∷ []))
 
+-- The memory and the output after all of the input.
 unfoldable pub filtered : Biquad → Memory → List Float → Memory × List Float
 unfolding loop filterStep
 filtered k mem input = loop (length input) (filterStep k input) (mem, [])
 
--- mem and the output afterwards
+-- The memory afterwards.
 abbrev pub memoryAfter : Biquad → Memory → List Float → Memory
 memoryAfter k mem input = filtered k mem input .0
 
+-- The output.
 abbrev pub outputs : Biquad → Memory → List Float → List Float
 outputs k mem input = filtered k mem input .1
 
--- what the filter returns
+-- What the filter returns.
 abbrev pub answer : ℕ → Memory → Filtered
 answer number memory = record { number = number; memory = memory }

@@ -3,6 +3,6 @@ pub mod Filter
 pub mod Larger
 pub mod Laws
 pub mod Narrowed
-pub mod Parts
+pub mod Private
 pub mod Root
 pub mod Tansig

@@ -6,7 +6,7 @@ ghost use lib.ListN.{length};
 ghost use lib.Ieee.{binary32, fits};
 ghost use Rattle.rules.specs.Leaf.{Leaf, _leaving_};
 ghost use Rattle.numbers.specs.Filter.{memoryAfter, outputs, answer};
-ghost use Rattle.numbers.specs.Parts.{memoryIn};
+ghost use Rattle.numbers.specs.Private.{memoryIn};
 
 // The coefficients of y[n] = x[n] + b0 * x[n-1] + b1 * x[n-2] - a0 * y[n-1] - a1 * y[n-2].
 pub struct Biquad {
@@ -28,7 +28,8 @@ pub struct Filtered {
     pub memory: Memory,
 }
 
-// A memory within a call, each number an `f32` still: so a turn waits for no conversion of what the turn before it kept.
+// A memory within a call, each number an `f32` still: so a turn waits for no conversion of what the turn before it
+// kept.
 struct Kept {
     m0: f64,
     m1: f64,

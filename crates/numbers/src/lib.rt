@@ -16,7 +16,8 @@ ghost use Rattle.numbers.specs.Narrowed.{narrowed};
 ghost use Rattle.numbers.specs.Root.{twiceRoot, root};
 ghost use Rattle.numbers.specs.Larger.{yields, larger, smaller, clamped, rectified};
 ghost use Rattle.numbers.specs.Activations.{magnitude, signOf, place, tansigIn, tansigApprox, sigmoidApprox};
-ghost use Rattle.numbers.specs.Parts.{UpToEight, overshoot, insideOf, placeIn, entryIn, endedBy, followed, Narrows};
+ghost use Rattle.numbers.specs.Private.{UpToEight, overshoot, insideOf, placeIn, entryIn, endedBy, followed};
+ghost use Rattle.numbers.specs.Private.{Narrows};
 
 pub mod filter;
 pub mod lists;
@@ -49,8 +50,8 @@ fn off_zero(x: f32) -> bool
     x > 0.0
 }
 
-// The larger of a and b: the other one where one is a NaN, and +0 of two zeros. Off zero it is one predictable test and a choice
-// without a branch.
+// The larger of a and b: the other one where one is a NaN, and +0 of two zeros. Off zero it is one predictable test and
+// a choice without a branch.
 pub fn max(a: f32, b: f32) -> f32
     ensures { λ r. ⌜ r ≡ larger a b ⌝ }
 {
@@ -113,8 +114,8 @@ fn too_far(t: f32, near: f32) -> f32
     if t < near { 1.0 } else { 0.0 }
 }
 
-// The table's place nearest to x, as a float: with 2^23 added a number keeps no digits behind the point. Without a branch, so that
-// loops over it are vectorised.
+// The table's place nearest to x, as a float: with 2^23 added a number keeps no digits behind the point. Without a
+// branch, so that loops over it are vectorised.
 fn place_of(x: f32) -> f32
     requires { ⌜ UpToEight x ⌝ }
     ensures { λ r. ⌜ r ≡ ofInt binary32 (pos (place x)) ⌝ }
@@ -211,9 +212,26 @@ const INFINITY: u64 = 0x7f80_0000;
 // The pattern of 2^48: what is added to it counts sixteenths.
 const SIXTEENTHS: u64 = 0x42f0_0000_0000_0000;
 
-// x as an `f32`: the nearest one, and of two that are as near the one whose last digit is even.
-// Past the largest it is an infinity, and a NaN stays one.
+// x as an `f32`: the nearest one, and of two that are as near the one whose last digit is even. Past the largest it is
+// an infinity, and a NaN stays one. The language can cast an `f64` that is an `f32` already; so x is rounded first.
 pub fn narrow(x: f64) -> f32
+    ensures { λ r. ⌜ r ≡ narrowed x ⌝ }
+{
+    if x != x {
+        return 0.0 / 0.0;
+    }
+    let bits: u64 = f64::to_bits(x);
+    let size: u64 = bits % 0x8000_0000_0000_0000;
+    if size >= NORMAL {
+        if size < HALF_LARGEST {
+            return f64::from_bits(rounded(bits, 29) * 0x2000_0000) as f32;
+        }
+    }
+    by_parts(x)
+}
+
+// The same of any x, by its sign and its size.
+fn by_parts(x: f64) -> f32
     ensures { λ r. ⌜ r ≡ narrowed x ⌝ }
 {
     if x != x {
@@ -239,7 +257,7 @@ pub(crate) fn shortened(x: f64) -> f64
             return f64::from_bits(rounded(bits, 29) * 0x2000_0000);
         }
     }
-    std::num::f32_to_f64_with_nan(narrow(x))
+    std::num::f32_to_f64_with_nan(by_parts(x))
 }
 
 // `narrow` on bit patterns without their sign. An `f32` counts its exponent from 896 less, and has
@@ -308,8 +326,8 @@ fn root_digits(n: u64) -> u64
     rounded(twice_root(n), 4)
 }
 
-// An eighth of the root of an n from 2^52 to 2^54, to the nearest whole number: two of Newton's steps from a parabola. With 2^52
-// added, a number keeps no digits behind the point. Nothing else is promised of it.
+// An eighth of the root of an n from 2^52 to 2^54, to the nearest whole number: two of Newton's steps from a parabola.
+// With 2^52 added, a number keeps no digits behind the point. Nothing else is promised of it.
 fn guessed_digits(n: u64) -> u64
     ensures { λ r. ⌜ r < 2 ^ 25 ⌝ }
 {

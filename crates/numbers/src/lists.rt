@@ -1,6 +1,6 @@
-// The activations of each number of a list, in place, over a table that is lent: `table::all` is taken once for all lists, since each
-// mention of it fills it anew. The table is looked up number by number; what comes before that and behind it are loops of their
-// own, since these are vectorised.
+// The activations of each number of a list, in place, over a table that is lent: `table::all` is taken once for all
+// lists, since each mention of it fills it anew. The table is looked up number by number; what comes before that and
+// behind it are loops of their own, since these are vectorised.
 ghost use mathlib.Core.Path.{_≡_};
 ghost use mathlib.Core.List.{map};
 ghost use lib.ListN.{length};
@@ -8,7 +8,7 @@ ghost use Rattle.rules.specs.F32.{f32, at, _⊕_, _⊗_};
 ghost use Rattle.rules.specs.Tab.{tab};
 ghost use Rattle.numbers.specs.Larger.{rectified};
 ghost use Rattle.numbers.specs.Activations.{tansigIn, sigmoidIn};
-ghost use Rattle.numbers.specs.Parts.{placeIn, entryIn, followed};
+ghost use Rattle.numbers.specs.Private.{placeIn, entryIn, followed};
 
 // Each number's place in the table, as a float.
 fn places(spare: &mut [f32], xs: &[f32])
@@ -23,7 +23,8 @@ fn places(spare: &mut [f32], xs: &[f32])
 // From the places to the table's entries there.
 fn entries(spare: &mut [f32], xs: &[f32], table: &[f32; 201])
     requires { ⌜ now spare ≡ tab (length (now xs)) (λ j. placeIn (at (now xs) j)) ⌝ }
-    ensures { λ _. ⌜ now (spare .exit) ≡ tab (length (now (xs .entry))) (λ j. entryIn (now (table .entry)) (at (now (xs .entry)) j)) ⌝ }
+    ensures { λ _. ⌜ now (spare .exit)
+        ≡ tab (length (now (xs .entry))) (λ j. entryIn (now (table .entry)) (at (now (xs .entry)) j)) ⌝ }
 {
     for j in 0..xs.len() {
         spare[j] = crate::entry_at(table, spare[j], xs[j]);

@@ -4,9 +4,11 @@ ghost use mathlib.Core.Path.{_≡_};
 ghost use Rattle.rules.specs.Leaf.{Leaf, _leaving_};
 ghost use Rattle.pcm.specs.Pcm.{UnpackFits, unpacked, PackFits, packed};
 
+// `unpack` for lengths that fit.
 fn unpack_core(out: &mut [f32], bytes: &[u8], format: u32, channels: usize, channel: usize)
     requires { ⌜ UnpackFits (length (now out)) (length (now bytes)) format channels channel ⌝ }
-    ensures { λ _. ⌜ now (out .exit) ≡ unpacked (length (now (out .entry))) (now (bytes .entry)) format channels channel ⌝ }
+    ensures { λ _. ⌜ now (out .exit)
+        ≡ unpacked (length (now (out .entry))) (now (bytes .entry)) format channels channel ⌝ }
 {
     let width = crate::number::width_of(format);
     for i in 0..out.len() {
@@ -14,7 +16,7 @@ fn unpack_core(out: &mut [f32], bytes: &[u8], format: u32, channels: usize, chan
     }
 }
 
-// As many samples of one channel as there is room for, of bytes in which the channels stand by turns.
+// Fills `out` with the samples of one channel. In `bytes` the channels take turns.
 pub fn unpack(out: &mut [f32], bytes: &[u8], format: u32, channels: usize, channel: usize) -> u32
     ensures { λ r. ⌜ Leaf (UnpackFits (length (now (out .entry))) (length (now (bytes .entry))) format channels channel)
         (r leaving now (out .exit))
@@ -42,6 +44,7 @@ pub fn unpack(out: &mut [f32], bytes: &[u8], format: u32, channels: usize, chann
     0
 }
 
+// `pack` for lengths that fit.
 fn pack_core(out: &mut [u8], samples: &[f32])
     requires { ⌜ PackFits (length (now out)) (length (now samples)) ⌝ }
     ensures { λ _. ⌜ now (out .exit) ≡ packed (now (samples .entry)) ⌝ }
@@ -53,7 +56,7 @@ fn pack_core(out: &mut [u8], samples: &[f32])
     }
 }
 
-// Each sample as two bytes.
+// Writes each sample as two bytes.
 pub fn pack(out: &mut [u8], samples: &[f32]) -> u32
     ensures { λ r. ⌜ Leaf (PackFits (length (now (out .entry))) (length (now (samples .entry))))
         (r leaving now (out .exit))

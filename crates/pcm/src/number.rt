@@ -3,9 +3,9 @@ ghost use mathlib.Core.Path.{_≡_};
 ghost use Prim.Native.Nat.{_+_, _*_, _<_, _≤_};
 ghost use lib.ListN.{length};
 ghost use lib.Ieee.{binary32, ofBits};
-ghost use Rattle.pcm.specs.Pcm.{width, two, three, four, signed, clipped, halves, numberAt};
+ghost use Rattle.pcm.specs.Pcm.{width, twoBytesAt, threeBytesAt, fourBytesAt, signed, clipped, halves, numberAt};
 
-// The bytes of a sample; 0 for no format.
+// The bytes of a sample in this format, or 0 if there is no such format.
 pub fn width_of(format: u32) -> usize
     ensures { λ r. ⌜ r ≡ width format ⌝ }
 {
@@ -21,34 +21,38 @@ pub fn width_of(format: u32) -> usize
     if format == 32 { 4 } else { 0 }
 }
 
+// A byte as a number of 32 bits.
 fn wide(b: u8) -> u32
     ensures { λ r. ⌜ (r ≡ b) × (r < 256) ⌝ }
 {
     b as u32
 }
 
+// Two bytes from place a on, the low byte first.
 fn two(bytes: &[u8], a: usize) -> u32
     requires { ⌜ a + 2 ≤ length (now bytes) ⌝ }
-    ensures { λ r. ⌜ (r ≡ two (now (bytes .entry)) a) × (r < 65536) ⌝ }
+    ensures { λ r. ⌜ (r ≡ twoBytesAt (now (bytes .entry)) a) × (r < 65536) ⌝ }
 {
     wide(bytes[a]) + 256 * wide(bytes[a + 1])
 }
 
+// Three bytes from place a on, the low byte first.
 fn three(bytes: &[u8], a: usize) -> u32
     requires { ⌜ a + 3 ≤ length (now bytes) ⌝ }
-    ensures { λ r. ⌜ (r ≡ three (now (bytes .entry)) a) × (r < 16777216) ⌝ }
+    ensures { λ r. ⌜ (r ≡ threeBytesAt (now (bytes .entry)) a) × (r < 16777216) ⌝ }
 {
     two(bytes, a) + 65536 * wide(bytes[a + 2])
 }
 
+// Four bytes from place a on, the low byte first.
 fn four(bytes: &[u8], a: usize) -> u32
     requires { ⌜ a + 4 ≤ length (now bytes) ⌝ }
-    ensures { λ r. ⌜ r ≡ four (now (bytes .entry)) a ⌝ }
+    ensures { λ r. ⌜ r ≡ fourBytesAt (now (bytes .entry)) a ⌝ }
 {
     three(bytes, a) + 16777216 * wide(bytes[a + 3])
 }
 
-// Two's complement: n, or from `half` on n less twice `half`.
+// Two's complement: n if it is below `half`, and otherwise n minus twice `half`.
 fn signed(half: u32, n: u32) -> f32
     requires { ⌜ (n < 2 * half) × (half ≤ 8388608) ⌝ }
     ensures { λ r. ⌜ r ≡ signed half n ⌝ }
@@ -59,7 +63,7 @@ fn signed(half: u32, n: u32) -> f32
     -((2 * half - n) as f32)
 }
 
-// The float of a pattern, a NaN's too.
+// The float with these bits. All bits of NaNs give the one NaN.
 fn float_of(bits: u32) -> f32
     ensures { λ r. ⌜ r ≡ ofBits binary32 bits ⌝ }
 {
@@ -69,9 +73,10 @@ fn float_of(bits: u32) -> f32
     f32::from_bits(bits)
 }
 
+// The largest finite f32.
 const LARGEST: f32 = 340282350000000000000000000000000000000.0;
 
-// Within the two ends. A NaN and an infinity stay.
+// The number, moved to the nearer end if it is outside `low` to `high`. A NaN and an infinity stay.
 fn clipped(y: f32, low: f32, high: f32) -> f32
     ensures { λ r. ⌜ r ≡ clipped low high y ⌝ }
 {
@@ -84,7 +89,7 @@ fn clipped(y: f32, low: f32, high: f32) -> f32
     numbers::clamp(y, low, high)
 }
 
-// A whole number of 32 bits over 65,536: the upper two bytes are whole, the lower two a fraction.
+// A whole number of 32 bits divided by 65,536: the upper two bytes are the whole part, and the lower two the fraction.
 fn halves(bytes: &[u8], a: usize) -> f32
     requires { ⌜ a + 4 ≤ length (now bytes) ⌝ }
     ensures { λ r. ⌜ r ≡ halves (now (bytes .entry)) a ⌝ }
@@ -94,7 +99,7 @@ fn halves(bytes: &[u8], a: usize) -> f32
     whole + fraction
 }
 
-// The sample from a place on.
+// The sample whose bytes begin at place a.
 pub(crate) fn number_at(format: u32, bytes: &[u8], a: usize) -> f32
     requires { ⌜ (0 < width format) × (a + width format ≤ length (now bytes)) ⌝ }
     ensures { λ r. ⌜ r ≡ numberAt format (now (bytes .entry)) a ⌝ }

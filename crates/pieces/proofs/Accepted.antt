@@ -1,4 +1,5 @@
--- What is known of a call that no test turned away, as one record; and that such a call is what its definition says past the tests.
+-- What is known of a call that no test turned away, as one record; and that such a call is what its definition says
+-- past the tests.
 --     Piece, piece-cleared, piece-accepted, piece-taken         a piece
 --     Resume, resume-cleared, resume-accepted, resume-taken     a resume
 -- Assumes nothing.
@@ -14,8 +15,9 @@ use Rattle.frame.specs.Share.{SHARE}
 use Rattle.frame.specs.Reply.{passed}
 use Rattle.frame.specs.Frame.{counted, checked}
 use Rattle.frame.proofs.Tables.{Clear, cleared}
-use Rattle.pieces.specs.Pieces.{waitingIn, completes, frameAt, waitedOf, pieceFits, pieceRows, begun, piece, resumeFits, resumeRows, resumed, resume}
-use Rattle.pieces.specs.Parts.{pieceReply, resumeReply}
+use Rattle.pieces.specs.Pieces.{waitingIn, completes, frameAt, waitedOf, pieceFits, pieceRows, begun, piece}
+use Rattle.pieces.specs.Pieces.{resumeFits, resumeRows, resumed, resume}
+use Rattle.pieces.specs.Private.{pieceReply, resumeReply}
 use Rattle.pieces.proofs.Tested.{not-not}
 
 -- ---- a piece
@@ -60,16 +62,24 @@ module _ (share : List Float) (waiting : ℕ) (samples : List Float) (out sums :
   fits : Piece share waiting samples out sums → pieceFits waiting (length samples) out sums ≡ true
   unfolding pieceFits
   fits k =
-      rw (le-leb waiting 479 (k .waits), le-leb 1 (length samples) (k .some), le-leb (length samples) 4096 (k .few), le-leb _ out (k .room), eq-eqb sums 22 (k .places))
+      rw (
+        le-leb waiting 479 (k .waits),
+        le-leb 1 (length samples) (k .some),
+        le-leb (length samples) 4096 (k .few),
+        le-leb _ out (k .room),
+        eq-eqb sums 22 (k .places),
+      )
 
 module _ (share : List Float) (way : Way) (waiting : ℕ) (samples : List Float) (out sums : ℕ) where
-  pub piece-taken : Piece share waiting samples out sums → piece share way waiting samples out sums ≡ begun share way waiting samples
+  pub piece-taken : Piece share waiting samples out sums
+      → piece share way waiting samples out sums ≡ begun share way waiting samples
   unfolding piece
   piece-taken k = rw (eq-eqb (length share) SHARE (k .size), fits share waiting samples out sums k, k .waited, k .fine)
 
 -- ---- a resume
 
-pub record Resume (share : List Float) (hearing : Hearing) (noted progress : ℕ) (samples logs : List Float) (model : List ℕ) (out sums : ℕ) : Type 0 where
+pub record Resume (share : List Float) (hearing : Hearing) (noted progress : ℕ) (samples logs : List Float)
+    (model : List ℕ) (out sums : ℕ) : Type 0 where
   pub size : length share ≡ SHARE
   pub inside : hearing .index ≤ 7
   pub begun : 1 ≤ progress
@@ -82,7 +92,8 @@ pub record Resume (share : List Float) (hearing : Hearing) (noted progress : ℕ
   pub right : passed (checked (counted hearing) (readOf model)) ≡ true
   pub fine : good samples ≡ true
 
-module _ (share : List Float) (hearing : Hearing) (noted progress : ℕ) (samples logs : List Float) (model : List ℕ) (out sums : ℕ) where
+module _ (share : List Float) (hearing : Hearing) (noted progress : ℕ) (samples logs : List Float) (model : List ℕ)
+    (out sums : ℕ) where
   pub resume-cleared : Clear (resumeRows share hearing noted progress samples logs model out sums)
       → Resume share hearing noted progress samples logs model out sums
   unfolding resumeFits
@@ -117,7 +128,8 @@ module _ (share : List Float) (hearing : Hearing) (noted progress : ℕ) (sample
   pub within-samples : Resume share hearing noted progress samples logs model out sums → progress ≤ length samples
   within-samples k = rw (k .same) (k .within)
 
-  pub frame-fits : Resume share hearing noted progress samples logs model out sums → 480 * (frameAt progress - 1) + 480 ≤ out
+  pub frame-fits : Resume share hearing noted progress samples logs model out sums
+      → 480 * (frameAt progress - 1) + 480 ≤ out
   frame-fits k = omega (arith, k .room, k .same, k .begun, k .within)
 
   suits : Resume share hearing noted progress samples logs model out sums
@@ -136,6 +148,7 @@ module _ (share : List Float) (hearing : Hearing) (noted progress : ℕ) (sample
       )
 
   pub resume-taken : Resume share hearing noted progress samples logs model out sums
-      → resume share hearing noted progress samples logs model out sums ≡ resumed share hearing progress samples logs model
+      → resume share hearing noted progress samples logs model out sums
+      ≡ resumed share hearing progress samples logs model
   unfolding resume
   resume-taken k = rw (eq-eqb (length share) SHARE (k .size), suits k, k .right, k .fine)

@@ -49,4 +49,6 @@ good-padded n xs e = go n
   where
     go : (n : ℕ) → good (tab n (λ i. getD xs i (f32 0))) ≡ true
     go zero = none
-    go (suc n) = good-append (tab n (λ i. getD xs i (f32 0))) (getD xs n (f32 0) ∷ []) (go n) (onto (getD xs n (f32 0)) [] (good-at xs n e) none)
+    go (suc n) =
+        good-append (tab n (λ i. getD xs i (f32 0))) (getD xs n (f32 0) ∷ []) (go n)
+        (onto (getD xs n (f32 0)) [] (good-at xs n e) none)

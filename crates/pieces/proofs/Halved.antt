@@ -1,8 +1,10 @@
--- The two halves of a frame: their lengths; and that they are refused nothing with right lengths, good samples and a model that passes.
+-- The two halves of a frame: their lengths; and that they are refused nothing with right lengths, good samples and a
+-- model that passes.
 --     first-length, second-length     a half keeps the length of its part
 --     first-passes, second-passes     a half, refused nothing
 -- Assumes nothing.
-use Rattle.rules.proofs.Common.{ℕ, _≤_, Bool, true, false, cond, false≢true, List, [], _∷_, _≡_, refl, sym, ap, _∙_, length, Float}
+use Rattle.rules.proofs.Common.{ℕ, _≤_, Bool, true, false, cond, false≢true, List, [], _∷_, _≡_, refl, sym, ap, _∙_}
+use Rattle.rules.proofs.Common.{length, Float}
 use Rattle.rules.specs.Place.{get}
 use Rattle.frame.specs.Written.{all, firstIn}
 use Rattle.rules.proofs.Lists.{length-tab}
@@ -51,9 +53,11 @@ module _ (part : List Float) (way : Way) (samples : List Float) (sums : ℕ) whe
   first-halves : Halves 22 (firstHalf part way samples sums)
   unfolding plusHundredth
   first-halves =
-      first-half-by part (Halves 22) (λ n. refuses refl) way samples sums (λ _ _ k e. record { passes = e; part = k; writes = refl; fills = length-tab 22 _ })
+      first-half-by part (Halves 22) (λ n. refuses refl) way samples sums
+      (λ _ _ k e. record { passes = e; part = k; writes = refl; fills = length-tab 22 _ })
 
-module _ (part : List Float) (way : Way) (samples : List Float) (whole : length part ≡ PART) (l : length samples ≡ 480) (g : good samples ≡ true) where
+module _ (part : List Float) (way : Way) (samples : List Float) (whole : length part ≡ PART) (l : length samples ≡ 480)
+    (g : good samples ≡ true) where
   first-done : firstHalf part way samples 22 ≡ doneFirst part way samples
   first-done =
       let a = done1 part samples in
@@ -62,11 +66,14 @@ module _ (part : List Float) (way : Way) (samples : List Float) (whole : length 
       first-half-done part whole way samples 22 l refl
       ∙ rw (
         call1-done part whole samples 960 l refl g,
-        call2-done (remembered way (a .kept)) noted (forwardBy way window) (lagBy way (a .kept)) 960 22 (length-forward way window) refl refl (lag-fits way (a .kept)),
+        call2-done (remembered way (a .kept)) noted (forwardBy way window) (lagBy way (a .kept)) 960 22
+            (length-forward way window) refl refl (lag-fits way (a .kept)),
       )
 
   pub first-passes : Halved 22 (firstHalf part way samples 22)
-  first-passes = first-halves part way samples 22 (first-length part way samples 22 whole) (ap (λ (f : Effect Reply). passed (f .answer)) first-done)
+  first-passes =
+      first-halves part way samples 22 (first-length part way samples 22 whole)
+      (ap (λ (f : Effect Reply). passed (f .answer)) first-done)
 
 -- ---- the second half
 
@@ -82,7 +89,8 @@ module _ (part : List Float) (hearing : Hearing) (logs : List Float) (model : Li
         (λ _ k e. record { passes = e; part = k; writes = refl; fills = length-tab 480 _ })
         (λ _ _ _ _ _ k e. record { passes = e; part = k; writes = refl; fills = length-tab 480 _ })
 
-  module _ (whole : length part ≡ PART) (l : length logs ≡ 22) (i : hearing .index ≤ 7) (right : passed (checked (counted hearing) (readOf model)) ≡ true) where
+  module _ (whole : length part ≡ PART) (l : length logs ≡ 22) (i : hearing .index ≤ 7)
+      (right : passed (checked (counted hearing) (readOf model)) ≡ true) where
     abbrev spectrum : List Float
     spectrum = forwardBy (hearing .way) (lookedBack part)
 
@@ -92,25 +100,31 @@ module _ (part : List Float) (hearing : Hearing) (logs : List Float) (model : Li
     -- a frame is silent or heard
     sounds : (m : Model) → passed (three m .answer) ≡ true
     unfolding done3
-    sounds m = go (isSilent (energy (get keptEx part))) (energy (get keptEx part)) (spoken part (hearing .index) spectrum logs model m)
+    sounds m =
+        go (isSilent (energy (get keptEx part))) (energy (get keptEx part))
+        (spoken part (hearing .index) spectrum logs model m)
       where
         go : (t : Bool) (e : Float) (s : Spoken) → passed (cond t (silent part) (heard e s) .answer) ≡ true
         go true e s = refl
         go false e s = refl
 
-    by-reading : (r : Reading) → passed (checked (counted hearing) r) ≡ true → passed (modelled (counted hearing) r part three .answer) ≡ true
+    by-reading : (r : Reading) → passed (checked (counted hearing) r) ≡ true
+        → passed (modelled (counted hearing) r part three .answer) ≡ true
     unfolding checked
     by-reading (Unread n k) e = e
     by-reading (Good m) e = go (counted hearing m) e
       where
-        go : (t : Bool) → passed (cond t Done (Refused 8)) ≡ true → passed (cond t (three m) (refusal (Refused 8) part) .answer) ≡ true
+        go : (t : Bool) → passed (cond t Done (Refused 8)) ≡ true
+            → passed (cond t (three m) (refusal (Refused 8) part) .answer) ≡ true
         go true e = sounds m
         go false e = e
 
     three-passes : passed (call3 part hearing spectrum logs model 961 .answer) ≡ true
     three-passes =
-        rw (call3-done part whole hearing spectrum logs model 961 (length-forward (hearing .way) (lookedBack part)) l refl i) (by-reading (readOf model) right)
+        rw (call3-done part whole hearing spectrum logs model 961
+        (length-forward (hearing .way) (lookedBack part)) l refl i) (by-reading (readOf model) right)
 
     pub second-passes : Halved 480 (secondHalf part hearing logs model 480)
     second-passes =
-        second-halves 480 (second-length 480 whole) (rw (second-half-done part whole hearing logs model 480 l refl i refl, three-passes) three-passes)
+        second-halves 480 (second-length 480 whole)
+        (rw (second-half-done part whole hearing logs model 480 l refl i refl, three-passes) three-passes)

@@ -1,5 +1,7 @@
--- What a call keeps, whatever it is given: a share's length; and, refused, the share and the answer buffers. Assumes nothing.
-use Rattle.rules.proofs.Common.{ℕ, Bool, true, false, cond, true≢false, List, [], _≡_, refl, sym, ap, _∙_, ltb, length, take, drop, Float}
+-- What a call keeps, whatever it is given: a share's length; and, refused, the share and the answer buffers.
+-- Assumes nothing.
+use Rattle.rules.proofs.Common.{ℕ, Bool, true, false, cond, true≢false, List, [], _≡_, refl, sym, ap, _∙_, ltb, length}
+use Rattle.rules.proofs.Common.{take, drop, Float}
 use Rattle.rules.specs.Place.{get, put}
 use Rattle.frame.specs.Written.{Written, nothing}
 use Rattle.frame.specs.declared.Hearing.{Hearing}
@@ -29,7 +31,8 @@ module _ (reply : Reply) (share : List Float) (way : Way) (rest : List Float) (w
     where
       go : (t : Bool) → length (cond t (atEnd reply share rest w) (paused reply share way rest w) .kept) ≡ SHARE
       go true = waits-length share l rest
-      go false = frame-length share l _ (first-length (get framePart share) way (take 480 rest) 22 (part-length share l))
+      go false =
+          frame-length share l _ (first-length (get framePart share) way (take 480 rest) 22 (part-length share l))
 
   pub further-reply : further reply share way rest w .answer ≡ reply
   unfolding further
@@ -46,20 +49,31 @@ module _ (share : List Float) where
   unmoved reply = record { size = λ l. l; still = λ _. refl; mute = λ _. refl }
 
   moved : {o : Effect Reply} → passed (o .answer) ≡ true → length (o .kept) ≡ SHARE → Keeps share o
-  moved p l = record { size = λ _. l; still = λ e. absurd (true≢false (sym p ∙ e)); mute = λ e. absurd (true≢false (sym p ∙ e)) }
+  moved p l =
+      record {
+        size = λ _. l;
+        still = λ e. absurd (true≢false (sym p ∙ e));
+        mute = λ e. absurd (true≢false (sym p ∙ e));
+      }
 
-  pub piece-kept : (way : Way) (waiting : ℕ) (samples : List Float) (out sums : ℕ) → Keeps share (piece share way waiting samples out sums)
+  pub piece-kept : (way : Way) (waiting : ℕ) (samples : List Float) (out sums : ℕ)
+      → Keeps share (piece share way waiting samples out sums)
   piece-kept way waiting samples out sums =
       piece-by share (Keeps share) (λ n. unmoved (Refused n)) way waiting samples out sums
       (λ k.
-      moved (ap passed (further-reply Done (waits share []) way _ nothing)) (further-length Done (waits share []) way _ nothing (waits-length share (k .size) [])))
+      moved (ap passed (further-reply Done (waits share []) way _ nothing))
+      (further-length Done (waits share []) way _ nothing (waits-length share (k .size) [])))
 
   pub resume-kept : (hearing : Hearing) (noted progress : ℕ) (samples logs : List Float) (model : List ℕ) (out sums : ℕ)
       → Keeps share (resume share hearing noted progress samples logs model out sums)
   resume-kept hearing noted progress samples logs model out sums =
-      resume-by share (Keeps share) (λ n. unmoved (Refused n)) hearing noted progress samples logs model out sums (λ n l _. unmoved (Misread n l))
+      resume-by share (Keeps share) (λ n. unmoved (Refused n)) hearing noted progress samples logs model out sums
+      (λ n l _. unmoved (Misread n l))
       (λ k.
       let s = secondHalf (get framePart share) hearing logs model 480 in
-      let p = second-passes (get framePart share) hearing logs model (part-length share (k .size)) (k .taken) (k .inside) (k .right) in
+      let p = second-passes (get framePart share) hearing logs model (part-length share (k .size)) (k .taken)
+      (k .inside) (k .right) in
       let mid = put framePart share (s .kept) in
-      moved (ap passed (further-reply (s .answer) mid (hearing .way) (drop progress samples) _) ∙ p .passes) (further-length (s .answer) mid (hearing .way) (drop progress samples) _ (frame-length share (k .size) (s .kept) (p .part))))
+      moved (ap passed (further-reply (s .answer) mid (hearing .way) (drop progress samples) _) ∙ p .passes)
+      (further-length (s .answer) mid (hearing .way)
+      (drop progress samples) _ (frame-length share (k .size) (s .kept) (p .part))))

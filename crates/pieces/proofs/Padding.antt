@@ -1,5 +1,6 @@
 -- A list with zeros behind it, number by number. Assumes nothing.
-use Rattle.rules.proofs.Common.{ℕ, zero, suc, _+_, _-_, _≤_, _<_, List, [], _∷_, _++_, _≡_, refl, sym, ap, _∙_, length, getD, take, replicate}
+use Rattle.rules.proofs.Common.{ℕ, zero, suc, _+_, _-_, _≤_, _<_, List, [], _∷_, _++_, _≡_, refl, sym, ap, _∙_, length}
+use Rattle.rules.proofs.Common.{getD, take, replicate}
 use Rattle.rules.proofs.Common.{length-take, length-append, Float, nan}
 use native.Mathlib.Nat.{zero-add, not-suc-le-zero, le-of-suc-le-suc}
 use native.Mathlib.Omega.{arith}
@@ -20,7 +21,8 @@ module _ (front rest : List Float) (i : ℕ) where
   pub in-front : i < length front → at front i ≡ getD (front ++ rest) i (f32 0)
   in-front h = same-at front i nan (f32 0) h ∙ sym (List·getD-append front rest (f32 0) i h)
 
-  pub in-rest : length front ≤ i → i - length front < length rest → at rest (i - length front) ≡ getD (front ++ rest) i (f32 0)
+  pub in-rest : length front ≤ i → i - length front < length rest
+      → at rest (i - length front) ≡ getD (front ++ rest) i (f32 0)
   in-rest b h =
       let whole : length front + (i - length front) ≡ i = omega arith in
       same-at rest (i - length front) nan (f32 0) h
@@ -42,7 +44,8 @@ padded-full n xs h =
     simp zero-add at e
 
 -- the numbers themselves stand in front
-pub padded-front : (n : ℕ) (xs : List Float) → length xs ≤ n → get (record { at = 0; size = length xs }) (paddedTo n xs) ≡ xs
+pub padded-front : (n : ℕ) (xs : List Float) → length xs ≤ n
+    → get (record { at = 0; size = length xs }) (paddedTo n xs) ≡ xs
 unfolding get paddedTo
 padded-front n xs h =
     let all : ℕ → Float = λ i. getD xs i (f32 0) in
@@ -56,7 +59,8 @@ pub padded-none : (n : ℕ) (xs : List Float) → length xs ≡ n → zeros (len
 unfolding paddedTo
 padded-none n xs e =
     let none : ℕ → Float = λ i. getD [] i (f32 0) in
-    ext-getD (f32 0) (replicate (length xs) (f32 0)) (tab n none) (length-replicate (length xs) (f32 0) ∙ e ∙ sym (length-tab n none))
+    ext-getD (f32 0) (replicate (length xs) (f32 0)) (tab n none)
+    (length-replicate (length xs) (f32 0) ∙ e ∙ sym (length-tab n none))
     (λ i b.
     let c : i < length xs = rw length-replicate at b in
     getD-replicate (length xs) i (f32 0) (f32 0) c ∙ sym (getD-tab n none i (f32 0) (omega arith)))

@@ -25,16 +25,20 @@ module _ (share : List Float) (l : length share ≡ SHARE) where
   waits-length xs = length-put (waitingPlace 479) share (paddedTo 479 xs) (omega arith) (length-padded 479 xs) ∙ l
 
   pub waits-waits : (xs ys : List Float) → waits (waits share xs) ys ≡ waits share ys
-  waits-waits xs ys = put-put (waitingPlace 479) share (paddedTo 479 xs) (paddedTo 479 ys) (omega arith) (length-padded 479 xs)
+  waits-waits xs ys =
+      put-put (waitingPlace 479) share (paddedTo 479 xs) (paddedTo 479 ys) (omega arith) (length-padded 479 xs)
 
   pub frame-waits : (xs : List Float) → get framePart (waits share xs) ≡ get framePart share
-  frame-waits xs = get-put-apart (waitingPlace 479) framePart share (paddedTo 479 xs) (omega arith) (length-padded 479 xs) (inr (omega arith))
+  frame-waits xs =
+      get-put-apart (waitingPlace 479) framePart share (paddedTo 479 xs) (omega arith) (length-padded 479 xs)
+      (inr (omega arith))
 
   -- what waits is read back
   pub waiting-back : (xs : List Float) → length xs ≤ 479 → waitingIn (length xs) (waits share xs) ≡ xs
   waiting-back xs h =
       let whole = get-put (waitingPlace 479) share (paddedTo 479 xs) (omega arith) (length-padded 479 xs) in
-      let inside = get-get (waitingPlace 479) (record { at = 0; size = length xs }) (waits share xs) (rw (waits-length xs) (omega arith)) (omega arith) in
+      let inside = get-get (waitingPlace 479) (record { at = 0; size = length xs }) (waits share xs)
+      (rw (waits-length xs) (omega arith)) (omega arith) in
       sym inside ∙ rw whole (padded-front 479 xs h)
 
   module _ (p : List Float) (k : length p ≡ PART) where
@@ -53,4 +57,8 @@ module _ (share : List Float) (l : length share ≡ SHARE) where
     waits-frame xs =
         let front : length (take PART share) ≡ PART = simp length-take (omega arith) in
         let rest = drop PART share in
-        rw (drop-at (take PART share) (paddedTo 479 xs ++ drop 479 rest) PART front, take-at p rest PART k, drop-at p rest PART k)
+        rw (
+          drop-at (take PART share) (paddedTo 479 xs ++ drop 479 rest) PART front,
+          take-at p rest PART k,
+          drop-at p rest PART k,
+        )

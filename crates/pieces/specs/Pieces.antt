@@ -1,6 +1,8 @@
--- Dictation in pieces, request 12, over one share: a frame's part, and behind it 479 places for samples that wait. A piece goes on with the
--- samples that wait and its own; a resume finishes the frame under way, and goes on with what is left of the piece.
-use Rattle.rules.specs.Common.{ℕ, _+_, _-_, _*_, _/_, Bool, cond, not, _&&_, List, [], _∷_, _++_, eqb, leb, ltb, length, getD, take, drop, Float}
+-- Dictation in pieces (request 12), on one share: a frame's part, followed by 479 places for samples that
+-- wait. A piece continues with the waiting samples and its own. A resume finishes the frame under way and
+-- continues with what is left of the piece.
+use Rattle.rules.specs.Common.{ℕ, _+_, _-_, _*_, _/_, Bool, cond, not, _&&_, List, [], _∷_, _++_, eqb, leb, ltb, length}
+use Rattle.rules.specs.Common.{getD, take, drop, Float}
 use Rattle.rules.specs.F32.{f32}
 use Rattle.rules.specs.Place.{Place, get, put}
 use Rattle.rules.specs.Tab.{tab}
@@ -9,7 +11,7 @@ use Rattle.samples.specs.Samples.{good}
 use Rattle.model.specs.Model.{readOf}
 use Rattle.frame.specs.Share.{SHARE, PART}
 use Rattle.frame.specs.Effect.{Effect, unless}
-use Rattle.frame.specs.Reply.{_when_}
+use Rattle.frame.specs.Reply.{_refusedIf_}
 use Rattle.frame.specs.declared.Hearing.{Hearing}
 use Rattle.frame.specs.declared.Reply.{Reply}
 use Rattle.frame.specs.declared.Reply.the-variants.{Done}
@@ -22,87 +24,92 @@ use Rattle.halves.specs.Halves.{firstHalf, secondHalf}
 abbrev pub framePart : Place
 framePart = record { at = 0; size = PART }
 
--- the first so many of the places for samples that wait
+-- The first n of the places for samples that wait, and what they hold.
 abbrev pub waitingPlace : ℕ → Place
 waitingPlace n = record { at = PART; size = n }
 
 abbrev pub waitingIn : ℕ → List Float → List Float
 waitingIn n share = get (waitingPlace n) share
 
--- the first n of xs, zeros behind them
+-- The first n numbers of xs, filled up with zeros.
 unfoldable pub paddedTo : ℕ → List Float → List Float
 paddedTo n xs = tab n (λ i. getD xs i (f32 0))
 
--- xs wait, and no others: the unused places are zero
+-- The share if exactly xs wait. The unused places are zero.
 abbrev pub waits : List Float → List Float → List Float
 waits share xs = put (waitingPlace 479) share (paddedTo 479 xs)
 
--- a call of a frame works on its part of the share
+-- A call of a frame works on its part of the share.
 abbrev pub inPart : List Float → Effect Reply → Effect Reply
 inPart share f = record { answer = f .answer; kept = put framePart share (f .kept); written = f .written }
 
--- ---- what becomes of the rest of a piece, its samples that are in no frame yet; the buffers are its output and 22 sums
+-- ---- what becomes of the rest of a piece, its samples that are in no frame yet; the buffers are its output and 22
+--      sums
 
--- the rest waits, and the piece is at its end
+-- The rest waits, and the piece is finished.
 abbrev pub atEnd : Reply → List Float → List Float → Written → Effect Reply
 atEnd reply share rest out = record { answer = reply; kept = waits share rest; written = out ∷ nothing ∷ [] }
 
--- 480 samples begin a frame, and the piece pauses for its logarithms
+-- 480 samples begin a frame, and the piece pauses for its logarithms.
 abbrev pub paused : Reply → List Float → Way → List Float → Written → Effect Reply
 paused reply share way rest out =
     let f = firstHalf (get framePart share) way (take 480 rest) 22 in
     record { answer = reply; kept = put framePart share (f .kept); written = out ∷ all (firstIn (f .written)) ∷ [] }
 
 unfoldable pub further : Reply → List Float → Way → List Float → Written → Effect Reply
-further reply share way rest out = cond (ltb (length rest) 480) (atEnd reply share rest out) (paused reply share way rest out)
+further reply share way rest out =
+    cond (ltb (length rest) 480) (atEnd reply share rest out) (paused reply share way rest out)
 
 -- ---- a piece
 
--- so many frames are completed by a piece of this size, where so many samples wait
+-- How many frames a piece of this size completes, if so many samples wait.
 abbrev pub completes : ℕ → ℕ → ℕ
 completes waiting size = (waiting + size) / 480
 
--- 1 to 4,096 samples, room for the frames that they complete, and for 22 sums
+-- 1 to 4,096 samples, room for the frames that they complete, and room for 22 sums.
 unfoldable pub pieceFits : ℕ → ℕ → ℕ → ℕ → Bool
 pieceFits waiting size out sums =
     leb waiting 479 && (leb 1 size && (leb size 4096 && (leb (480 * completes waiting size) out && eqb sums 22)))
 
 abbrev pub pieceRows : List Float → ℕ → List Float → ℕ → ℕ → List Reply
 pieceRows share waiting samples out sums =
-    5 when not (eqb (length share) SHARE)
-    ∷ 5 when not (pieceFits waiting (length samples) out sums)
-    ∷ 9 when not (good (waitingIn waiting share))
-    ∷ 9 when not (good samples)
+    5 refusedIf not (eqb (length share) SHARE)
+    ∷ 5 refusedIf not (pieceFits waiting (length samples) out sums)
+    ∷ 9 refusedIf not (good (waitingIn waiting share))
+    ∷ 9 refusedIf not (good samples)
     ∷ []
 
 abbrev pub begun : List Float → Way → ℕ → List Float → Effect Reply
 begun share way waiting samples = further Done (waits share []) way (waitingIn waiting share ++ samples) nothing
 
 unfoldable pub piece : List Float → Way → ℕ → List Float → ℕ → ℕ → Effect Reply
-piece share way waiting samples out sums = unless (pieceRows share waiting samples out sums) share (begun share way waiting samples)
+piece share way waiting samples out sums =
+    unless (pieceRows share waiting samples out sums) share (begun share way waiting samples)
 
 -- ---- a resume, of the frame under way
 
--- its number, from 1, by the samples of the piece that are in frames so far, and how many samples waited when the piece began
+-- The number of the frame under way, counted from 1; and how many samples waited when the piece began. Both
+-- follow from the progress: how many of the piece's samples are in frames so far.
 abbrev pub frameAt : ℕ → ℕ
 frameAt progress = (progress + 479) / 480
 
 abbrev pub waitedOf : ℕ → ℕ
 waitedOf progress = 480 * frameAt progress - progress
 
--- the noted size, 22 logarithms, room for all frames of the piece, and for 22 sums
+-- The piece has the noted size, there are 22 logarithms, room for all frames of the piece, and room for 22
+-- sums.
 unfoldable pub resumeFits : ℕ → ℕ → ℕ → ℕ → ℕ → ℕ → ℕ → Bool
 resumeFits index piece progress size logs out sums =
     leb index 7 && (leb 1 progress && (leb progress piece && (leb piece 4096
     && (eqb size piece && (eqb logs 22 && (leb (480 * completes (waitedOf progress) size) out && eqb sums 22))))))
 
--- behind the lengths the model is tested, by 7 and 8, and the samples last
+-- After the lengths comes the model (7 and 8), and the samples last.
 abbrev pub resumeRows : List Float → Hearing → ℕ → ℕ → List Float → List Float → List ℕ → ℕ → ℕ → List Reply
 resumeRows share hearing piece progress samples logs model out sums =
-    5 when not (eqb (length share) SHARE)
-    ∷ 5 when not (resumeFits (hearing .index) piece progress (length samples) (length logs) out sums)
+    5 refusedIf not (eqb (length share) SHARE)
+    ∷ 5 refusedIf not (resumeFits (hearing .index) piece progress (length samples) (length logs) out sums)
     ∷ checked (counted hearing) (readOf model)
-    ∷ 9 when not (good samples)
+    ∷ 9 refusedIf not (good samples)
     ∷ []
 
 abbrev pub resumed : List Float → Hearing → ℕ → List Float → List Float → List ℕ → Effect Reply

@@ -1,14 +1,14 @@
-// A piece: its samples wait behind those that wait already, or 480 of them all begin its first frame.
+// A piece: its samples wait after those that wait already, or 480 of them all begin its first frame.
 ghost use mathlib.Core.Path.{_≡_};
 ghost use mathlib.Core.List.{[], _∷_};
 ghost use lib.ListN.{length};
 ghost use Rattle.frame.specs.Effect.{Worked};
 ghost use Rattle.pieces.specs.Pieces.{pieceFits, piece};
-ghost use Rattle.pieces.specs.Parts.{pieceReply};
+ghost use Rattle.pieces.specs.Private.{pieceReply};
 use frame::Reply;
 use frame::Way;
 
-// Whether a piece of this size, with so many waiting, fits its buffers.
+// Whether a piece of this size, with so many samples waiting, fits its buffers.
 pub fn piece_fits(waiting: usize, size: usize, out: usize, sums: usize) -> bool
     ensures { λ r. ⌜ r ≡ pieceFits waiting size out sums ⌝ }
 {
@@ -46,7 +46,8 @@ fn piece_reply(share: &[f32], waiting: usize, samples: &[f32], out: usize, sums:
     Reply::Done
 }
 
-// Its samples and those waiting wait, or the first 480 of them begin a frame, and 22 sums are written. Nothing is written to `out`.
+// Begins a piece. Its samples and those waiting wait on, or the first 480 of them begin a frame and 22 sums
+// are written. Nothing is written to `out`.
 pub fn piece(
     share: &mut [f32],
     way: Way,
@@ -56,7 +57,8 @@ pub fn piece(
     sums: &mut [f32],
 ) -> Reply
     ensures { λ r. ⌜ Worked
-        (piece (now (share .entry)) way waiting (now (samples .entry)) (length (now (out .entry))) (length (now (sums .entry))))
+        (piece (now (share .entry)) way waiting (now (samples .entry)) (length (now (out .entry)))
+        (length (now (sums .entry))))
         r (now (share .exit)) (now (out .entry) ∷ now (sums .entry) ∷ []) (now (out .exit) ∷ now (sums .exit) ∷ []) ⌝ }
 {
     let reply = piece_reply(share, waiting, samples, out.len(), sums.len());

@@ -1,4 +1,4 @@
-// A resume: the frame under way is finished, and the rest of its piece waits or begins the next one.
+// A resume: it finishes the frame under way. The rest of its piece waits, or begins the next frame.
 ghost use mathlib.Core.Bool.{true, not};
 ghost use mathlib.Core.Path.{_≡_};
 ghost use mathlib.Core.List.{[], _∷_};
@@ -9,15 +9,15 @@ ghost use Rattle.samples.specs.Samples.{good};
 ghost use Rattle.model.specs.Model.{readOf};
 ghost use Rattle.frame.specs.declared.Reply.the-variants.{Done};
 ghost use Rattle.frame.specs.Effect.{Worked};
-ghost use Rattle.frame.specs.Reply.{_when_, firstRefusal};
+ghost use Rattle.frame.specs.Reply.{_refusedIf_, firstRefusal};
 ghost use Rattle.frame.specs.Frame.{counted, checked};
 ghost use Rattle.pieces.specs.Pieces.{further, resumeFits, resume};
-ghost use Rattle.pieces.specs.Parts.{resumeReply};
+ghost use Rattle.pieces.specs.Private.{resumeReply};
 use frame::Hearing;
 use frame::Reply;
 use frame::Way;
 
-// Whether a resume of the piece noted fits its buffers.
+// Whether a resume of the noted piece fits its buffers.
 fn resume_fits(
     index: usize,
     piece: usize,
@@ -54,9 +54,10 @@ fn resume_fits(
     sums == 22
 }
 
-// Refusals 7 to 9, behind the lengths, or Done.
+// The tests after the lengths: refusals 7 to 9, or Done.
 pub fn last_tests(hearing: Hearing, model: &[u8], fine: bool) -> Reply
-    ensures { λ r. ⌜ r ≡ firstRefusal (checked (counted hearing) (readOf (now (model .entry))) ∷ 9 when not fine ∷ []) ⌝ }
+    ensures { λ r. ⌜ r ≡ firstRefusal
+        (checked (counted hearing) (readOf (now (model .entry))) ∷ 9 refusedIf not fine ∷ []) ⌝ }
 {
     let reply = frame::check(model, hearing);
     if !frame::passed(reply) {
@@ -101,9 +102,10 @@ fn resume_reply(
     last_tests(hearing, model, samples::all_good(samples))
 }
 
-// The samples from `from` on wait, or the first 480 of them begin a frame, and 22 sums are written.
+// The samples from `from` on wait, or the first 480 of them begin a frame and 22 sums are written.
 fn go_on(share: &mut [f32], way: Way, samples: &[f32], from: usize, sums: &mut [f32])
-    requires { ⌜ (length (now share) ≡ 6144) × (from ≤ length (now samples)) × (good (now samples) ≡ true) × (length (now sums) ≡ 22) ⌝ }
+    requires { ⌜ (length (now share) ≡ 6144) × (from ≤ length (now samples)) × (good (now samples) ≡ true)
+        × (length (now sums) ≡ 22) ⌝ }
     ensures { λ _. ⌜ Worked (further Done (now (share .entry)) way (drop from (now (samples .entry))) nothing)
         Done (now (share .exit)) ([] ∷ now (sums .entry) ∷ []) ([] ∷ now (sums .exit) ∷ []) ⌝ }
 {
@@ -115,8 +117,9 @@ fn go_on(share: &mut [f32], way: Way, samples: &[f32], from: usize, sums: &mut [
     crate::frames::enter(share, way, &samples[from..end], sums);
 }
 
-// The frame under way is finished with its logarithms and written to its place of the output. The rest of the samples waits, or 480 of
-// them begin the next frame, and 22 sums are written. Silent, or heard with voice and energy.
+// Finishes the frame under way with its logarithms, and writes it to its place in the output. The rest of the
+// samples waits, or 480 of them begin the next frame and 22 sums are written. The frame is silent, or heard
+// with voice and energy.
 pub fn resume(
     share: &mut [f32],
     hearing: Hearing,
@@ -130,7 +133,8 @@ pub fn resume(
 ) -> Reply
     ensures { λ r. ⌜ Worked
         (resume (now (share .entry)) hearing piece progress
-        (now (samples .entry)) (now (logs .entry)) (now (model .entry)) (length (now (out .entry))) (length (now (sums .entry))))
+        (now (samples .entry)) (now (logs .entry)) (now (model .entry)) (length (now (out .entry)))
+        (length (now (sums .entry))))
         r (now (share .exit)) (now (out .entry) ∷ now (sums .entry) ∷ []) (now (out .exit) ∷ now (sums .exit) ∷ []) ⌝ }
 {
     let reply = resume_reply(

@@ -1,4 +1,5 @@
-// A frame's two halves over its part of a share. Their callers have tested what they could refuse.
+// The two halves of a frame, on its part of a share. The callers have tested everything that could refuse
+// them.
 ghost use mathlib.Core.Bool.{true};
 ghost use mathlib.Core.Path.{_≡_};
 ghost use Prim.Native.Nat.{_+_, _≤_};
@@ -16,17 +17,20 @@ use frame::PART;
 use frame::Reply;
 use frame::Way;
 
-// 480 samples begin a frame, and its sums are written.
+// Begins a frame with 480 samples, and writes its sums.
 pub(crate) fn enter(share: &mut [f32], way: Way, samples: &[f32], sums: &mut [f32])
-    requires { ⌜ (length (now share) ≡ 6144) × (length (now samples) ≡ 480) × (good (now samples) ≡ true) × (length (now sums) ≡ 22) ⌝ }
+    requires { ⌜ (length (now share) ≡ 6144) × (length (now samples) ≡ 480) × (good (now samples) ≡ true)
+        × (length (now sums) ≡ 22) ⌝ }
     ensures { λ _. ⌜ now (share .exit)
-        ≡ put framePart (now (share .entry)) (firstHalf (get framePart (now (share .entry))) way (now (samples .entry)) 22 .kept) ⌝ }
-    ensures { λ _. ⌜ now (sums .exit) ≡ firstIn (firstHalf (get framePart (now (share .entry))) way (now (samples .entry)) 22 .written) ⌝ }
+        ≡ put framePart (now (share .entry))
+        (firstHalf (get framePart (now (share .entry))) way (now (samples .entry)) 22 .kept) ⌝ }
+    ensures { λ _. ⌜ now (sums .exit)
+        ≡ firstIn (firstHalf (get framePart (now (share .entry))) way (now (samples .entry)) 22 .written) ⌝ }
 {
     halves::first_half(&mut share[0..PART], way, samples, sums);
 }
 
-// The frame under way is finished, and written from `start` on.
+// Finishes the frame under way, and writes it from `start` on.
 pub(crate) fn leave(
     share: &mut [f32],
     hearing: Hearing,
@@ -35,16 +39,19 @@ pub(crate) fn leave(
     out: &mut [f32],
     start: usize,
 ) -> Reply
-    requires { ⌜ (length (now share) ≡ 6144) × (hearing .index ≤ 7) × (length (now logs) ≡ 22) × (start + 480 ≤ length (now out)) ⌝ }
+    requires { ⌜ (length (now share) ≡ 6144) × (hearing .index ≤ 7) × (length (now logs) ≡ 22)
+        × (start + 480 ≤ length (now out)) ⌝ }
     requires { ⌜ passed (checked (counted hearing) (readOf (now model))) ≡ true ⌝ }
     ensures { λ r. ⌜ r
-        ≡ secondHalf (get framePart (now (share .entry))) hearing (now (logs .entry)) (now (model .entry)) 480 .answer ⌝ }
+        ≡ secondHalf (get framePart (now (share .entry))) hearing (now (logs .entry))
+        (now (model .entry)) 480 .answer ⌝ }
     ensures { λ _. ⌜ now (share .exit)
         ≡ put framePart (now (share .entry))
         (secondHalf (get framePart (now (share .entry))) hearing (now (logs .entry)) (now (model .entry)) 480 .kept) ⌝ }
     ensures { λ _. ⌜ now (out .exit)
         ≡ over (from start
-        (firstIn (secondHalf (get framePart (now (share .entry))) hearing (now (logs .entry)) (now (model .entry)) 480 .written)))
+        (firstIn (secondHalf (get framePart (now (share .entry))) hearing (now (logs .entry))
+        (now (model .entry)) 480 .written)))
         (now (out .entry)) ⌝ }
 {
     let end = start + 480;

@@ -1,5 +1,5 @@
-// Dictation in pieces over one share, request 12: up to 479 samples wait behind a frame's part, and a piece completes as many frames as it can,
-// pausing for the logarithms of each. What is refused changes nothing.
+// Dictation in pieces on one share (request 12): up to 479 samples wait after a frame's part. A piece
+// completes as many frames as it can, and pauses for the logarithms of each. A refused call changes nothing.
 mod begin;
 mod finish;
 mod frames;

@@ -1,4 +1,4 @@
-// The samples that wait: 479 places behind a frame's part, those that are not in use zero.
+// The samples that wait: 479 places after a frame's part. Unused places are zero.
 ghost use mathlib.Core.Path.{_≡_};
 ghost use Prim.Native.Nat.{_≤_};
 ghost use mathlib.Core.List.{[], _++_};
@@ -8,12 +8,12 @@ ghost use Rattle.rules.specs.Place.{put};
 ghost use Rattle.samples.specs.Samples.{good};
 ghost use Rattle.pieces.specs.Pieces.{waitingPlace, waitingIn, paddedTo, waits};
 
-// From here to there samples may wait.
+// The places at which samples may wait begin here and end there.
 const FROM: usize = frame::PART;
 
 const TO: usize = FROM + 479;
 
-// Number i of the front and behind it the rest, and 0 past them.
+// Number i of the front followed by the rest, and 0 beyond them.
 fn pick(front: &[f32], rest: &[f32], i: usize) -> f32
     ensures { λ r. ⌜ r ≡ getD (now (front .entry) ++ now (rest .entry)) i (f32 0) ⌝ }
 {
@@ -27,9 +27,10 @@ fn pick(front: &[f32], rest: &[f32], i: usize) -> f32
     0.0
 }
 
-// `out` becomes the front and after it the rest, as far as they go, and zeros.
+// `out` becomes the front followed by the rest, as far as it has room, filled up with zeros.
 pub fn join(out: &mut [f32], front: &[f32], rest: &[f32])
-    ensures { λ _. ⌜ now (out .exit) ≡ paddedTo (length (now (out .entry))) (now (front .entry) ++ now (rest .entry)) ⌝ }
+    ensures { λ _. ⌜ now (out .exit)
+        ≡ paddedTo (length (now (out .entry))) (now (front .entry) ++ now (rest .entry)) ⌝ }
 {
     for i in 0..out.len() {
         out[i] = pick(front, rest, i);
@@ -45,7 +46,7 @@ pub(crate) fn waiting_good(share: &[f32], waiting: usize) -> bool
     samples::all_good(&share[FROM..end])
 }
 
-// `first` becomes the samples that wait and those of a piece, zeros behind them.
+// `first` becomes the samples that wait followed by those of a piece, filled up with zeros.
 pub(crate) fn gather(first: &mut [f32], share: &[f32], waiting: usize, samples: &[f32])
     requires { ⌜ (length (now share) ≡ 6144) × (waiting ≤ 479) ⌝ }
     ensures { λ _. ⌜ now (first .exit)
@@ -55,7 +56,7 @@ pub(crate) fn gather(first: &mut [f32], share: &[f32], waiting: usize, samples: 
     join(first, &share[FROM..end], samples);
 }
 
-// The first 479 numbers wait.
+// Lets the first 479 numbers wait.
 pub(crate) fn settle(share: &mut [f32], first: &[f32])
     requires { ⌜ (length (now share) ≡ 6144) × (length (now first) ≡ 480) ⌝ }
     ensures { λ _. ⌜ now (share .exit) ≡ put (waitingPlace 479) (now (share .entry)) (take 479 (now (first .entry))) ⌝ }
@@ -63,7 +64,7 @@ pub(crate) fn settle(share: &mut [f32], first: &[f32])
     rules::copy(&mut share[FROM..TO], &first[0..479]);
 }
 
-// Nothing waits.
+// Lets nothing wait.
 pub(crate) fn empty(share: &mut [f32])
     requires { ⌜ length (now share) ≡ 6144 ⌝ }
     ensures { λ _. ⌜ now (share .exit) ≡ waits (now (share .entry)) [] ⌝ }
@@ -71,7 +72,7 @@ pub(crate) fn empty(share: &mut [f32])
     rules::clear(&mut share[FROM..TO]);
 }
 
-// The samples from `from` on wait.
+// Lets the samples from `from` on wait.
 pub(crate) fn keep(share: &mut [f32], samples: &[f32], from: usize)
     requires { ⌜ (length (now share) ≡ 6144) × (from ≤ length (now samples)) ⌝ }
     ensures { λ _. ⌜ now (share .exit) ≡ waits (now (share .entry)) (drop from (now (samples .entry))) ⌝ }

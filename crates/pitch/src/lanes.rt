@@ -1,9 +1,10 @@
-// The correlations at four and at sixteen lags in a row, each a sum of its own in index order. The sixteen share each number that they multiply by, and none waits
-// for another: so four registers of four are under way at a time.
+// The correlations at four and at sixteen neighbouring lags, each a sum of its own in the order of the index. The
+// sixteen share each number that they multiply by, and none waits for another, so four registers of four are busy at a
+// time.
 ghost use mathlib.Core.Path.{_≡_};
 ghost use Prim.Native.Nat.{_+_, _≤_};
 ghost use lib.ListN.{length};
-ghost use Rattle.pitch.specs.Parts.{addFour, fourLags, sixteenLags, storeFour, storeSixteen};
+ghost use Rattle.pitch.specs.Private.{addFour, fourLags, sixteenLags, storeFour, storeSixteen};
 
 // A number for each of four lags in a row.
 pub(crate) struct Four {
@@ -21,7 +22,7 @@ pub(crate) struct Sixteen {
     pub d: Four,
 }
 
-// Four sums, each with its next product.
+// Adds the next product to each of four sums.
 fn add_four(s: Four, x: f32, ys: &[f32], p: usize) -> Four
     requires { ⌜ p + 4 ≤ length (now ys) ⌝ }
     ensures { λ r. ⌜ r ≡ addFour (now (ys .entry)) x p s ⌝ }
@@ -34,6 +35,7 @@ fn add_four(s: Four, x: f32, ys: &[f32], p: usize) -> Four
     }
 }
 
+// The correlations at four neighbouring lags.
 pub(crate) fn corr4(xs: &[f32], ys: &[f32], i: usize) -> Four
     requires { ⌜ i + 3 + length (now xs) ≤ length (now ys) ⌝ }
     ensures { λ r. ⌜ r ≡ fourLags (now (xs .entry)) (now (ys .entry)) i ⌝ }
@@ -50,6 +52,7 @@ pub(crate) fn corr4(xs: &[f32], ys: &[f32], i: usize) -> Four
     s
 }
 
+// The correlations at sixteen neighbouring lags.
 pub(crate) fn corr16(xs: &[f32], ys: &[f32], i: usize) -> Sixteen
     requires { ⌜ i + 15 + length (now xs) ≤ length (now ys) ⌝ }
     ensures { λ r. ⌜ r ≡ sixteenLags (now (xs .entry)) (now (ys .entry)) i ⌝ }
@@ -74,6 +77,7 @@ pub(crate) fn corr16(xs: &[f32], ys: &[f32], i: usize) -> Sixteen
     Sixteen { a, b, c, d }
 }
 
+// Stores four neighbouring numbers.
 pub(crate) fn put_four(out: &mut [f32], i: usize, v: Four)
     requires { ⌜ i + 4 ≤ length (now out) ⌝ }
     ensures { λ _. ⌜ now (out .exit) ≡ storeFour (now (out .entry)) i v ⌝ }
@@ -84,6 +88,7 @@ pub(crate) fn put_four(out: &mut [f32], i: usize, v: Four)
     out[i + 3] = v.d;
 }
 
+// Stores sixteen neighbouring numbers.
 pub(crate) fn put_sixteen(out: &mut [f32], i: usize, v: Sixteen)
     requires { ⌜ i + 16 ≤ length (now out) ⌝ }
     ensures { λ _. ⌜ now (out .exit) ≡ storeSixteen (now (out .entry)) i v ⌝ }

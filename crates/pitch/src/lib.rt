@@ -1,5 +1,5 @@
-// The arithmetic of pitch.rs up to the downsampled signal; the search over lags is in `pitch_search`. A public leaf refuses with 5,
-// and nothing changed, exactly where its lengths do not fit; its core does the work.
+// The arithmetic of pitch.rs up to the downsampled signal. (The search over lags is in `pitch_search`.) A public
+// function refuses with 5, and changes nothing, exactly if its lengths do not fit; its core does the work.
 ghost use mathlib.Core.Path.{_≡_};
 ghost use Prim.Native.Nat.{_+_, _<_, _≤_};
 ghost use lib.Ieee.{neg};
@@ -9,14 +9,15 @@ ghost use Rattle.rules.specs.Leaf.{Leaf, _leaving_};
 ghost use Rattle.rules.specs.Tab.{tab};
 ghost use Rattle.pitch.specs.Autocorr.{tailOf, addTails, celtAutocorr, AutocorrFits};
 ghost use Rattle.pitch.specs.Fir.{fir5};
-ghost use Rattle.pitch.specs.Downsample.{halvedAt, halved, flooredAt, floored, fadedLpc, coefficients, downsampled, DownsampleFits};
+ghost use Rattle.pitch.specs.Downsample.{halvedAt, halved, flooredAt, floored, fadedLpc, coefficients};
+ghost use Rattle.pitch.specs.Downsample.{downsampled, DownsampleFits};
 ghost use Rattle.pitch.specs.Lpc.{recurrence, mirror, state, lagNext, lagsOf, lpcOf};
 ghost use Rattle.pitch.specs.Xcorr.{corr, wholeFours, lagOf, pitchXcorr, XcorrFits};
-ghost use Rattle.pitch.specs.Parts.{wholeSixteens};
+ghost use Rattle.pitch.specs.Private.{wholeSixteens};
 
 mod lanes;
 
-// The filter of `fir5_in_place`, for five coefficients.
+// `fir5_in_place` for five coefficients.
 fn fir5_core(xs: &mut [f32], num: &[f32])
     requires { ⌜ length (now num) ≡ 5 ⌝ }
     ensures { λ _. ⌜ now (xs .exit) ≡ fir5 (now (xs .entry)) (now (num .entry)) ⌝ }
@@ -43,7 +44,7 @@ fn fir5_core(xs: &mut [f32], num: &[f32])
     }
 }
 
-// A filter of five coefficients, run over `xs` in place.
+// A filter of five coefficients, applied to `xs` in place.
 pub fn fir5_in_place(xs: &mut [f32], num: &[f32]) -> u32
     ensures { λ r. ⌜ Leaf (length (now (num .entry)) ≡ 5)
         (r leaving now (xs .exit))
@@ -57,7 +58,7 @@ pub fn fir5_in_place(xs: &mut [f32], num: &[f32]) -> u32
     0
 }
 
-// The sum of lpc[j] * ac[i - j] over the j below i.
+// The sum of lpc[j] * ac[i - j] for the j below i.
 fn recur(lpc: &[f32], ac: &[f32], i: usize) -> f32
     requires { ⌜ (i < length (now lpc)) × (i < length (now ac)) ⌝ }
     ensures { λ r. ⌜ r ≡ recurrence (now (lpc .entry)) (now (ac .entry)) i ⌝ }
@@ -69,7 +70,7 @@ fn recur(lpc: &[f32], ac: &[f32], i: usize) -> f32
     rr
 }
 
-// The update of lpc[..i], symmetrical about its middle.
+// Updates lpc[..i], which is done in pairs from both ends.
 fn update(lpc: &mut [f32], r: f32, i: usize)
     requires { ⌜ i < length (now lpc) ⌝ }
     ensures { λ _. ⌜ now (lpc .exit) ≡ mirror (now (lpc .entry)) r i ⌝ }
@@ -82,7 +83,7 @@ fn update(lpc: &mut [f32], r: f32, i: usize)
     }
 }
 
-// One lag more: the error that is left.
+// One lag more. Returns the error that is left.
 fn lag(lpc: &mut [f32], ac: &[f32], i: usize, error: f32) -> f32
     requires { ⌜ (i < length (now lpc)) × (length (now lpc) < length (now ac)) ⌝ }
     ensures { λ r. ⌜ state (now (lpc .exit)) r ≡ lagNext (now (ac .entry)) i (state (now (lpc .entry)) error) ⌝ }
@@ -94,7 +95,7 @@ fn lag(lpc: &mut [f32], ac: &[f32], i: usize, error: f32) -> f32
     error - r * r * error
 }
 
-// The lags of `lpc`, until the gain is 30 dB.
+// All lags, until the gain is 30 dB.
 fn lags(lpc: &mut [f32], ac: &[f32])
     requires { ⌜ length (now lpc) < length (now ac) ⌝ }
     ensures { λ _. ⌜ now (lpc .exit) ≡ lagsOf (now (lpc .entry)) (now (ac .entry)) ⌝ }
@@ -108,7 +109,7 @@ fn lags(lpc: &mut [f32], ac: &[f32])
     }
 }
 
-// The coefficients of `lpc`, for lengths that fit.
+// `lpc` for lengths that fit.
 fn lpc_core(lpc: &mut [f32], ac: &[f32])
     requires { ⌜ length (now lpc) < length (now ac) ⌝ }
     ensures { λ _. ⌜ now (lpc .exit) ≡ lpcOf (length (now (lpc .entry))) (now (ac .entry)) ⌝ }
@@ -120,7 +121,7 @@ fn lpc_core(lpc: &mut [f32], ac: &[f32])
     lags(lpc, ac);
 }
 
-// Linear predictive coding: the coefficients of as many lags as `lpc` has places, from autocorrelations.
+// Linear predictive coding: the coefficients for as many lags as `lpc` has places, from autocorrelations.
 pub fn lpc(lpc: &mut [f32], ac: &[f32]) -> u32
     ensures { λ r. ⌜ Leaf (length (now (lpc .entry)) < length (now (ac .entry)))
         (r leaving now (lpc .exit))
@@ -146,11 +147,12 @@ fn corr1(xs: &[f32], ys: &[f32], i: usize) -> f32
     sum
 }
 
-// The lags by sixteens.
+// The lags that are computed sixteen at a time.
 fn xcorr_sixteens(xs: &[f32], ys: &[f32], xcorr: &mut [f32])
     requires { ⌜ XcorrFits (length (now xs)) (length (now ys)) (length (now xcorr)) ⌝ }
     ensures { λ _. ⌜ take (wholeSixteens (length (now (xcorr .entry)))) (now (xcorr .exit))
-        ≡ tab (wholeSixteens (length (now (xcorr .entry)))) (lagOf (now (xs .entry)) (now (ys .entry)) (length (now (xcorr .entry)))) ⌝ }
+        ≡ tab (wholeSixteens (length (now (xcorr .entry))))
+        (lagOf (now (xs .entry)) (now (ys .entry)) (length (now (xcorr .entry)))) ⌝ }
 {
     for k in 0..xcorr.len() / 16 {
         let i = 16 * k;
@@ -158,13 +160,14 @@ fn xcorr_sixteens(xs: &[f32], ys: &[f32], xcorr: &mut [f32])
     }
 }
 
-// The fours that the sixteens leave.
+// The lags after these that are computed four at a time.
 fn xcorr_fours_left(xs: &[f32], ys: &[f32], xcorr: &mut [f32])
     requires { ⌜ XcorrFits (length (now xs)) (length (now ys)) (length (now xcorr)) ⌝ }
     requires { ⌜ take (wholeSixteens (length (now xcorr))) (now xcorr)
         ≡ tab (wholeSixteens (length (now xcorr))) (lagOf (now xs) (now ys) (length (now xcorr))) ⌝ }
     ensures { λ _. ⌜ take (wholeFours (length (now (xcorr .entry)))) (now (xcorr .exit))
-        ≡ tab (wholeFours (length (now (xcorr .entry)))) (lagOf (now (xs .entry)) (now (ys .entry)) (length (now (xcorr .entry)))) ⌝ }
+        ≡ tab (wholeFours (length (now (xcorr .entry))))
+        (lagOf (now (xs .entry)) (now (ys .entry)) (length (now (xcorr .entry)))) ⌝ }
 {
     let n = xcorr.len();
     for k in n / 16 * 4..n / 4 {
@@ -173,11 +176,12 @@ fn xcorr_fours_left(xs: &[f32], ys: &[f32], xcorr: &mut [f32])
     }
 }
 
-// The lags by fours.
+// All lags that the Rust computes four at a time.
 fn xcorr_fours(xs: &[f32], ys: &[f32], xcorr: &mut [f32])
     requires { ⌜ XcorrFits (length (now xs)) (length (now ys)) (length (now xcorr)) ⌝ }
     ensures { λ _. ⌜ take (wholeFours (length (now (xcorr .entry)))) (now (xcorr .exit))
-        ≡ tab (wholeFours (length (now (xcorr .entry)))) (lagOf (now (xs .entry)) (now (ys .entry)) (length (now (xcorr .entry)))) ⌝ }
+        ≡ tab (wholeFours (length (now (xcorr .entry))))
+        (lagOf (now (xs .entry)) (now (ys .entry)) (length (now (xcorr .entry)))) ⌝ }
 {
     xcorr_sixteens(xs, ys, xcorr);
     xcorr_fours_left(xs, ys, xcorr);
@@ -188,7 +192,8 @@ fn xcorr_rest(xs: &[f32], ys: &[f32], xcorr: &mut [f32])
     requires { ⌜ XcorrFits (length (now xs)) (length (now ys)) (length (now xcorr)) ⌝ }
     requires { ⌜ take (wholeFours (length (now xcorr))) (now xcorr)
         ≡ tab (wholeFours (length (now xcorr))) (lagOf (now xs) (now ys) (length (now xcorr))) ⌝ }
-    ensures { λ _. ⌜ now (xcorr .exit) ≡ pitchXcorr (now (xs .entry)) (now (ys .entry)) (length (now (xcorr .entry))) ⌝ }
+    ensures { λ _. ⌜ now (xcorr .exit)
+        ≡ pitchXcorr (now (xs .entry)) (now (ys .entry)) (length (now (xcorr .entry))) ⌝ }
 {
     let n = xcorr.len();
     for i in n - n % 4..n {
@@ -196,9 +201,11 @@ fn xcorr_rest(xs: &[f32], ys: &[f32], xcorr: &mut [f32])
     }
 }
 
+// `pitch_xcorr` for lengths that fit.
 fn pitch_xcorr_core(xs: &[f32], ys: &[f32], xcorr: &mut [f32])
     requires { ⌜ XcorrFits (length (now xs)) (length (now ys)) (length (now xcorr)) ⌝ }
-    ensures { λ _. ⌜ now (xcorr .exit) ≡ pitchXcorr (now (xs .entry)) (now (ys .entry)) (length (now (xcorr .entry))) ⌝ }
+    ensures { λ _. ⌜ now (xcorr .exit)
+        ≡ pitchXcorr (now (xs .entry)) (now (ys .entry)) (length (now (xcorr .entry))) ⌝ }
 {
     xcorr_fours(xs, ys, xcorr);
     xcorr_rest(xs, ys, xcorr);
@@ -206,7 +213,8 @@ fn pitch_xcorr_core(xs: &[f32], ys: &[f32], xcorr: &mut [f32])
 
 // The correlations of xs with ys, at as many lags as xcorr has places.
 pub fn pitch_xcorr(xs: &[f32], ys: &[f32], xcorr: &mut [f32]) -> u32
-    ensures { λ r. ⌜ Leaf (XcorrFits (length (now (xs .entry))) (length (now (ys .entry))) (length (now (xcorr .entry))))
+    ensures { λ r. ⌜ Leaf (XcorrFits (length (now (xs .entry))) (length (now (ys .entry)))
+        (length (now (xcorr .entry))))
         (r leaving now (xcorr .exit))
         (0 leaving pitchXcorr (now (xs .entry)) (now (ys .entry)) (length (now (xcorr .entry))))
         (5 leaving now (xcorr .entry)) ⌝ }
@@ -229,7 +237,7 @@ pub fn pitch_xcorr(xs: &[f32], ys: &[f32], xcorr: &mut [f32]) -> u32
     0
 }
 
-// The products at lag k that `pitch_xcorr` leaves out: those from `from` on.
+// The products at lag k that `pitch_xcorr` left out: those from `from` on.
 fn tail(x: &[f32], k: usize, from: usize) -> f32
     requires { ⌜ k + from ≤ length (now x) ⌝ }
     ensures { λ r. ⌜ r ≡ tailOf (now (x .entry)) k from ⌝ }
@@ -241,6 +249,7 @@ fn tail(x: &[f32], k: usize, from: usize) -> f32
     d
 }
 
+// Adds them for each lag.
 fn add_tails(x: &[f32], ac: &mut [f32], from: usize)
     requires { ⌜ length (now ac) + from ≤ length (now x) + 1 ⌝ }
     ensures { λ _. ⌜ now (ac .exit) ≡ addTails (now (x .entry)) from (now (ac .entry)) ⌝ }
@@ -250,6 +259,7 @@ fn add_tails(x: &[f32], ac: &mut [f32], from: usize)
     }
 }
 
+// `celt_autocorr` for lengths that fit.
 fn celt_autocorr_core(x: &[f32], ac: &mut [f32])
     requires { ⌜ AutocorrFits (length (now x)) (length (now ac)) ⌝ }
     ensures { λ _. ⌜ now (ac .exit) ≡ celtAutocorr (now (x .entry)) ⌝ }
@@ -276,7 +286,7 @@ pub fn celt_autocorr(x: &[f32], ac: &mut [f32]) -> u32
     0
 }
 
-// Every second number, with a share of its neighbours.
+// Number i at half the rate: a weighted mean of three neighbours.
 fn halve_at(x: &[f32], i: usize) -> f32
     requires { ⌜ (length (now x) ≡ 1728) × (i < 864) ⌝ }
     ensures { λ r. ⌜ r ≡ halvedAt (now (x .entry)) i ⌝ }
@@ -287,6 +297,7 @@ fn halve_at(x: &[f32], i: usize) -> f32
     ((x[2 * i - 1] + x[2 * i + 1]) / 2.0 + x[2 * i]) / 2.0
 }
 
+// All numbers at half the rate.
 fn halve(x: &[f32], x_lp: &mut [f32])
     requires { ⌜ DownsampleFits (length (now x)) (length (now «x_lp»)) ⌝ }
     ensures { λ _. ⌜ now («x_lp» .exit) ≡ halved (now (x .entry)) ⌝ }
@@ -296,7 +307,7 @@ fn halve(x: &[f32], x_lp: &mut [f32])
     }
 }
 
-// The noise floor and the lag window, at lag i.
+// The noise floor (lag 0) or the lag window (other lags).
 fn floor_at(r: f32, i: usize) -> f32
     requires { ⌜ i < 5 ⌝ }
     ensures { λ s. ⌜ s ≡ flooredAt r i ⌝ }
@@ -308,6 +319,7 @@ fn floor_at(r: f32, i: usize) -> f32
     r - r * w * w
 }
 
+// Both for all five lags.
 fn floor(ac: &mut [f32])
     requires { ⌜ length (now ac) ≡ 5 ⌝ }
     ensures { λ _. ⌜ now (ac .exit) ≡ floored (now (ac .entry)) ⌝ }
@@ -317,7 +329,7 @@ fn floor(ac: &mut [f32])
     }
 }
 
-// Each coefficient times one power of 0.9 more.
+// Multiplies coefficient i by 0.9, i + 1 times.
 fn fade_coefficients(lpc: &mut [f32])
     requires { ⌜ length (now lpc) ≡ 4 ⌝ }
     ensures { λ _. ⌜ now (lpc .exit) ≡ fadedLpc (now (lpc .entry)) ⌝ }
@@ -329,7 +341,7 @@ fn fade_coefficients(lpc: &mut [f32])
     }
 }
 
-// The coefficients of the filter that flattens x_lp, over lent scratch.
+// The coefficients of the filter that flattens x_lp, with lent places for its sums.
 fn flatten_in(x_lp: &[f32], ac: &mut [f32], c: &mut [f32]) -> [f32; 5]
     requires { ⌜ (5 ≤ length (now «x_lp»)) × (length (now ac) ≡ 5) × (length (now c) ≡ 4) ⌝ }
     ensures { λ r. ⌜ r ≡ coefficients (now («x_lp» .entry)) ⌝ }
@@ -347,6 +359,7 @@ fn flatten_in(x_lp: &[f32], ac: &mut [f32], c: &mut [f32]) -> [f32; 5]
     ]
 }
 
+// The same with places of its own.
 fn flatten(x_lp: &[f32]) -> [f32; 5]
     requires { ⌜ 5 ≤ length (now «x_lp») ⌝ }
     ensures { λ r. ⌜ r ≡ coefficients (now («x_lp» .entry)) ⌝ }
@@ -356,6 +369,7 @@ fn flatten(x_lp: &[f32]) -> [f32; 5]
     flatten_in(x_lp, &mut ac, &mut c)
 }
 
+// `pitch_downsample` for lengths that fit.
 fn pitch_downsample_core(x: &[f32], x_lp: &mut [f32])
     requires { ⌜ DownsampleFits (length (now x)) (length (now «x_lp»)) ⌝ }
     ensures { λ _. ⌜ now («x_lp» .exit) ≡ downsampled (now (x .entry)) ⌝ }
@@ -365,7 +379,7 @@ fn pitch_downsample_core(x: &[f32], x_lp: &mut [f32])
     fir5_core(x_lp, &num);
 }
 
-// x at half the rate, flattened.
+// x at half the rate, with a flattened spectrum.
 pub fn pitch_downsample(x: &[f32], x_lp: &mut [f32]) -> u32
     ensures { λ r. ⌜ Leaf (DownsampleFits (length (now (x .entry))) (length (now («x_lp» .entry))))
         (r leaving now («x_lp» .exit))

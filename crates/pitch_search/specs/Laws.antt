@@ -1,17 +1,17 @@
--- What is claimed of the two pitches of `find_best_pitch`. The proofs are in proofs/Firsts.
+-- What is claimed of the two lags of `find_best_pitch`. The proofs are in proofs/Firsts.
 use Rattle.rules.specs.Common.{ℕ, _<_, false, List, _≡_, length, Float, lt}
 use Rattle.rules.specs.F32.{at, f32}
 use Rattle.pitch_search.specs.Best.{bestOf, firstOf, secondOf}
 
--- the first is one of the lags tried
+-- The best lag is one of those tried.
 abbrev pub FirstIsTried : Type 0
 FirstIsTried = (xcorr ys : List Float) (len : ℕ) → 0 < length xcorr → firstOf (bestOf xcorr ys len) < length xcorr
 
--- so is the second, where there are two
+-- So is the second best, if at least two were tried.
 abbrev pub SecondIsTried : Type 0
 SecondIsTried = (xcorr ys : List Float) (len : ℕ) → 1 < length xcorr → secondOf (bestOf xcorr ys len) < length xcorr
 
--- the first is 0 where no correlation is positive
+-- The best lag is 0 if no correlation is positive.
 abbrev pub FirstOfNone : Type 0
 FirstOfNone =
     (xcorr ys : List Float) (len : ℕ)

@@ -1,4 +1,4 @@
 pub mod Best
 pub mod Inner
 pub mod Laws
-pub mod Parts
+pub mod Private

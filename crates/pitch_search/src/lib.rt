@@ -1,14 +1,15 @@
-// The search of pitch.rs: the inner product of two slices, and the best of some lags. A public leaf refuses with 5 exactly where its
-// lengths do not fit; its core does the work.
+// The search of pitch.rs: the inner product of two slices, and the best two of some lags. A public function refuses
+// with 5 exactly if its lengths do not fit; its core does the work.
 ghost use mathlib.Core.Path.{_≡_};
 ghost use Prim.Native.Nat.{_+_, _<_, _≤_};
 ghost use lib.ListN.{length};
 ghost use Rattle.rules.specs.Leaf.{Leaf};
-ghost use Rattle.pitch_search.specs.Best.{startNorm, considered, slid, best, bestOf, pitchesNumber, firstOf, secondOf, BestFits};
+ghost use Rattle.pitch_search.specs.Best.{startNorm, considered, slid, best, bestOf, pitchesNumber, firstOf};
+ghost use Rattle.pitch_search.specs.Best.{secondOf, BestFits};
 ghost use Rattle.pitch_search.specs.Inner.{innerProd, productNumber, sumOf, InnerFits};
-ghost use Rattle.pitch_search.specs.Parts.{searchIn};
+ghost use Rattle.pitch_search.specs.Private.{searchIn};
 
-// The sum of `inner_prod`, for an n that fits.
+// `inner_prod` for lengths that fit.
 fn inner_prod_core(xs: &[f32], ys: &[f32], n: usize) -> f32
     requires { ⌜ InnerFits (length (now xs)) (length (now ys)) n ⌝ }
     ensures { λ r. ⌜ r ≡ innerProd (now (xs .entry)) (now (ys .entry)) n ⌝ }
@@ -31,9 +32,11 @@ fn inner_prod_core(xs: &[f32], ys: &[f32], n: usize) -> f32
     sum
 }
 
-// The answer of `inner_prod`: the sum, or the number of the refusal.
+// The answer of `inner_prod`.
 pub enum Product {
+    // The inner product.
     Sum(f32),
+    // The number of a refusal.
     Refused(u32),
 }
 
@@ -48,7 +51,7 @@ impl Product {
         }
     }
 
-    // The sum, 0 where it was refused.
+    // The sum, or 0 if it was refused.
     pub fn sum(self) -> f32
         ensures { λ r. ⌜ r ≡ sumOf self ⌝ }
     {
@@ -73,7 +76,7 @@ pub fn inner_prod(xs: &[f32], ys: &[f32], n: usize) -> Product
     Product::Sum(inner_prod_core(xs, ys, n))
 }
 
-// 1.0 and the squares of ys[..len].
+// The energy at lag 0: 1.0 and the squares of ys[..len].
 fn norm(ys: &[f32], len: usize) -> f32
     requires { ⌜ len ≤ length (now ys) ⌝ }
     ensures { λ r. ⌜ r ≡ startNorm (now (ys .entry)) len ⌝ }
@@ -85,18 +88,25 @@ fn norm(ys: &[f32], len: usize) -> f32
     sum
 }
 
-// What `find_best_pitch` carries from lag to lag: by the Rust's names.
+// What `find_best_pitch` carries from lag to lag, by the Rust's names.
 struct Best {
+    // The best lag's squared correlation.
     best_num: f32,
+    // The second best lag's.
     second_best_num: f32,
+    // The energy that the best lag's is compared over.
     best_den: f32,
+    // The second best lag's.
     second_best_den: f32,
+    // The best lag.
     best_pitch: usize,
+    // The second best lag.
     second_best_pitch: usize,
+    // The energy at the lag that comes next.
     y_sq_norm: f32,
 }
 
-// The two best, with lag i among them.
+// Lag i becomes the best, the second best, or neither.
 fn consider_lag(b: Best, corr: f32, i: usize) -> Best
     ensures { λ r. ⌜ searchIn r ≡ considered corr i (searchIn b) ⌝ }
 {
@@ -128,7 +138,7 @@ fn consider_lag(b: Best, corr: f32, i: usize) -> Best
     b
 }
 
-// The window of the norm moves on from lag i.
+// The energy at the lag after i.
 fn slide_norm(b: Best, ys: &[f32], i: usize, len: usize) -> Best
     requires { ⌜ i + len < length (now ys) ⌝ }
     ensures { λ r. ⌜ searchIn r ≡ slid (now (ys .entry)) len i (searchIn b) ⌝ }
@@ -141,6 +151,7 @@ fn slide_norm(b: Best, ys: &[f32], i: usize, len: usize) -> Best
     next
 }
 
+// `find_best_pitch` for lengths that fit.
 fn find_best_pitch_core(xcorr: &[f32], ys: &[f32], len: usize) -> Best
     requires { ⌜ BestFits (length (now xcorr)) (length (now ys)) len ⌝ }
     ensures { λ r. ⌜ searchIn r ≡ best (now (xcorr .entry)) (now (ys .entry)) len ⌝ }
@@ -160,9 +171,11 @@ fn find_best_pitch_core(xcorr: &[f32], ys: &[f32], len: usize) -> Best
     b
 }
 
-// The answer of `find_best_pitch`: the best lag and the second best, or the number of the refusal.
+// The answer of `find_best_pitch`.
 pub enum Pitches {
+    // The best lag and the second best.
     Best(usize, usize),
+    // The number of a refusal.
     Refused(u32),
 }
 
@@ -177,7 +190,7 @@ impl Pitches {
         }
     }
 
-    // The best lag and the second best, 0 where they were refused.
+    // The best lag, or 0 if it was refused.
     pub fn first(self) -> usize
         ensures { λ r. ⌜ r ≡ firstOf self ⌝ }
     {
@@ -187,6 +200,7 @@ impl Pitches {
         }
     }
 
+    // The second best lag, or 0 if it was refused.
     pub fn second(self) -> usize
         ensures { λ r. ⌜ r ≡ secondOf self ⌝ }
     {
@@ -197,7 +211,7 @@ impl Pitches {
     }
 }
 
-// The lags with the largest and the second largest normalised correlation.
+// The two lags with the largest normalised correlations.
 pub fn find_best_pitch(xcorr: &[f32], ys: &[f32], len: usize) -> Pitches
     ensures { λ r. ⌜ Leaf (BestFits (length (now (xcorr .entry))) (length (now (ys .entry))) len)
         r (bestOf (now (xcorr .entry)) (now (ys .entry)) len) (Pitches.Refused 5) ⌝ }

@@ -1,5 +1,6 @@
 -- A recording that is cut at a frame is two. Assumes nothing.
-use Rattle.rules.proofs.Common.{ℕ, suc, _+_, _-_, _*_, _/_, _%_, _^_, _≤_, _<_, Bool, true, false, cond, List, [], _∷_, _++_, _≡_, refl, sym, ap, _∙_, eqb, length}
+use Rattle.rules.proofs.Common.{ℕ, suc, _+_, _-_, _*_, _/_, _%_, _^_, _≤_, _<_, Bool, true, false, cond, List, [], _∷_}
+use Rattle.rules.proofs.Common.{_++_, _≡_, refl, sym, ap, _∙_, eqb, length}
 use Rattle.rules.proofs.Common.{take, drop, length-take, length-drop}
 use native.Mathlib.Nat.{add-zero}
 use native.Mathlib.Omega.{arith}
@@ -23,14 +24,17 @@ entries-alike i j (h ∷ hs) e =
     let rest = entries-alike (i + 1) (j + 1) hs (omega arith) in
     ap (λ (x : ℕ). x ∷ entriesFrom (i + 1) hs) first ∙ ap (λ (l : List ℕ). entry j h ∷ l) rest
 
-entries-append : (i : ℕ) (xs ys : List Bool) → entriesFrom i (xs ++ ys) ≡ entriesFrom i xs ++ entriesFrom (i + length xs) ys
+pub entries-append : (i : ℕ) (xs ys : List Bool)
+    → entriesFrom i (xs ++ ys) ≡ entriesFrom i xs ++ entriesFrom (i + length xs) ys
 entries-append i [] ys = ap (λ (n : ℕ). entriesFrom n ys) (sym (add-zero i))
 entries-append i (x ∷ xs) ys =
     let place : i + 1 + length xs ≡ i + suc (length xs) = omega arith in
-    ap (λ (l : List ℕ). entry i x ∷ l) (entries-append (i + 1) xs ys ∙ ap (λ (n : ℕ). entriesFrom (i + 1) xs ++ entriesFrom n ys) place)
+    ap (λ (l : List ℕ). entry i x ∷ l)
+    (entries-append (i + 1) xs ys ∙ ap (λ (n : ℕ). entriesFrom (i + 1) xs ++ entriesFrom n ys) place)
 
 records-cut : (side i n : ℕ) (hs : List Bool) → n ≤ length hs
-    → recordsOf side (entriesFrom i (take n hs)) ++ recordsOf side (entriesFrom ((i + n) % 4294967296) (drop n hs)) ≡ recordsOf side (entriesFrom i hs)
+    → recordsOf side (entriesFrom i (take n hs)) ++ recordsOf side (entriesFrom ((i + n) % 4294967296) (drop n hs))
+    ≡ recordsOf side (entriesFrom i hs)
 records-cut side i n hs h =
     let long : length (take n hs) ≡ n = simp length-take (omega arith) in
     let same : entriesFrom ((i + n) % 4294967296) (drop n hs) ≡ entriesFrom (i + length (take n hs)) (drop n hs) =
@@ -45,7 +49,8 @@ records-cut side i n hs h =
 filled : (k c : ℕ) → (960 * k + 959) / 960 + c ≡ k + c
 filled k c = omega arith
 
-module _ (r : Recording) (k began : ℕ) (good : Good r) (time : began < 2 ^ 64) (some : 0 < k) (left : 960 * k < length (r .audio)) (other : cutAfter r k began .front .first ≡ 0 → ⊥) where
+module _ (r : Recording) (k began : ℕ) (good : Good r) (time : began < 2 ^ 64) (some : 0 < k)
+    (left : 960 * k < length (r .audio)) (other : cutAfter r k began .front .first ≡ 0 → ⊥) where
   abbrev size : ℕ
   size = length (r .audio)
 

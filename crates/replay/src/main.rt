@@ -1,5 +1,6 @@
-// Replays a fixed list of the Rust's answers through the functions of the static library, and says how many agree. The list
-// comes on standard input: oracle/src/bin/vectors.rs makes it, and tells its form. All NaNs are taken alike, and both zeros.
+// Replays a fixed list of the Rust's answers through the functions of the static library, and reports how many agree.
+// The list comes on standard input; oracle/src/bin/vectors.rs makes it and describes its form. All NaNs count as equal,
+// and so do both zeros.
 ghost use mathlib.Core.Path.{_≡_};
 ghost use Prim.Native.Nat.{_+_, _<_, _≤_, _^_};
 ghost use lib.ListN.{length};
@@ -8,19 +9,20 @@ use export::of_pitch;
 use libc::STDIN_FILENO;
 use libc::STDOUT_FILENO;
 
-// No list of a record is longer.
+// The longest list of a record, in numbers.
 const ROOM: usize = 2048;
 
-// Nor the list itself, in bytes.
+// The longest input, in bytes.
 const SPACE: usize = 400000;
 
+// A byte as a number of 32 bits.
 fn wide(x: u8) -> u32
     ensures { λ r. ⌜ r < 256 ⌝ }
 {
     x as u32
 }
 
-// Word i of the list, little end first; 0 past its end.
+// Word i of the list, the low byte first; 0 after its end.
 fn word(bytes: &[u8], i: usize) -> u32 {
     if bytes.len() / 4 <= i {
         return 0;
@@ -31,7 +33,7 @@ fn word(bytes: &[u8], i: usize) -> u32 {
     low + 65536 * high
 }
 
-// The float of these bits; any NaN is the one NaN.
+// The float with these bits; any NaN gives the one NaN.
 fn float(bits: u32) -> f32 {
     if bits % 0x8000_0000 > 0x7f80_0000 {
         return 0.0 / 0.0;
@@ -39,6 +41,7 @@ fn float(bits: u32) -> f32 {
     f32::from_bits(bits)
 }
 
+// Word i as a number.
 fn number(bytes: &[u8], i: usize) -> usize {
     word(bytes, i) as usize
 }
@@ -54,7 +57,7 @@ fn size(bytes: &[u8], at: usize) -> usize
     n
 }
 
-// The place behind the list at this place.
+// The place after the list at this place.
 fn after(bytes: &[u8], at: usize) -> usize
     requires { ⌜ at < 2 ^ 62 ⌝ }
     ensures { λ r. ⌜ (at < r) × (r ≤ at + 2049) ⌝ }
@@ -62,7 +65,7 @@ fn after(bytes: &[u8], at: usize) -> usize
     at + 1 + size(bytes, at)
 }
 
-// The same where list i of so many is there.
+// The same if list i of `lists` is there.
 fn skip(bytes: &[u8], at: usize, i: usize, lists: usize) -> usize
     requires { ⌜ at < 2 ^ 62 ⌝ }
     ensures { λ r. ⌜ (at ≤ r) × (r ≤ at + 2049) ⌝ }
@@ -73,7 +76,7 @@ fn skip(bytes: &[u8], at: usize, i: usize, lists: usize) -> usize
     at
 }
 
-// The place behind the lists at this place, whose number stands in front of them; at most four are passed.
+// The place after the lists at this place. Their number comes before them; at most four are skipped.
 fn behind(bytes: &[u8], at: usize) -> usize
     requires { ⌜ at < 2 ^ 40 ⌝ }
     ensures { λ r. ⌜ (at < r) × (r < at + 16384) ⌝ }
@@ -86,6 +89,7 @@ fn behind(bytes: &[u8], at: usize) -> usize
     end
 }
 
+// Copies the list at this place.
 fn load(to: &mut [f32], bytes: &[u8], at: usize)
     requires { ⌜ (at < 2 ^ 62) × (length (now to) ≤ 2048) ⌝ }
 {
@@ -94,6 +98,7 @@ fn load(to: &mut [f32], bytes: &[u8], at: usize)
     }
 }
 
+// Whether two floats are equal, or both NaN.
 fn alike(x: f32, y: f32) -> bool {
     if x != x {
         return y != y;
@@ -116,7 +121,7 @@ fn same(xs: &[f32], bytes: &[u8], at: usize) -> bool
     true
 }
 
-// A leaf by its number in the list: a is its answer buffer.
+// Calls a function by its number in the list; a is its answer buffer.
 fn call(leaf: u32, a: &mut [f32], b: &[f32], c: &[f32], n: usize) -> u32 {
     match leaf {
         0 => of_bands::tuppence_band_corr(a, b, c),
@@ -134,7 +139,7 @@ fn call(leaf: u32, a: &mut [f32], b: &[f32], c: &[f32], n: usize) -> u32 {
     }
 }
 
-// The list at this place, into the front of the room for it.
+// Copies the list at this place to the front of the room for it.
 fn fill(to: &mut [f32], bytes: &[u8], at: usize)
     requires { ⌜ (at < 2 ^ 61) × (length (now to) ≡ 2048) ⌝ }
 {
@@ -142,7 +147,7 @@ fn fill(to: &mut [f32], bytes: &[u8], at: usize)
     load(&mut to[0..n], bytes, at + 1);
 }
 
-// The first three lists of the record at this place.
+// Copies the first three lists of the record at this place.
 fn fill_three(bytes: &[u8], at: usize, a: &mut [f32], b: &mut [f32], c: &mut [f32])
     requires { ⌜ (at < 2 ^ 39) × (length (now a) ≡ 2048) × (length (now b) ≡ 2048) × (length (now c) ≡ 2048) ⌝ }
 {
@@ -153,7 +158,7 @@ fn fill_three(bytes: &[u8], at: usize, a: &mut [f32], b: &mut [f32], c: &mut [f3
     fill(c, bytes, third);
 }
 
-// The call of the record at this place, of a leaf that answers floats.
+// Makes the call of the record at this place, of a function that answers with floats.
 fn call_in(bytes: &[u8], at: usize, a: &mut [f32], b: &[f32], c: &[f32]) -> u32
     requires { ⌜ (at < 2 ^ 39) × (length (now a) ≡ 2048) × (length (now b) ≡ 2048) × (length (now c) ≡ 2048) ⌝ }
 {
@@ -184,6 +189,7 @@ fn expects(bytes: &[u8], at: usize, got: u32, a: &[f32]) -> bool
     same(&a[0..n], bytes, expected + 3)
 }
 
+// Whether the call of the record at this place agrees, with lent buffers.
 fn floats_in(bytes: &[u8], at: usize, a: &mut [f32], b: &mut [f32], c: &mut [f32]) -> bool
     requires { ⌜ (at < 2 ^ 39) × (length (now a) ≡ 2048) × (length (now b) ≡ 2048) × (length (now c) ≡ 2048) ⌝ }
 {
@@ -192,6 +198,7 @@ fn floats_in(bytes: &[u8], at: usize, a: &mut [f32], b: &mut [f32], c: &mut [f32
     expects(bytes, at, got, a)
 }
 
+// The same with buffers of its own.
 fn replay_floats(bytes: &[u8], at: usize) -> bool
     requires { ⌜ at < 2 ^ 39 ⌝ }
 {
@@ -201,7 +208,7 @@ fn replay_floats(bytes: &[u8], at: usize) -> bool
     floats_in(bytes, at, &mut a, &mut b, &mut c)
 }
 
-// The call of the record at this place, of find_best_pitch.
+// Makes the call of the record at this place, of find_best_pitch.
 fn best_in(bytes: &[u8], at: usize, p: &mut [u64], x: &mut [f32], y: &mut [f32]) -> u32
     requires { ⌜ (at < 2 ^ 39) × (length (now p) ≡ 2) × (length (now x) ≡ 2048) × (length (now y) ≡ 2048) ⌝ }
 {
@@ -215,6 +222,7 @@ fn best_in(bytes: &[u8], at: usize, p: &mut [u64], x: &mut [f32], y: &mut [f32])
     of_pitch::tuppence_find_best_pitch(p, &x[0..x_end], &y[0..y_end], len)
 }
 
+// Whether the record at this place expects this number and these two lags.
 fn expects_pitches(bytes: &[u8], at: usize, got: u32, first: u64, second: u64) -> bool
     requires { ⌜ at < 2 ^ 39 ⌝ }
 {
@@ -228,6 +236,7 @@ fn expects_pitches(bytes: &[u8], at: usize, got: u32, first: u64, second: u64) -
     second == number(bytes, expected + 5) as u64
 }
 
+// Whether the call of the record at this place agrees, with lent buffers.
 fn pitches_in(bytes: &[u8], at: usize, p: &mut [u64], x: &mut [f32], y: &mut [f32]) -> bool
     requires { ⌜ (at < 2 ^ 39) × (length (now p) ≡ 2) × (length (now x) ≡ 2048) × (length (now y) ≡ 2048) ⌝ }
 {
@@ -235,7 +244,7 @@ fn pitches_in(bytes: &[u8], at: usize, p: &mut [u64], x: &mut [f32], y: &mut [f3
     expects_pitches(bytes, at, got, p[0], p[1])
 }
 
-// The record at this place, of find_best_pitch: its answer is two numbers.
+// The same with buffers of its own, for find_best_pitch, which answers with two numbers.
 fn replay_pitches(bytes: &[u8], at: usize) -> bool
     requires { ⌜ at < 2 ^ 39 ⌝ }
 {
@@ -245,6 +254,7 @@ fn replay_pitches(bytes: &[u8], at: usize) -> bool
     pitches_in(bytes, at, &mut p, &mut x, &mut y)
 }
 
+// Whether the record at this place agrees.
 fn replay_one(bytes: &[u8], at: usize) -> bool
     requires { ⌜ at < 2 ^ 39 ⌝ }
 {
@@ -254,6 +264,7 @@ fn replay_one(bytes: &[u8], at: usize) -> bool
     replay_floats(bytes, at)
 }
 
+// Prints how many calls there were and how many agree.
 fn tell(calls: u64, agree: u64) {
     io::print_decimal(STDOUT_FILENO, calls);
     io::write_all(STDOUT_FILENO, b" calls replayed, ");
@@ -261,6 +272,7 @@ fn tell(calls: u64, agree: u64) {
     io::write_all(STDOUT_FILENO, b" agree\n");
 }
 
+// Replays the whole list.
 fn replay(bytes: &[u8]) {
     if SPACE < bytes.len() {
         return;

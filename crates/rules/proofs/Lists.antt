@@ -1,10 +1,12 @@
 -- Laws of `tab`, the list of a function's values, and of the loops that store one element a turn, from the front.
 --     length-tab, getD-tab, tab-getD, tab-id    a tab's length and elements; a list and its parts, element by element
 --     tab-same, tab-const, tab-map              tabs of the same values, of one value, and of a list's elements
---     tab-none, tab-more, tab-done              the invariant `tab i f ++ drop i d`: where the loop begins, after a turn, at the end
+--     tab-none, tab-more, tab-done              the invariant `tab i f ++ drop i d`: where the loop begins, after a
+--                                               turn, at the end
 --     tab-ahead, tab-still                      what the loop has not reached is as it was
 --     eachPlace: each-tab, each-map, fused      a loop that works on each place by itself, and two of them as one
---     Filling, and `fills`                      the invariant as a record, and what a need of such a loop is searched with
+--     Filling, and `fills`                      the invariant as a record, and what a need of such a loop is searched
+--                                               with
 --     Mapping, and `maps`                       the same of a loop that changes each element in place
 -- Assumes nothing.
 use mathlib.Core.Path.{_≡_, refl, sym, ap, _∙_}
@@ -14,8 +16,10 @@ use Prim.Native.Nat.{ℕ, zero, suc, _+_, _-_, _≤_, _<_}
 use native.Mathlib.Nat.{eq-or-lt-of-le, le-of-suc-le-suc, add-assoc}
 use native.Mathlib.Numerals.{add-one}
 use native.Mathlib.Omega.{arith}
-use lib.ListN.{length, getD, set, take, drop, replicate, length-append, length-drop, drop-of-length-le, take-append-drop, List·getD-append, length-set}
-use lib.Seq.{drop-cons, set-at, take-suc, getD-append-add, getD-append-seam, getD-drop, ext-getD, take-at, getD-set-same, getD-set-other, set-set, set-comm}
+use lib.ListN.{length, getD, set, take, drop, replicate, length-append, length-drop, drop-of-length-le}
+use lib.ListN.{take-append-drop, List·getD-append, length-set}
+use lib.Seq.{drop-cons, set-at, take-suc, getD-append-add, getD-append-seam, getD-drop, ext-getD, take-at}
+use lib.Seq.{getD-set-same, getD-set-other, set-set, set-comm}
 use Rattle.rules.specs.Loop.{loop}
 use Rattle.rules.specs.Tab.{tab}
 use Rattle.rules.proofs.Loops.{same-length, turns}
@@ -31,13 +35,17 @@ module _ {A : Type 0} where
   tab-none f d = refl
 
   -- a store right behind a front makes it longer by one
-  pub front-more : (ys d m : List A) (i : ℕ) (v : A) → length ys ≡ i → m ≡ ys ++ drop i d → i < length d → set m i v ≡ (ys ++ (v ∷ [])) ++ drop (i + 1) d
+  pub front-more : (ys d m : List A) (i : ℕ) (v : A) → length ys ≡ i → m ≡ ys ++ drop i d → i < length d
+      → set m i v ≡ (ys ++ (v ∷ [])) ++ drop (i + 1) d
   front-more ys d m i v l e h =
-      rw (e, add-one i, drop-cons d i v h, set-at ys (getD d i v) (drop (suc i) d) v i l) (sym (append-assoc ys (v ∷ []) (drop (suc i) d)))
+      rw (e, add-one i, drop-cons d i v h, set-at ys (getD d i v) (drop (suc i) d) v i l)
+      (sym (append-assoc ys (v ∷ []) (drop (suc i) d)))
 
-  pub tab-more : (f : ℕ → A) (d m : List A) (i : ℕ) (v : A) → m ≡ tab i f ++ drop i d → v ≡ f i → i < length d → set m i v ≡ tab (i + 1) f ++ drop (i + 1) d
+  pub tab-more : (f : ℕ → A) (d m : List A) (i : ℕ) (v : A) → m ≡ tab i f ++ drop i d → v ≡ f i → i < length d
+      → set m i v ≡ tab (i + 1) f ++ drop (i + 1) d
   unfolding tab
-  tab-more f d m i v e w h = rw (w, add-one i) (rw (add-one i) at (front-more (tab i f) d m i (f i) (length-tab i f) e h))
+  tab-more f d m i v e w h =
+      rw (w, add-one i) (rw (add-one i) at (front-more (tab i f) d m i (f i) (length-tab i f) e h))
 
   pub tab-ahead : (f : ℕ → A) (d : List A) (i j : ℕ) (z : A) → i ≤ j → getD (tab i f ++ drop i d) j z ≡ getD d j z
   tab-ahead f d i j z h =
@@ -48,7 +56,8 @@ module _ {A : Type 0} where
       ∙ getD-drop i d (j - i) z
       ∙ ap (λ (k : ℕ). getD d k z) rest
 
-  pub tab-still : (f : ℕ → A) (d m : List A) (i j : ℕ) (z : A) → m ≡ tab i f ++ drop i d → i ≤ j → getD m j z ≡ getD d j z
+  pub tab-still : (f : ℕ → A) (d m : List A) (i j : ℕ) (z : A) → m ≡ tab i f ++ drop i d → i ≤ j
+      → getD m j z ≡ getD d j z
   tab-still f d m i j z e h = ap (λ (l : List A). getD l j z) e ∙ tab-ahead f d i j z h
 
   pub tab-done : (f : ℕ → A) (d : List A) (i n : ℕ) → i ≡ n → length d ≤ n → tab i f ++ drop i d ≡ tab n f
@@ -60,7 +69,9 @@ module _ {A : Type 0} where
   getD-tab (suc n) f i z h = ⊎-elim here (λ b. there b (getD-tab n f i z b)) (eq-or-lt-of-le (le-of-suc-le-suc h))
     where
       here : i ≡ n → getD (tab n f ++ (f n ∷ [])) i z ≡ f i
-      here e = rw e (ap (λ (k : ℕ). getD (tab n f ++ (f n ∷ [])) k z) (sym (length-tab n f)) ∙ getD-append-seam (tab n f) (f n) [] z)
+      here e =
+          rw e (ap (λ (k : ℕ). getD (tab n f ++ (f n ∷ [])) k z) (sym (length-tab n f))
+          ∙ getD-append-seam (tab n f) (f n) [] z)
 
       there : i < n → getD (tab n f) i z ≡ f i → getD (tab n f ++ (f n ∷ [])) i z ≡ f i
       there b e = List·getD-append (tab n f) (f n ∷ []) z i (rw length-tab b) ∙ e
@@ -96,7 +107,8 @@ module _ {A : Type 0} where
   tab-same (suc n) f g h = rw (tab-same n f g (λ i b. h i (omega arith)), h n (omega arith))
 
   -- four turns at once
-  pub tab-four-more : (f : ℕ → A) (d m : List A) (i : ℕ) {a b c e : A} → m ≡ tab i f ++ drop i d → a ≡ f i → b ≡ f (i + 1) → c ≡ f (i + 2) → e ≡ f (i + 3)
+  pub tab-four-more : (f : ℕ → A) (d m : List A) (i : ℕ) {a b c e : A} → m ≡ tab i f ++ drop i d → a ≡ f i
+      → b ≡ f (i + 1) → c ≡ f (i + 2) → e ≡ f (i + 3)
       → i + 4 ≤ length d → set (set (set (set m i a) (i + 1) b) (i + 2) c) (i + 3) e ≡ tab (i + 4) f ++ drop (i + 4) d
   tab-four-more f d m i now p q r s h =
       let one = tab-more f d m i _ now p (omega arith) in
@@ -129,17 +141,21 @@ module _ {A : Type 0} (d : A) where
       getD-set-other l n k (f n (getD l n d)) d (λ e. omega arith) ∙ ahead f n k s (omega arith)
 
   -- and what it has passed holds f's value
-  pub behind : (f : ℕ → A → A) (n k : ℕ) (s : List A) → k < n → n ≤ length s → getD (loop n (eachPlace f) s) k d ≡ f k (getD s k d)
+  pub behind : (f : ℕ → A → A) (n k : ℕ) (s : List A) → k < n → n ≤ length s
+      → getD (loop n (eachPlace f) s) k d ≡ f k (getD s k d)
   unfolding loop
   behind f zero k s h r = absurd (omega arith)
-  behind f (suc n) k s h r = ⊎-elim here (λ b. there b (behind f n k s b (omega arith))) (eq-or-lt-of-le (le-of-suc-le-suc h))
+  behind f (suc n) k s h r =
+      ⊎-elim here (λ b. there b (behind f n k s b (omega arith))) (eq-or-lt-of-le (le-of-suc-le-suc h))
     where
       here : k ≡ n → getD (loop (suc n) (eachPlace f) s) k d ≡ f k (getD s k d)
       here e =
           let l = loop n (eachPlace f) s in
-          rw e (getD-set-same l n (f n (getD l n d)) d (rw (as-long f n s) (omega arith)) ∙ ap (f n) (ahead f n n s (omega arith)))
+          rw e (getD-set-same l n (f n (getD l n d)) d (rw (as-long f n s) (omega arith))
+          ∙ ap (f n) (ahead f n n s (omega arith)))
 
-      there : k < n → getD (loop n (eachPlace f) s) k d ≡ f k (getD s k d) → getD (loop (suc n) (eachPlace f) s) k d ≡ f k (getD s k d)
+      there : k < n → getD (loop n (eachPlace f) s) k d ≡ f k (getD s k d)
+          → getD (loop (suc n) (eachPlace f) s) k d ≡ f k (getD s k d)
       there b e = let l = loop n (eachPlace f) s in getD-set-other l n k (f n (getD l n d)) d (λ q. omega arith) ∙ e
 
   pub each-tab : (f : ℕ → A → A) (s : List A) → loop (length s) (eachPlace f) s ≡ tab (length s) (λ j. f j (getD s j d))
@@ -147,15 +163,19 @@ module _ {A : Type 0} (d : A) where
       let g : ℕ → A = λ j. f j (getD s j d) in
       let long = as-long f (length s) s in
       ext-getD d (loop (length s) (eachPlace f) s) (tab (length s) g) (long ∙ sym (length-tab (length s) g))
-      (λ i h. let inside : i < length s = rw long at h in behind f (length s) i s inside (omega arith) ∙ sym (getD-tab (length s) g i d inside))
+      (λ i h.
+      let inside : i < length s = rw long at h in
+      behind f (length s) i s inside (omega arith) ∙ sym (getD-tab (length s) g i d inside))
 
   -- and may be stored before or after it
-  apart : (f : ℕ → A → A) (n k : ℕ) (s : List A) (v : A) → n ≤ k → loop n (eachPlace f) (set s k v) ≡ set (loop n (eachPlace f) s) k v
+  apart : (f : ℕ → A → A) (n k : ℕ) (s : List A) (v : A) → n ≤ k
+      → loop n (eachPlace f) (set s k v) ≡ set (loop n (eachPlace f) s) k v
   unfolding loop
   apart f zero k s v h = refl
   apart f (suc n) k s v h =
       let l = loop n (eachPlace f) s in
-      rw (apart f n k s v (omega arith), getD-set-other l k n v d (λ e. omega arith)) (set-comm l k n v (f n (getD l n d)) (λ e. omega arith))
+      rw (apart f n k s v (omega arith), getD-set-other l k n v d (λ e. omega arith))
+      (set-comm l k n v (f n (getD l n d)) (λ e. omega arith))
 
   pub fused : (f g : ℕ → A → A) (n : ℕ) (s : List A) → n ≤ length s
       → loop n (eachPlace (λ j a. g j (f j a))) s ≡ loop n (eachPlace g) (loop n (eachPlace f) s)
@@ -167,12 +187,19 @@ module _ {A : Type 0} (d : A) where
       let v = f n (getD l n d) in
       let room : n < length m = rw (as-long g n l, as-long f n s) (omega arith) in
       let before : getD m n d ≡ getD l n d = ahead g n n l (omega arith) in
-      rw (fused f g n s (omega arith), apart g n n l v (omega arith), getD-set-same m n v d room, set-set m n v (g n v), before)
+      rw (
+        fused f g n s (omega arith),
+        apart g n n l v (omega arith),
+        getD-set-same m n v d room,
+        set-set m n v (g n v),
+        before,
+      )
 
 -- ---- a loop that fills a list from the front
 
--- the first i places hold f's values, and the others what `d` held. `filling-begin` shows it where the loop begins, `filling-more` after a turn, and `filling-ended`
--- reads it after the last; `filling-ahead` is for a loop that works in place
+-- the first i places hold f's values, and the others what `d` held. `filling-begin` shows it where the loop begins,
+-- `filling-more` after a turn, and `filling-ended` reads it after the last; `filling-ahead` is for a loop that works in
+-- place
 pub record Filling {A : Type 0} (f : ℕ → A) (d : List A) (i : ℕ) (now : List A) : Type 0 where
   pub same : length now ≡ length d
   pub front : now ≡ tab i f ++ drop i d
@@ -181,7 +208,8 @@ module _ {A : Type 0} (f : ℕ → A) (d : List A) where
   pub filling-begin : Filling f d 0 d
   filling-begin = record { same = refl; front = tab-none f d }
 
-  pub filling-more : (i : ℕ) {now : List A} {v : A} → Filling f d i now → i < length d → v ≡ f i → Filling f d (i + 1) (set now i v)
+  pub filling-more : (i : ℕ) {now : List A} {v : A} → Filling f d i now → i < length d → v ≡ f i
+      → Filling f d (i + 1) (set now i v)
   filling-more i {now} {v} h room e = record {
     same = simp length-set (h .same);
     front = tab-more f d now i v (h .front) e room;
@@ -217,10 +245,14 @@ module _ {A : Type 0} (g : A → A) (z : A) where
     pub mapping-begin : Mapping 0 d
     mapping-begin = filling-begin (λ k. g (getD d k z)) d
 
-    pub mapping-more : (i : ℕ) {now : List A} {v : A} → Mapping i now → i < length d → v ≡ g (getD now i z) → Mapping (i + 1) (set now i v)
-    mapping-more i h room e = filling-more (λ k. g (getD d k z)) d i h room (e ∙ ap g (filling-ahead (λ k. g (getD d k z)) d i i z h (omega arith)))
+    pub mapping-more : (i : ℕ) {now : List A} {v : A} → Mapping i now → i < length d → v ≡ g (getD now i z)
+        → Mapping (i + 1) (set now i v)
+    mapping-more i h room e =
+        filling-more (λ k. g (getD d k z)) d i h room
+        (e ∙ ap g (filling-ahead (λ k. g (getD d k z)) d i i z h (omega arith)))
 
     pub mapping-ended : (i n : ℕ) {now : List A} → i ≤ n → n ≤ i → length d ≡ n → Mapping i now → now ≡ map g d
-    mapping-ended i n below above size h = filling-ended (λ k. g (getD d k z)) d i n below above size h ∙ rw (← size) (tab-map g z d)
+    mapping-ended i n below above size h =
+        filling-ended (λ k. g (getD d k z)) d i n below above size h ∙ rw (← size) (tab-map g z d)
 
 pub ruleset maps = (mapping-begin, mapping-more, mapping-ended, turns)

@@ -1,12 +1,15 @@
 -- Laws of refusals: of a leaf's promise, and of a table of refusals.
 --     leaves, leave-both              what a leaf leaves, in one buffer and in two
---     fitting, left                   a caller that shows that the lengths fit: the outcome, and what the lent buffer holds
+--     fitting, left                   a caller that shows that the lengths fit: the outcome, and what the lent buffer
+--                                     holds
 --     settled                         no second outcome meets the promise
---     clear, none-held, cleared       where no test of a table holds it gives what is right; where it gives 0, no test holds
+--     clear, none-held, cleared       where no test of a table holds it gives what is right; where it gives 0, no test
+--                                     holds
 --     by-rows, by-each, along         what holds of a table's answer, row by row; two tables of the same rows
 --     right, none-wrong, one-wrong    lengths that are what stands beside them
 -- Assumes nothing.
-use Rattle.rules.proofs.Common.{ℕ, Bool, true, false, not, _&&_, List, [], _∷_, _≡_, refl, sym, ap, _∙_, eqb, ltb, T}
+use Rattle.rules.proofs.Common.{ℕ, Bool, true, false, not, _&&_, List, [], _∷_, _≡_, refl, sym, ap, _∙_, eqb}
+use Rattle.rules.proofs.Common.{ltb, T}
 use native.Mathlib.Omega.{arith}
 use lib.Dec.{ltb→lt}
 use lib.Ieee.Fits.{and-l, and-r}
@@ -19,7 +22,8 @@ pub leaves : {R A : Type 0} {r : R} {x y : A} → x ≡ y → (r leaving x) ≡ 
 leaves {A = A} {r = r} e = ap (λ (x : A). r leaving x) e
 
 -- of two buffers
-pub leave-both : {R A B : Type 0} {r : R} {x y : A} {u v : B} → x ≡ y → u ≡ v → (r leaving x leaving u) ≡ (r leaving y leaving v)
+pub leave-both : {R A B : Type 0} {r : R} {x y : A} {u v : B} → x ≡ y → u ≡ v
+    → (r leaving x leaving u) ≡ (r leaving y leaving v)
 leave-both e d = rw (e, d)
 
 module _ {O : Type 0} {Fits : Type 0} {new old : O} where
@@ -36,7 +40,8 @@ module _ {O : Type 0} {Fits : Type 0} {new old : O} where
   settled (refused n p) (refused n′ q) = p ∙ sym q
 
 -- what such a caller knows of the buffer that it lent
-pub left : {R A Fits : Type 0} {r n : R} {x y : A} {old : R × A} → Leaf Fits (r leaving x) (n leaving y) old → Fits → x ≡ y
+pub left : {R A Fits : Type 0} {r n : R} {x y : A} {old : R × A} → Leaf Fits (r leaving x) (n leaving y) old → Fits
+    → x ≡ y
 left {R} {A} called fits = ap (λ (p : R × A). p .1) (fitting called fits)
 
 -- ---- a table of refusals
@@ -52,30 +57,37 @@ module _ {A : Type 0} (refuse : ℕ → A) (right : A) where
   clear (n when t ∷ rows) h = rw (h .0) (clear rows (h .1))
 
   -- what holds of each refusal, and of what is right where no test holds, holds of the answer
-  pub by-rows : (P : A → Type 0) (rows : List Row) → ((n : ℕ) → P (refuse n)) → (Clear rows → P right) → P (refusing rows refuse right)
+  pub by-rows : (P : A → Type 0) (rows : List Row) → ((n : ℕ) → P (refuse n)) → (Clear rows → P right)
+      → P (refusing rows refuse right)
   by-rows P [] bad good = good tt
   by-rows P (n when true ∷ rows) bad good = bad n
   by-rows P (n when false ∷ rows) bad good = by-rows P rows bad (λ h. good (refl, h))
 
   -- where the answer is x, and that is no refusal, no test holds
-  pub passed-clear : {x : A} (rows : List Row) → ((n : ℕ) → x ≡ refuse n → ⊥) → x ≡ refusing rows refuse right → Clear rows
+  pub passed-clear : {x : A} (rows : List Row) → ((n : ℕ) → x ≡ refuse n → ⊥) → x ≡ refusing rows refuse right
+      → Clear rows
   passed-clear {x} rows bad = by-rows (λ y. x ≡ y → Clear rows) rows (λ n e. absurd (bad n e)) (λ c e. c)
 
--- two tables of the same rows: what holds of both refusals of a row, and of what is right where no test holds, holds of the answers
+-- two tables of the same rows: what holds of both refusals of a row, and of what is right where no test holds, holds of
+-- the answers
 module _ {A B : Type 0} (refuse : ℕ → A) (right : A) (refuse′ : ℕ → B) (right′ : B) where
-  pub by-both : (R : A → B → Type 0) (rows : List Row) → ((n : ℕ) → R (refuse n) (refuse′ n)) → (Clear rows → R right right′)
+  pub by-both : (R : A → B → Type 0) (rows : List Row) → ((n : ℕ) → R (refuse n) (refuse′ n))
+      → (Clear rows → R right right′)
       → R (refusing rows refuse right) (refusing rows refuse′ right′)
   by-both R [] bad good = good tt
   by-both R (n when true ∷ rows) bad good = bad n
   by-both R (n when false ∷ rows) bad good = by-both R rows bad (λ h. good (refl, h))
 
   -- where the one answers x, a refusal and not what is right, the other refuses with the same number
-  pub stopped-so : {x : A} {m : ℕ} (rows : List Row) → ((n : ℕ) → x ≡ refuse n → m ≡ n) → (x ≡ right → ⊥) → x ≡ refusing rows refuse right
+  pub stopped-so : {x : A} {m : ℕ} (rows : List Row) → ((n : ℕ) → x ≡ refuse n → m ≡ n) → (x ≡ right → ⊥)
+      → x ≡ refusing rows refuse right
       → refusing rows refuse′ right′ ≡ refuse′ m
-  stopped-so {x} {m} rows same bad = by-both (λ a b. x ≡ a → b ≡ refuse′ m) rows (λ n e. ap refuse′ (sym (same n e))) (λ c e. absurd (bad e))
+  stopped-so {x} {m} rows same bad =
+      by-both (λ a b. x ≡ a → b ≡ refuse′ m) rows (λ n e. ap refuse′ (sym (same n e))) (λ c e. absurd (bad e))
 
 -- and what the one gives goes over into what the other gives
-pub along : {A B : Type 0} (f : A → B) (refuse : ℕ → A) (right : A) (refuse′ : ℕ → B) (right′ : B) (rows : List Row) → ((n : ℕ) → f (refuse n) ≡ refuse′ n)
+pub along : {A B : Type 0} (f : A → B) (refuse : ℕ → A) (right : A) (refuse′ : ℕ → B) (right′ : B) (rows : List Row)
+    → ((n : ℕ) → f (refuse n) ≡ refuse′ n)
     → (Clear rows → f right ≡ right′) → f (refusing rows refuse right) ≡ refusing rows refuse′ right′
 along f refuse right refuse′ right′ = by-both refuse right refuse′ right′ (λ a b. f a ≡ b)
 
@@ -100,7 +112,8 @@ above (n when t ∷ rows) = ltb 0 n && above rows
 module _ {A : Type 0} (number : A → ℕ) (refuse : ℕ → A) (right : A) (told : (n : ℕ) → number (refuse n) ≡ n) where
   pub none-held : (rows : List Row) → T (above rows) → number (refusing rows refuse right) ≡ 0 → Clear rows
   none-held [] a e = tt
-  none-held (n when true ∷ rows) a e = absurd (omega (arith, sym (told n) ∙ e, ltb→lt 0 n (and-l (ltb 0 n) (above rows) a)))
+  none-held (n when true ∷ rows) a e =
+      absurd (omega (arith, sym (told n) ∙ e, ltb→lt 0 n (and-l (ltb 0 n) (above rows) a)))
   none-held (n when false ∷ rows) a e = (refl, none-held rows (and-r (ltb 0 n) (above rows) a) e)
 
 -- asked for the number itself
@@ -108,7 +121,8 @@ pub cleared : (rows : List Row) → T (above rows) → refusing rows (λ n. n) 0
 cleared = none-held (λ n. n) (λ n. n) 0 (λ n. refl)
 
 -- and where it is not 0, it is that of the refusal
-pub due : {A : Type 0} (refuse : ℕ → A) (right : A) (rows : List Row) {r : ℕ} → r ≡ refusing rows (λ n. n) 0 → (r ≡ 0 → ⊥) → refusing rows refuse right ≡ refuse r
+pub due : {A : Type 0} (refuse : ℕ → A) (right : A) (rows : List Row) {r : ℕ} → r ≡ refusing rows (λ n. n) 0
+    → (r ≡ 0 → ⊥) → refusing rows refuse right ≡ refuse r
 due refuse right rows e some = stopped-so (λ n. n) 0 refuse right rows (λ n same. same) some e
 
 -- ---- where no length is wrong

@@ -1,4 +1,4 @@
--- The words that every room uses: numbers, truth, lists, equality and floats.
+-- The names that every crate uses: numbers, truth values, lists, equality and floats.
 pub use Prim.Native.Nat.{ℕ, zero, suc, _+_, _-_, _*_, _/_, _%_, _^_, min, _≤_, _<_}
 pub use mathlib.Core.Bool.{Bool, true, false, cond, not, _&&_, _||_}
 pub use mathlib.Core.List.{List, [], _∷_, _++_, map}

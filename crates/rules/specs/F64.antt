@@ -1,4 +1,4 @@
--- Rust's f64 operators, each rounded by itself.
+-- Rust's f64 operators. Each operation is rounded by itself.
 use Rattle.rules.specs.Common.{ℕ, Float, binary64, ofBits}
 use lib.Ieee.{add, sub, mul}
 
@@ -13,6 +13,6 @@ x -₆₄ y = sub binary64 x y
 abbrev pub _*₆₄_ : Float → Float → Float
 x *₆₄ y = mul binary64 x y
 
--- the f64 of a bit pattern: how a constant is written
+-- The f64 with this bit pattern. Constants are written so.
 abbrev pub f64 : ℕ → Float
 f64 bits = ofBits binary64 bits

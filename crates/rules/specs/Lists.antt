@@ -1,7 +1,7 @@
--- Lists of numbers, as files and blocks of bytes have them.
+-- Lists of whole numbers, such as the bytes of a file.
 use Rattle.rules.specs.Common.{ℕ, _+_, _<_, List, [], _∷_, getD}
 
--- every number is a byte
+-- Every number of the list is a byte.
 abbrev pub Bytes : List ℕ → Type 0
 Bytes s = (i : ℕ) → getD s i 0 < 256
 

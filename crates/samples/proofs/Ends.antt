@@ -1,4 +1,5 @@
--- `goodSample` at its ends and beyond, computed from the definition alone. `f32` takes the bit pattern of a number. Assumes nothing.
+-- `goodSample` at its ends and beyond, computed from the definition alone. `f32` takes the bit pattern of a number.
+-- Assumes nothing.
 use Rattle.rules.proofs.Common.{true, false, _≡_, refl, nan}
 use lib.Ieee.{le, ofBits}
 use Rattle.rules.specs.F32.{f32}

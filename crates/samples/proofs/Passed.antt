@@ -1,27 +1,30 @@
--- The loop over the samples: what it has passed is good, so that the samples are good exactly if the rest is. Assumes nothing.
-use Rattle.rules.proofs.Common.{ℕ, suc, _+_, _≤_, _<_, true, false, List, _∷_, _≡_, ap, _∙_, length, drop, Float, nan, le}
+-- The loop over the samples: they are good exactly if those that it has passed are and the rest is. Assumes nothing.
+use Rattle.rules.proofs.Common.{ℕ, suc, _+_, _≤_, _<_, Bool, true, false, _&&_, List, _∷_, _≡_, refl, sym, ap, _∙_}
+use Rattle.rules.proofs.Common.{length, drop, Float, nan}
 use native.Mathlib.Numerals.{add-one}
 use lib.ListN.{drop-of-length-le}
 use lib.Seq.{drop-cons}
-use Rattle.rules.specs.F32.{at, f32}
-use Rattle.samples.specs.Samples.{good}
+use Rattle.rules.specs.F32.{at}
+use Rattle.samples.specs.Samples.{goodSample, good}
 
-module _ (xs : List Float) (i : ℕ) (h : i < length xs) (e : good xs ≡ good (drop i xs)) where
-  here : good xs ≡ good (at xs i ∷ drop (suc i) xs)
-  here = e ∙ ap good (drop-cons xs i nan h)
+and-assoc : (a b c : Bool) → a && (b && c) ≡ (a && b) && c
+and-assoc true b c = refl
+and-assoc false b c = refl
 
-  pub too-low : le (f32 0xC7000000) (at xs i) ≡ false → false ≡ good xs
-  unfolding good
-  too-low l = rw (here, l)
+and-true : (a : Bool) → a && true ≡ a
+and-true true = refl
+and-true false = refl
 
-  pub too-high : le (f32 0xC7000000) (at xs i) ≡ true → le (at xs i) (f32 0x46FFFE00) ≡ false → false ≡ good xs
-  unfolding good
-  too-high l r = rw (here, l, r)
-
-  pub one-more : le (f32 0xC7000000) (at xs i) ≡ true → le (at xs i) (f32 0x46FFFE00) ≡ true → good xs ≡ good (drop (i + 1) xs)
-  unfolding good
-  one-more l r = rw (here, l, r, add-one)
-
-pub all-passed : (xs : List Float) (i : ℕ) → length xs ≤ i → good xs ≡ good (drop i xs) → true ≡ good xs
+-- the next sample joins those that were passed
+pub one-more : (xs : List Float) (soFar : Bool) (i : ℕ) → i < length xs → good xs ≡ soFar && good (drop i xs)
+    → good xs ≡ (soFar && goodSample (at xs i)) && good (drop (i + 1) xs)
 unfolding good
-all-passed xs i h e = rw (e, drop-of-length-le xs {i = i} h)
+one-more xs soFar i h e =
+    e ∙ ap (λ rest. soFar && good rest) (drop-cons xs i nan h)
+    ∙ and-assoc soFar (goodSample (at xs i)) (good (drop (suc i) xs))
+    ∙ ap (λ k. (soFar && goodSample (at xs i)) && good (drop k xs)) (sym (add-one i))
+
+pub all-passed : (xs : List Float) (soFar : Bool) (i : ℕ) → length xs ≤ i → good xs ≡ soFar && good (drop i xs)
+    → soFar ≡ good xs
+unfolding good
+all-passed xs soFar i h e = sym (e ∙ ap (λ rest. soFar && good rest) (drop-of-length-le xs {i = i} h) ∙ and-true soFar)

@@ -5,7 +5,8 @@ use native.Mathlib.Omega.{arith}
 use Rattle.sheet.specs.Sheet.{four}
 use Rattle.sheet.specs.End.{fromFour}
 
-chain : (n q₁ q₂ q₃ q₄ r₀ r₁ r₂ r₃ : ℕ) → n ≡ 256 * q₁ + r₀ → q₁ ≡ 256 * q₂ + r₁ → q₂ ≡ 256 * q₃ + r₂ → q₃ ≡ 256 * q₄ + r₃
+chain : (n q₁ q₂ q₃ q₄ r₀ r₁ r₂ r₃ : ℕ) → n ≡ 256 * q₁ + r₀ → q₁ ≡ 256 * q₂ + r₁ → q₂ ≡ 256 * q₃ + r₂
+    → q₃ ≡ 256 * q₄ + r₃
     → r₀ + 256 * r₁ + 65536 * r₂ + 16777216 * r₃ + 4294967296 * q₄ ≡ n
 chain n q₁ q₂ q₃ q₄ r₀ r₁ r₂ r₃ a b c d = omega arith
 
@@ -13,8 +14,11 @@ next : (n k : ℕ) → n / k ≡ 256 * (n / (k * 256)) + n / k % 256
 next n k = rw (← div-div-eq-div-mul n k 256) (omega arith)
 
 -- a number is its four bytes and what is above them
-pub digits : (n : ℕ) → n % 256 + 256 * (n / 256 % 256) + 65536 * (n / 65536 % 256) + 16777216 * (n / 16777216 % 256) + 4294967296 * (n / 4294967296) ≡ n
-digits n = chain n (n / 256) (n / 65536) (n / 16777216) (n / 4294967296) _ _ _ _ (omega arith) (next n 256) (next n 65536) (next n 16777216)
+pub digits : (n : ℕ) → n % 256 + 256 * (n / 256 % 256) + 65536 * (n / 65536 % 256) + 16777216 * (n / 16777216 % 256)
+    + 4294967296 * (n / 4294967296) ≡ n
+digits n =
+    chain n (n / 256) (n / 65536) (n / 16777216) (n / 4294967296) _ _ _ _ (omega arith) (next n 256) (next n 65536)
+    (next n 16777216)
 
 low : (m n : ℕ) → m + 4294967296 * (n / 4294967296) ≡ n → m ≡ n % 4294967296
 low m n e = omega arith
@@ -37,7 +41,8 @@ module _ (a b c d k : ℕ) (ha : a < 256) (hb : b < 256) (hc : c < 256) (hd : d 
       let q₃ = d + 256 * k in
       let one : n / 256 ≡ q₁ = omega arith in
       let two : n / 65536 ≡ q₂ = sym (div-div-eq-div-mul n 256 256) ∙ ap (λ (m : ℕ). m / 256) one ∙ omega arith in
-      let three : n / 16777216 ≡ q₃ = sym (div-div-eq-div-mul n 65536 256) ∙ ap (λ (m : ℕ). m / 256) two ∙ omega arith in
+      let three : n / 16777216 ≡ q₃ =
+      sym (div-div-eq-div-mul n 65536 256) ∙ ap (λ (m : ℕ). m / 256) two ∙ omega arith in
       let r₀ : n % 256 ≡ a = omega arith in
       let r₁ : q₁ % 256 ≡ b = omega arith in
       let r₂ : q₂ % 256 ≡ c = omega arith in
@@ -51,4 +56,5 @@ pub four-mod : (n : ℕ) → four (n % 4294967296) ≡ four n
 unfolding four
 four-mod n =
     let m = n % 256 + 256 * (n / 256 % 256) + 65536 * (n / 65536 % 256) + 16777216 * (n / 16777216 % 256) in
-    ap four (sym (low m n (digits n)) ∙ sym (add-zero m)) ∙ four-of _ _ _ _ 0 (small n) (small (n / 256)) (small (n / 65536)) (small (n / 16777216))
+    ap four (sym (low m n (digits n)) ∙ sym (add-zero m))
+    ∙ four-of _ _ _ _ 0 (small n) (small (n / 256)) (small (n / 65536)) (small (n / 16777216))

@@ -1,5 +1,6 @@
 -- How the reader's two halves come together: refusals 31 to 33, and 34 and 35. Assumes nothing.
-use Rattle.rules.proofs.Common.{ℕ, zero, suc, _+_, _-_, _*_, _%_, _^_, _≤_, _<_, true, false, List, [], _∷_, _≡_, refl, sym, ap, _∙_, length, getD}
+use Rattle.rules.proofs.Common.{ℕ, zero, suc, _+_, _-_, _*_, _%_, _^_, _≤_, _<_, true, false, List, [], _∷_, _≡_, refl}
+use Rattle.rules.proofs.Common.{sym, ap, _∙_, length, getD}
 use Rattle.rules.proofs.Common.{take, drop, length-take, length-drop}
 use native.Mathlib.Omega.{arith}
 use borrow.Author.Tests.{lt-ltb, le-ltb, eq-eqb, ne-eqb, le-leb, lt-leb, ltb-false, eqb-true, not-false}
@@ -9,17 +10,19 @@ use Rattle.rules.specs.Lists.{sum}
 use Rattle.rules.specs.Refusals.{refusing}
 use Rattle.rules.proofs.Refusals.{Clear, clear, by-rows, passed-clear, along, stopped-so}
 use Rattle.rules.proofs.Tests.{neither}
-use Rattle.sheet.specs.End.{fromFour, run, entryOf, entriesOf, distance, number, sideByte, padded, zeros, sumNoted, start, records, faults, End, sheet, refused, endOf, readingOf, readOf}
+use Rattle.sheet.specs.End.{fromFour, run, entryOf, entriesOf, trailerDistance, number, sideByte, padded}
+use Rattle.sheet.specs.End.{threeZeros, sumNoted, start, records, sheetFaults, End, sheet, refused, endOf}
+use Rattle.sheet.specs.End.{readingOf, readSheet}
 use Rattle.sheet.specs.Asked.{entryIn}
-use Rattle.sheet.specs.Parts.{pointed, Pointed, checked}
+use Rattle.sheet.specs.Private.{pointed, Pointed, checked}
 use Rattle.sheet.specs.declared.Reading.{Reading}
 use Rattle.sheet.specs.declared.Reading.the-variants.{Good, Refused}
 
 -- ---- the trailer's fields, by their places in the file
 
 module _ (s : List ℕ) where
-  pub distance-is : distance s ≡ fromFour (drop (length s - 16) s)
-  unfolding distance
+  pub distance-is : trailerDistance s ≡ fromFour (drop (length s - 16) s)
+  unfolding trailerDistance
   distance-is = refl
 
   pub number-is : number s ≡ fromFour (drop (length s - 16 + 4) s)
@@ -30,7 +33,7 @@ module _ (s : List ℕ) where
   unfolding sideByte
   side-is = getD-drop (length s - 16) s 8 0
 
-  pub padded-is : padded s ≡ zeros (drop (length s - 16 + 9) s)
+  pub padded-is : padded s ≡ threeZeros (drop (length s - 16 + 9) s)
   unfolding padded
   padded-is = rw (drop-drop 9 (length s - 16) s)
 
@@ -51,76 +54,117 @@ module _ (s : List ℕ) where
   starts = simp length-take (omega arith)
 
   -- the reader's answer by the table itself
-  read-rows : readOf s ≡ refusing (faults s) Refused (Good (start s) (number s) (sideByte s))
-  unfolding readOf endOf
+  read-rows : readSheet s ≡ refusing (sheetFaults s) Refused (Good (start s) (number s) (sideByte s))
+  unfolding readSheet endOf
   read-rows =
-      along readingOf refused _ Refused _ (faults s) (λ n. refl) (λ h. rw (starts, length-entries (number s) (records s)))
+      along readingOf refused _ Refused _ (sheetFaults s) (λ n. refl)
+      (λ h. rw (starts, length-entries (number s) (records s)))
 
-  pub read-checked : {a n side : ℕ} → Good a n side ≡ pointed s → checked s ≡ readOf s
-  unfolding faults
+  pub read-checked : {a n side : ℕ} → Good a n side ≡ pointed s → checked s ≡ readSheet s
+  unfolding sheetFaults
   read-checked e =
-      let first = passed-clear Refused _ (take 3 (faults s)) (λ n e. absurd (let z : _≡_ {A = ℕ} 0 1 = cc in omega arith)) e in
-      sym (read-rows ∙ clear Refused _ (take 3 (faults s)) first)
+      let first = passed-clear Refused _ (take 3 (sheetFaults s))
+      (λ n e. absurd (let z : _≡_ {A = ℕ} 0 1 = cc in omega arith)) e in
+      sym (read-rows ∙ clear Refused _ (take 3 (sheetFaults s)) first)
 
-  pub read-refused : {m : ℕ} → Refused m ≡ pointed s → Refused m ≡ readOf s
-  unfolding faults
+  pub read-refused : {m : ℕ} → Refused m ≡ pointed s → Refused m ≡ readSheet s
+  unfolding sheetFaults
   read-refused e =
-      sym (read-rows ∙ stopped-so Refused _ Refused _ (take 3 (faults s)) (λ n e. cc) (λ e. absurd (let z : _≡_ {A = ℕ} 0 1 = cc in omega arith)) e)
+      sym (read-rows ∙ stopped-so Refused _ Refused _ (take 3 (sheetFaults s)) (λ n e. cc)
+      (λ e. absurd (let z : _≡_ {A = ℕ} 0 1 = cc in omega arith)) e)
 
   -- records that a trailer points to end where it starts
-  pub ends-at : Clear (take 3 (faults s)) → start s + 8 * number s + 16 ≡ length s
-  unfolding faults start
+  pub ends-at : Clear (take 3 (sheetFaults s)) → start s + 8 * number s + 16 ≡ length s
+  unfolding sheetFaults start
   ends-at h =
       let long = ltb-false (length s) 16 (h .0) in
       let at = neither _ _ (h .1 .0) in
-      let whole : distance s ≡ 8 * number s = eqb-true _ _ (not-false _ (at .0)) in
-      let within : distance s ≤ length s - 16 = ltb-false (length s - 16) (distance s) (at .1) in
+      let whole : trailerDistance s ≡ 8 * number s = eqb-true _ _ (not-false _ (at .0)) in
+      let within : trailerDistance s ≤ length s - 16 = ltb-false (length s - 16) (trailerDistance s) (at .1) in
       omega arith
 
-  pub low-side : Clear (take 3 (faults s)) → sideByte s ≤ 1
-  unfolding faults
+  pub low-side : Clear (take 3 (sheetFaults s)) → sideByte s ≤ 1
+  unfolding sheetFaults
   low-side h = ltb-false 1 (sideByte s) (neither _ _ (h .1 .1 .0) .0)
 
   -- what the first half hands to the second
   pub pointed-good : {a n side : ℕ} → Good a n side ≡ pointed s → n < 2 ^ 29 → Pointed s a n side
   pointed-good {a} {n} {side} e few =
-      by-rows Refused _ (λ r. Good a n side ≡ r → Pointed s a n side) (take 3 (faults s)) (λ m x. absurd (let z : _≡_ {A = ℕ} 0 1 = cc in omega arith)) good e
+      by-rows Refused _ (λ r. Good a n side ≡ r → Pointed s a n side) (take 3 (sheetFaults s))
+      (λ m x. absurd (let z : _≡_ {A = ℕ} 0 1 = cc in omega arith)) good e
     where
-      good : Clear (take 3 (faults s)) → Good a n side ≡ Good (start s) (number s) (sideByte s) → Pointed s a n side
+      good : Clear (take 3 (sheetFaults s)) → Good a n side ≡ Good (start s) (number s) (sideByte s)
+          → Pointed s a n side
       good h x =
           let starts : a ≡ start s = cc in
           let counts : n ≡ number s = cc in
           let sided : side ≡ sideByte s = cc in
-          record { starts = starts; counts = counts; sided = sided; ends = omega (arith, ends-at h); few = few; known = omega (arith, low-side h) }
+          record {
+            starts = starts;
+            counts = counts;
+            sided = sided;
+            ends = omega (arith, ends-at h);
+            few = few;
+            known = omega (arith, low-side h);
+          }
 
 -- ---- each answer of the first half
 
 module _ (s : List ℕ) where
   pub at-31 : length s < 16 → Refused 31 ≡ pointed s
-  unfolding faults
+  unfolding sheetFaults
   at-31 h = rw (lt-ltb (length s) 16 h)
 
-  module _ {d n : ℕ} (ds : d ≡ distance s) (ns : n ≡ number s) (long : 16 ≤ length s) where
+  module _ {d n : ℕ} (ds : d ≡ trailerDistance s) (ns : n ≡ number s) (long : 16 ≤ length s) where
     pub at-32 : (d ≡ 8 * n → ⊥) → Refused 32 ≡ pointed s
-    unfolding faults
+    unfolding sheetFaults
     at-32 h = rw (← ds, ← ns, le-ltb (length s) 16 long, ne-eqb d (8 * n) h)
 
     pub at-32′ : d ≡ 8 * n → length s - 16 < d → Refused 32 ≡ pointed s
-    unfolding faults
+    unfolding sheetFaults
     at-32′ e h = rw (← ds, ← ns, le-ltb (length s) 16 long, eq-eqb d (8 * n) e, lt-ltb (length s - 16) d h)
 
     module _ {side : ℕ} (whole : d ≡ 8 * n) (within : d ≤ length s - 16) (ss : side ≡ sideByte s) where
       pub at-33 : 1 < side → Refused 33 ≡ pointed s
-      unfolding faults
-      at-33 h = rw (← ds, ← ns, ← ss, le-ltb (length s) 16 long, eq-eqb d (8 * n) whole, le-ltb (length s - 16) d within, lt-ltb 1 side h)
+      unfolding sheetFaults
+      at-33 h =
+          rw (
+            ← ds,
+            ← ns,
+            ← ss,
+            le-ltb (length s) 16 long,
+            eq-eqb d (8 * n) whole,
+            le-ltb (length s - 16) d within,
+            lt-ltb 1 side h,
+          )
 
       pub at-33′ : side ≤ 1 → padded s ≡ false → Refused 33 ≡ pointed s
-      unfolding faults
-      at-33′ h z = rw (← ds, ← ns, ← ss, le-ltb (length s) 16 long, eq-eqb d (8 * n) whole, le-ltb (length s - 16) d within, le-ltb 1 side h, z)
+      unfolding sheetFaults
+      at-33′ h z =
+          rw (
+            ← ds,
+            ← ns,
+            ← ss,
+            le-ltb (length s) 16 long,
+            eq-eqb d (8 * n) whole,
+            le-ltb (length s - 16) d within,
+            le-ltb 1 side h,
+            z,
+          )
 
       pub at-good : side ≤ 1 → padded s ≡ true → Good (length s - 16 - d) n side ≡ pointed s
-      unfolding faults start
-      at-good h z = rw (← ds, ← ns, ← ss, le-ltb (length s) 16 long, eq-eqb d (8 * n) whole, le-ltb (length s - 16) d within, le-ltb 1 side h, z)
+      unfolding sheetFaults start
+      at-good h z =
+          rw (
+            ← ds,
+            ← ns,
+            ← ss,
+            le-ltb (length s) 16 long,
+            eq-eqb d (8 * n) whole,
+            le-ltb (length s - 16) d within,
+            le-ltb 1 side h,
+            z,
+          )
 
 -- ---- and of the second
 
@@ -137,20 +181,44 @@ module _ (s : List ℕ) {a n side : ℕ} (p : Pointed s a n side) where
   noted-is = let place : length s - 16 + 12 ≡ a + 8 * n + 12 = omega (arith, p .ends) in rw (sum-is s, place)
 
   pub at-34 : {r : ℕ} → r ≡ run side n (take (length s - a) (drop a s)) → (r ≡ n → ⊥) → Refused 34 ≡ checked s
-  unfolding faults
+  unfolding sheetFaults
   at-34 {r} rs h = rw (← tail-is, ← p .counts, ← p .sided, ← rs, ne-eqb r n h)
 
-  module _ {r t noted : ℕ} (rs : r ≡ run side n (take (length s - a) (drop a s))) (ts : t ≡ sum (take (a + 8 * n - a) (drop a s)))
+  module _ {r t noted : ℕ} (rs : r ≡ run side n (take (length s - a) (drop a s)))
+      (ts : t ≡ sum (take (a + 8 * n - a) (drop a s)))
       (os : noted ≡ fromFour (drop (a + 8 * n + 12) s)) (all : r ≡ n) where
     pub at-35 : (t % 4294967296 ≡ noted → ⊥) → Refused 35 ≡ checked s
-    unfolding faults
+    unfolding sheetFaults
     at-35 h =
-        rw (← part-is, ← tail-is, ← p .counts, ← p .sided, ← rs, eq-eqb r n all, ← noted-is, ← os, ← ts, ne-eqb noted (t % 4294967296) (λ e. h (sym e)))
+        rw (
+          ← part-is,
+          ← tail-is,
+          ← p .counts,
+          ← p .sided,
+          ← rs,
+          eq-eqb r n all,
+          ← noted-is,
+          ← os,
+          ← ts,
+          ne-eqb noted (t % 4294967296) (λ e. h (sym e)),
+        )
 
     pub at-all : t % 4294967296 ≡ noted → Good a n side ≡ checked s
-    unfolding faults
+    unfolding sheetFaults
     at-all e =
-        rw (← part-is, ← tail-is, ← p .starts, ← p .counts, ← p .sided, ← rs, eq-eqb r n all, ← noted-is, ← os, ← ts, eq-eqb noted (t % 4294967296) (sym e))
+        rw (
+          ← part-is,
+          ← tail-is,
+          ← p .starts,
+          ← p .counts,
+          ← p .sided,
+          ← rs,
+          eq-eqb r n all,
+          ← noted-is,
+          ← os,
+          ← ts,
+          eq-eqb noted (t % 4294967296) (sym e),
+        )
 
 -- ---- an entry of what was read
 
@@ -169,37 +237,53 @@ behind s = refl
 module _ (s : List ℕ) (i : ℕ) (out : List ℕ) where
   -- what an entry is asked of, by the reader's answer
   by-reading : (P : End → Type 0) (Q : Reading → Type 0) → ((m : ℕ) → Q (Refused m) → P (refused m))
-      → (Clear (faults s) → Q (Good (start s) (number s) (sideByte s)) → P (sheet (take (start s) s) (record { side = sideByte s; entries = entriesOf (number s) (records s) })))
-      → Q (readOf s) → P (endOf s)
-  unfolding readOf endOf
-  by-reading P Q bad good = by-rows refused _ (λ x. Q (readingOf x) → P x) (faults s) bad
+      → (Clear (sheetFaults s) → Q (Good (start s) (number s) (sideByte s))
+      → P (sheet (take (start s) s) (record { side = sideByte s; entries = entriesOf (number s) (records s) })))
+      → Q (readSheet s) → P (endOf s)
+  unfolding readSheet endOf
+  by-reading P Q bad good = by-rows refused _ (λ x. Q (readingOf x) → P x) (sheetFaults s) bad
       (λ h q. good h (rw (starts s, length-entries (number s) (records s)) at q))
 
-  pub entry-refused : {m : ℕ} → Refused m ≡ readOf s → entryIn (endOf s) i out ≡ (m leaving out)
-  entry-refused {m} = by-reading (λ x. entryIn x i out ≡ (m leaving out)) (λ r. Refused m ≡ r) (λ k e. let same : m ≡ k = cc in rw same)
+  pub entry-refused : {m : ℕ} → Refused m ≡ readSheet s → entryIn (endOf s) i out ≡ (m leaving out)
+  entry-refused {m} = by-reading (λ x. entryIn x i out ≡ (m leaving out)) (λ r. Refused m ≡ r)
+      (λ k e. let same : m ≡ k = cc in rw same)
       (λ h e. absurd (let z : _≡_ {A = ℕ} 0 1 = cc in omega arith))
 
   module _ {a n side : ℕ} where
-    pub entry-none : Good a n side ≡ readOf s → n ≤ i → entryIn (endOf s) i out ≡ (5 leaving out)
-    entry-none e h = by-reading (λ x. entryIn x i out ≡ (5 leaving out)) (λ r. Good a n side ≡ r) (λ k e. absurd (let z : _≡_ {A = ℕ} 0 1 = cc in omega arith))
-        (λ c e. let same : n ≡ number s = cc in rw (length-entries (number s) (records s), le-leb (number s) i (omega arith))) e
+    pub entry-none : Good a n side ≡ readSheet s → n ≤ i → entryIn (endOf s) i out ≡ (5 leaving out)
+    entry-none e h = by-reading (λ x. entryIn x i out ≡ (5 leaving out)) (λ r. Good a n side ≡ r)
+        (λ k e. absurd (let z : _≡_ {A = ℕ} 0 1 = cc in omega arith))
+        (λ c e.
+        let same : n ≡ number s = cc in rw (length-entries (number s) (records s), le-leb (number s) i (omega arith))) e
 
-    pub entry-found : Good a n side ≡ readOf s → i < n → entryIn (endOf s) i out ≡ (0 leaving entryOf (drop (a + 8 * i) s) ∷ [])
-    entry-found e h = by-reading (λ x. entryIn x i out ≡ (0 leaving entryOf (drop (a + 8 * i) s) ∷ [])) (λ r. Good a n side ≡ r)
+    pub entry-found : Good a n side ≡ readSheet s → i < n
+        → entryIn (endOf s) i out ≡ (0 leaving entryOf (drop (a + 8 * i) s) ∷ [])
+    entry-found e h =
+        by-reading (λ x. entryIn x i out ≡ (0 leaving entryOf (drop (a + 8 * i) s) ∷ [])) (λ r. Good a n side ≡ r)
         (λ k e. absurd (let z : _≡_ {A = ℕ} 0 1 = cc in omega arith)) (λ c. found) e
       where
         found : Good a n side ≡ Good (start s) (number s) (sideByte s)
-            → entryIn (sheet (take (start s) s) (record { side = sideByte s; entries = entriesOf (number s) (records s) })) i out ≡ (0 leaving entryOf (drop (a + 8 * i) s) ∷ [])
+            → entryIn (sheet (take (start s) s)
+            (record { side = sideByte s; entries = entriesOf (number s) (records s) })) i out
+            ≡ (0 leaving entryOf (drop (a + 8 * i) s) ∷ [])
         found e =
             let same : number s ≡ n = cc in
             let begins : start s ≡ a = cc in
-            rw (length-entries (number s) (records s), lt-leb (number s) i (omega arith), entry-in (number s) i (records s) (omega arith), behind s, begins, drop-drop (8 * i) a s)
+            rw (
+              length-entries (number s) (records s),
+              lt-leb (number s) i (omega arith),
+              entry-in (number s) i (records s) (omega arith),
+              behind s,
+              begins,
+              drop-drop (8 * i) a s,
+            )
 
 -- a good reading's records end where the trailer starts
 module _ (s : List ℕ) where
-  pub read-within : {a n side : ℕ} → Good a n side ≡ readOf s → a + 8 * n + 16 ≡ length s
-  unfolding faults
-  read-within {a} {n} {side} e = by-reading s 0 [] (λ x. a + 8 * n + 16 ≡ length s) (λ r. Good a n side ≡ r) (λ k e. absurd (let z : _≡_ {A = ℕ} 0 1 = cc in omega arith)) (λ h e.
+  pub read-within : {a n side : ℕ} → Good a n side ≡ readSheet s → a + 8 * n + 16 ≡ length s
+  unfolding sheetFaults
+  read-within {a} {n} {side} e = by-reading s 0 [] (λ x. a + 8 * n + 16 ≡ length s) (λ r. Good a n side ≡ r)
+      (λ k e. absurd (let z : _≡_ {A = ℕ} 0 1 = cc in omega arith)) (λ h e.
       let begins : a ≡ start s = cc in
       let counts : n ≡ number s = cc in
       omega (arith, ends-at s (h .0, (h .1 .0, (h .1 .1 .0, tt))))) e

@@ -1,10 +1,11 @@
 -- The run of good records that mending keeps: no longer one of one side stands in front (`no-longer`). Assumes nothing.
-use Rattle.rules.proofs.Common.{ℕ, zero, suc, _+_, _*_, _/_, _≤_, _<_, Bool, true, false, cond, List, _≡_, refl, ap, ltb, length, getD, take, drop}
+use Rattle.rules.proofs.Common.{ℕ, zero, suc, _+_, _*_, _/_, _≤_, _<_, Bool, true, false, cond, List, _≡_, refl, ap}
+use Rattle.rules.proofs.Common.{ltb, length, getD, take, drop}
 use native.Mathlib.Omega.{arith}
 use borrow.Author.Tests.{lt-ltb, le-ltb, ltb-false}
 use Rattle.rules.specs.Lists.{Bytes}
 use Rattle.sheet.specs.Sheet.{recordsOf}
-use Rattle.sheet.specs.End.{good, run, entriesOf}
+use Rattle.sheet.specs.End.{goodRecord, run, entriesOf}
 use Rattle.sheet.specs.Mended.{kept, torn}
 use Rattle.sheet.proofs.Halves.{length-entries}
 use Rattle.sheet.proofs.Inverse.{Fits}
@@ -15,7 +16,7 @@ use Rattle.sheet.proofs.Back.{side-good, run-good, records-back}
 run-most : (side m : ℕ) (s : List ℕ) → run side m s ≤ m
 unfolding run
 run-most side zero s = omega arith
-run-most side (suc m) s = of (good side s) (run-most side m (drop 8 s))
+run-most side (suc m) s = of (goodRecord side s) (run-most side m (drop 8 s))
   where
     of : (t : Bool) → run side m (drop 8 s) ≤ m → cond t (suc (run side m (drop 8 s))) 0 ≤ suc m
     of true h = omega arith
@@ -25,9 +26,9 @@ run-most side (suc m) s = of (good side s) (run-most side m (drop 8 s))
 run-self : (side m : ℕ) (s : List ℕ) → run side (run side m s) s ≡ run side m s
 unfolding run
 run-self side zero s = refl
-run-self side (suc m) s = of (good side s) refl (run-self side m (drop 8 s))
+run-self side (suc m) s = of (goodRecord side s) refl (run-self side m (drop 8 s))
   where
-    of : (t : Bool) → good side s ≡ t → run side (run side m (drop 8 s)) (drop 8 s) ≡ run side m (drop 8 s)
+    of : (t : Bool) → goodRecord side s ≡ t → run side (run side m (drop 8 s)) (drop 8 s) ≡ run side m (drop 8 s)
         → run side (cond t (suc (run side m (drop 8 s))) 0) s ≡ cond t (suc (run side m (drop 8 s))) 0
     of true g h = rw g (ap suc h)
     of false g h = refl
@@ -64,7 +65,8 @@ module _ (s : List ℕ) where
   unfolding kept
   kept-room = of (ltb 1 (getD s 5 0)) (run-most (getD s 5 0) (length s / 8) s)
     where
-      of : (t : Bool) → run (getD s 5 0) (length s / 8) s ≤ length s / 8 → 8 * cond t 0 (run (getD s 5 0) (length s / 8) s) ≤ length s
+      of : (t : Bool) → run (getD s 5 0) (length s / 8) s ≤ length s / 8
+          → 8 * cond t 0 (run (getD s 5 0) (length s / 8) s) ≤ length s
       of true h = omega arith
       of false h = omega arith
 
@@ -81,7 +83,8 @@ module _ (s : List ℕ) where
   kept-all = of (ltb 1 (getD s 5 0)) (run-self (getD s 5 0) (length s / 8) s)
     where
       of : (t : Bool) → run (getD s 5 0) (run (getD s 5 0) (length s / 8) s) s ≡ run (getD s 5 0) (length s / 8) s
-          → run (getD s 5 0) (cond t 0 (run (getD s 5 0) (length s / 8) s)) s ≡ cond t 0 (run (getD s 5 0) (length s / 8) s)
+          → run (getD s 5 0) (cond t 0 (run (getD s 5 0) (length s / 8) s)) s
+          ≡ cond t 0 (run (getD s 5 0) (length s / 8) s)
       of true h = refl
       of false h = h
 

@@ -1,13 +1,14 @@
 -- Mending is not refused where it can be done (`mend-succeeds`). Assumes nothing.
-use Rattle.rules.proofs.Common.{ℕ, _+_, _*_, _≤_, Bool, true, false, cond, not, _&&_, true≢false, List, [], _∷_, _++_, _≡_, refl, sym, ap, _∙_, eqb, ltb, length}
+use Rattle.rules.proofs.Common.{ℕ, _+_, _*_, _≤_, Bool, true, false, cond, not, _&&_, true≢false, List, [], _∷_, _++_}
+use Rattle.rules.proofs.Common.{_≡_, refl, sym, ap, _∙_, eqb, ltb, length}
 use Rattle.rules.proofs.Common.{take, drop}
 use native.Mathlib.Omega.{arith}
 use mathlib.Core.Logic.{_⊎_, inl, inr}
 use borrow.Author.Tests.{le-ltb, eq-eqb, ne-eqb}
 use Rattle.rules.specs.Leaf.{_leaving_}
 use Rattle.rules.proofs.Refusals.{Clear, clear}
-use Rattle.sheet.specs.Sheet.{bytesOf}
-use Rattle.sheet.specs.End.{good, run, readOf}
+use Rattle.sheet.specs.Sheet.{sheetBytes}
+use Rattle.sheet.specs.End.{goodRecord, run, readSheet}
 use Rattle.sheet.specs.Mended.{kept, torn, readsAt, recordsIn, Mended, mended, mendFaults, mendOf}
 use Rattle.sheet.specs.Laws.{RecordsFollow, MendSucceeds}
 use Rattle.sheet.proofs.Kept.{no-longer}
@@ -23,7 +24,9 @@ module _ (s : List ℕ) (place : ℕ) (within : place ≤ length s) (room : ℕ)
   n = kept (drop place s)
 
   abbrev of : Bool → Mended
-  of t = cond t (record { bytes = s; records = recordsIn (readOf s) }) (record { bytes = take place s ++ bytesOf (torn (drop place s)); records = kept (drop place s) })
+  of t =
+      cond t (record { bytes = s; records = recordsIn (readSheet s) })
+      (record { bytes = take place s ++ sheetBytes (torn (drop place s)); records = kept (drop place s) })
 
   -- no test holds
   abbrev Free : Bool → Type 0
@@ -42,9 +45,10 @@ module _ (s : List ℕ) (place : ℕ) (within : place ≤ length s) (room : ℕ)
 pub mend-succeeds : MendSucceeds
 unfolding mendOf mended
 mend-succeeds s place numbers out two within can enough =
-    let f = free s place within (length out) enough (readsAt place (readOf s)) can in
+    let f = free s place within (length out) enough (readsAt place (readSheet s)) can in
     ap (λ (p : ℕ × (List ℕ × List ℕ)). p .0)
     (clear (λ r. r leaving numbers leaving out)
-    (0 leaving length (mended s place .bytes) ∷ mended s place .records ∷ [] leaving mended s place .bytes ++ drop (length (mended s place .bytes)) out)
+    (0 leaving length (mended s place .bytes) ∷ mended s place .records ∷ [] leaving mended s place .bytes
+    ++ drop (length (mended s place .bytes)) out)
     (mendFaults s place numbers out)
     (rw (eq-eqb (length numbers) 2 two), (le-ltb (length s) place within, (f .0, (f .1, (f .2, tt))))))

@@ -5,4 +5,4 @@ pub mod Written
 pub mod Rows
 pub mod Laws
 pub mod Mended
-pub mod Parts
+pub mod Private

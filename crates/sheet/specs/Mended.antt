@@ -1,20 +1,21 @@
--- Mending a torn sheet (document 02, request 14), given the file and where its audio ends: what is written, and how many records it has.
-use Rattle.rules.specs.Common.{ℕ, _/_, Bool, false, cond, not, _&&_, List, [], _∷_, _++_, eqb, ltb, length, getD, take, drop}
+-- Mending a torn sheet (document 02, request 14), given the file and where its audio ends.
+use Rattle.rules.specs.Common.{ℕ, _/_, Bool, false, cond, not, _&&_, List, [], _∷_, _++_, eqb, ltb, length, getD, take}
+use Rattle.rules.specs.Common.{drop}
 use Rattle.rules.specs.Leaf.{_leaving_}
 use Rattle.rules.specs.Refusals.{Row, _when_, refusing}
-use Rattle.sheet.specs.Sheet.{Sheet, bytesOf}
-use Rattle.sheet.specs.End.{run, entriesOf, readOf}
+use Rattle.sheet.specs.Sheet.{Sheet, sheetBytes}
+use Rattle.sheet.specs.End.{run, entriesOf, readSheet}
 use Rattle.sheet.specs.declared.Reading.{Reading}
 use Rattle.sheet.specs.declared.Reading.the-variants.{Good, Refused}
 
--- of the bytes behind the audio: how many whole good records stand in front, all of the first one's side
+-- How many whole good records, all of the first one's side, are at the front of the bytes after the audio.
 unfoldable pub kept : List ℕ → ℕ
 kept s = let side = getD s 5 0 in cond (ltb 1 side) 0 (run side (length s / 8) s)
 
 abbrev pub torn : List ℕ → Sheet
 torn s = record { side = getD s 5 0; entries = entriesOf (kept s) s }
 
--- a file that reads with its records starting at this place
+-- The file reads, and its records start at this place.
 abbrev pub readsAt : ℕ → Reading → Bool
 readsAt place (Good start n side) = eqb start place
 readsAt place (Refused n) = false
@@ -27,16 +28,18 @@ pub record Mended : Type 0 where
   pub bytes : List ℕ
   pub records : ℕ
 
--- the file as it is where it so reads, else its audio and the sheet of what is kept
+-- The unchanged file if it reads with its records at this place; otherwise its audio and the sheet of the
+-- records that are kept.
 unfoldable pub mended : List ℕ → ℕ → Mended
 mended s place =
     let rest = drop place s in
-    cond (readsAt place (readOf s)) (record { bytes = s; records = recordsIn (readOf s) }) (record { bytes = take place s ++ bytesOf (torn rest); records = kept rest })
+    cond (readsAt place (readSheet s)) (record { bytes = s; records = recordsIn (readSheet s) })
+    (record { bytes = take place s ++ sheetBytes (torn rest); records = kept rest })
 
--- the refusals, in order
+-- The refusals, in order.
 abbrev pub mendFaults : List ℕ → ℕ → List ℕ → List ℕ → List Row
 mendFaults s place numbers out =
-    let anew = not (readsAt place (readOf s)) in
+    let anew = not (readsAt place (readSheet s)) in
     let n = kept (drop place s) in
     5 when not (eqb (length numbers) 2)
     ∷ 37 when ltb (length s) place
@@ -45,7 +48,8 @@ mendFaults s place numbers out =
     ∷ 36 when ltb (length out) (length (mended s place .bytes))
     ∷ []
 
--- what is returned, and what the numbers and the buffer then hold
+-- What is returned, and what the numbers and the buffer hold afterwards: the length of the file and how many
+-- records it has, and the file.
 unfoldable pub mendOf : List ℕ → ℕ → List ℕ → List ℕ → ℕ × (List ℕ × List ℕ)
 mendOf s place numbers out =
     let m = mended s place in

@@ -1,5 +1,5 @@
-// A side sheet behind the audio (request 02): records of 8 bytes and a trailer of 16 that points back to them. What
-// precedes the records is not read.
+// A side sheet, which follows the audio (request 02): records of 8 bytes, and a trailer of 16 that points
+// back to them. What comes before the records is not read.
 pub mod parts;
 
 ghost use mathlib.Core.Bool.{false};
@@ -8,12 +8,12 @@ ghost use Prim.Native.Nat.{_+_, _*_, _/_, _%_, _≤_, _<_, _^_};
 ghost use lib.ListN.{length, drop};
 ghost use Rattle.rules.specs.Leaf.{_leaving_};
 ghost use Rattle.rules.specs.Lists.{sum};
-ghost use Rattle.sheet.specs.Sheet.{kind, recordOf, recordsOf, trailerOf, sizeOf};
-ghost use Rattle.sheet.specs.End.{fromFour, zeros, good, run, entryOf, readOf};
-ghost use Rattle.sheet.specs.Asked.{summaryOf, entryAt};
-ghost use Rattle.sheet.specs.Written.{kinds, writtenOf};
+ghost use Rattle.sheet.specs.Sheet.{kind, recordBytes, recordsOf, trailerOf, sheetSize};
+ghost use Rattle.sheet.specs.End.{fromFour, threeZeros, goodRecord, run, entryOf, readSheet};
+ghost use Rattle.sheet.specs.Asked.{sheetSummary, entryAt};
+ghost use Rattle.sheet.specs.Written.{knownKinds, writtenOf};
 ghost use Rattle.sheet.specs.Mended.{kept, readsAt, mendOf};
-ghost use Rattle.sheet.specs.Parts.{pointed, Few, Pointed, checked, Kinds, closed, copied};
+ghost use Rattle.sheet.specs.Private.{pointed, Few, Pointed, checked, Kinds, closed, copied};
 
 // A good sheet: where its records start, how many there are, and the side. Or the number of a refusal.
 pub enum Reading {
@@ -31,7 +31,7 @@ pub fn joined(a: u8, b: u8, c: u8, d: u8) -> usize
     (a as usize) + 256 * (b as usize) + 65536 * (c as usize) + 16777216 * (d as usize)
 }
 
-// The number that four bytes at a place are, little end first.
+// The number that four bytes at a place are, least significant byte first.
 fn number_at(file: &[u8], at: usize) -> usize
     requires { ⌜ at + 4 ≤ length (now file) ⌝ }
     ensures { λ r. ⌜ (r ≡ fromFour (drop at (now (file .entry)))) × (r < 2 ^ 32) ⌝ }
@@ -42,7 +42,7 @@ fn number_at(file: &[u8], at: usize) -> usize
 // Whether three bytes at a place are 0.
 fn zeros_at(bytes: &[u8], at: usize) -> bool
     requires { ⌜ at + 3 ≤ length (now bytes) ⌝ }
-    ensures { λ r. ⌜ r ≡ zeros (drop at (now (bytes .entry))) ⌝ }
+    ensures { λ r. ⌜ r ≡ threeZeros (drop at (now (bytes .entry))) ⌝ }
 {
     if bytes[at] != 0 {
         return false;
@@ -56,7 +56,7 @@ fn zeros_at(bytes: &[u8], at: usize) -> bool
 // Whether the record at a place is a good one of this side.
 fn is_good(bytes: &[u8], at: usize, side: u32) -> bool
     requires { ⌜ at + 8 ≤ length (now bytes) ⌝ }
-    ensures { λ r. ⌜ r ≡ good side (drop at (now (bytes .entry))) ⌝ }
+    ensures { λ r. ⌜ r ≡ goodRecord side (drop at (now (bytes .entry))) ⌝ }
 {
     if 1 < bytes[at + 4] {
         return false;
@@ -70,7 +70,7 @@ fn is_good(bytes: &[u8], at: usize, side: u32) -> bool
     bytes[at + 7] == 0
 }
 
-// How many of so many records in front are good ones of this side, up to the first that is not.
+// How many of the first n records are good ones of this side, up to the first that is not.
 fn run_of(bytes: &[u8], records: usize, side: u32) -> usize
     requires { ⌜ 8 * records ≤ length (now bytes) ⌝ }
     ensures { λ r. ⌜ r ≡ run side records (now (bytes .entry)) ⌝ }
@@ -124,7 +124,7 @@ fn pointed_to(file: &[u8]) -> Reading
     }
 }
 
-// Refusals 34 and 35, of so many records from a start to the trailer.
+// Refusals 34 and 35, for so many records from `start` to the trailer.
 fn checked_at(file: &[u8], start: usize, records: usize, side: u32) -> Reading
     requires { ⌜ Pointed (now file) start records side ⌝ }
     ensures { λ r. ⌜ r ≡ checked (now (file .entry)) ⌝ }
@@ -145,7 +145,7 @@ fn checked_at(file: &[u8], start: usize, records: usize, side: u32) -> Reading
 }
 
 pub fn read(file: &[u8]) -> Reading
-    ensures { λ r. ⌜ r ≡ readOf (now (file .entry)) ⌝ }
+    ensures { λ r. ⌜ r ≡ readSheet (now (file .entry)) ⌝ }
 {
     match pointed_to(file) {
         Reading::Good {
@@ -157,9 +157,10 @@ pub fn read(file: &[u8]) -> Reading
     }
 }
 
-// For a host: where the records start, how many there are, and the side. Another length than three is refused with 5.
+// For a host: where the records start, how many there are, and the side. A buffer of other than three places
+// is refused with 5.
 pub fn summary(numbers: &mut [u64], file: &[u8]) -> u32
-    ensures { λ r. ⌜ (r leaving now (numbers .exit)) ≡ summaryOf (now (file .entry)) (now (numbers .entry)) ⌝ }
+    ensures { λ r. ⌜ (r leaving now (numbers .exit)) ≡ sheetSummary (now (file .entry)) (now (numbers .entry)) ⌝ }
 {
     if numbers.len() != 3 {
         return 5;
@@ -187,8 +188,8 @@ fn entry_of(file: &[u8], at: usize) -> u64
     number_at(file, at) as u64 + 4294967296 * (file[at + 4] as u64)
 }
 
-// For a host: the entry of this index, counted from 0. Another length than one is refused with 5, and so is an index
-// behind the last.
+// For a host: the entry with this index, counted from 0. A buffer of other than one place is refused with 5,
+// and so is an index beyond the last.
 pub fn entry(entry: &mut [u64], file: &[u8], index: u64) -> u32
     ensures { λ r. ⌜ (r leaving now (entry .exit)) ≡ entryAt (now (file .entry)) index (now (entry .entry)) ⌝ }
 {
@@ -211,9 +212,9 @@ pub fn entry(entry: &mut [u64], file: &[u8], index: u64) -> u32
     }
 }
 
-// Whether each is silent or heard.
+// Whether every entry is silent or heard.
 fn kinds_good(entries: &[u64]) -> bool
-    ensures { λ r. ⌜ r ≡ kinds (now (entries .entry)) ⌝ }
+    ensures { λ r. ⌜ r ≡ knownKinds (now (entries .entry)) ⌝ }
 {
     for i in 0..entries.len() {
         if 1 < entries[i] / 4294967296 {
@@ -231,7 +232,7 @@ pub fn low(number: u64) -> u8
 
 fn record_of(side: u32, entry: u64) -> [u8; 8]
     requires { ⌜ (side ≤ 1) × (kind entry ≤ 1) ⌝ }
-    ensures { λ r. ⌜ r ≡ recordOf side entry ⌝ }
+    ensures { λ r. ⌜ r ≡ recordBytes side entry ⌝ }
 {
     [
         low(entry),
@@ -292,9 +293,9 @@ fn write_records(out: &mut [u8], side: u32, entries: &[u64])
     }
 }
 
-// The trailer behind so many records, which stand in front.
+// Writes the trailer after so many records, which are at the front.
 fn close(out: &mut [u8], records: usize, side: u32)
-    requires { ⌜ (length (now out) ≡ sizeOf records) × (records < 2 ^ 29) × (side ≤ 1) ⌝ }
+    requires { ⌜ (length (now out) ≡ sheetSize records) × (records < 2 ^ 29) × (side ≤ 1) ⌝ }
     ensures { λ _. ⌜ now (out .exit) ≡ closed records side (now (out .entry)) ⌝ }
 {
     let end = 8 * records;
@@ -303,9 +304,11 @@ fn close(out: &mut [u8], records: usize, side: u32)
     copy(&mut out[end..], &bytes);
 }
 
-// The sheet of these entries into the front of a buffer: each a frame's number, and 2^32 more where it was heard.
+// Writes the sheet of these entries to the front of a buffer. An entry is a frame's number, plus 2^32 if it
+// was heard.
 pub fn write(out: &mut [u8], side: u32, entries: &[u64]) -> u32
-    ensures { λ r. ⌜ (r leaving now (out .exit)) ≡ writtenOf (record { side = side; entries = now (entries .entry) }) (now (out .entry)) ⌝ }
+    ensures { λ r. ⌜ (r leaving now (out .exit))
+        ≡ writtenOf (record { side = side; entries = now (entries .entry) }) (now (out .entry)) ⌝ }
 {
     let records = entries.len();
     if 536870911 < records {
@@ -327,7 +330,7 @@ pub fn write(out: &mut [u8], side: u32, entries: &[u64]) -> u32
     0
 }
 
-// How many whole good records stand in front, all of the first one's side.
+// How many whole good records, all of the first one's side, are at the front.
 fn kept_of(bytes: &[u8]) -> usize
     ensures { λ r. ⌜ r ≡ kept (now (bytes .entry)) ⌝ }
 {
@@ -341,7 +344,7 @@ fn kept_of(bytes: &[u8]) -> usize
     run_of(bytes, bytes.len() / 8, side)
 }
 
-// A file as it is, with so many records.
+// Copies a file that reads, with so many records.
 fn copy_whole(numbers: &mut [u64], out: &mut [u8], file: &[u8], records: usize) -> u32
     requires { ⌜ length (now numbers) ≡ 2 ⌝ }
     ensures { λ r. ⌜ (r leaving now (numbers .exit) leaving now (out .exit))
@@ -357,9 +360,9 @@ fn copy_whole(numbers: &mut [u64], out: &mut [u8], file: &[u8], records: usize) 
     0
 }
 
-// A file that does not so read: its front up to a place, the good records behind it, and a trailer.
+// Mends a file that does not read so: its bytes up to a place, the good records after it, and a trailer.
 fn mend_run(numbers: &mut [u64], out: &mut [u8], file: &[u8], at: usize) -> u32
-    requires { ⌜ (length (now numbers) ≡ 2) × (at ≤ length (now file)) × (readsAt at (readOf (now file)) ≡ false) ⌝ }
+    requires { ⌜ (length (now numbers) ≡ 2) × (at ≤ length (now file)) × (readsAt at (readSheet (now file)) ≡ false) ⌝ }
     ensures { λ r. ⌜ (r leaving now (numbers .exit) leaving now (out .exit))
         ≡ mendOf (now (file .entry)) at (now (numbers .entry)) (now (out .entry)) ⌝ }
 {
@@ -383,9 +386,9 @@ fn mend_run(numbers: &mut [u64], out: &mut [u8], file: &[u8], at: usize) -> u32
     0
 }
 
-// For a host: a torn sheet mended. The audio ends at a place; whole good records of one side from there on are kept, and
-// get a fresh trailer. A file that reads with its records starting there is copied. The numbers are how many bytes were
-// written, and how many records they have.
+// For a host: mends a torn sheet. The audio ends at a place. Whole good records of one side from there on are
+// kept, and get a new trailer. A file that reads with its records at that place is copied. The numbers are
+// how many bytes were written, and how many records they have.
 pub fn mend(numbers: &mut [u64], out: &mut [u8], file: &[u8], place: u64) -> u32
     ensures { λ r. ⌜ (r leaving now (numbers .exit) leaving now (out .exit))
         ≡ mendOf (now (file .entry)) place (now (numbers .entry)) (now (out .entry)) ⌝ }

@@ -6,11 +6,12 @@ ghost use Rattle.rules.specs.Leaf.{_leaving_};
 ghost use Rattle.rules.specs.Lists.{sum};
 ghost use Rattle.sheet.specs.Sheet.{recordsOf};
 ghost use Rattle.sheet.specs.Rows.{recordsLaid, trailerLaid};
-ghost use Rattle.sheet.specs.Parts.{Kinds};
+ghost use Rattle.sheet.specs.Private.{Kinds};
 
-// The records into a buffer that they fill, and the sum of their bytes.
+// Writes the records into a buffer that they fill, and returns the sum of their bytes.
 fn lay(out: &mut [u8], side: u32, entries: &[u64]) -> u64
-    requires { ⌜ (length (now out) ≡ 8 * length (now entries)) × (side ≤ 1) × Kinds (now entries) × (length (now entries) < 2 ^ 29) ⌝ }
+    requires { ⌜ (length (now out) ≡ 8 * length (now entries)) × (side ≤ 1) × Kinds (now entries)
+        × (length (now entries) < 2 ^ 29) ⌝ }
     ensures { λ r. ⌜ (now (out .exit) ≡ recordsOf side (now (entries .entry)))
         × (r ≡ sum (recordsOf side (now (entries .entry)))) × (r < 2 ^ 40) ⌝ }
 {
@@ -19,8 +20,9 @@ fn lay(out: &mut [u8], side: u32, entries: &[u64]) -> u64
     crate::total(&out[..end])
 }
 
-// For a host: the records of these entries into the front of a buffer. The numbers are how many records there are, and the
-// sum of their bytes, before and with these; both 0 at first. Another length than two is refused with 5.
+// For a host: writes the records of these entries to the front of a buffer. The numbers are how many records
+// there are and the sum of their bytes, before and after; both 0 at first. A buffer of other than two numbers
+// is refused with 5.
 pub fn records(numbers: &mut [u64], out: &mut [u8], side: u32, entries: &[u64]) -> u32
     ensures { λ r. ⌜ (r leaving now (numbers .exit) leaving now (out .exit))
         ≡ recordsLaid side (now (entries .entry)) (now (numbers .entry)) (now (out .entry)) ⌝ }
@@ -53,7 +55,7 @@ pub fn records(numbers: &mut [u64], out: &mut [u8], side: u32, entries: &[u64]) 
     0
 }
 
-// For a host: the trailer of so many records, whose bytes have this sum, into the front of a buffer.
+// For a host: writes the trailer of so many records, whose bytes have this sum, to the front of a buffer.
 pub fn trailer(out: &mut [u8], side: u32, count: u64, sum: u64) -> u32
     ensures { λ r. ⌜ (r leaving now (out .exit)) ≡ trailerLaid side count sum (now (out .entry)) ⌝ }
 {

@@ -1,11 +1,12 @@
--- Left and right: as a number, and as four letters. Four letters are a number, little end first.
+-- Left and right, as a number and as four letters. Four letters are read as a number, least significant byte
+-- first.
 use Rattle.rules.specs.Common.{ℕ, cond, eqb}
 use Rattle.sides.specs.declared.Side.{Side}
 use Rattle.sides.specs.declared.Side.the-variants.{Left, Right}
 use Rattle.sides.specs.declared.Meant.{Meant}
 use Rattle.sides.specs.declared.Meant.the-variants.{Means, Nothing}
 
--- "LEFT" and "RGHT"
+-- The letters "LEFT" and "RGHT".
 abbrev pub LEFT : ℕ
 LEFT = 0x5446454C
 

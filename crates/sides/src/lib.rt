@@ -1,4 +1,5 @@
-// Left and right: a type of its own, so that no other number can be passed for a side. A bench, 0 to 15, is another type.
+// Left and right: a type of its own, so that no other number can be passed for a side. A bench, 0 to 15, is another
+// type.
 ghost use mathlib.Core.Path.{_≡_};
 ghost use Prim.Native.Nat.{_≤_, _<_, _^_};
 ghost use Rattle.sides.specs.Sides.{numberOf, lettersOf, ofNumber, ofLetters};

@@ -9,5 +9,6 @@ use Rattle.features.specs.Silence.{soundOf}
 use Rattle.starred.specs.Starred.{Starred}
 
 pub starred : Starred
-unfolding tansigIn sigmoidIn tansig root isNan lt ofBits neg add sub mul ofInt toUnsigned readOf readLayers refusingLayers soundOf
+unfolding tansigIn sigmoidIn tansig root isNan lt ofBits neg add sub mul ofInt toUnsigned readOf readLayers
+    refusingLayers soundOf
 starred = (refl, refl, refl, refl, refl, refl)

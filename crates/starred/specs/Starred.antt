@@ -1,4 +1,5 @@
--- The numbers to try that document 01 marks with a star, as one list, computed from the definitions alone. What a NaN gives is request 09's.
+-- The examples that document 01 marks with a star, in one list, computed from the definitions alone. What a NaN gives
+-- is decided by request 09.
 use Rattle.rules.specs.Common.{ℕ, List, [], _∷_, _++_, map, _≡_, take, replicate, binary32, nan}
 use Rattle.rules.specs.F32.{f32, one}
 use Rattle.numbers.specs.Activations.{tansigApprox, sigmoidApprox}
@@ -9,7 +10,7 @@ use Rattle.model.specs.declared.Reading.the-variants.{Refused}
 use Rattle.features.specs.Silence.{soundOf}
 use Rattle.features.specs.declared.Sound.the-variants.{Silent, Heard}
 
--- the file of 392 bytes: hidden counts all 1, weights and biases all 0
+-- The smallest model, of 392 bytes: each GRU has one neuron, and all weights and biases are 0.
 abbrev pub smallestFile : List ℕ
 smallestFile =
     (42 ∷ 1 ∷ 0 ∷ replicate 43 0)
@@ -19,11 +20,17 @@ smallestFile =
     ++ (1 ∷ 22 ∷ 1 ∷ replicate 44 0)
     ++ (1 ∷ 1 ∷ 1 ∷ replicate 2 0)
 
--- tansig of 0, 8, −8 and NaN; sigmoid of 0 and NaN; relu of NaN; the roots of 4, 2, −1 and −0; no bytes, three bytes, a byte cut off and a byte added; f32
--- 0.04, the f32 just below, and NaN
+-- In this order:
+-- - tansig of 0, 8, −8 and NaN
+-- - sigmoid of 0 and NaN
+-- - relu of NaN
+-- - the square roots of 4, 2, −1 and −0
+-- - as model files: no bytes, three bytes, the smallest model without its last byte, and with a byte more
+-- - the silence test of 0.04, of the number just below it, and of NaN
 abbrev pub Starred : Type 0
 Starred =
-    (map tansigApprox (f32 0 ∷ f32 0x4100_0000 ∷ f32 0xC100_0000 ∷ nan ∷ []) ≡ f32 0 ∷ one ∷ f32 0xBF80_0000 ∷ f32 0 ∷ [])
+    (map tansigApprox (f32 0 ∷ f32 0x4100_0000 ∷ f32 0xC100_0000 ∷ nan ∷ [])
+    ≡ f32 0 ∷ one ∷ f32 0xBF80_0000 ∷ f32 0 ∷ [])
     × (map sigmoidApprox (f32 0 ∷ nan ∷ []) ≡ f32 0x3F00_0000 ∷ f32 0x3F00_0000 ∷ [])
     × (rectified nan ≡ f32 0)
     × (map (root binary32) (f32 0x4080_0000 ∷ f32 0x4000_0000 ∷ f32 0xBF80_0000 ∷ f32 0x8000_0000 ∷ [])

@@ -1,1 +1,1 @@
-// No code: the numbers to try that document 01 marks with a star.
+// This crate has no code: specs/ has the examples that document 01 marks with a star.

@@ -4,7 +4,8 @@
 --     rows         a row of pieces
 --     between      what specs/Between.antt claims
 -- Assumes nothing.
-use Rattle.rules.proofs.Common.{ℕ, _+_, _-_, _*_, _/_, _≤_, _<_, Bool, true, false, cond, _&&_, List, [], _∷_, _++_, map, _≡_, refl, sym, ap, ap₂}
+use Rattle.rules.proofs.Common.{ℕ, _+_, _-_, _*_, _/_, _≤_, _<_, Bool, true, false, cond, _&&_, List, [], _∷_, _++_}
+use Rattle.rules.proofs.Common.{map, _≡_, refl, sym, ap, ap₂}
 use Rattle.rules.proofs.Common.{_∙_, eqb, leb, length, getD, drop, length-drop, Float}
 use native.Mathlib.Omega.{arith}
 use mathlib.Core.List.{append-assoc}
@@ -32,7 +33,8 @@ use Rattle.desk.proofs.Ranged.{open-range}
 use Rattle.desk.proofs.Kept.{refused-keeps}
 use Rattle.desk.proofs.Turned.{none}
 use Rattle.dictation.specs.Dictation.{Lent, Told, Dictated, dictate, dictatedOn}
-use Rattle.dictation.proofs.Joins.{first, second, shareAfter, recAfter, dictate-more, dictate-none, after-length, share-size, washed, then, again, rejoin}
+use Rattle.dictation.proofs.Joins.{first, second, shareAfter, recAfter, dictate-more, dictate-none, after-length}
+use Rattle.dictation.proofs.Joins.{share-size, washed, then, again, rejoin}
 use Rattle.dictation.proofs.Taken.{onward, ends, pauses, piece-passed}
 use Rattle.dictation.proofs.Follows.{place, following, follows}
 use Rattle.dictation.proofs.Cuts.{short, long}
@@ -44,7 +46,8 @@ use Rattle.surface.specs.Surface.{ask, surface, madeOf}
 use Rattle.surface.specs.Between.{asGiven, resumes, InARow, lastPiece, morePieces, inBuffer, sumsTold, Between}
 use Rattle.surface.proofs.Expanded.{expands}
 use Rattle.surface.proofs.Numbers.{zero-is-done}
-use Rattle.surface.proofs.Outputs.{column, wrote, first-written, piece-none, piece-unheard, resume-heard, row-hands, outputs-are, answers-are, sums-are}
+use Rattle.surface.proofs.Outputs.{column, wrote, first-written, piece-none, piece-unheard, resume-heard}
+use Rattle.surface.proofs.Outputs.{row-hands, outputs-are, answers-are, sums-are}
 use Rattle.surface.proofs.Refusing.{refused-leaves}
 
 -- ---- calls on a desk of one bench, all of them done
@@ -59,7 +62,8 @@ left b xs (a ∷ more) = let o = desk 1 0 b xs a in left (o .answer .rec) (o .ke
 
 AllDone : Record → List Float → List Ask → Type 0
 AllDone b xs [] = Unit
-AllDone b xs (a ∷ more) = let o = desk 1 0 b xs a in (passed (o .answer .reply) ≡ true) × AllDone (o .answer .rec) (o .kept) more
+AllDone b xs (a ∷ more) = let o = desk 1 0 b xs a in
+    (passed (o .answer .reply) ≡ true) × AllDone (o .answer .rec) (o .kept) more
 
 -- what they write to buffer k
 written : ℕ → Record → List Float → List Ask → List Float
@@ -71,7 +75,8 @@ record Splits (first rest : List Ask) (b : Record) (xs : List Float) : Type 0 wh
   before : AllDone b xs first
   behind : let l = left b xs first in AllDone (l .rec) (l .share) rest
   leads : let l = left b xs first in left b xs (first ++ rest) ≡ left (l .rec) (l .share) rest
-  writes : (k : ℕ) → let l = left b xs first in written k b xs (first ++ rest) ≡ written k b xs first ++ written k (l .rec) (l .share) rest
+  writes : (k : ℕ) → let l = left b xs first in
+      written k b xs (first ++ rest) ≡ written k b xs first ++ written k (l .rec) (l .share) rest
 
 split : (first rest : List Ask) (b : Record) (xs : List Float) → AllDone b xs (first ++ rest) → Splits first rest b xs
 unfolding left AllDone written
@@ -86,13 +91,15 @@ split (a ∷ first) rest b xs all =
       leads = s .leads;
       writes =
           λ k. ap (λ (x : List Float). wrote k a o ++ x) (s .writes k)
-          ∙ sym (append-assoc (wrote k a o) (written k (o .answer .rec) (o .kept) first) (written k (l .rec) (l .share) rest));
+          ∙ sym (append-assoc (wrote k a o) (written k (o .answer .rec) (o .kept) first)
+          (written k (l .rec) (l .share) rest));
     }
 
 -- ---- any run, for one side
 
 -- a run that ends so, and whose numbers these are, is a row of calls on a desk of one bench
-record Comes (s : ℕ) (b : Record) (xs : List Float) (asks : List Ask) (last : State) (numbers : ℕ → List Float) : Type 0 where
+record Comes (s : ℕ) (b : Record) (xs : List Float) (asks : List Ask) (last : State)
+    (numbers : ℕ → List Float) : Type 0 where
   all : AllDone b xs asks
   rec : recordAt s last ≡ left b xs asks .rec
   share : get (shareOf s) (last .store) ≡ left b xs asks .share
@@ -100,11 +107,13 @@ record Comes (s : ℕ) (b : Record) (xs : List Float) (asks : List Ask) (last : 
 
 module _ (n s : ℕ) (h : s < n) where
   lone-run : (cs : List (On Ask)) (st : State) (b : Record) (xs : List Float) → length (st .store) ≡ n * SHARE
-      → recordAt s st ≡ b → get (shareOf s) (st .store) ≡ xs → Comes s b xs (done desks n s st cs) (ended desks n st cs) (λ k. column k n s st cs)
+      → recordAt s st ≡ b → get (shareOf s) (st .store) ≡ xs
+      → Comes s b xs (done desks n s st cs) (ended desks n st cs) (λ k. column k n s st cs)
   unfolding done inBuffer ended hosted left AllDone written
   lone-run [] st b xs l e f = record { all = tt; rec = e; share = f; writes = λ k. refl }
   lone-run (c ∷ cs) st b xs l e f =
-      go (eqb (c .side) s) refl (eqb (gets desks n st c .number) 0) refl (λ b′ xs′ e′ f′. lone-run cs (after desks n st c) b′ xs′ sized e′ f′)
+      go (eqb (c .side) s) refl (eqb (gets desks n st c .number) 0) refl
+      (λ b′ xs′ e′ f′. lone-run cs (after desks n st c) b′ xs′ sized e′ f′)
     where
       next : State
       next = after desks n st c
@@ -137,11 +146,13 @@ module _ (n s : ℕ) (h : s < n) where
       go : (t : Bool) → eqb (c .side) s ≡ t → (u : Bool) → eqb (gets desks n st c .number) 0 ≡ u
           → ((b′ : Record) (xs′ : List Float) → recordAt s next ≡ b′ → get (shareOf s) (next .store) ≡ xs′
           → Comes s b′ xs′ (done desks n s next cs) (ended desks n next cs) (λ k. column k n s next cs))
-          → Comes s b xs (cond (t && u) (c .call ∷ done desks n s next cs) (done desks n s next cs)) (ended desks n next cs)
+          → Comes s b xs (cond (t && u) (c .call ∷ done desks n s next cs) (done desks n s next cs))
+          (ended desks n next cs)
           (λ k. cond t (numbersIn (getD (given desks n st c .written) k nothing)) [] ++ column k n s next cs)
       go true t true p ih =
           let k = here (eqb-true (c .side) s t) in
-          let r = ih (o .answer .rec) (o .kept) (noted true t ∙ ap (λ (g : Effect Answer). g .answer .rec) k) (back (eqb-true (c .side) s t)) in
+          let r = ih (o .answer .rec) (o .kept) (noted true t ∙ ap (λ (g : Effect Answer). g .answer .rec) k)
+          (back (eqb-true (c .side) s t)) in
           record {
             all = (ap (λ (g : Effect Answer). passed (g .answer .reply)) (sym k) ∙ is-done ∙ p, r .all);
             rec = r .rec;
@@ -157,30 +168,39 @@ module _ (n s : ℕ) (h : s < n) where
             all = r .all;
             rec = r .rec;
             share = r .share;
-            writes = λ i. ap (λ (ws : List Written). numbersIn (getD ws i nothing) ++ column i n s next cs) none ∙ r .writes i;
+            writes =
+                λ i. ap (λ (ws : List Written). numbersIn (getD ws i nothing) ++ column i n s next cs) none
+                ∙ r .writes i;
           }
         where
           unwritten : passed (was .answer .reply) ≡ false → given desks n st c .written ≡ []
           unwritten q = refused-leaves n (c .side) (st .numbers (c .side)) (st .store) (ask (c .call)) q .2
       go false t u p ih =
           ih b xs (noted false t ∙ e)
-          (ap (get (shareOf s)) (store-after n st c) ∙ other-share n (c .side) (recordAt (c .side) st) (st .store) (c .call) l s (eqb-false (c .side) s t) ∙ f)
+          (ap (get (shareOf s)) (store-after n st c)
+          ∙ other-share n (c .side) (recordAt (c .side) st) (st .store) (c .call) l s (eqb-false (c .side) s t) ∙ f)
 
 -- ---- the resumes of a piece
 
-module _ (store : List Float) (size : length store ≡ 1 * SHARE) (samples : List Float) (some : 1 ≤ length samples) (room : ℕ) where
-  -- a row of calls is this dictation, with its share in a store; the sums of its first frame stand in what was given before, with what is told besides
-  record Dictates (o : Effect Answer) (us : List Written) (gs : List (List Float × List ℕ)) (rest : List Float) (d : Dictated) : Type 0 where
+module _ (store : List Float) (size : length store ≡ 1 * SHARE) (samples : List Float) (some : 1 ≤ length samples)
+    (room : ℕ) where
+  -- a row of calls is this dictation, with its share in a store; the sums of its first frame stand in what was given
+  -- before, with what is told besides
+  record Dictates (o : Effect Answer) (us : List Written) (gs : List (List Float × List ℕ)) (rest : List Float)
+      (d : Dictated) : Type 0 where
     rec : left (o .answer .rec) (o .kept) (resumes samples room gs) .rec ≡ d .rec
     share : left (o .answer .rec) (o .kept) (resumes samples room gs) .share ≡ put (shareOf 0) store (d .kept)
     out : written 0 (o .answer .rec) (o .kept) (resumes samples room gs) ≡ d .out
-    sums : numbersIn (getD (o .written ++ us) 1 nothing) ++ written 1 (o .answer .rec) (o .kept) (resumes samples room gs) ≡ sumsTold (d .told)
+    sums : numbersIn (getD (o .written ++ us) 1 nothing)
+        ++ written 1 (o .answer .rec) (o .kept) (resumes samples room gs) ≡ sumsTold (d .told)
     heard : written 2 (o .answer .rec) (o .kept) (resumes samples room gs) ≡ answersOf (d .told)
     count : length gs ≡ length rest / 480
 
-  resumed : (gs : List (List Float × List ℕ)) (o : Effect Answer) (us : List Written) (rec : Record) (reply : Reply) (share rest : List Float) (progress k : ℕ) (ys : List Float)
+  resumed : (gs : List (List Float × List ℕ)) (o : Effect Answer) (us : List Written) (rec : Record) (reply : Reply)
+      (share rest : List Float) (progress k : ℕ) (ys : List Float)
       → o ≡ onward 0 store rec reply share rest (length samples) progress (from k ys)
-      → length share ≡ SHARE → drop progress samples ≡ drop 480 rest → 1 ≤ progress → AllDone (o .answer .rec) (o .kept) (resumes samples room gs)
+      → length share ≡ SHARE → drop progress samples ≡ drop 480 rest → 1 ≤ progress
+      → AllDone (o .answer .rec) (o .kept) (resumes samples room gs)
       → left (o .answer .rec) (o .kept) (resumes samples room gs) .rec .piece ≡ 0
       → Dictates o us gs rest (dictate rec share rest (map asGiven gs))
   unfolding left AllDone written
@@ -191,9 +211,12 @@ module _ (store : List Float) (size : length store ≡ 1 * SHARE) (samples : Lis
       let none = dictate-none rec share rest in
       record {
         rec = ap (λ (g : Effect Answer). g .answer .rec) q ∙ sym (ap (λ (x : Dictated). x .rec) none);
-        share = ap (λ (g : Effect Answer). g .kept) q ∙ sym (ap (λ (x : Dictated). put (shareOf 0) store (x .kept)) none);
+        share =
+            ap (λ (g : Effect Answer). g .kept) q ∙ sym (ap (λ (x : Dictated). put (shareOf 0) store (x .kept)) none);
         out = sym (ap (λ (x : Dictated). x .out) none);
-        sums = ap (λ (g : Effect Answer). numbersIn (getD (g .written ++ us) 1 nothing) ++ []) q ∙ sym (ap (λ (x : Dictated). sumsTold (x .told)) none);
+        sums =
+            ap (λ (g : Effect Answer). numbersIn (getD (g .written ++ us) 1 nothing) ++ []) q
+            ∙ sym (ap (λ (x : Dictated). sumsTold (x .told)) none);
         heard = sym (ap (λ (x : Dictated). answersOf (x .told)) none);
         count = omega arith;
       }
@@ -206,28 +229,36 @@ module _ (store : List Float) (size : length store ≡ 1 * SHARE) (samples : Lis
       let there = desk 1 0 (o .answer .rec) (o .kept) a in
       let here : there ≡ following 1 0 (omega arith) store size samples rec share rest l progress room full same =
       ap (λ (x : Effect Answer). desk 1 0 (x .answer .rec) (x .kept) a) q in
-      let f = follows 1 0 (omega arith) store size samples rec share rest l progress room full same (ap (λ (x : Effect Answer). passed (x .answer .reply)) (sym here) ∙ all .0) in
+      let f = follows 1 0 (omega arith) store size samples rec share rest l progress room full same
+      (ap (λ (x : Effect Answer). passed (x .answer .reply)) (sym here) ∙ all .0) in
       let y = second rec share rest l in
       let rec′ = recAfter rec share rest l in
       let share′ = shareAfter rec share rest l in
       let nx = here ∙ f .1 in
       let samples-out : wrote 0 a there ≡ firstIn (y .written) =
       ap (wrote 0 a) nx
-      ∙ first-written 0 store rec′ (y .answer) share′ (drop 480 rest) (length samples) (progress + 480) (place progress) (firstIn (y .written)) (besides a (y .answer)) in
+      ∙ first-written 0 store rec′ (y .answer) share′ (drop 480 rest) (length samples) (progress + 480) (place progress)
+      (firstIn (y .written)) (besides a (y .answer)) in
       let answered : wrote 2 a there ≡ heardOf (y .answer) =
-      resume-heard 1 0 (o .answer .rec) (o .kept) samples room (g .0) (g .1) (all .0) ∙ ap (λ (x : Effect Answer). heardOf (x .answer .reply)) nx in
+      resume-heard 1 0 (o .answer .rec) (o .kept) samples room (g .0) (g .1) (all .0)
+      ∙ ap (λ (x : Effect Answer). heardOf (x .answer .reply)) nx in
       let ih =
-      resumed more there (besides a (there .answer .reply)) rec′ (y .answer) share′ (drop 480 rest) (progress + 480) (place progress) (firstIn (y .written)) nx
-      (after-length rec share rest l full) (sym (drop-drop 480 progress samples) ∙ ap (drop 480) same) (omega arith) (all .1) z in
+      resumed more there (besides a (there .answer .reply)) rec′ (y .answer) share′ (drop 480 rest) (progress + 480)
+      (place progress) (firstIn (y .written)) nx
+      (after-length rec share rest l full) (sym (drop-drop 480 progress samples) ∙ ap (drop 480) same) (omega arith)
+      (all .1) z in
       let d = dictate-more rec share rest l (map asGiven more) in
       record {
         rec = ih .rec ∙ sym (ap (λ (x : Dictated). x .rec) d);
         share = ih .share ∙ sym (ap (λ (x : Dictated). put (shareOf 0) store (x .kept)) d);
         out = ap₂ (λ (x y : List Float). x ++ y) samples-out (ih .out) ∙ sym (ap (λ (x : Dictated). x .out) d);
         sums =
-            ap₂ (λ (x y : List Float). x ++ y) (ap (λ (x : Effect Answer). numbersIn (getD (x .written ++ us) 1 nothing)) q) (ih .sums)
+            ap₂ (λ (x y : List Float). x ++ y)
+            (ap (λ (x : Effect Answer). numbersIn (getD (x .written ++ us) 1 nothing)) q) (ih .sums)
             ∙ sym (ap (λ (x : Dictated). sumsTold (x .told)) d);
-        heard = ap₂ (λ (x y : List Float). x ++ y) answered (ih .heard) ∙ sym (ap (λ (x : Dictated). answersOf (x .told)) d);
+        heard =
+            ap₂ (λ (x y : List Float). x ++ y) answered (ih .heard)
+            ∙ sym (ap (λ (x : Dictated). answersOf (x .told)) d);
         count = omega (arith, ih .count, length-drop 480 rest, enough);
       }
 
@@ -243,7 +274,8 @@ at-rest n side rec len e = go (eqb (rec .piece) 0) refl
     go false f =
         let c = none n side rec len PIECE e in
         let due = eqb-true (rec .due) 1 (not-false _ (c .1 .1 .1 .1 .0)) in
-        let way = rw f at (open-range rec (eqb-false (rec .due) 0 (c .1 .1 .1 .0)) (not-false (inRange rec) (c .1 .1 .0)) .2) in
+        let way =
+        rw f at (open-range rec (eqb-false (rec .due) 0 (c .1 .1 .1 .0)) (not-false (inRange rec) (c .1 .1 .0)) .2) in
         let third = both (eqb (rec .due) 3) _ (both (leb (rec .piece) 4096) _ way .1) in
         absurd (omega (arith, due, eqb-true (rec .due) 3 (third .0)))
 
@@ -255,8 +287,10 @@ record Is (b : Record) (xs : List Float) (asks : List Ask) (d : Dictated) : Type
   heard : written 2 b xs asks ≡ answersOf (d .told)
 
 -- one piece, resumed to its end
-module _ (x : List Float) (room : ℕ) (gs : List (List Float × List ℕ)) (b : Record) (xs : List Float) (full : length xs ≡ SHARE) where
-  one-piece : AllDone b xs (piece x room 22 ∷ resumes x room gs) → left b xs (piece x room 22 ∷ resumes x room gs) .rec .piece ≡ 0
+module _ (x : List Float) (room : ℕ) (gs : List (List Float × List ℕ)) (b : Record) (xs : List Float)
+    (full : length xs ≡ SHARE) where
+  one-piece : AllDone b xs (piece x room 22 ∷ resumes x room gs)
+      → left b xs (piece x room 22 ∷ resumes x room gs) .rec .piece ≡ 0
       → let all = waitingIn (b .waiting) xs ++ x in
       Is b xs (piece x room 22 ∷ resumes x room gs) (dictate b xs all (map asGiven gs)) × (length gs ≡ length all / 480)
   unfolding left AllDone written
@@ -269,25 +303,33 @@ module _ (x : List Float) (room : ℕ) (gs : List (List Float × List ℕ)) (b :
       let ws = waitingIn (b .waiting) share in
       let waited = waiting-length share (k .size) (b .waiting) (k .waits) in
       let sum : b .waiting + (480 - b .waiting) ≡ 480 = omega (arith, k .waits) in
-      let same : drop (480 - b .waiting) x ≡ drop 480 (ws ++ x) = sym (rw (waited, sum) at (drop-append-add ws x (480 - b .waiting))) in
+      let same : drop (480 - b .waiting) x ≡ drop 480 (ws ++ x) =
+      sym (rw (waited, sum) at (drop-append-add ws x (480 - b .waiting))) in
       let r =
-      resumed xs (omega (arith, full)) x (k .some) room gs o [] b Done (waits share []) (ws ++ x) (480 - b .waiting) 0 []
+      resumed xs (omega (arith, full)) x (k .some) room gs o [] b Done (waits share []) (ws ++ x)
+      (480 - b .waiting) 0 []
       (t .2) (waits-length share (k .size) []) same (omega (arith, k .waits)) (all .1) z in
       let clean =
-      washed b share [] (ws ++ x) (map asGiven gs) (k .size) ∙ ap (λ (t : List Float). dictatedOn b t x (map asGiven gs)) its in
+      washed b share [] (ws ++ x) (map asGiven gs) (k .size)
+      ∙ ap (λ (t : List Float). dictatedOn b t x (map asGiven gs)) its in
       let behind : ℕ → List Float = λ i. written i (o .answer .rec) (o .kept) (resumes x room gs) in (
         record {
           rec = r .rec ∙ ap (λ (d : Dictated). d .rec) clean;
           share = r .share ∙ put-whole xs SHARE full _ ∙ ap (λ (d : Dictated). d .kept) clean;
-          out = ap (λ (u : List Float). u ++ behind 0) (piece-none 1 0 b xs x room (all .0)) ∙ r .out ∙ ap (λ (d : Dictated). d .out) clean;
+          out =
+              ap (λ (u : List Float). u ++ behind 0) (piece-none 1 0 b xs x room (all .0)) ∙ r .out
+              ∙ ap (λ (d : Dictated). d .out) clean;
           sums = r .sums ∙ ap (λ (d : Dictated). sumsTold (d .told)) clean;
-          heard = ap (λ (u : List Float). u ++ behind 2) (piece-unheard 1 0 b xs x room (all .0)) ∙ r .heard ∙ ap (λ (d : Dictated). answersOf (d .told)) clean;
+          heard =
+              ap (λ (u : List Float). u ++ behind 2) (piece-unheard 1 0 b xs x room (all .0)) ∙ r .heard
+              ∙ ap (λ (d : Dictated). answersOf (d .told)) clean;
         },
         r .count ∙ ap (λ (t : List Float). length (waitingIn (b .waiting) t ++ x) / 480) its,
       )
 
 -- a row begins with a piece
-begins : {asks : List Ask} {ys : List Float} {ms : List Lent} → InARow asks ys ms → (b : Record) (xs : List Float) → AllDone b xs asks → b .piece ≡ 0
+begins : {asks : List Ask} {ys : List Float} {ms : List Lent} → InARow asks ys ms → (b : Record) (xs : List Float)
+    → AllDone b xs asks → b .piece ≡ 0
 unfolding AllDone
 begins (lastPiece x o gs) b xs all = at-rest 1 0 b (length xs) (piece-passed 1 0 b xs x o 22 (all .0) .0)
 begins (morePieces x o gs r) b xs all = at-rest 1 0 b (length xs) (piece-passed 1 0 b xs x o 22 (all .0) .0)
@@ -295,9 +337,11 @@ begins (morePieces x o gs r) b xs all = at-rest 1 0 b (length xs) (piece-passed 
 -- what is told of frames, and of others behind them
 sums-both : (fs gs : List Told) → sumsTold (fs ++ gs) ≡ sumsTold fs ++ sumsTold gs
 sums-both [] gs = refl
-sums-both (f ∷ fs) gs = ap (λ (x : List Float). f .0 ++ x) (sums-both fs gs) ∙ sym (append-assoc (f .0) (sumsTold fs) (sumsTold gs))
+sums-both (f ∷ fs) gs =
+    ap (λ (x : List Float). f .0 ++ x) (sums-both fs gs) ∙ sym (append-assoc (f .0) (sumsTold fs) (sumsTold gs))
 
-rows : {asks : List Ask} {ys : List Float} {ms : List Lent} → InARow asks ys ms → (b : Record) (xs : List Float) → length xs ≡ SHARE → AllDone b xs asks
+rows : {asks : List Ask} {ys : List Float} {ms : List Lent} → InARow asks ys ms → (b : Record) (xs : List Float)
+    → length xs ≡ SHARE → AllDone b xs asks
     → left b xs asks .rec .piece ≡ 0 → Is b xs asks (dictatedOn b xs ys ms)
 rows (lastPiece x room gs) b xs full all z = one-piece x room gs b xs full all z .0
 rows (morePieces x room gs {asks} {ys} {ms} r) b xs full all z =
@@ -311,22 +355,29 @@ rows (morePieces x room gs {asks} {ys} {ms} r) b xs full all z =
     let d = dictate b xs these ls in
     let more = again d ys ms in
     let ih =
-    rows r (l .rec) (l .share) (ap length (k .share) ∙ share-size b xs these ls full) (s .behind) (ap (λ (q : Left). q .rec .piece) (sym (s .leads)) ∙ z) in
+    rows r (l .rec) (l .share) (ap length (k .share) ∙ share-size b xs these ls full) (s .behind)
+    (ap (λ (q : Left). q .rec .piece) (sym (s .leads)) ∙ z) in
     let on : dictatedOn (l .rec) (l .share) ys ms ≡ more = rw (k .rec, k .share) in
     let joined : then d more ≡ dictatedOn b xs (x ++ ys) (ls ++ ms) =
     sym (rejoin b xs these ys ls ms full (omega (arith, many, p .1)) (omega (arith, many, p .1)))
     ∙ ap (λ (t : List Float). dictate b xs t (ls ++ ms)) (append-assoc (waitingIn (b .waiting) xs) x ys) in
     record {
-      rec = ap (λ (q : Left). q .rec) (s .leads) ∙ ih .rec ∙ ap (λ (e : Dictated). e .rec) on ∙ ap (λ (e : Dictated). e .rec) joined;
-      share = ap (λ (q : Left). q .share) (s .leads) ∙ ih .share ∙ ap (λ (e : Dictated). e .kept) on ∙ ap (λ (e : Dictated). e .kept) joined;
+      rec =
+          ap (λ (q : Left). q .rec) (s .leads) ∙ ih .rec ∙ ap (λ (e : Dictated). e .rec) on
+          ∙ ap (λ (e : Dictated). e .rec) joined;
+      share =
+          ap (λ (q : Left). q .share) (s .leads) ∙ ih .share ∙ ap (λ (e : Dictated). e .kept) on
+          ∙ ap (λ (e : Dictated). e .kept) joined;
       out =
           s .writes 0 ∙ ap₂ (λ (u v : List Float). u ++ v) (k .out) (ih .out ∙ ap (λ (e : Dictated). e .out) on)
           ∙ ap (λ (e : Dictated). e .out) joined;
       sums =
-          s .writes 1 ∙ ap₂ (λ (u v : List Float). u ++ v) (k .sums) (ih .sums ∙ ap (λ (e : Dictated). sumsTold (e .told)) on)
+          s .writes 1 ∙ ap₂ (λ (u v : List Float). u ++ v) (k .sums)
+          (ih .sums ∙ ap (λ (e : Dictated). sumsTold (e .told)) on)
           ∙ sym (sums-both (d .told) (more .told)) ∙ ap (λ (e : Dictated). sumsTold (e .told)) joined;
       heard =
-          s .writes 2 ∙ ap₂ (λ (u v : List Float). u ++ v) (k .heard) (ih .heard ∙ ap (λ (e : Dictated). answersOf (e .told)) on)
+          s .writes 2 ∙ ap₂ (λ (u v : List Float). u ++ v) (k .heard)
+          (ih .heard ∙ ap (λ (e : Dictated). answersOf (e .told)) on)
           ∙ sym (answers-both (d .told) (more .told)) ∙ ap (λ (e : Dictated). answersOf (e .told)) joined;
     }
 

@@ -1,12 +1,13 @@
--- What an entry tells (`entries-tell`), and sides by the definition, computed. Assumes nothing.
-use Rattle.rules.proofs.Common.{ℕ, zero, suc, _+_, _*_, _%_, _/_, _<_, Bool, true, false, cond, List, [], _∷_, _++_, map, _≡_, refl, sym, ap, _∙_, length, getD}
-use Rattle.rules.proofs.Common.{Float, nan}
+-- What a frame's record tells (`records-tell`), and sides by the definition, computed. Assumes nothing.
+use Rattle.rules.proofs.Common.{ℕ, zero, suc, _+_, _*_, _%_, _/_, _<_, Bool, true, false, cond, List, [], _∷_, _++_}
+use Rattle.rules.proofs.Common.{map, _≡_, refl, sym, ap, subst, _∙_, length, getD}
+use Rattle.rules.proofs.Common.{drop, Float, nan}
 use native.Mathlib.Omega.{arith}
 use lib.Ieee.{eq, ofBits}
 use lib.ListN.{List·getD-append}
-use lib.Seq.{getD-append-add}
+use lib.Seq.{getD-append-add, drop-drop, drop-at}
 use Rattle.rules.specs.F32.{f32, at}
-use Rattle.rules.proofs.Lists.{getD-tab}
+use Rattle.rules.proofs.Lists.{length-tab, getD-tab}
 use Rattle.frame.specs.Reply.{isHeard}
 use Rattle.frame.specs.declared.Reply.{Reply}
 use Rattle.frame.specs.declared.Reply.the-variants.{Heard, Done, Silent, Numbered, Refused, Misread}
@@ -15,8 +16,11 @@ use Rattle.desk.specs.Surface.{heardOf}
 use Rattle.dictation.specs.Dictation.{Told}
 use Rattle.whole.specs.Whole.{answersOf}
 use Rattle.whole.proofs.Dictations.{answers-length}
-use Rattle.feed.specs.Feed.{entryOf}
-use Rattle.surface.specs.Cutting.{framesHeardIn, EntriesTell}
+use Rattle.sheet.specs.Sheet.{four, kind, recordBytes, recordsOf}
+use Rattle.sheet.proofs.Laying.{length-record, length-records}
+use Rattle.sheet.proofs.Digits.{four-read}
+use Rattle.feed.specs.Feed.{frameEntry, frameEntries}
+use Rattle.surface.specs.Cutting.{Tells, framesHeardIn, RecordsTell}
 
 -- three answers of a reply, the first of which is 0 unless the frame was heard
 three : (r : Reply) → length (heardOf r) ≡ 3
@@ -55,11 +59,67 @@ flag-at (f ∷ fs) (suc j) h =
     (ap (at (answersOf (f ∷ fs))) next ∙ getD-append-add (heardOf (f .1)) (answersOf fs) (3 * j) nan)
     ∙ flag-at fs j (omega arith)
 
-pub entries-tell : EntriesTell
+-- entry j: the frame's number, and 2^32 more exactly if the frame's reply says that it was heard
+entries-tell : (frame : ℕ) (told : List Told) (j : ℕ) → j < length told
+    → getD (frameEntries frame (answersOf told)) j 0
+    ≡ (frame + j) % 4294967296 + mark (getD (framesHeardIn told) j false)
 entries-tell frame told j h =
-    getD-tab (length (answersOf told) / 3) (λ k. entryOf frame k (at (answersOf told) (3 * k))) j 0 (omega (arith, answers-length told))
+    getD-tab (length (answersOf told) / 3) (λ k. frameEntry frame k (at (answersOf told) (3 * k))) j 0
+    (omega (arith, answers-length told))
     ∙ ap (λ (x : ℕ). (frame + j) % 4294967296 + x) (flag-at told j h)
+
+-- what a record of this entry says, whatever follows it
+record-tells : (number : ℕ) (heard : Bool) (side : ℕ) (rest : List ℕ) → number < 4294967296
+    → Tells (recordBytes side (number + mark heard) ++ rest) number heard side
+unfolding recordBytes four
+record-tells number heard side rest small =
+    record {
+      numbered = four-read (number + mark heard) (kind (number + mark heard) ∷ side ∷ 0 ∷ 0 ∷ rest) ∙ low heard;
+      marked = high heard;
+      sided = refl;
+      ended = (refl, refl);
+    }
+  where
+    low : (t : Bool) → (number + mark t) % 4294967296 ≡ number
+    low true = omega arith
+    low false = omega arith
+
+    high : (t : Bool) → (number + mark t) / 4294967296 ≡ cond t 1 0
+    high true = omega arith
+    high false = omega arith
+
+-- record j stands behind 8 times j bytes
+drop-records : (side : ℕ) (es : List ℕ) (j : ℕ) → j < length es
+    → drop (8 * j) (recordsOf side es) ≡ recordBytes side (getD es j 0) ++ recordsOf side (drop (suc j) es)
+drop-records side [] j h = absurd (omega arith)
+drop-records side (e ∷ es) zero h = refl
+drop-records side (e ∷ es) (suc j) h =
+    let next : 8 * suc j ≡ 8 + 8 * j = omega arith in
+    ap (λ (k : ℕ). drop k (recordsOf side (e ∷ es))) next
+    ∙ sym (drop-drop (8 * j) 8 (recordsOf side (e ∷ es)))
+    ∙ ap (drop (8 * j)) (drop-at (recordBytes side e) (recordsOf side es) 8 (length-record side e))
+    ∙ drop-records side es j (omega arith)
+
+pub records-tell : RecordsTell
+records-tell bench frame told =
+    let es = frameEntries frame (answersOf told) in
+    let side = sideOf bench in
+    let many : length es ≡ length told = length-tab (length (answersOf told) / 3) _
+    ∙ omega (arith, answers-length told) in (
+      length-records side es ∙ ap (λ (k : ℕ). 8 * k) many,
+      λ j h.
+          subst (λ (xs : List ℕ). Tells xs ((frame + j) % 4294967296) (getD (framesHeardIn told) j false) side)
+          (sym
+          (drop-records side es j (omega (arith, many))
+          ∙ ap (λ (e : ℕ). recordBytes side e ++ recordsOf side (drop (suc j) es)) (entries-tell frame told j h)))
+          (record-tells ((frame + j) % 4294967296) (getD (framesHeardIn told) j false) side
+          (recordsOf side (drop (suc j) es)) (omega arith)),
+    )
 
 -- even benches are left, odd ones right
 sides : map sideOf (0 ∷ 1 ∷ 2 ∷ 3 ∷ 14 ∷ 15 ∷ []) ≡ 0 ∷ 1 ∷ 0 ∷ 1 ∷ 0 ∷ 1 ∷ []
 sides = refl
+
+-- and the three answers of a heard frame: 1, its voice and its energy
+answers : (voice energy : Float) → heardOf (Heard voice energy) ≡ f32 0x3F80_0000 ∷ voice ∷ energy ∷ []
+answers voice energy = refl

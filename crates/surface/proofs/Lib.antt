@@ -12,3 +12,4 @@ pub mod Cuts
 pub mod Owner
 pub mod Acceptance
 pub mod Accepted
+pub mod Welcome

@@ -1,5 +1,6 @@
 -- What a call returns is a number of the table, and 0 exactly where it is done. Assumes nothing.
-use Rattle.rules.proofs.Common.{ℕ, _-_, _*_, _≤_, Bool, true, false, cond, not, true≢false, List, [], _∷_, _++_, _≡_, refl, sym, subst, eqb, leb, ltb}
+use Rattle.rules.proofs.Common.{ℕ, _-_, _*_, _≤_, Bool, true, false, cond, not, true≢false, List, [], _∷_, _++_, _≡_}
+use Rattle.rules.proofs.Common.{refl, sym, subst, eqb, leb, ltb}
 use Rattle.rules.proofs.Common.{length, drop, Float}
 use native.Mathlib.Omega.{arith}
 use borrow.Author.Tests.{ne-eqb}
@@ -21,7 +22,7 @@ use Rattle.frame.specs.declared.Reply.{Reply}
 use Rattle.frame.specs.declared.Reply.the-variants.{Done, Silent, Heard, Numbered, Refused, Misread}
 use Rattle.frame.specs.declared.Way.{Way}
 use Rattle.frame.specs.declared.Hearing.{Hearing}
-use Rattle.frame.specs.Reply.{passed, _when_}
+use Rattle.frame.specs.Reply.{passed, _refusedIf_}
 use Rattle.frame.specs.Share.{SHARE, PART, inputMem, keptEx}
 use Rattle.frame.specs.Heard.{spoken}
 use Rattle.frame.specs.Frame.{done3, counted, checked, modelled}
@@ -35,8 +36,9 @@ use Rattle.pieces.specs.Pieces as pieces
 use Rattle.pieces.proofs.Kept.{further-reply}
 use Rattle.desk.specs.declared.Answer.{Answer}
 use Rattle.desk.specs.declared.Record.{Record}
-use Rattle.desk.specs.Gate.{PIECE, refusals, gate, shareOf}
-use Rattle.desk.specs.Desk.{Ask, opening, call1, call2, call2Own, call3, call4, firstHalf, secondHalf, piece, resume, callOf, opened, onShare, admitted, desk}
+use Rattle.desk.specs.Gate.{PIECE, sideOf, refusals, gate, shareOf}
+use Rattle.desk.specs.Desk.{Ask, opening, call1, call2, call2Own, call3, call4, firstHalf, secondHalf, piece, resume}
+use Rattle.desk.specs.Desk.{callOf, opened, onShare, admitted, desk}
 use Rattle.desk.specs.Laws.{placed}
 use Rattle.desk.specs.Surface.{recordIn, replyNumber, hosted}
 use Rattle.desk.proofs.Answered.{replied-by}
@@ -44,7 +46,7 @@ use Rattle.dictation.specs.Dictation.{frameOn}
 use Rattle.whole.specs.Whole.{ourLent, replyOf, unlessRefused, frameRows, frameReply, takeRows, takeReply, takenOn}
 use Rattle.whole.specs.Whole as whole
 use Rattle.whole.specs.Surface.{hostedFrame, hostedTake}
-use Rattle.feed.specs.Feed.{Block, ROOM, sizeOf, samplesOf, feedRows, fedBy}
+use Rattle.feed.specs.Feed.{Block, ROOM, blockSize, samplesOf, feedRows, fedBy}
 use Rattle.feed.specs.Feed as feeding
 use Rattle.feed.specs.Surface.{hostedFeed}
 use Rattle.surface.specs.Surface.{Call, ask, frame, take, feed, surface, ZeroIsDone}
@@ -102,24 +104,26 @@ checks same s = go (readOf s) refl
 
 -- ---- rows
 
-row : (n : ℕ) → Known (Refused n) → (t : Bool) → passed (n when t) ≡ false → Known (n when t)
+row : (n : ℕ) → Known (Refused n) → (t : Bool) → passed (n refusedIf t) ≡ false → Known (n refusedIf t)
 row n k true h = k
 row n k false h = tt
 
 -- the gate's
-of-gate : (n side : ℕ) (b : Record) (len call : ℕ) → eqb (gate n side b len call) 0 ≡ false → Known (Refused (gate n side b len call))
+of-gate : (n side : ℕ) (b : Record) (len call : ℕ) → eqb (gate n side b len call) 0 ≡ false
+    → Known (Refused (gate n side b len call))
 unfolding gate
 of-gate n side b len call =
     gates.by-each (λ k. k) 0 (λ k. eqb k 0 ≡ false → Known (Refused k)) (refusals n side b len call)
     ((λ _. one), ((λ _. two), ((λ _. two), ((λ _. three), ((λ _. four), tt))))) (λ e. absurd (true≢false e))
 
-gated : (n side : ℕ) (b : Record) (len call : ℕ) → let number = gate n side b len call in Known (number when not (eqb number 0))
+gated : (n side : ℕ) (b : Record) (len call : ℕ) → let number = gate n side b len call in
+    Known (number refusedIf not (eqb number 0))
 gated n side b len call = go (eqb number 0) refl
   where
     number : ℕ
     number = gate n side b len call
 
-    go : (t : Bool) → eqb number 0 ≡ t → Known (number when not t)
+    go : (t : Bool) → eqb number 0 ≡ t → Known (number refusedIf not t)
     go true e = tt
     go false e = of-gate n side b len call e
 
@@ -129,11 +133,13 @@ module _ (share : List Float) where
   abbrev KnownOf : Effect Reply → Type 0
   KnownOf f = Known (f .answer)
 
-  by-one : (a : ℕ) (s : Bool) (f : Effect Reply) → Known (Refused a) → KnownOf f → KnownOf (unless (a when s ∷ []) share f)
+  by-one : (a : ℕ) (s : Bool) (f : Effect Reply) → Known (Refused a) → KnownOf f
+      → KnownOf (unless (a refusedIf s ∷ []) share f)
   by-one a true f k h = k
   by-one a false f k h = h
 
-  by-two : (a b : ℕ) (s t : Bool) (f : Effect Reply) → Known (Refused a) → Known (Refused b) → KnownOf f → KnownOf (unless (a when s ∷ b when t ∷ []) share f)
+  by-two : (a b : ℕ) (s t : Bool) (f : Effect Reply) → Known (Refused a) → Known (Refused b) → KnownOf f
+      → KnownOf (unless (a refusedIf s ∷ b refusedIf t ∷ []) share f)
   by-two a b true t f k l h = k
   by-two a b false t f k l h = by-one b t f l h
 
@@ -144,35 +150,43 @@ module _ (share : List Float) where
   of-1 : (x : List Float) (w : ℕ) → KnownOf (frames.call1 share x w)
   unfolding frames.call1
   of-1 x w =
-      by-two 5 9 (wrong ((length share, PART) ∷ (length x, 480) ∷ (w, 960) ∷ [])) (not (good x)) (frames.done1 share x) five nine tt
+      by-two 5 9 (wrong ((length share, PART) ∷ (length x, 480) ∷ (w, 960) ∷ [])) (not (good x))
+      (frames.done1 share x) five nine tt
 
   of-2 : (x : List Float) (lag w s : ℕ) → KnownOf (frames.call2 share x lag w s)
   unfolding frames.call2
   of-2 x lag w s =
-      by-two 5 6 (wrong ((length share, PART) ∷ (length x, 961) ∷ (w, 960) ∷ (s, 22) ∷ [])) (ltb 768 lag) (frames.done2 share x lag) five six tt
+      by-two 5 6 (wrong ((length share, PART) ∷ (length x, 961) ∷ (w, 960) ∷ (s, 22) ∷ [])) (ltb 768 lag)
+      (frames.done2 share x lag) five six tt
 
   of-sister : (x : List Float) (w s : ℕ) → KnownOf (own.call2Own share x w s)
   unfolding own.call2Own
   of-sister x w s = of-2 x (ownLag (get inputMem share)) w s
 
-  of-3 : (hearing : Hearing) (x logs : List Float) (model : List ℕ) (out : ℕ) → KnownOf (frames.call3 share hearing x logs model out)
+  of-3 : (hearing : Hearing) (x logs : List Float) (model : List ℕ) (out : ℕ)
+      → KnownOf (frames.call3 share hearing x logs model out)
   unfolding frames.call3 done3
   of-3 hearing x logs model out =
-      by-two 5 5 (wrong ((length share, PART) ∷ (length x, 961) ∷ (length logs, 22) ∷ (out, 961) ∷ [])) (ltb 7 (hearing .index))
-      (modelled (counted hearing) (readOf model) share (done3 share (hearing .index) x logs model)) five five (go (readOf model) refl)
+      by-two 5 5 (wrong ((length share, PART) ∷ (length x, 961) ∷ (length logs, 22) ∷ (out, 961) ∷ []))
+      (ltb 7 (hearing .index))
+      (modelled (counted hearing) (readOf model) share (done3 share (hearing .index) x logs model)) five five
+      (go (readOf model) refl)
     where
       e : Float
       e = energy (get keptEx share)
 
-      go : (r : Reading) → readOf model ≡ r → KnownOf (modelled (counted hearing) r share (done3 share (hearing .index) x logs model))
+      go : (r : Reading) → readOf model ≡ r
+          → KnownOf (modelled (counted hearing) r share (done3 share (hearing .index) x logs model))
       go (Unread n l) q = misread model n l q
       go (Good m) q =
           either (counted hearing m) (done3 share (hearing .index) x logs model m) (refusal (Refused 8) share)
-          (either (isSilent e) (frames.silent share) (frames.heard e (spoken share (hearing .index) x logs model m)) tt tt) eight
+          (either (isSilent e) (frames.silent share)
+          (frames.heard e (spoken share (hearing .index) x logs model m)) tt tt) eight
 
   of-4 : (x : List Float) (out : ℕ) → KnownOf (frames.call4 share x out)
   unfolding frames.call4
-  of-4 x out = by-one 5 (wrong ((length share, PART) ∷ (length x, 960) ∷ (out, 480) ∷ [])) (frames.done4 share x) five tt
+  of-4 x out =
+      by-one 5 (wrong ((length share, PART) ∷ (length x, 960) ∷ (out, 480) ∷ [])) (frames.done4 share x) five tt
 
 module _ (share : List Float) where
   of-first : (way : Way) (x : List Float) (s : ℕ) → Known (halves.firstHalf share way x s .answer)
@@ -180,8 +194,11 @@ module _ (share : List Float) where
   of-first way x s =
       let a = frames.call1 share x 960 in
       let b = halves.analysed (a .kept) way (firstIn (a .written)) s in
-      by-one share 5 (wrong ((length share, PART) ∷ (length x, 480) ∷ (s, 22) ∷ [])) (cond (passed (a .answer)) b a) five
-      (either share (passed (a .answer)) b a (of-2 (remembered way (a .kept)) (forwardBy way (firstIn (a .written))) (lagBy way (a .kept)) 960 s) (of-1 share x 960))
+      by-one share 5 (wrong ((length share, PART) ∷ (length x, 480) ∷ (s, 22) ∷ []))
+      (cond (passed (a .answer)) b a) five
+      (either share (passed (a .answer)) b a
+      (of-2 (remembered way (a .kept)) (forwardBy way (firstIn (a .written))) (lagBy way (a .kept)) 960 s)
+      (of-1 share x 960))
 
   of-second : (hearing : Hearing) (logs : List Float) (model : List ℕ) (out : ℕ)
       → Known (halves.secondHalf share hearing logs model out .answer)
@@ -190,31 +207,42 @@ module _ (share : List Float) where
       let a = frames.call3 share hearing (forwardBy (hearing .way) (halves.lookedBack share)) logs model 961 in
       let k = of-3 share hearing (forwardBy (hearing .way) (halves.lookedBack share)) logs model 961 in
       let b = halves.synthesised (a .answer) (a .kept) (hearing .way) (firstIn (a .written)) out in
-      by-two share 5 5 (wrong ((length share, PART) ∷ (length logs, 22) ∷ (out, 480) ∷ [])) (ltb 7 (hearing .index)) (cond (passed (a .answer)) b a) five five
+      by-two share 5 5 (wrong ((length share, PART) ∷ (length logs, 22) ∷ (out, 480) ∷ [])) (ltb 7 (hearing .index))
+      (cond (passed (a .answer)) b a) five five
       (either share (passed (a .answer)) b a k k)
 
 -- ---- pieces
 
-of-piece : (share : List Float) (way : Way) (waiting : ℕ) (x : List Float) (out sums : ℕ) → Known (pieces.piece share way waiting x out sums .answer)
+of-piece : (share : List Float) (way : Way) (waiting : ℕ) (x : List Float) (out sums : ℕ)
+    → Known (pieces.piece share way waiting x out sums .answer)
 unfolding pieces.piece
 of-piece share way waiting x out sums =
-    by-rows share (pieces.begun share way waiting x) (λ o. Known (o .answer)) (pieces.pieceRows share waiting x out sums) (
+    by-rows share (pieces.begun share way waiting x) (λ o. Known (o .answer))
+    (pieces.pieceRows share waiting x out sums) (
       row 5 five (not (eqb (length share) SHARE)),
-      (row 5 five (not (pieces.pieceFits waiting (length x) out sums)), (row 9 nine (not (good (waitingIn waiting share))), (row 9 nine (not (good x)), tt))),
+      (
+        row 5 five (not (pieces.pieceFits waiting (length x) out sums)),
+        (row 9 nine (not (good (waitingIn waiting share))), (row 9 nine (not (good x)), tt)),
+      ),
     )
     (λ _. rw (further-reply Done (waits share []) way (waitingIn waiting share ++ x) nothing) tt)
 
-of-resume : (share : List Float) (hearing : Hearing) (size progress : ℕ) (x logs : List Float) (model : List ℕ) (out sums : ℕ)
+of-resume : (share : List Float) (hearing : Hearing) (size progress : ℕ) (x logs : List Float) (model : List ℕ)
+    (out sums : ℕ)
     → Known (pieces.resume share hearing size progress x logs model out sums .answer)
 unfolding pieces.resume
 of-resume share hearing size progress x logs model out sums =
     let half = halves.secondHalf (get framePart share) hearing logs model 480 in
     let place = 480 * (frameAt progress - 1) in
     let fits = pieces.resumeFits (hearing .index) size progress (length x) (length logs) out sums in
-    by-rows share (pieces.resumed share hearing progress x logs model) (λ o. Known (o .answer)) (pieces.resumeRows share hearing size progress x logs model out sums)
-    (row 5 five (not (eqb (length share) SHARE)), (row 5 five (not fits), ((λ _. checks (counted hearing) model), (row 9 nine (not (good x)), tt))))
+    by-rows share (pieces.resumed share hearing progress x logs model) (λ o. Known (o .answer))
+    (pieces.resumeRows share hearing size progress x logs model out sums) (
+      row 5 five (not (eqb (length share) SHARE)),
+      (row 5 five (not fits), ((λ _. checks (counted hearing) model), (row 9 nine (not (good x)), tt))),
+    )
     (λ _.
-    rw (further-reply (half .answer) (put framePart share (half .kept)) (hearing .way) (drop progress x) (from place (firstIn (half .written))))
+    rw (further-reply (half .answer) (put framePart share (half .kept)) (hearing .way) (drop progress x)
+    (from place (firstIn (half .written))))
     (of-second (get framePart share) hearing logs model 480))
 
 -- ---- the desk
@@ -255,7 +283,8 @@ of-desk n side b store a = replied-by b a (admitted b share a number .answer) Kn
 -- ---- a frame and a take
 
 -- the gate's row, and these
-known-by : (n side : ℕ) (b : Record) (store : List Float) (call : ℕ) (rows : List Reply) (o : Effect Answer) → Each Known rows → Known (o .answer .reply)
+known-by : (n side : ℕ) (b : Record) (store : List Float) (call : ℕ) (rows : List Reply) (o : Effect Answer)
+    → Each Known rows → Known (o .answer .reply)
     → Known (unlessRefused (replyOf (gate n side b (length store) call) rows) side b store o .answer .reply)
 known-by n side b store call rows o each done = go (passed reply)
   where
@@ -265,17 +294,23 @@ known-by n side b store call rows o each done = go (passed reply)
     reply : Reply
     reply = replyOf number rows
 
-    go : (t : Bool) → Known (cond t (placed side store o) (refusal (record { reply = reply; rec = b }) store) .answer .reply)
+    go : (t : Bool)
+        → Known (cond t (placed side store o) (refusal (record { reply = reply; rec = b }) store) .answer .reply)
     go true = done
-    go false = by-each Known (number when not (eqb number 0) ∷ rows) ((λ _. gated n side b (length store) call), each) (λ _. tt)
+    go false =
+        by-each Known (number refusedIf not (eqb number 0) ∷ rows) ((λ _. gated n side b (length store) call), each)
+        (λ _. tt)
 
-of-frame : (n side : ℕ) (b : Record) (store x : List Float) (model : List ℕ) (out : ℕ) → Known (whole.frame n side b store x model out .answer .reply)
+of-frame : (n side : ℕ) (b : Record) (store x : List Float) (model : List ℕ) (out : ℕ)
+    → Known (whole.frame n side b store x model out .answer .reply)
 unfolding whole.frame frameReply
 of-frame n side b store x model out =
     let share = get (shareOf side) store in
     let half = halves.firstHalf (get framePart share) (b .hearing .way) x 22 in
-    known-by n side b store 1 (frameRows b x model out) (frameOn b share x (ourLent model))
-    (row 5 five (wrong ((length x, 480) ∷ (out, 480) ∷ [])), ((λ _. checks (counted (b .hearing)) model), (row 9 nine (not (good x)), tt)))
+    known-by n side b store 1 (frameRows b x model out) (frameOn b share x (ourLent model)) (
+      row 5 five (wrong ((length x, 480) ∷ (out, 480) ∷ [])),
+      ((λ _. checks (counted (b .hearing)) model), (row 9 nine (not (good x)), tt)),
+    )
     (of-second (half .kept) (b .hearing) (logsOf (firstIn (half .written))) model 480)
 
 of-take : (n side : ℕ) (b : Record) (store x : List Float) (model : List ℕ) (out answers : ℕ)
@@ -285,13 +320,18 @@ of-take n side b store x model out answers =
     let share = get (shareOf side) store in
     let fits = pieces.pieceFits (b .waiting) (length x) out 22 in
     let room = leb (3 * pieces.completes (b .waiting) (length x)) answers in
-    known-by n side b store PIECE (takeRows b share x model out answers) (takenOn b share x model)
-    (row 5 five (not fits), (row 5 five (not room), ((λ _. checks (counted (b .hearing)) model), (row 9 nine (not (good (waitingIn (b .waiting) share ++ x))), tt)))) tt
+    known-by n side b store PIECE (takeRows b share x model out answers) (takenOn b share x model) (
+      row 5 five (not fits),
+      (
+        row 5 five (not room),
+        ((λ _. checks (counted (b .hearing)) model), (row 9 nine (not (good (waitingIn (b .waiting) share ++ x))), tt)),
+      ),
+    ) tt
 
-of-feed : (n side : ℕ) (b : Record) (store : List Float) (block : Block) (model : List ℕ) (cleaned entries answers : ℕ)
-    → Known (feeding.feed n side b store block model cleaned entries answers .answer .reply)
+of-feed : (n side : ℕ) (b : Record) (store : List Float) (block : Block) (model : List ℕ) (cleaned records answers : ℕ)
+    → Known (feeding.feed n side b store block model cleaned records answers .answer .reply)
 unfolding feeding.feed
-of-feed n side b store block model cleaned entries answers = go (eqb number 0) refl
+of-feed n side b store block model cleaned records answers = go (eqb number 0) refl
   where
     number : ℕ
     number = gate n side b (length store) PIECE
@@ -300,12 +340,15 @@ of-feed n side b store block model cleaned entries answers = go (eqb number 0) r
     unfed r = refusal (record { reply = Refused r; rec = b }) store
 
     right : Effect Answer
-    right = fedBy (b .frame) (whole.take n side b store (samplesOf block) model ROOM answers)
+    right = fedBy (sideOf side) (b .frame) (whole.take n side b store (samplesOf block) model ROOM answers)
 
     go : (t : Bool) → eqb number 0 ≡ t
-        → Known (cond (not t) (unfed number) (refusing (drop 1 (feedRows number (b .waiting) (sizeOf block) cleaned entries answers)) unfed right) .answer .reply)
+        → Known (cond (not t) (unfed number)
+        (refusing (drop 1 (feedRows number (b .waiting) (blockSize block) cleaned records answers)) unfed right) .answer
+        .reply)
     go true e =
-        gates.by-each unfed right (λ (o : Effect Answer). Known (o .answer .reply)) (drop 1 (feedRows number (b .waiting) (sizeOf block) cleaned entries answers))
+        gates.by-each unfed right (λ (o : Effect Answer). Known (o .answer .reply))
+        (drop 1 (feedRows number (b .waiting) (blockSize block) cleaned records answers))
         (five, (five, (five, (five, tt)))) (of-take n side b store (samplesOf block) model ROOM answers)
     go false e = of-gate n side b (length store) PIECE e
 

@@ -4,7 +4,8 @@
 --     told-is, received-is         one call, where what it is made of are pieces and resumes, and any run
 --     own-asks                     any run in which a side makes no whole calls
 -- Assumes nothing.
-use Rattle.rules.proofs.Common.{ℕ, zero, suc, _-_, Bool, true, false, cond, _&&_, false≢true, List, [], _∷_, _++_, map, _≡_, refl, sym, ap}
+use Rattle.rules.proofs.Common.{ℕ, zero, suc, _-_, Bool, true, false, cond, _&&_, false≢true, List, [], _∷_, _++_, map}
+use Rattle.rules.proofs.Common.{_≡_, refl, sym, ap}
 use Rattle.rules.proofs.Common.{ap₂, subst, _∙_, eqb, ltb, length, getD, drop, replicate, Float}
 use native.Mathlib.Omega.{arith}
 use mathlib.Core.List.{append-assoc, append-nil}
@@ -21,8 +22,9 @@ use Rattle.frame.specs.Reply.{passed}
 use Rattle.pieces.specs.Pieces.{waitingIn, waits, completes, further}
 use Rattle.pieces.specs.Pieces as pieces
 use Rattle.desk.specs.declared.Record.{Record}
-use Rattle.desk.specs.Gate.{PIECE, gate, shareOf}
-use Rattle.desk.specs.Desk.{Ask, opening, call1, call2, call2Own, call3, call4, firstHalf, secondHalf, piece, resume, desk}
+use Rattle.desk.specs.Gate.{PIECE, sideOf, gate, shareOf}
+use Rattle.desk.specs.Desk.{Ask, opening, call1, call2, call2Own, call3, call4, firstHalf, secondHalf, piece, resume}
+use Rattle.desk.specs.Desk.{desk}
 use Rattle.desk.specs.Laws.{placed}
 use Rattle.desk.specs.Surface.{numbersOf, recordIn, replyNumber, heardOf, besides, telling, hosted}
 use Rattle.desk.proofs.Buffers.{buffers}
@@ -36,7 +38,7 @@ use Rattle.whole.specs.Whole as whole
 use Rattle.whole.specs.Surface.{hostedFrame, hostedTake}
 use Rattle.whole.proofs.Dictations.{take-row}
 use Rattle.whole.proofs.Halves.{two-halves, refused-is}
-use Rattle.feed.specs.Feed.{Block, ROOM, sizeOf, samplesOf, feedRows, fedOf, fedBy}
+use Rattle.feed.specs.Feed.{Block, ROOM, blockSize, samplesOf, feedRows, fedOf, fedBy}
 use Rattle.feed.specs.Feed as feeding
 use Rattle.feed.specs.Surface.{hostedFeed}
 use Rattle.isolation.specs.Isolation.{own}
@@ -99,9 +101,11 @@ done-more n s (c ∷ first) rest st =
     next : State
     next = after desks n st c
 
-    go : (t : Bool) → done desks n s next (first ++ rest) ≡ done desks n s next first ++ done desks n s (ended desks n next first) rest
+    go : (t : Bool) → done desks n s next (first ++ rest)
+        ≡ done desks n s next first ++ done desks n s (ended desks n next first) rest
         → cond t (c .call ∷ done desks n s next (first ++ rest)) (done desks n s next (first ++ rest))
-        ≡ cond t (c .call ∷ done desks n s next first) (done desks n s next first) ++ done desks n s (ended desks n next first) rest
+        ≡ cond t (c .call ∷ done desks n s next first) (done desks n s next first)
+        ++ done desks n s (ended desks n next first) rest
     go true e = ap (λ (x : List Ask). c .call ∷ x) e
     go false e = e
 
@@ -129,38 +133,48 @@ third (w ∷ v ∷ []) us l = refl
 third (w ∷ v ∷ u ∷ ws) us l = absurd (omega arith)
 
 -- what goes onward, first
-pub first-written : (side : ℕ) (store : List Float) (rec : Record) (reply : Reply) (share rest : List Float) (size progress k : ℕ) (ys : List Float) (us : List Written)
+pub first-written : (side : ℕ) (store : List Float) (rec : Record) (reply : Reply) (share rest : List Float)
+    (size progress k : ℕ) (ys : List Float) (us : List Written)
     → firstIn (onward side store rec reply share rest size progress (from k ys) .written ++ us) ≡ ys
 unfolding further
 first-written side store rec reply share rest size progress k ys us = go (ltb (length rest) 480)
   where
-    go : (t : Bool) → firstIn (cond t (pieces.atEnd reply share rest (from k ys)) (pieces.paused reply share (rec .hearing .way) rest (from k ys)) .written ++ us) ≡ ys
+    go : (t : Bool) → firstIn
+        (cond t (pieces.atEnd reply share rest (from k ys))
+        (pieces.paused reply share (rec .hearing .way) rest (from k ys)) .written ++ us) ≡ ys
     go true = refl
     go false = refl
 
 -- a piece that is done gives no samples and no answers, and a resume three answers
 module _ (n side : ℕ) (b : Record) (store x : List Float) (o : ℕ) where
-  pub piece-none : passed (desk n side b store (piece x o 22) .answer .reply) ≡ true → wrote 0 (piece x o 22) (desk n side b store (piece x o 22)) ≡ []
+  pub piece-none : passed (desk n side b store (piece x o 22) .answer .reply) ≡ true
+      → wrote 0 (piece x o 22) (desk n side b store (piece x o 22)) ≡ []
   piece-none p =
       let share = get (shareOf side) store in
       ap (wrote 0 (piece x o 22)) (piece-passed n side b store x o 22 p .2)
-      ∙ first-written side store b Done (waits share []) (waitingIn (b .waiting) share ++ x) (length x) (480 - b .waiting) 0 [] []
+      ∙ first-written side store b Done (waits share []) (waitingIn (b .waiting) share ++ x) (length x)
+      (480 - b .waiting) 0 [] []
 
-  pub piece-unheard : passed (desk n side b store (piece x o 22) .answer .reply) ≡ true → wrote 2 (piece x o 22) (desk n side b store (piece x o 22)) ≡ []
-  piece-unheard p = ap numbersIn (third (desk n side b store (piece x o 22) .written) [] (rw p at (buffers n side b store (piece x o 22))))
+  pub piece-unheard : passed (desk n side b store (piece x o 22) .answer .reply) ≡ true
+      → wrote 2 (piece x o 22) (desk n side b store (piece x o 22)) ≡ []
+  piece-unheard p =
+      ap numbersIn (third (desk n side b store (piece x o 22) .written) []
+      (rw p at (buffers n side b store (piece x o 22))))
 
   module _ (l : List Float) (m : List ℕ) where
     abbrev a : Ask
     a = resume x l m o 22
 
     resume-first : passed (desk n side b store (resume x l m o 22) .answer .reply) ≡ true
-        → wrote 0 (resume x l m o 22) (desk n side b store (resume x l m o 22)) ≡ firstIn (desk n side b store (resume x l m o 22) .written)
+        → wrote 0 (resume x l m o 22) (desk n side b store (resume x l m o 22))
+        ≡ firstIn (desk n side b store (resume x l m o 22) .written)
     resume-first p =
         let g = desk n side b store a in
         in-front (g .written) (besides a (g .answer .reply)) 1 (rw p at (buffers n side b store a))
 
     pub resume-heard : passed (desk n side b store (resume x l m o 22) .answer .reply) ≡ true
-        → wrote 2 (resume x l m o 22) (desk n side b store (resume x l m o 22)) ≡ heardOf (desk n side b store (resume x l m o 22) .answer .reply)
+        → wrote 2 (resume x l m o 22) (desk n side b store (resume x l m o 22))
+        ≡ heardOf (desk n side b store (resume x l m o 22) .answer .reply)
     resume-heard p =
         let g = desk n side b store a in
         ap numbersIn (third (g .written) (besides a (g .answer .reply)) (rw p at (buffers n side b store a)))
@@ -184,7 +198,8 @@ module _ (n s side : ℕ) (mine : eqb side s ≡ true) (st : State) where
   -- a call of the desk, and those after it
   next-column : (k : ℕ) (b : Record) (store : List Float) (a : Ask) (rest : List (On Ask))
       → let o = desk n side b store a in
-      column k n s (leaving st side (numbersOf side b) store) (on side a ∷ rest) ≡ wrote k a o ++ column k n s (leaving st side (numbersOf side (o .answer .rec)) (o .kept)) rest
+      column k n s (leaving st side (numbersOf side b) store) (on side a ∷ rest)
+      ≡ wrote k a o ++ column k n s (leaving st side (numbersOf side (o .answer .rec)) (o .kept)) rest
   unfolding ended
   next-column k b store a rest =
       let there = leaving st side (numbersOf side b) store in
@@ -212,9 +227,14 @@ module _ (n s side : ℕ) (mine : eqb side s ≡ true) (st : State) where
         let ih = row-columns k more in
         let passes : passed (desk n side b (e .kept) a .answer .reply) ≡ true = rw q at (row-passes more) in
         let to : (c : ℕ) → column c n s (leaving st side (numbersOf side b) (e .kept)) (on side a ∷ row d)
-        ≡ wrote c a next ++ column c n s (leaving st side (numbersOf side (next .answer .rec)) (next .kept)) (row d) = λ c. rw q (next-column c b (e .kept) a (row d)) in (
-          to 0 ∙ ap₂ (λ (u v : List Float). u ++ v) (subst (λ (g : Effect Answer). wrote 0 a g ≡ firstIn (g .written)) (sym q) (resume-first n side b (e .kept) x o logs m passes)) (ih .0),
-          to 2 ∙ ap₂ (λ (u v : List Float). u ++ v) (subst (λ (g : Effect Answer). wrote 2 a g ≡ heardOf (g .answer .reply)) (sym q) (resume-heard n side b (e .kept) x o logs m passes)) (ih .1),
+        ≡ wrote c a next ++ column c n s (leaving st side (numbersOf side (next .answer .rec)) (next .kept)) (row d) =
+        λ c. rw q (next-column c b (e .kept) a (row d)) in (
+          to 0 ∙ ap₂ (λ (u v : List Float). u ++ v)
+              (subst (λ (g : Effect Answer). wrote 0 a g ≡ firstIn (g .written)) (sym q)
+              (resume-first n side b (e .kept) x o logs m passes)) (ih .0),
+          to 2 ∙ ap₂ (λ (u v : List Float). u ++ v)
+              (subst (λ (g : Effect Answer). wrote 2 a g ≡ heardOf (g .answer .reply)) (sym q)
+              (resume-heard n side b (e .kept) x o logs m passes)) (ih .1),
         )
 
     module _ (a : ℕ) (p : passed (takeReply n side (recordAt side st) (st .store) x m o a) ≡ true) where
@@ -223,7 +243,8 @@ module _ (n s side : ℕ) (mine : eqb side s ≡ true) (st : State) where
 
       -- where the piece writes nothing to it
       from-piece : (k : ℕ) {ys : List Float} → let e = desk n side (recordAt side st) (st .store) (piece x o 22) in
-          wrote k (piece x o 22) e ≡ [] → column k n s (leaving st side (numbersOf side (e .answer .rec)) (e .kept)) (row d) ≡ ys
+          wrote k (piece x o 22) e ≡ []
+          → column k n s (leaving st side (numbersOf side (e .answer .rec)) (e .kept)) (row d) ≡ ys
           → ys ≡ column k n s st (map (on side) (piece x o 22 ∷ map (resumeFor x m o) (d .told)))
       unfolding ended
       from-piece k none more =
@@ -236,12 +257,15 @@ module _ (n s side : ℕ) (mine : eqb side s ≡ true) (st : State) where
       take-outputs : d .out ≡ column 0 n s st (map (on side) (piece x o 22 ∷ map (resumeFor x m o) (d .told)))
       take-outputs =
           let r = take-row n side (recordAt side st) (st .store) x m o a p in
-          from-piece 0 (piece-none n side (recordAt side st) (st .store) x o (row-passes r)) (row-columns (completes (recordAt side st .waiting) (length x)) r .0)
+          from-piece 0 (piece-none n side (recordAt side st) (st .store) x o (row-passes r))
+          (row-columns (completes (recordAt side st .waiting) (length x)) r .0)
 
-      take-answers : answersOf (d .told) ≡ column 2 n s st (map (on side) (piece x o 22 ∷ map (resumeFor x m o) (d .told)))
+      take-answers : answersOf (d .told)
+          ≡ column 2 n s st (map (on side) (piece x o 22 ∷ map (resumeFor x m o) (d .told)))
       take-answers =
           let r = take-row n side (recordAt side st) (st .store) x m o a p in
-          from-piece 2 (piece-unheard n side (recordAt side st) (st .store) x o (row-passes r)) (row-columns (completes (recordAt side st .waiting) (length x)) r .1)
+          from-piece 2 (piece-unheard n side (recordAt side st) (st .store) x o (row-passes r))
+          (row-columns (completes (recordAt side st .waiting) (length x)) r .1)
 
 -- ---- one call of the surface
 
@@ -254,11 +278,13 @@ zero-back (Refused k) p = absurd (false≢true p)
 zero-back (Misread k l) p = absurd (false≢true p)
 
 -- a feed's answers are its take's
-fed-answers : (number : ℕ) (ws : List Written) → numbersIn (getD (fedOf number ws) 0 nothing) ≡ numbersIn (getD ws 1 nothing)
-fed-answers number [] = refl
-fed-answers number (w ∷ ws) = refl
+fed-answers : (side number : ℕ) (ws : List Written)
+    → numbersIn (getD (fedOf side number ws) 0 nothing) ≡ numbersIn (getD ws 1 nothing)
+fed-answers side number [] = refl
+fed-answers side number (w ∷ ws) = refl
 
-split-own : (P : Call → Type 0) (t : Bool) (c : Call) (cs : List Call) → All P (cond t (c ∷ cs) cs) → All P cs × (t ≡ true → P c)
+split-own : (P : Call → Type 0) (t : Bool) (c : Call) (cs : List Call) → All P (cond t (c ∷ cs) cs)
+    → All P cs × (t ≡ true → P c)
 split-own P true c cs k = (k .1, λ _. k .0)
 split-own P false c cs k = (k, λ e. absurd (false≢true e))
 
@@ -269,8 +295,9 @@ module _ (P : Call → Type 0) (which : Call → ℕ) (k : ℕ) (asked : (a : As
     → let d = dictated side (recordAt side st) (st .store) x (lentToEach (recordAt side st) x m) in
     numbersIn (getD (from 0 (d .out) ∷ from 0 (answersOf (d .told)) ∷ []) (which (take x m o a)) nothing)
     ≡ column k n s st (map (on side) (piece x o 22 ∷ map (resumeFor x m o) (d .told))))
-    (feeds : (b : Block) (m : List ℕ) (c e a : ℕ) → P (feed b m c e a) → (number : ℕ) (ws : List Written)
-    → numbersIn (getD (fedOf number ws) (which (feed b m c e a)) nothing) ≡ numbersIn (getD ws (which (take (samplesOf b) m ROOM a)) nothing)) where
+    (feeds : (b : Block) (m : List ℕ) (c e a : ℕ) → P (feed b m c e a) → (side number : ℕ) (ws : List Written)
+    → numbersIn (getD (fedOf side number ws) (which (feed b m c e a)) nothing)
+    ≡ numbersIn (getD ws (which (take (samplesOf b) m ROOM a)) nothing)) where
   module _ (side : ℕ) (mine : eqb side s ≡ true) (st : State) where
     abbrev ns : List ℕ
     ns = st .numbers side
@@ -279,7 +306,8 @@ module _ (P : Call → Type 0) (which : Call → ℕ) (k : ℕ) (asked : (a : As
     rec = recordAt side st
 
     taken : (x : List Float) (m : List ℕ) (o a : ℕ)
-        → numbersIn (getD (whole.take n side (recordAt side st) (st .store) x m o a .written) (which (take x m o a)) nothing)
+        → numbersIn (getD (whole.take n side (recordAt side st) (st .store) x m o a .written)
+        (which (take x m o a)) nothing)
         ≡ column k n s st (map (on side) (madeOf n side (recordAt side st) (st .store) (take x m o a)))
     unfolding inBuffer whole.take
     taken x m o a = go (passed reply) refl
@@ -291,12 +319,15 @@ module _ (P : Call → Type 0) (which : Call → ℕ) (k : ℕ) (asked : (a : As
         d = dictated side rec (st .store) x (lentToEach rec x m)
 
         go : (t : Bool) → passed reply ≡ t
-            → numbersIn (getD (cond t (placed side (st .store) (takenOn rec (get (shareOf side) (st .store)) x m)) (refusal (record { reply = reply; rec = rec }) (st .store)) .written) (which (take x m o a)) nothing)
+            → numbersIn
+            (getD (cond t (placed side (st .store) (takenOn rec (get (shareOf side) (st .store)) x m))
+            (refusal (record { reply = reply; rec = rec }) (st .store)) .written) (which (take x m o a)) nothing)
             ≡ column k n s st (map (on side) (cond t (piece x o 22 ∷ map (resumeFor x m o) (d .told)) []))
         go true p = takes side mine st x m o a p
         go false p = refl
 
-    told-is : (c : Call) → P c → AllHands (done desks n s st (map (on side) (madeOf n side (recordAt side st) (st .store) c)))
+    told-is : (c : Call) → P c
+        → AllHands (done desks n s st (map (on side) (madeOf n side (recordAt side st) (st .store) c)))
         → numbersIn (getD (surface n side (st .numbers side) (st .store) c .written) (which c) nothing)
         ≡ column k n s st (map (on side) (madeOf n side (recordAt side st) (st .store) c))
     unfolding done inBuffer hosted hostedFrame hostedTake hostedFeed feeding.feed
@@ -309,34 +340,42 @@ module _ (P : Call → Type 0) (which : Call → ℕ) (k : ℕ) (asked : (a : As
         second : Ask
         second = secondHalf (logsOf (firstIn (frameBegins n side rec (st .store) x .written))) m o
 
-        go : (t : Bool) → passed reply ≡ t → AllHands (done desks n s st (map (on side) (cond t (firstHalf x 22 ∷ second ∷ []) [])))
-            → numbersIn (getD (telling (whole.frame n side rec (st .store) x m o) .written) (which (frame x m o)) nothing)
+        go : (t : Bool) → passed reply ≡ t
+            → AllHands (done desks n s st (map (on side) (cond t (firstHalf x 22 ∷ second ∷ []) [])))
+            → numbersIn (getD (telling (whole.frame n side rec (st .store) x m o) .written)
+            (which (frame x m o)) nothing)
             ≡ column k n s st (map (on side) (cond t (firstHalf x 22 ∷ second ∷ []) []))
         go true p h = absurd ((rw (mine, zero-back _ (two-halves n side rec (st .store) x m o p .0)) at h) .0)
         go false p h =
-            ap (λ (g : Effect Answer). numbersIn (getD (telling g .written) (which (frame x m o)) nothing)) (refused-is n side rec (st .store) x m o p)
+            ap (λ (g : Effect Answer). numbersIn (getD (telling g .written) (which (frame x m o)) nothing))
+            (refused-is n side rec (st .store) x m o p)
             ∙ rw p
     told-is (take x m o a) q h = taken x m o a
     told-is (feed b m c e a) q h =
-        let rows = feedRows (gate n side rec (length (st .store)) PIECE) (rec .waiting) (sizeOf b) c e a in
+        let rows = feedRows (gate n side rec (length (st .store)) PIECE) (rec .waiting) (blockSize b) c e a in
         let asks = madeOf n side rec (st .store) (take (samplesOf b) m ROOM a) in
         let t = whole.take n side rec (st .store) (samplesOf b) m ROOM a in
         let col : List Ask → List Float = λ xs. column k n s st (map (on side) xs) in
         by-gates.along (λ (o : Effect Answer). numbersIn (getD (o .written) (which (feed b m c e a)) nothing))
-        (λ r. refusal (record { reply = Refused r; rec = rec }) (st .store)) (fedBy (rec .frame) t) (λ _. []) (col asks) rows (λ _. refl)
-        (λ _. feeds b m c e a q (rec .frame) (t .written) ∙ taken (samplesOf b) m ROOM a)
+        (λ r. refusal (record { reply = Refused r; rec = rec }) (st .store)) (fedBy (sideOf side) (rec .frame) t)
+        (λ _. []) (col asks) rows (λ _. refl)
+        (λ _. feeds b m c e a q (sideOf side) (rec .frame) (t .written) ∙ taken (samplesOf b) m ROOM a)
         ∙ sym (by-gates.along col (λ _. []) asks (λ _. []) (col asks) rows (λ _. refl) (λ _. refl))
 
-  received-is : (calls : List (On Call)) (st : State) → All P (own s calls) → AllHands (done desks n s st (expand surface madeOf n st calls))
+  received-is : (calls : List (On Call)) (st : State) → All P (own s calls)
+      → AllHands (done desks n s st (expand surface madeOf n st calls))
       → inBuffer surface which n s st calls ≡ column k n s st (expand surface madeOf n st calls)
   unfolding inBuffer expand own
   received-is [] st q h = refl
   received-is (c ∷ calls) st q h =
-      let split = hands-split (done desks n s st made) (done desks n s (ended desks n st made) rest) (rw (done-more n s made rest st) at h) in
+      let split = hands-split (done desks n s st made) (done desks n s (ended desks n st made) rest)
+      (rw (done-more n s made rest st) at h) in
       let to = one-call n st (c .side) (c .call) in
       let holds = split-own P (eqb (c .side) s) (c .call) (own s calls) q in
-      let ih = received-is calls (after surface n st c) (holds .0) (subst (λ (t : State). AllHands (done desks n s t rest)) (sym to) (split .1)) in
-      ap₂ (λ (u v : List Float). u ++ v) (go (eqb (c .side) s) refl (holds .1) (split .0)) (ih ∙ ap (λ (t : State). column k n s t rest) to)
+      let ih = received-is calls (after surface n st c) (holds .0)
+      (subst (λ (t : State). AllHands (done desks n s t rest)) (sym to) (split .1)) in
+      ap₂ (λ (u v : List Float). u ++ v) (go (eqb (c .side) s) refl (holds .1) (split .0))
+      (ih ∙ ap (λ (t : State). column k n s t rest) to)
       ∙ sym (column-more k n s made rest st)
     where
       made : List (On Ask)
@@ -346,9 +385,12 @@ module _ (P : Call → Type 0) (which : Call → ℕ) (k : ℕ) (asked : (a : As
       rest = expand surface madeOf n (after surface n st c) calls
 
       go : (t : Bool) → eqb (c .side) s ≡ t → (t ≡ true → P (c .call)) → AllHands (done desks n s st made)
-          → cond t (numbersIn (getD (surface n (c .side) (st .numbers (c .side)) (st .store) (c .call) .written) (which (c .call)) nothing)) [] ≡ column k n s st made
+          → cond t
+          (numbersIn (getD (surface n (c .side) (st .numbers (c .side)) (st .store) (c .call) .written)
+          (which (c .call)) nothing)) [] ≡ column k n s st made
       go true t q h = told-is (c .side) t st (c .call) (q refl) h
-      go false t q h = sym (none-out n s (c .side) k t (madeOf n (c .side) (recordAt (c .side) st) (st .store) (c .call)) st)
+      go false t q h =
+          sym (none-out n s (c .side) k t (madeOf n (c .side) (recordAt (c .side) st) (st .store) (c .call)) st)
 
 -- a side that makes no whole calls receives what its calls of the desk write
 module _ (k n s : ℕ) where
@@ -359,7 +401,8 @@ module _ (k n s : ℕ) where
   own-asks (c ∷ calls) st mine e =
       let to = one-call n st (c .side) (c .call) in
       let here = go (eqb (c .side) s) refl mine e in
-      ap₂ (λ (u v : List Float). u ++ v) (here .1) (own-asks calls (after surface n st c) (here .0 .0) (here .0 .1) ∙ ap (λ (t : State). column k n s t rest) to)
+      ap₂ (λ (u v : List Float). u ++ v) (here .1)
+      (own-asks calls (after surface n st c) (here .0 .0) (here .0 .1) ∙ ap (λ (t : State). column k n s t rest) to)
       ∙ sym (column-more k n s made rest st)
     where
       made : List (On Ask)
@@ -368,9 +411,12 @@ module _ (k n s : ℕ) where
       rest : List (On Ask)
       rest = expand surface madeOf n (after surface n st c) calls
 
-      go : (t : Bool) → eqb (c .side) s ≡ t → (mine : List Ask) → cond t (c .call ∷ own s calls) (own s calls) ≡ map ask mine
+      go : (t : Bool) → eqb (c .side) s ≡ t → (mine : List Ask)
+          → cond t (c .call ∷ own s calls) (own s calls) ≡ map ask mine
           → ((more : List Ask) × (own s calls ≡ map ask more))
-          × (cond t (numbersIn (getD (surface n (c .side) (st .numbers (c .side)) (st .store) (c .call) .written) k nothing)) [] ≡ column k n s st made)
+          × (cond t
+          (numbersIn (getD (surface n (c .side) (st .numbers (c .side)) (st .store) (c .call) .written) k nothing)) []
+          ≡ column k n s st made)
       go true t [] e = let none : suc (length (own s calls)) ≡ 0 = ap length e in absurd (omega arith)
       go true t (a ∷ more) e =
           let same : c .call ≡ ask a = ap (λ (xs : List Call). getD xs 0 (c .call)) e in (
@@ -381,23 +427,30 @@ module _ (k n s : ℕ) where
                 ≡ column k n s st (map (on (c .side)) (madeOf n (c .side) (recordAt (c .side) st) (st .store) r)))
                 (sym same) (sym (one-out n s (c .side) k t a st)),
           )
-      go false t mine e = ((mine, e), sym (none-out n s (c .side) k t (madeOf n (c .side) (recordAt (c .side) st) (st .store) (c .call)) st))
+      go false t mine e = (
+        (mine, e),
+        sym (none-out n s (c .side) k t (madeOf n (c .side) (recordAt (c .side) st) (st .store) (c .call)) st),
+      )
 
 pub sums-are : (n s : ℕ) (calls : List (On Call)) (st : State) (mine : List Ask) → own s calls ≡ map ask mine
     → inBuffer surface (λ _. 1) n s st calls ≡ column 1 n s st (expand surface madeOf n st calls)
 sums-are n s = own-asks 1 n s
 
-pub outputs-are : (n s : ℕ) (calls : List (On Call)) (st : State) → All NoFeed (own s calls) → AllHands (done desks n s st (expand surface madeOf n st calls))
+pub outputs-are : (n s : ℕ) (calls : List (On Call)) (st : State) → All NoFeed (own s calls)
+    → AllHands (done desks n s st (expand surface madeOf n st calls))
     → inBuffer surface (λ _. 0) n s st calls ≡ column 0 n s st (expand surface madeOf n st calls)
 outputs-are n s =
-    received-is NoFeed (λ _. 0) 0 (λ a. refl) n s (λ side mine st x m o a p. take-outputs n s side mine st x m o a p) (λ b m c e a no number ws. absurd no)
+    received-is NoFeed (λ _. 0) 0 (λ a. refl) n s (λ side mine st x m o a p. take-outputs n s side mine st x m o a p)
+    (λ b m c e a no number ws. absurd no)
 
 any-call : (cs : List Call) → All (λ _. Unit) cs
 any-call [] = tt
 any-call (c ∷ cs) = (tt, any-call cs)
 
-pub answers-are : (n s : ℕ) (calls : List (On Call)) (st : State) → AllHands (done desks n s st (expand surface madeOf n st calls))
+pub answers-are : (n s : ℕ) (calls : List (On Call)) (st : State)
+    → AllHands (done desks n s st (expand surface madeOf n st calls))
     → inBuffer surface answersAt n s st calls ≡ column 2 n s st (expand surface madeOf n st calls)
 answers-are n s calls st =
-    received-is (λ _. Unit) answersAt 2 (λ a. refl) n s (λ side mine st x m o a p. take-answers n s side mine st x m o a p)
-    (λ b m c e a _ number ws. fed-answers number ws) calls st (any-call (own s calls))
+    received-is (λ _. Unit) answersAt 2 (λ a. refl) n s
+    (λ side mine st x m o a p. take-answers n s side mine st x m o a p)
+    (λ b m c e a _ side number ws. fed-answers side number ws) calls st (any-call (own s calls))

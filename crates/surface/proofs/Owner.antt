@@ -2,7 +2,8 @@
 --     Open, stays-open    in any run, the record of a bench that was opened has the bench's number
 --     not-its-own         another bench reads it as out of range, and the gate says 2
 -- Assumes nothing.
-use Rattle.rules.proofs.Common.{ℕ, _+_, _*_, _<_, Bool, true, false, cond, not, List, [], _∷_, _≡_, refl, sym, ap, _∙_, eqb, length, Float}
+use Rattle.rules.proofs.Common.{ℕ, _+_, _*_, _<_, Bool, true, false, cond, not, List, [], _∷_, _≡_, refl, sym, ap, _∙_}
+use Rattle.rules.proofs.Common.{eqb, length, Float}
 use native.Mathlib.Omega.{arith}
 use borrow.Author.Tests.{ne-eqb, lt-ltb, eqb-true, eqb-false}
 use Rattle.frame.specs.Effect.{Effect, refusal}
@@ -37,24 +38,35 @@ module _ (n bench : ℕ) where
   unfolding hosted
   done-open st a p =
       let rec = recordIn bench (st .numbers bench) in
-      record { rec = desk n bench rec (st .store) a .answer .rec; numbers = rw p; ajar = left-open n bench rec (st .store) a p }
+      record {
+        rec = desk n bench rec (st .store) a .answer .rec;
+        numbers = rw p;
+        ajar = left-open n bench rec (st .store) a p;
+      }
 
   -- behind any call
   step : (st : State) (c : On Ask) → Open bench (st .numbers bench) → Open bench (after desks n st c .numbers bench)
   unfolding hosted
   step st c o = go (eqb (c .side) bench) refl
     where
-      own : c .side ≡ bench → (t : Bool) → passed (hosted n bench (st .numbers bench) (st .store) (c .call) .answer .reply) ≡ t
-          → Open bench (handedBack (c .side) (hosted n (c .side) (st .numbers (c .side)) (st .store) (c .call) .answer) (st .numbers (c .side)))
+      own : c .side ≡ bench → (t : Bool)
+          → passed (hosted n bench (st .numbers bench) (st .store) (c .call) .answer .reply) ≡ t
+          → Open bench (handedBack (c .side) (hosted n (c .side) (st .numbers (c .side)) (st .store) (c .call) .answer)
+          (st .numbers (c .side)))
       own e true p = rw e (done-open st (c .call) p)
       own e false p = rw (e, p) o
 
       go : (t : Bool) → eqb (c .side) bench ≡ t
-          → Open bench (cond t (handedBack (c .side) (hosted n (c .side) (st .numbers (c .side)) (st .store) (c .call) .answer) (st .numbers (c .side))) (st .numbers bench))
-      go true e = own (eqb-true (c .side) bench e) (passed (hosted n bench (st .numbers bench) (st .store) (c .call) .answer .reply)) refl
+          → Open bench
+          (cond t (handedBack (c .side) (hosted n (c .side) (st .numbers (c .side)) (st .store) (c .call) .answer)
+          (st .numbers (c .side))) (st .numbers bench))
+      go true e =
+          own (eqb-true (c .side) bench e)
+          (passed (hosted n bench (st .numbers bench) (st .store) (c .call) .answer .reply)) refl
       go false e = o
 
-  stays-open : (cs : List (On Ask)) (st : State) → Open bench (st .numbers bench) → Open bench (ended desks n st cs .numbers bench)
+  stays-open : (cs : List (On Ask)) (st : State) → Open bench (st .numbers bench)
+      → Open bench (ended desks n st cs .numbers bench)
   unfolding ended
   stays-open [] st o = o
   stays-open (c ∷ cs) st o = stays-open cs (after desks n st c) (step st c o)
@@ -69,7 +81,12 @@ not-its-own : (side bench : ℕ) (ns : List ℕ) → Open bench ns → (side ≡
 unfolding recordIn
 not-its-own side bench ns o other =
     let b = o .rec in
-    rw (o .numbers, way-back (b .hearing .way) .0, ne-eqb (b .due) 0 (o .ajar), ne-eqb (bench + 1) (side + 1) (λ e. other (omega arith)))
+    rw (
+      o .numbers,
+      way-back (b .hearing .way) .0,
+      ne-eqb (b .due) 0 (o .ajar),
+      ne-eqb (bench + 1) (side + 1) (λ e. other (omega arith)),
+    )
 
 shut : (n side len call : ℕ) → side < n → gate n side nobodys len call ≡ 2
 unfolding gate inRange
@@ -85,13 +102,16 @@ only-its-own n bench st way model p calls side inside other store c =
     let first = on bench (ask (opening way model)) in
     let then = after surface n st first in
     let ns = ended surface n then calls .numbers bench in
-    let o : Open bench ns = rw (expands n then calls) (stays-open n bench (expand surface madeOf n then calls) then (step-first (eqb bench bench) refl)) in
+    let o : Open bench ns = rw (expands n then calls)
+    (stays-open n bench (expand surface madeOf n then calls) then (step-first (eqb bench bench) refl)) in
     let l = owned .local c in
     ap (handed side ns) (owned .does n side ns store c)
     ∙ ap (λ (b : Record). handed side ns (performed n side b store l)) (not-its-own side bench ns o other)
     ∙ rw (shut n side (length store) (l .call) inside)
   where
     step-first : (t : Bool) → eqb bench bench ≡ t
-        → Open bench (cond t (handedBack bench (hosted n bench (st .numbers bench) (st .store) (opening way model) .answer) (st .numbers bench)) (st .numbers bench))
+        → Open bench
+        (cond t (handedBack bench (hosted n bench (st .numbers bench) (st .store) (opening way model) .answer)
+        (st .numbers bench)) (st .numbers bench))
     step-first true e = done-open n bench st (opening way model) p
     step-first false e = absurd (eqb-false bench bench e refl)

@@ -6,7 +6,8 @@ use Rattle.frame.specs.Effect.{Effect}
 use Rattle.frame.specs.declared.Reply.{Reply}
 use Rattle.frame.specs.Reply.{passed}
 use Rattle.desk.specs.declared.Answer.{Answer}
-use Rattle.desk.specs.Desk.{Ask, opening, call1, call2, call2Own, call3, call4, firstHalf, secondHalf, piece, resume, desk}
+use Rattle.desk.specs.Desk.{Ask, opening, call1, call2, call2Own, call3, call4, firstHalf, secondHalf, piece, resume}
+use Rattle.desk.specs.Desk.{desk}
 use Rattle.desk.specs.Surface.{numbersOf, recordIn, toldBesides, besides, hosted, handedBack}
 use Rattle.desk.proofs.Buffers.{buffersOf, buffers}
 use Rattle.desk.proofs.Kept.{refused-keeps}
@@ -45,17 +46,31 @@ pub refused-leaves : RefusedLeaves
 unfolding hosted hostedFrame hostedTake hostedFeed
 refused-leaves n side ns store (ask a) e =
     let o = desk n side (recordIn side ns) store a in
-    let unwritten : o .written ≡ [] = to-none (o .written) (buffers n side (recordIn side ns) store a ∙ ap (λ (t : Bool). cond t (buffersOf a) 0) e) in
-    (handed side (o .answer) ns e, refused-keeps n side (recordIn side ns) store a e .1, neither unwritten (nor-besides a (o .answer .reply) e))
+    let unwritten : o .written
+    ≡ [] = to-none (o .written)
+    (buffers n side (recordIn side ns) store a ∙ ap (λ (t : Bool). cond t (buffersOf a) 0) e) in (
+      handed side (o .answer) ns e,
+      refused-keeps n side (recordIn side ns) store a e .1,
+      neither unwritten (nor-besides a (o .answer .reply) e),
+    )
 refused-leaves n side ns store (frame x m out) e =
     let o = whole.frame n side (recordIn side ns) store x m out in
-    let same = frame-leaves n side (recordIn side ns) store x m out e in
-    (handed side (o .answer) ns e, ap (λ (g : Effect Answer). g .kept) same, neither (ap (λ (g : Effect Answer). g .written) same) (untold (o .answer .reply) e))
+    let same = frame-leaves n side (recordIn side ns) store x m out e in (
+      handed side (o .answer) ns e,
+      ap (λ (g : Effect Answer). g .kept) same,
+      neither (ap (λ (g : Effect Answer). g .written) same) (untold (o .answer .reply) e),
+    )
 refused-leaves n side ns store (take x m out answers) e =
     let o = whole.take n side (recordIn side ns) store x m out answers in
-    let same = take-leaves n side (recordIn side ns) store x m out answers e in
-    (handed side (o .answer) ns e, ap (λ (g : Effect Answer). g .kept) same, ap (λ (g : Effect Answer). g .written) same)
-refused-leaves n side ns store (feed b m cleaned entries answers) e =
-    let o = feeding.feed n side (recordIn side ns) store b m cleaned entries answers in
-    let same = feed-leaves n side (recordIn side ns) store b m cleaned entries answers e in
-    (handed side (o .answer) ns e, ap (λ (g : Effect Answer). g .kept) same, ap (λ (g : Effect Answer). g .written) same)
+    let same = take-leaves n side (recordIn side ns) store x m out answers e in (
+      handed side (o .answer) ns e,
+      ap (λ (g : Effect Answer). g .kept) same,
+      ap (λ (g : Effect Answer). g .written) same,
+    )
+refused-leaves n side ns store (feed b m cleaned records answers) e =
+    let o = feeding.feed n side (recordIn side ns) store b m cleaned records answers in
+    let same = feed-leaves n side (recordIn side ns) store b m cleaned records answers e in (
+      handed side (o .answer) ns e,
+      ap (λ (g : Effect Answer). g .kept) same,
+      ap (λ (g : Effect Answer). g .written) same,
+    )

@@ -4,3 +4,4 @@ pub mod Bytes
 pub mod Cutting
 pub mod Owner
 pub mod Acceptance
+pub mod Welcome

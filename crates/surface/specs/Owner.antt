@@ -1,7 +1,8 @@
 -- A record belongs to its bench: what is claimed. The proof is in proofs/Owner.antt.
 --
--- A bench is opened, and then calls come on any benches in any order. If its record is handed in for another bench, the call is refused with 2, whatever
--- is asked and whatever the store holds: the record and the store stay as they are, and nothing is written.
+-- A bench is opened, and then calls come on any benches in any order. If its record is handed in for another bench, the
+-- call is refused with 2, whatever is asked and whatever the store holds: the record and the store stay as they are,
+-- and nothing is written.
 use Rattle.rules.specs.Common.{ℕ, _<_, true, List, _∷_, _≡_, Float}
 use Rattle.frame.specs.declared.Way.{Way}
 use Rattle.frame.specs.Effect.{refusal}

@@ -7,7 +7,7 @@ ghost use lib.Ieee.{Float};
 ghost use Rattle.rules.specs.Spectrum.{binOf};
 ghost use Rattle.transforms.specs.Cosine.{cosine};
 ghost use Rattle.transforms.specs.Transform.{bin, partOf, forwardOf};
-ghost use Rattle.transforms.specs.Parts.{extended, plusTerms, sumsOf, Reached, kept, Keeps, binLane, binPart};
+ghost use Rattle.transforms.specs.Private.{extended, plusTerms, sumsOf, Reached, kept, Keeps, binLane, binPart};
 use crate::lanes::Four;
 use crate::lanes::Places;
 use crate::lanes::Run;
@@ -21,7 +21,7 @@ use crate::lanes::read;
 use crate::lanes::spot;
 use crate::lanes::times;
 
-// Term n of each sum, where n is j more than a multiple of 4.
+// Adds term n to each sum; n is j more than a multiple of 4.
 fn add_terms(s: Sums, p: Four, q: Four, j: usize) -> Sums
     requires { ⌜ j < 4 ⌝ }
     ensures { λ r. ⌜ r ≡ plusTerms binLane (λ i. i % 2) j s p q ⌝ }
@@ -38,7 +38,7 @@ fn add_terms(s: Sums, p: Four, q: Four, j: usize) -> Sums
     }
 }
 
-// Sample n.
+// Adds sample n to each sum.
 fn step(s: Sums, x: &[f32], table: &[f32; 1200], m: Places, k: usize, n: usize, j: usize) -> Sums
     requires { ⌜ (length (now x) ≡ 960) × (n < 960) × (n % 4 ≡ j) ⌝ }
     requires { ⌜ Reached (binPart (now x)) (now table) k n s m ⌝ }
@@ -50,6 +50,7 @@ fn step(s: Sums, x: &[f32], table: &[f32; 1200], m: Places, k: usize, n: usize, 
     add_terms(s, p, q, j)
 }
 
+// Adds four samples to each sum.
 fn four_steps(t: Run, x: &[f32], table: &[f32; 1200], k: usize, n: usize) -> Run
     requires { ⌜ (length (now x) ≡ 960) × (n + 4 ≤ 960) × (n % 4 ≡ 0) ⌝ }
     requires { ⌜ Reached (binPart (now x)) (now table) k n (t .s) (t .m) ⌝ }
@@ -69,7 +70,7 @@ fn four_steps(t: Run, x: &[f32], table: &[f32; 1200], k: usize, n: usize) -> Run
     Run { s: sd, m: md }
 }
 
-// The bins that k, k + 1, k + 2 and k + 3 share out.
+// The sums of the bins that belong to k, k + 1, k + 2 and k + 3.
 fn four_bins(x: &[f32], table: &[f32; 1200], k: usize) -> Sums
     requires { ⌜ (length (now x) ≡ 960) × (now table ≡ extended cosine) × (k < 124) ⌝ }
     ensures { λ r. ⌜ r ≡ sumsOf (binPart (now (x .entry)) 960) k ⌝ }
@@ -89,7 +90,7 @@ fn four_bins(x: &[f32], table: &[f32; 1200], k: usize) -> Sums
     t.s
 }
 
-// The bins of k = 0 to 123; those of 121 to 123 are there twice, which is cheaper than a shorter block.
+// The sums for k = 0 to 123. Those of 121 to 123 are computed twice, which is cheaper than a shorter block.
 pub(crate) fn all_bins(parts: &mut [f32], x: &[f32], table: &[f32; 1200])
     requires { ⌜ length (now parts) ≡ 992 ⌝ }
     requires { ⌜ (length (now x) ≡ 960) × (now table ≡ extended cosine) ⌝ }
@@ -101,7 +102,7 @@ pub(crate) fn all_bins(parts: &mut [f32], x: &[f32], table: &[f32; 1200])
     }
 }
 
-// 1 for an imaginary part.
+// 1 for an imaginary part, 0 for a real one.
 fn part_of(j: usize) -> usize
     requires { ⌜ j < 961 ⌝ }
     ensures { λ r. ⌜ (240 * r ≡ partOf j) × (r ≤ 1) ⌝ }
@@ -131,9 +132,11 @@ fn bin_spot(j: usize) -> usize
     spot(2 + r, 480 - b)
 }
 
+// Puts all sums into their places in the spectrum.
 pub(crate) fn spread(out: &mut [f32], parts: &[f32; 992])
     requires { ⌜ length (now out) ≡ 961 ⌝ }
-    ensures { λ _. ⌜ ((x : List Float) → Keeps (binPart x 960) 992 (now (parts .entry)) → now (out .exit) ≡ forwardOf x) ⌝ }
+    ensures { λ _. ⌜ ((x : List Float) → Keeps (binPart x 960) 992 (now (parts .entry))
+        → now (out .exit) ≡ forwardOf x) ⌝ }
 {
     for j in 0..961 {
         out[j] = parts[bin_spot(j)];

@@ -1,5 +1,6 @@
-// What both transforms share: eight sums, each for four neighbours, and how a product adds to them. The compiler keeps the sums in registers of four, which hangs
-// on their being stored four neighbours side by side: stored straight into the spectrum, they cost twice the time.
+// What both transforms share: eight sums, each for four neighbours, and how a product is added to them. The compiler
+// keeps the sums in registers of four only because they are stored four neighbours side by side: stored directly into
+// the spectrum, they take twice the time.
 ghost use mathlib.Core.Path.{_≡_};
 ghost use Prim.Native.Nat.{ℕ, _+_, _*_, _%_, _≤_, _<_};
 ghost use lib.ListN.{length, take};
@@ -8,7 +9,7 @@ ghost use Rattle.rules.specs.F32.{_⊕_, _⊖_, _⊗_};
 ghost use Rattle.rules.specs.Tab.{tab};
 ghost use Rattle.transforms.specs.Cosine.{cosine};
 ghost use Rattle.transforms.specs.Transform.{wave};
-ghost use Rattle.transforms.specs.Parts.{fourOf, both, plusTerm, places, extended, sumsOf, kept, Keeps};
+ghost use Rattle.transforms.specs.Private.{fourOf, both, plusTerm, places, extended, sumsOf, kept, Keeps};
 
 // A number for each of four neighbours.
 pub(crate) struct Four {
@@ -44,6 +45,7 @@ pub(crate) struct Run {
     pub m: Places,
 }
 
+// Adds four numbers to four.
 fn plus(x: Four, y: Four) -> Four
     ensures { λ r. ⌜ r ≡ both _⊕_ x y ⌝ }
 {
@@ -55,6 +57,7 @@ fn plus(x: Four, y: Four) -> Four
     }
 }
 
+// Subtracts four numbers from four.
 fn less(x: Four, y: Four) -> Four
     ensures { λ r. ⌜ r ≡ both _⊖_ x y ⌝ }
 {
@@ -66,6 +69,7 @@ fn less(x: Four, y: Four) -> Four
     }
 }
 
+// Multiplies four numbers by one.
 pub(crate) fn times(v: f32, y: Four) -> Four
     ensures { λ r. ⌜ r ≡ both _⊗_ (fourOf (λ i. v) 0) y ⌝ }
 {
@@ -77,7 +81,8 @@ pub(crate) fn times(v: f32, y: Four) -> Four
     }
 }
 
-// The next term of sums w quarters on, of the indices ahead: by the products p, and q a quarter on. The callers' w is known when it is compiled.
+// The next term of sums w quarters on, of the indices ahead: by the products p, and q a quarter on. The callers' w is
+// known when it is compiled.
 pub(crate) fn ahead(s: Four, p: Four, q: Four, w: usize) -> Four
     ensures { λ r. ⌜ r ≡ plusTerm w s p q ⌝ }
 {
@@ -111,6 +116,7 @@ pub(crate) fn back(s: Four, p: Four, q: Four, w: usize) -> Four
     plus(s, q)
 }
 
+// Sums that are all v.
 pub(crate) fn all_of(v: f32) -> Sums
     ensures { λ r. ⌜ r ≡ sumsOf (λ s k. v) 0 ⌝ }
 {
@@ -132,7 +138,7 @@ pub(crate) fn all_of(v: f32) -> Sums
     }
 }
 
-// A place that may be past the turn's end.
+// A place that may be after the end of the turn, as one within it.
 fn wrapped(m: usize) -> usize
     requires { ⌜ m < 1920 ⌝ }
     ensures { λ r. ⌜ r ≡ m % 960 ⌝ }
@@ -153,7 +159,7 @@ pub(crate) fn next(m: Places, k: usize, n: usize) -> Places
     }
 }
 
-// The cosines at the places of k * n, or a quarter on.
+// The cosines at the places of k * n, or a quarter further.
 pub(crate) fn read(table: &[f32; 1200], m: Places, k: usize, n: usize, quarter: usize) -> Four
     requires { ⌜ (now table ≡ extended cosine) × (m ≡ places k n) × (quarter ≤ 240) ⌝ }
     ensures { λ r. ⌜ r ≡ fourOf (λ i. wave i n quarter) k ⌝ }
@@ -170,7 +176,7 @@ pub(crate) fn read(table: &[f32; 1200], m: Places, k: usize, n: usize, quarter: 
     }
 }
 
-// The cosines of a turn and a quarter.
+// The cosines of one and a quarter turns.
 pub(crate) fn extend(table: &mut [f32], cosine: &[f32; 960])
     requires { ⌜ length (now table) ≡ 1200 ⌝ }
     ensures { λ _. ⌜ now (table .exit) ≡ extended (now (cosine .entry)) ⌝ }
@@ -180,7 +186,7 @@ pub(crate) fn extend(table: &mut [f32], cosine: &[f32; 960])
     }
 }
 
-// Behind the first numbers of any list, its next four.
+// Stores the next four numbers of a list.
 fn put_four(parts: &mut [f32], at: usize, v: Four)
     requires { ⌜ (length (now parts) ≡ 992) × (at + 4 ≤ 992) ⌝ }
     ensures { λ _. ⌜ ((f : ℕ → Float) → v ≡ fourOf f at
@@ -192,7 +198,7 @@ fn put_four(parts: &mut [f32], at: usize, v: Four)
     parts[at + 3] = v.d;
 }
 
-// Behind the sums of the neighbours before them, those of the next four.
+// Stores the sums of the next four neighbours.
 pub(crate) fn put(parts: &mut [f32], at: usize, s: Sums)
     requires { ⌜ (length (now parts) ≡ 992) × (at + 32 ≤ 992) ⌝ }
     ensures { λ _. ⌜ ((f : ℕ → ℕ → Float) (g : ℕ) → at ≡ 32 * g → s ≡ sumsOf f (4 * g)

@@ -6,7 +6,8 @@ ghost use mathlib.Core.List.{List};
 ghost use lib.Ieee.{Float};
 ghost use Rattle.transforms.specs.Cosine.{cosine};
 ghost use Rattle.transforms.specs.Transform.{sample, inverseOf};
-ghost use Rattle.transforms.specs.Parts.{extended, plusTerms, sumsOf, Reached, kept, Keeps, sampleLane, samplePart, wholePart};
+ghost use Rattle.transforms.specs.Private.{extended, plusTerms, sumsOf, Reached, kept, Keeps, sampleLane};
+ghost use Rattle.transforms.specs.Private.{samplePart, wholePart};
 use crate::lanes::Four;
 use crate::lanes::Places;
 use crate::lanes::Run;
@@ -20,7 +21,8 @@ use crate::lanes::read;
 use crate::lanes::spot;
 use crate::lanes::times;
 
-// The real part, at r = 0, or the imaginary part, at r = 1, of a bin that is j more than a multiple of 4.
+// Adds the real part (r = 0) or the imaginary part (r = 1) of a bin to each sum; the bin is j more than a multiple of
+// 4.
 fn add_terms(s: Sums, p: Four, q: Four, j: usize, r: usize) -> Sums
     requires { ⌜ (j < 4) × (r < 2) ⌝ }
     ensures { λ t. ⌜ t ≡ plusTerms sampleLane (λ i. r) j s p q ⌝ }
@@ -37,7 +39,7 @@ fn add_terms(s: Sums, p: Four, q: Four, j: usize, r: usize) -> Sums
     }
 }
 
-// Bin k, which is taken twice.
+// Adds bin k, twice, to each sum.
 fn step(s: Sums, x: &[f32], table: &[f32; 1200], m: Places, n: usize, k: usize, j: usize) -> Sums
     requires { ⌜ (length (now x) ≡ 961) × (0 < k) × (k < 480) × (k % 4 ≡ j) ⌝ }
     requires { ⌜ Reached (samplePart (now x)) (now table) n k s m ⌝ }
@@ -52,7 +54,7 @@ fn step(s: Sums, x: &[f32], table: &[f32; 1200], m: Places, n: usize, k: usize, 
     add_terms(h, times(w, p), times(w, q), j, 1)
 }
 
-// Bin 480, whose real part is taken once.
+// Adds the real part of bin 480, once, to each sum.
 fn last_step(s: Sums, x: &[f32], table: &[f32; 1200], m: Places, n: usize) -> Sums
     requires { ⌜ length (now x) ≡ 961 ⌝ }
     requires { ⌜ Reached (samplePart (now x)) (now table) n 480 s m ⌝ }
@@ -64,6 +66,7 @@ fn last_step(s: Sums, x: &[f32], table: &[f32; 1200], m: Places, n: usize) -> Su
     add_terms(s, p, q, 0, 0)
 }
 
+// Adds four bins to each sum.
 fn four_steps(t: Run, x: &[f32], table: &[f32; 1200], n: usize, k: usize) -> Run
     requires { ⌜ (length (now x) ≡ 961) × (k + 4 ≤ 480) × (k % 4 ≡ 1) ⌝ }
     requires { ⌜ Reached (samplePart (now x)) (now table) n k (t .s) (t .m) ⌝ }
@@ -83,7 +86,7 @@ fn four_steps(t: Run, x: &[f32], table: &[f32; 1200], n: usize, k: usize) -> Run
     Run { s: sd, m: md }
 }
 
-// Bins 477 to 480.
+// Adds bins 477 to 480.
 fn last_steps(t: Run, x: &[f32], table: &[f32; 1200], n: usize) -> Sums
     requires { ⌜ length (now x) ≡ 961 ⌝ }
     requires { ⌜ Reached (samplePart (now x)) (now table) n 477 (t .s) (t .m) ⌝ }
@@ -98,7 +101,7 @@ fn last_steps(t: Run, x: &[f32], table: &[f32; 1200], n: usize) -> Sums
     last_step(sc, x, table, mc, n)
 }
 
-// The samples that n, n + 1, n + 2 and n + 3 share out.
+// The sums of the samples that belong to n, n + 1, n + 2 and n + 3.
 fn four_samples(x: &[f32], table: &[f32; 1200], n: usize) -> Sums
     requires { ⌜ (length (now x) ≡ 961) × (now table ≡ extended cosine) × (n < 124) ⌝ }
     ensures { λ r. ⌜ r ≡ sumsOf (wholePart (now (x .entry))) n ⌝ }
@@ -118,6 +121,7 @@ fn four_samples(x: &[f32], table: &[f32; 1200], n: usize) -> Sums
     last_steps(t, x, table, n)
 }
 
+// All sums.
 pub(crate) fn all_samples(parts: &mut [f32], x: &[f32], table: &[f32; 1200])
     requires { ⌜ length (now parts) ≡ 992 ⌝ }
     requires { ⌜ (length (now x) ≡ 961) × (now table ≡ extended cosine) ⌝ }
@@ -158,9 +162,11 @@ fn sample_spot(n: usize) -> usize
     spot(1, 960 - n)
 }
 
+// Puts all sums into their places.
 pub(crate) fn spread(out: &mut [f32], parts: &[f32; 992])
     requires { ⌜ length (now out) ≡ 960 ⌝ }
-    ensures { λ _. ⌜ ((x : List Float) → Keeps (wholePart x) 992 (now (parts .entry)) → now (out .exit) ≡ inverseOf x) ⌝ }
+    ensures { λ _. ⌜ ((x : List Float) → Keeps (wholePart x) 992 (now (parts .entry))
+        → now (out .exit) ≡ inverseOf x) ⌝ }
 {
     for n in 0..960 {
         out[n] = parts[sample_spot(n)];

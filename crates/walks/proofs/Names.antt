@@ -14,9 +14,11 @@ pub use prog.Model.{Model}
 pub use ghost.Atoms.{Atoms}
 pub use contract.Lifetimes.{Lfts, Shares}
 pub use contract.Running.{Running, GhostRules, givenOf}
-pub use types.Kit.{Given, Item, ‵, raw, _⊛_, ⋆, mean, _$_, _∵_, !, qed, by, move, keep, drop, group, use1, use2, split, join, fsplit, fjoin, feqL, suffices, frame, done}
+pub use types.Kit.{Given, Item, ‵, raw, _⊛_, ⋆, mean, _$_, _∵_, !, qed, by, move, keep, drop, group, use1, use2, split}
+pub use types.Kit.{join, fsplit, fjoin, feqL, suffices, frame, done}
 pub use types.Part.{agg, whole, sub, look-in}
-pub use types.Run.{look, init, stop, hop, fld, from, addr, of-opd, and-then, no-more, returns, enter, alloc1, alloc0, params1, pass1, pass0, free0}
+pub use types.Run.{look, init, stop, hop, fld, from, addr, of-opd, and-then, no-more, returns, enter, alloc1, alloc0}
+pub use types.Run.{params1, pass1, pass0, free0}
 pub use denote.RattleType.{RattleType}
 pub use denote.Laws.{Is}
 pub use denote.Plain.{uint-vals, uint-lawful}

@@ -1,5 +1,6 @@
 -- The head that the box writes reads back. Assumes nothing.
-use Rattle.rules.proofs.Common.{ℕ, _+_, _*_, _/_, _%_, _^_, _≤_, _<_, List, _++_, _≡_, refl, ap, _∙_, length, drop, length-drop, length-append}
+use Rattle.rules.proofs.Common.{ℕ, _+_, _*_, _/_, _%_, _^_, _≤_, _<_, List, _++_, _≡_, refl, ap, _∙_, length, drop}
+use Rattle.rules.proofs.Common.{length-drop, length-append}
 use native.Mathlib.Omega.{arith}
 use borrow.Author.Tests.{le-ltb}
 use Rattle.sheet.specs.Sheet.{four}
@@ -12,7 +13,8 @@ use Rattle.wav.specs.declared.chunks.Head.{Head}
 use Rattle.wav.specs.declared.chunks.Step.the-variants.{Audio, On}
 
 -- a number of 32 bits is its four bytes
-four-bytes : (n : ℕ) → n < 2 ^ 32 → n % 256 + 256 * (n / 256 % 256) + 65536 * (n / 65536 % 256) + 16777216 * (n / 16777216 % 256) ≡ n
+four-bytes : (n : ℕ) → n < 2 ^ 32
+    → n % 256 + 256 * (n / 256 % 256) + 65536 * (n / 65536 % 256) + 16777216 * (n / 16777216 % 256) ≡ n
 four-bytes n h = omega (arith, digits n)
 
 module _ (rate size behind : ℕ) (rest : List ℕ) (hr : rate < 2 ^ 32) (hs : size < 2 ^ 32) where
@@ -46,11 +48,16 @@ module _ (rate size behind : ℕ) (rest : List ℕ) (hr : rate < 2 ^ 32) (hs : s
         four-bytes rate hr,
       )
 
-  audio-read : stepOf (drop 36 file) described ≡ Audio (record { place = 44; format = 16; channels = 1; rate = rate; size = size })
+  audio-read : stepOf (drop 36 file) described
+      ≡ Audio (record { place = 44; format = 16; channels = 1; rate = rate; size = size })
   unfolding stepOf chunkOf fromFour headOf four
   audio-read = rw (le-ltb (length (drop 36 file)) 8 (room 36 (omega arith)), four-bytes size hs)
 
 pub head-back : HeadBack
 unfolding follow
 head-back rate size behind rest hr hs =
-    rw (front-read rate size behind rest hr hs, format-read rate size behind rest hr hs, audio-read rate size behind rest hr hs)
+    rw (
+      front-read rate size behind rest hr hs,
+      format-read rate size behind rest hr hs,
+      audio-read rate size behind rest hr hs,
+    )

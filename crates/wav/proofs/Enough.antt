@@ -1,5 +1,6 @@
 -- The first 34 bytes from a place on tell all that a step of a reading asks. Assumes nothing.
-use Rattle.rules.proofs.Common.{ℕ, _+_, _≤_, Bool, true, false, List, _≡_, refl, sym, ap, _∙_, ltb, length, getD, take, drop, length-take}
+use Rattle.rules.proofs.Common.{ℕ, _+_, _≤_, Bool, true, false, List, _≡_, refl, sym, ap, _∙_, ltb, length, getD, take}
+use Rattle.rules.proofs.Common.{drop, length-take}
 use Prim.Native.Nat.{min}
 use native.Mathlib.Omega.{arith}
 use borrow.Author.Tests.{le-ltb, ltb-true, ltb-false}
@@ -20,7 +21,12 @@ module _ (s : List ℕ) where
 
   four-front : (k : ℕ) → k + 4 ≤ 34 → fromFour (drop k front) ≡ fromFour (drop k s)
   four-front k h =
-      four-at front k ∙ rw (byte k (omega arith), byte (k + 1) (omega arith), byte (k + 2) (omega arith), byte (k + 3) (omega arith)) (sym (four-at s k))
+      four-at front k ∙ rw (
+        byte k (omega arith),
+        byte (k + 1) (omega arith),
+        byte (k + 2) (omega arith),
+        byte (k + 3) (omega arith),
+      ) (sym (four-at s k))
 
   two-front : (k : ℕ) → k + 2 ≤ 34 → fromTwo (drop k front) ≡ fromTwo (drop k s)
   two-front k h = two-at front k ∙ rw (byte k (omega arith), byte (k + 1) (omega arith)) (sym (two-at s k))
@@ -40,11 +46,24 @@ module _ (s : List ℕ) where
     format-same : (size : ℕ) (h : Head) → formatted front size h ≡ formatted s size h
     unfolding formatted formatFaults
     format-same size h =
-        rw (tag-same size, two-front 22 (omega arith), two-front 10 (omega arith), two-front 20 (omega arith), four-front 12 (omega arith), longer (8 + min size 26) (omega arith))
+        rw (
+          tag-same size,
+          two-front 22 (omega arith),
+          two-front 10 (omega arith),
+          two-front 20 (omega arith),
+          four-front 12 (omega arith),
+          longer (8 + min size 26) (omega arith),
+        )
 
     chunk-same : (h : Head) → chunkOf front h ≡ chunkOf s h
     unfolding chunkOf
-    chunk-same h = rw (four-front 0 (omega arith), four-front 4 (omega arith), longer 8 (omega arith), format-same (fromFour (drop 4 s)) h)
+    chunk-same h =
+        rw (
+          four-front 0 (omega arith),
+          four-front 4 (omega arith),
+          longer 8 (omega arith),
+          format-same (fromFour (drop 4 s)) h,
+        )
 
     step-same : (h : Head) → stepOf front h ≡ stepOf s h
     unfolding stepOf

@@ -1,5 +1,6 @@
 -- A reading moves on. Assumes nothing.
-use Rattle.rules.proofs.Common.{ℕ, _+_, _%_, _≤_, Bool, true, false, cond, not, _&&_, _||_, List, [], _∷_, _≡_, refl, ap, _∙_, eqb, ltb, length, drop}
+use Rattle.rules.proofs.Common.{ℕ, _+_, _%_, _≤_, Bool, true, false, cond, not, _&&_, _||_, List, [], _∷_, _≡_, refl}
+use Rattle.rules.proofs.Common.{ap, _∙_, eqb, ltb, length, drop}
 use native.Mathlib.Omega.{arith}
 use borrow.Author.Tests.{eqb-true}
 use Rattle.rules.proofs.Refusals.{by-each}
@@ -26,7 +27,8 @@ choose false x y = y
 format-further : (s : List ℕ) (size : ℕ) (h : Head) → From (h .place + 8) (formatted s size h)
 unfolding formatted formatFaults
 format-further s size h =
-    by-each Refused _ (From (h .place + 8)) (formatFaults s size) (stopped, (stopped, (stopped, (stopped, (stopped, tt))))) (on (omega arith))
+    by-each Refused _ (From (h .place + 8)) (formatFaults s size)
+    (stopped, (stopped, (stopped, (stopped, (stopped, tt))))) (on (omega arith))
 
 chunk-further : (s : List ℕ) (h : Head) → From (h .place + 8) (chunkOf s h)
 unfolding chunkOf
@@ -37,7 +39,9 @@ chunk-further s h =
 
 front-further : (s : List ℕ) (h : Head) → h .place ≡ 0 → From (h .place + 8) (frontOf s)
 unfolding frontOf
-front-further s h e = choose (ltb (length s) 12 || (not (eqb (fromFour s) RIFF) || not (eqb (fromFour (drop 8 s)) WAVE))) stopped (on (omega arith))
+front-further s h e =
+    choose (ltb (length s) 12 || (not (eqb (fromFour s) RIFF) || not (eqb (fromFour (drop 8 s)) WAVE))) stopped
+    (on (omega arith))
 
 step-further : (s : List ℕ) (h : Head) → From (h .place + 8) (stepOf s h)
 unfolding stepOf

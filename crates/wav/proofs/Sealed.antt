@@ -1,5 +1,7 @@
--- What is written reads back as the seal that it was, and with the other side's letters in their place as none. Assumes nothing.
-use Rattle.rules.proofs.Common.{ℕ, _+_, _*_, _/_, _%_, _^_, _≤_, _<_, Bool, true, false, cond, List, [], _∷_, _++_, _≡_, refl, sym}
+-- What is written reads back as the seal that it was, and with the other side's letters in their place as none.
+-- Assumes nothing.
+use Rattle.rules.proofs.Common.{ℕ, _+_, _*_, _/_, _%_, _^_, _≤_, _<_, Bool, true, false, cond, List, [], _∷_, _++_, _≡_}
+use Rattle.rules.proofs.Common.{refl, sym}
 use Rattle.rules.proofs.Common.{ap, _∙_, eqb, ltb, length, take, drop, length-append}
 use mathlib.Core.List.{append-assoc}
 use native.Mathlib.Omega.{arith}
@@ -19,8 +21,10 @@ use Rattle.sides.specs.declared.Meant.the-variants.{Means, Nothing}
 use Rattle.sheet.specs.Sheet.{four}
 use Rattle.sheet.specs.End.{fromFour}
 use Rattle.sheet.proofs.Digits.{digits, four-read}
-use Rattle.wav.specs.Seal.{TUPB, TUPP, wordOf, said, sealOf, name, long, sealFaults, laidFor, sealWritten, sealRead, sealSummary}
-use Rattle.wav.specs.Laws.{Holds, SealBack, OneSeal, otherSide, renamed, OtherName, SealCalls, otherWord, OtherWord}
+use Rattle.wav.specs.Seal.{TUPB, TUPP, wordOf, said, sealOf, name, long, sealFaults, laidFor, sealWritten}
+use Rattle.wav.specs.Seal.{sealRead, sealSummary}
+use Rattle.wav.specs.Laws.{SealFits, SealBack, OneSeal, otherSide, renamed, OtherName, SealCalls, otherWord}
+use Rattle.wav.specs.Laws.{OtherWord}
 use Rattle.wav.specs.declared.seal.Word.{Word}
 use Rattle.wav.specs.declared.seal.Word.the-variants.{Begins, Ends}
 use Rattle.wav.specs.declared.seal.Seal.{Seal}
@@ -75,10 +79,16 @@ module _ (w : Word) (x : Seal) (own : ℕ) (rest : List ℕ) where
   unfolding said four
   name-read = whole (lettersOf (x .side)) (drop 8 sealed) (letters-small (x .side))
 
-  module _ (holds : Holds x) where
+  module _ (holds : SealFits x) where
     long-read : long sealed ≡ x .long
     unfolding said four
-    long-read = omega (arith, holds .long, four-read (x .long) (drop 12 sealed), four-read (x .long / 4294967296) (drop 16 sealed))
+    long-read =
+        omega (
+          arith,
+          holds .long,
+          four-read (x .long) (drop 12 sealed),
+          four-read (x .long / 4294967296) (drop 16 sealed),
+        )
 
     short-read : fromFour (drop 16 sealed) ≡ x .short
     unfolding said four
@@ -97,11 +107,14 @@ module _ (w : Word) (x : Seal) (rest : List ℕ) where
   written = sealed w x own rest
 
   noted : fromFour (drop 20 written) ≡ crc32 0 (take 20 written)
-  noted = last (said w x) own rest (length-said w x) room ∙ ap (crc32 0) (sym (first (said w x) own rest (length-said w x) room))
+  noted =
+      last (said w x) own rest (length-said w x) room
+      ∙ ap (crc32 0) (sym (first (said w x) own rest (length-said w x) room))
 
-  read-back : Holds x → sealRead w written ≡ Whole x
+  read-back : SealFits x → sealRead w written ≡ Whole x
   read-back holds =
-      sym (at-whole w written (enough (said w x) own rest (length-said w x) room) refl refl (word-read w x own rest) refl refl noted refl refl refl refl refl
+      sym (at-whole w written (enough (said w x) own rest (length-said w x) room) refl refl
+      (word-read w x own rest) refl refl noted refl refl refl refl refl
       (sym (ap ofLetters (name-read w x own rest) ∙ letters-back (x .side))))
       ∙ rw (long-read w x own rest holds, short-read w x own rest holds)
 
@@ -117,21 +130,27 @@ one-seal w x y rest rest′ hx hy e =
 pub other-word : OtherWord
 unfolding sealOf
 other-word Begins x rest =
-    sym (at-51′ Ends (written Begins x rest) (enough (said Begins x) (own Begins x rest) rest (length-said Begins x) (room Begins x rest)) refl refl
-    (λ e. absurd (let z : _≡_ {A = ℕ} TUPB TUPP = sym (word-read Begins x (own Begins x rest) rest) ∙ e in omega arith)))
+    sym (at-51′ Ends (written Begins x rest)
+    (enough (said Begins x) (own Begins x rest) rest (length-said Begins x) (room Begins x rest)) refl refl
+    (λ e.
+    absurd (let z : _≡_ {A = ℕ} TUPB TUPP = sym (word-read Begins x (own Begins x rest) rest) ∙ e in omega arith)))
 other-word Ends x rest =
-    sym (at-51′ Begins (written Ends x rest) (enough (said Ends x) (own Ends x rest) rest (length-said Ends x) (room Ends x rest)) refl refl
+    sym (at-51′ Begins (written Ends x rest)
+    (enough (said Ends x) (own Ends x rest) rest (length-said Ends x) (room Ends x rest)) refl refl
     (λ e. absurd (let z : _≡_ {A = ℕ} TUPP TUPB = sym (word-read Ends x (own Ends x rest) rest) ∙ e in omega arith)))
 
 -- ---- a host's calls
 
-module _ (w : Word) (side l s : ℕ) (out after rest numbers : List ℕ) (hl : l < 2 ^ 64) (hs : s < 2 ^ 32) (three : length numbers ≡ 3) where
-  by-side : (m : Meant) → ofNumber side ≡ m → (0 leaving after) ≡ laidFor w m l s out → sealSummary w (after ++ rest) numbers ≡ (0 leaving side ∷ l ∷ s ∷ [])
+module _ (w : Word) (side l s : ℕ) (out after rest numbers : List ℕ) (hl : l < 2 ^ 64) (hs : s < 2 ^ 32)
+    (three : length numbers ≡ 3) where
+  by-side : (m : Meant) → ofNumber side ≡ m → (0 leaving after) ≡ laidFor w m l s out
+      → sealSummary w (after ++ rest) numbers ≡ (0 leaving side ∷ l ∷ s ∷ [])
   unfolding sealSummary
   by-side (Means known) e a =
       let x : Seal = record { side = known; long = l; short = s } in
       let bytes : after ≡ sealOf w x = ap (λ (p : ℕ × List ℕ). p .1) a in
-      let back : sealRead w (after ++ rest) ≡ Whole x = ap (λ (b : List ℕ). sealRead w (b ++ rest)) bytes ∙ seal-back w x rest (record { long = hl; short = hs }) in
+      let back : sealRead w (after ++ rest) ≡ Whole x =
+      ap (λ (b : List ℕ). sealRead w (b ++ rest)) bytes ∙ seal-back w x rest (record { long = hl; short = hs }) in
       rw (eq-eqb (length numbers) 3 three, back, number-only side known e)
   by-side Nothing e a = absurd (let z : _≡_ {A = ℕ} 0 53 = ap (λ (p : ℕ × List ℕ). p .0) a in omega arith)
 
@@ -139,7 +158,8 @@ pub seal-calls : SealCalls
 unfolding sealWritten
 seal-calls w side l s out after rest numbers hl hs three e = by-room (eqb (length out) 24) refl
   where
-    by-room : (t : Bool) → eqb (length out) 24 ≡ t → sealSummary w (after ++ rest) numbers ≡ (0 leaving side ∷ l ∷ s ∷ [])
+    by-room : (t : Bool) → eqb (length out) 24 ≡ t
+        → sealSummary w (after ++ rest) numbers ≡ (0 leaving side ∷ l ∷ s ∷ [])
     by-room true t = by-side w side l s out after rest numbers hl hs three (ofNumber side) refl (rw t at e)
     by-room false t = absurd (let z : _≡_ {A = ℕ} 0 5 = ap (λ (p : ℕ × List ℕ). p .0) (rw t at e) in omega arith)
 
@@ -174,16 +194,19 @@ module _ (w : Word) (x : Seal) where
   abbrev tail : List ℕ
   tail = four (x .long) ++ (four (x .long / 4294967296) ++ four (x .short))
 
-  parted : (side : Side) → said w (record { side = side; long = x .long; short = x .short }) ≡ (four (wordOf w) ++ four (lettersOf side)) ++ tail
+  parted : (side : Side) → said w (record { side = side; long = x .long; short = x .short })
+      ≡ (four (wordOf w) ++ four (lettersOf side)) ++ tail
   unfolding said four
   parted side = refl
 
   unlike : crc32 0 (said w x) ≡ crc32 0 (said w other) → ⊥
   unlike e =
-      let split : crc32 0 ((four (wordOf w) ++ four (lettersOf (x .side))) ++ tail) ≡ crc32 0 ((four (wordOf w) ++ four (lettersOf (otherSide (x .side)))) ++ tail) =
+      let split : crc32 0 ((four (wordOf w) ++ four (lettersOf (x .side))) ++ tail)
+      ≡ crc32 0 ((four (wordOf w) ++ four (lettersOf (otherSide (x .side)))) ++ tail) =
       ap (crc32 0) (sym (parted (x .side))) ∙ e ∙ ap (crc32 0) (parted (otherSide (x .side))) in
       unlike-sums w (x .side) (sym (sum-is w (x .side))
-      ∙ same-end 0 (four (wordOf w) ++ four (lettersOf (x .side))) (four (wordOf w) ++ four (lettersOf (otherSide (x .side)))) tail (omega arith) split
+      ∙ same-end 0 (four (wordOf w) ++ four (lettersOf (x .side)))
+      (four (wordOf w) ++ four (lettersOf (otherSide (x .side)))) tail (omega arith) split
       ∙ sum-is w (otherSide (x .side)))
 
 module _ (w : Word) (x : Seal) (rest : List ℕ) where
@@ -197,11 +220,14 @@ module _ (w : Word) (x : Seal) (rest : List ℕ) where
   not-noted : fromFour (drop 20 exchanged) ≡ crc32 0 (take 20 exchanged) → ⊥
   not-noted e =
       unlike w x
-      (sym (last (said w (other w x)) (own w x rest) rest (length-said w (other w x)) (room w x rest)) ∙ e ∙ ap (crc32 0) (first (said w (other w x)) (own w x rest) rest (length-said w (other w x)) (room w x rest)))
+      (sym (last (said w (other w x)) (own w x rest) rest (length-said w (other w x)) (room w x rest)) ∙ e
+      ∙ ap (crc32 0) (first (said w (other w x)) (own w x rest) rest (length-said w (other w x)) (room w x rest)))
 
   refused : sealRead w exchanged ≡ Refused 52
   refused =
-      sym (at-52 w exchanged (enough (said w (other w x)) (own w x rest) rest (length-said w (other w x)) (room w x rest)) refl refl (word-read w (other w x) (own w x rest) rest) refl refl not-noted)
+      sym
+      (at-52 w exchanged (enough (said w (other w x)) (own w x rest) rest (length-said w (other w x)) (room w x rest))
+      refl refl (word-read w (other w x) (own w x rest) rest) refl refl not-noted)
 
 pub other-name : OtherName
 other-name w x rest holds = ap (sealRead w) (is-exchanged w x rest) ∙ refused w x rest

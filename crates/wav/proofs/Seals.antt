@@ -1,5 +1,6 @@
 -- A seal laid into a buffer, and each answer of its writer and its reader. Assumes nothing.
-use Rattle.rules.proofs.Common.{ℕ, _+_, _-_, _*_, _≤_, _<_, List, [], _∷_, _++_, _≡_, refl, sym, ap, _∙_, length, take, drop, length-drop, length-append}
+use Rattle.rules.proofs.Common.{ℕ, _+_, _-_, _*_, _≤_, _<_, List, [], _∷_, _++_, _≡_, refl, sym, ap, _∙_, length, take}
+use Rattle.rules.proofs.Common.{drop, length-drop, length-append}
 use mathlib.Core.List.{append-nil}
 use native.Mathlib.Omega.{arith}
 use borrow.Author.Tests.{lt-ltb, le-ltb, eq-eqb, ne-eqb}
@@ -40,12 +41,38 @@ module _ (w : Word) (s : List ℕ) where
 
         pub at-53 : Nothing ≡ m → Refused 53 ≡ sealRead w s
         unfolding sealRead sealFaults
-        at-53 e = rw (le-ltb (length s) 24 enough, ← rs, ← ks, eq-eqb r k named, ← ns, ← os, eq-eqb noted own whole, told, ← e)
+        at-53 e =
+            rw (
+              le-ltb (length s) 24 enough,
+              ← rs,
+              ← ks,
+              eq-eqb r k named,
+              ← ns,
+              ← os,
+              eq-eqb noted own whole,
+              told,
+              ← e,
+            )
 
-        pub at-whole : {side : Side} {low high sum : ℕ} → low ≡ fromFour (drop 8 s) → high ≡ fromFour (drop 12 s) → sum ≡ fromFour (drop 16 s) → Means side ≡ m
+        pub at-whole : {side : Side} {low high sum : ℕ} → low ≡ fromFour (drop 8 s) → high ≡ fromFour (drop 12 s)
+            → sum ≡ fromFour (drop 16 s) → Means side ≡ m
             → Whole (record { side = side; long = low + 4294967296 * high; short = sum }) ≡ sealRead w s
         unfolding sealRead sealFaults
-        at-whole ls hs ss e = rw (le-ltb (length s) 24 enough, ← rs, ← ks, eq-eqb r k named, ← ns, ← os, eq-eqb noted own whole, told, ← e, ls, hs, ss)
+        at-whole ls hs ss e =
+            rw (
+              le-ltb (length s) 24 enough,
+              ← rs,
+              ← ks,
+              eq-eqb r k named,
+              ← ns,
+              ← os,
+              eq-eqb noted own whole,
+              told,
+              ← e,
+              ls,
+              hs,
+              ss,
+            )
 
 -- ---- written
 
@@ -57,13 +84,24 @@ unfolding said four
 length-said w x = refl
 
 -- what is said, and its checksum after it
-pub laid : (w : Word) (x : Seal) (out : List ℕ) → length out ≡ 24 → {front own : List ℕ} {sum : ℕ} → front ≡ said w x → own ≡ four sum → sum ≡ crc32 0 (said w x)
-    → take 20 (front ++ drop 20 out) ++ (own ++ drop (length (front ++ drop 20 out) - 20) (drop 20 (front ++ drop 20 out))) ≡ sealOf w x
+pub laid : (w : Word) (x : Seal) (out : List ℕ) → length out ≡ 24 → {front own : List ℕ} {sum : ℕ} → front ≡ said w x
+    → own ≡ four sum → sum ≡ crc32 0 (said w x)
+    → take 20 (front ++ drop 20 out)
+    ++ (own ++ drop (length (front ++ drop 20 out) - 20) (drop 20 (front ++ drop 20 out))) ≡ sealOf w x
 unfolding sealOf
 laid w x out size fs os ss =
     let long : length (said w x ++ drop 20 out) ≡ 24 = simp (length-append, length-said, length-drop) (omega arith) in
     let none : drop 4 (drop 20 out) ≡ [] = drop-of-length-le (drop 20 out) {i = 4} (simp length-drop (omega arith)) in
-    rw (fs, os, ss, long, take-at (said w x) (drop 20 out) 20 (length-said w x), drop-at (said w x) (drop 20 out) 20 (length-said w x), none, append-nil (four (crc32 0 (said w x))))
+    rw (
+      fs,
+      os,
+      ss,
+      long,
+      take-at (said w x) (drop 20 out) 20 (length-said w x),
+      drop-at (said w x) (drop 20 out) 20 (length-said w x),
+      none,
+      append-nil (four (crc32 0 (said w x))),
+    )
 
 module _ (w : Word) (side long short : ℕ) (out : List ℕ) where
   pub write-5 : (length out ≡ 24 → ⊥) → (5 leaving out) ≡ sealWritten w side long short out
@@ -75,7 +113,8 @@ module _ (w : Word) (side long short : ℕ) (out : List ℕ) where
     unfolding sealWritten
     write-53 e = rw (eq-eqb (length out) 24 room, ← ms, ← e)
 
-    pub write-done : {known : Side} {after : List ℕ} → Means known ≡ m → after ≡ sealOf w (record { side = known; long = long; short = short })
+    pub write-done : {known : Side} {after : List ℕ} → Means known ≡ m
+        → after ≡ sealOf w (record { side = known; long = long; short = short })
         → (0 leaving after) ≡ sealWritten w side long short out
     unfolding sealWritten
     write-done e a = rw (eq-eqb (length out) 24 room, ← ms, ← e) (leaves a)

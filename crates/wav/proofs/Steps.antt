@@ -3,7 +3,8 @@ use Rattle.rules.proofs.Common.{ℕ, _+_, _*_, _/_, _≤_, _<_, List, _≡_, le
 use Prim.Native.Nat.{min}
 use borrow.Author.Tests.{lt-ltb, le-ltb, eq-eqb, ne-eqb}
 use Rattle.sheet.specs.End.{fromFour}
-use Rattle.wav.specs.Chunks.{RIFF, WAVE, FMT, DATA, fromTwo, frontOf, pastChunk, tagIn, formatOf, formatIn, channelsIn, formatFaults, formatted, chunkOf}
+use Rattle.wav.specs.Chunks.{RIFF, WAVE, FMT, DATA, fromTwo, frontOf, pastChunk, tagIn, formatOf, formatIn}
+use Rattle.wav.specs.Chunks.{channelsIn, formatFaults, formatted, chunkOf}
 use Rattle.wav.specs.declared.chunks.Head.{Head}
 use Rattle.wav.specs.declared.chunks.Step.the-variants.{Audio, On, Refused}
 
@@ -48,24 +49,68 @@ module _ (s : List ℕ) (size : ℕ) (h : Head) {w : ℕ} (ws : w ≡ min size 2
       module _ {n : ℕ} (known : f ≡ 0 → ⊥) (ns : n ≡ channelsIn s) where
         pub format-46 : n ≡ 0 → Refused 46 ≡ formatted s size h
         unfolding formatted formatFaults
-        format-46 none = rw (← ws, le-ltb (length s) (8 + w) long, le-ltb size 16 many, ← fs, ne-eqb f 0 known, ← ns, eq-eqb n 0 none)
+        format-46 none =
+            rw (
+              ← ws,
+              le-ltb (length s) (8 + w) long,
+              le-ltb size 16 many,
+              ← fs,
+              ne-eqb f 0 known,
+              ← ns,
+              eq-eqb n 0 none,
+            )
 
         module _ (some : n ≡ 0 → ⊥) where
           pub format-46′ : 64 < n → Refused 46 ≡ formatted s size h
           unfolding formatted formatFaults
-          format-46′ more = rw (← ws, le-ltb (length s) (8 + w) long, le-ltb size 16 many, ← fs, ne-eqb f 0 known, ← ns, ne-eqb n 0 some, lt-ltb 64 n more)
+          format-46′ more =
+              rw (
+                ← ws,
+                le-ltb (length s) (8 + w) long,
+                le-ltb size 16 many,
+                ← fs,
+                ne-eqb f 0 known,
+                ← ns,
+                ne-eqb n 0 some,
+                lt-ltb 64 n more,
+              )
 
           module _ {b : ℕ} (few : n ≤ 64) (bs : b ≡ fromTwo (drop 20 s)) where
             pub format-47 : (b ≡ n * (f / 8) → ⊥) → Refused 47 ≡ formatted s size h
             unfolding formatted formatFaults
             format-47 other =
-                rw (← ws, le-ltb (length s) (8 + w) long, le-ltb size 16 many, ← fs, ne-eqb f 0 known, ← ns, ne-eqb n 0 some, le-ltb 64 n few, ← bs, ne-eqb b (n * (f / 8)) other)
+                rw (
+                  ← ws,
+                  le-ltb (length s) (8 + w) long,
+                  le-ltb size 16 many,
+                  ← fs,
+                  ne-eqb f 0 known,
+                  ← ns,
+                  ne-eqb n 0 some,
+                  le-ltb 64 n few,
+                  ← bs,
+                  ne-eqb b (n * (f / 8)) other,
+                )
 
             pub format-on : b ≡ n * (f / 8) → {rate : ℕ} {p : Head} → rate ≡ fromFour (drop 12 s)
-                → p ≡ pastChunk size (record { place = h .place; format = f; channels = n; rate = rate; size = 0 }) → On p ≡ formatted s size h
+                → p ≡ pastChunk size (record { place = h .place; format = f; channels = n; rate = rate; size = 0 })
+                → On p ≡ formatted s size h
             unfolding formatted formatFaults
             format-on whole rs ps =
-                rw (← ws, le-ltb (length s) (8 + w) long, le-ltb size 16 many, ← fs, ne-eqb f 0 known, ← ns, ne-eqb n 0 some, le-ltb 64 n few, ← bs, eq-eqb b (n * (f / 8)) whole, ps, rs)
+                rw (
+                  ← ws,
+                  le-ltb (length s) (8 + w) long,
+                  le-ltb size 16 many,
+                  ← fs,
+                  ne-eqb f 0 known,
+                  ← ns,
+                  ne-eqb n 0 some,
+                  le-ltb 64 n few,
+                  ← bs,
+                  eq-eqb b (n * (f / 8)) whole,
+                  ps,
+                  rs,
+                )
 
 -- ---- a chunk
 
@@ -79,29 +124,73 @@ module _ (s : List ℕ) (h : Head) where
     unfolding chunkOf
     chunk-42′ far = rw (le-ltb (length s) 8 long, lt-ltb 9223372036854775807 (h .place) far)
 
-    module _ {n size : ℕ} (near : h .place ≤ 9223372036854775807) (ns : n ≡ fromFour s) (ss : size ≡ fromFour (drop 4 s)) where
+    module _ {n size : ℕ} (near : h .place ≤ 9223372036854775807) (ns : n ≡ fromFour s)
+        (ss : size ≡ fromFour (drop 4 s)) where
       module _ (data′ : n ≡ DATA) where
         pub chunk-43 : h .format ≡ 0 → Refused 43 ≡ chunkOf s h
         unfolding chunkOf
-        chunk-43 none = rw (le-ltb (length s) 8 long, le-ltb 9223372036854775807 (h .place) near, ← ns, eq-eqb n DATA data′, eq-eqb (h .format) 0 none)
+        chunk-43 none =
+            rw (
+              le-ltb (length s) 8 long,
+              le-ltb 9223372036854775807 (h .place) near,
+              ← ns,
+              eq-eqb n DATA data′,
+              eq-eqb (h .format) 0 none,
+            )
 
         pub chunk-audio : (h .format ≡ 0 → ⊥)
-            → Audio (record { place = h .place + 8; format = h .format; channels = h .channels; rate = h .rate; size = size }) ≡ chunkOf s h
+            → Audio
+            (record { place = h .place + 8; format = h .format; channels = h .channels; rate = h .rate; size = size })
+            ≡ chunkOf s h
         unfolding chunkOf
-        chunk-audio known = rw (le-ltb (length s) 8 long, le-ltb 9223372036854775807 (h .place) near, ← ns, eq-eqb n DATA data′, ne-eqb (h .format) 0 known, ss)
+        chunk-audio known =
+            rw (
+              le-ltb (length s) 8 long,
+              le-ltb 9223372036854775807 (h .place) near,
+              ← ns,
+              eq-eqb n DATA data′,
+              ne-eqb (h .format) 0 known,
+              ss,
+            )
 
       module _ (other : n ≡ DATA → ⊥) where
         pub chunk-on : (n ≡ FMT → ⊥) → {p : Head} → p ≡ pastChunk size h → On p ≡ chunkOf s h
         unfolding chunkOf
-        chunk-on no-format ps = rw (le-ltb (length s) 8 long, le-ltb 9223372036854775807 (h .place) near, ← ns, ne-eqb n DATA other, ne-eqb n FMT no-format, ps, ss)
+        chunk-on no-format ps =
+            rw (
+              le-ltb (length s) 8 long,
+              le-ltb 9223372036854775807 (h .place) near,
+              ← ns,
+              ne-eqb n DATA other,
+              ne-eqb n FMT no-format,
+              ps,
+              ss,
+            )
 
         module _ (named : n ≡ FMT) where
           pub chunk-again : (h .format ≡ 0 → ⊥) → {p : Head} → p ≡ pastChunk size h → On p ≡ chunkOf s h
           unfolding chunkOf
           chunk-again known ps =
-              rw (le-ltb (length s) 8 long, le-ltb 9223372036854775807 (h .place) near, ← ns, ne-eqb n DATA other, eq-eqb n FMT named, ne-eqb (h .format) 0 known, ps, ss)
+              rw (
+                le-ltb (length s) 8 long,
+                le-ltb 9223372036854775807 (h .place) near,
+                ← ns,
+                ne-eqb n DATA other,
+                eq-eqb n FMT named,
+                ne-eqb (h .format) 0 known,
+                ps,
+                ss,
+              )
 
           pub chunk-format : h .format ≡ 0 → formatted s size h ≡ chunkOf s h
           unfolding chunkOf
           chunk-format none =
-              rw (le-ltb (length s) 8 long, le-ltb 9223372036854775807 (h .place) near, ← ns, ne-eqb n DATA other, eq-eqb n FMT named, eq-eqb (h .format) 0 none, ss)
+              rw (
+                le-ltb (length s) 8 long,
+                le-ltb 9223372036854775807 (h .place) near,
+                ← ns,
+                ne-eqb n DATA other,
+                eq-eqb n FMT named,
+                eq-eqb (h .format) 0 none,
+                ss,
+              )

@@ -1,4 +1,4 @@
--- What is claimed of seals and of heads. The proofs are in proofs/: Sealed, Onward, Enough, Back.
+-- Claims about seals and heads. Proofs: proofs/Sealed, Onward, Enough, Back.
 use Rattle.rules.specs.Common.{ℕ, zero, suc, _+_, _^_, _≤_, _<_, List, [], _∷_, _++_, _≡_, length, take, drop}
 use Rattle.rules.specs.Leaf.{_leaving_}
 use Rattle.sides.specs.Sides.{lettersOf}
@@ -18,20 +18,21 @@ use Rattle.wav.specs.declared.chunks.Step.the-variants.{Audio, On, Refus
 
 -- ---- seals
 
--- what 24 bytes can hold
-pub record Holds (x : Seal) : Type 0 where
+-- A seal's numbers fit into 24 bytes.
+pub record SealFits (x : Seal) : Type 0 where
   pub long : x .long < 2 ^ 64
   pub short : x .short < 2 ^ 32
 
--- what is written reads back, whatever follows it
+-- What is written reads back, whatever follows it.
 abbrev pub SealBack : Type 0
-SealBack = (w : Word) (x : Seal) (rest : List ℕ) → Holds x → sealRead w (sealOf w x ++ rest) ≡ reading.Whole x
+SealBack = (w : Word) (x : Seal) (rest : List ℕ) → SealFits x → sealRead w (sealOf w x ++ rest) ≡ reading.Whole x
 
--- so a seal is none of another side or of other numbers
+-- So a seal cannot be one of another side or of other numbers.
 abbrev pub OneSeal : Type 0
-OneSeal = (w : Word) (x y : Seal) (rest rest′ : List ℕ) → Holds x → Holds y → sealOf w x ++ rest ≡ sealOf w y ++ rest′ → x ≡ y
+OneSeal = (w : Word) (x y : Seal) (rest rest′ : List ℕ) → SealFits x → SealFits y
+    → sealOf w x ++ rest ≡ sealOf w y ++ rest′ → x ≡ y
 
--- and with the other side's letters in their place it is none at all
+-- With the letters of the other side in their place it is no seal at all.
 abbrev pub otherSide : Side → Side
 otherSide Left = Right
 otherSide Right = Left
@@ -40,16 +41,18 @@ abbrev pub renamed : Seal → List ℕ → List ℕ
 renamed x s = take 4 s ++ (four (lettersOf (otherSide (x .side))) ++ drop 8 s)
 
 abbrev pub OtherName : Type 0
-OtherName = (w : Word) (x : Seal) (rest : List ℕ) → Holds x → sealRead w (renamed x (sealOf w x ++ rest)) ≡ reading.Refused 52
+OtherName = (w : Word) (x : Seal) (rest : List ℕ) → SealFits x
+    → sealRead w (renamed x (sealOf w x ++ rest)) ≡ reading.Refused 52
 
--- what a host has written it reads: the same side and the same two numbers
+-- What a host has written, it reads: the same side and the same two numbers.
 abbrev pub SealCalls : Type 0
 SealCalls =
-    (w : Word) (side long short : ℕ) (out after rest numbers : List ℕ) → long < 2 ^ 64 → short < 2 ^ 32 → length numbers ≡ 3
+    (w : Word) (side long short : ℕ) (out after rest numbers : List ℕ) → long < 2 ^ 64 → short < 2 ^ 32
+    → length numbers ≡ 3
     → (0 leaving after) ≡ sealWritten w side long short out
     → sealSummary w (after ++ rest) numbers ≡ (0 leaving side ∷ long ∷ short ∷ [])
 
--- and it is none of the other word
+-- A front seal is no end seal, and an end seal no front seal.
 abbrev pub otherWord : Word → Word
 otherWord Begins = Ends
 otherWord Ends = Begins
@@ -59,15 +62,15 @@ OtherWord = (w : Word) (x : Seal) (rest : List ℕ) → sealRead (otherWord w) (
 
 -- ---- heads
 
--- a reading that goes on is at least 8 bytes further: so it ends, however a file is made
+-- Each step of a reading goes at least 8 bytes further, so a reading ends, whatever the file is.
 abbrev pub Onward : Type 0
 Onward = (s : List ℕ) (h h′ : Head) → stepOf s h ≡ On h′ → h .place + 8 ≤ h′ .place
 
--- of the bytes from a place on, the first 34 are enough
+-- The first 34 bytes from a place on are enough for a step.
 abbrev pub Enough : Type 0
 Enough = (s : List ℕ) (h : Head) → stepOf (take 34 s) h ≡ stepOf s h
 
--- at most n steps of a reading, each lent the file from the place on that the one before wants
+-- At most n steps of a reading, each lent the file from the place that the one before asked for.
 abbrev pub andOn : Step → (Head → Step) → Step
 andOn (Audio h) more = Audio h
 andOn (On h) more = more h
@@ -77,8 +80,9 @@ unfoldable pub follow : ℕ → List ℕ → Head → Step
 follow zero file h = On h
 follow (suc n) file h = andOn (stepOf (drop (h .place) file) h) (follow n file)
 
--- what is written reads back, in three steps, whatever stands behind it
+-- What is written reads back in three steps, whatever follows it.
 abbrev pub HeadBack : Type 0
 HeadBack =
     (rate size behind : ℕ) (rest : List ℕ) → rate < 2 ^ 32 → size < 2 ^ 32
-    → follow 3 (headOf rate size behind ++ rest) unread ≡ Audio (record { place = 44; format = 16; channels = 1; rate = rate; size = size })
+    → follow 3 (headOf rate size behind ++ rest) unread
+    ≡ Audio (record { place = 44; format = 16; channels = 1; rate = rate; size = size })

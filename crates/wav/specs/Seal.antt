@@ -1,4 +1,5 @@
--- The two seals of a recording: as data, as 24 bytes, and as they are read. Four letters are a number, little end first.
+-- The two seals of a recording: as data, as 24 bytes, and as they are read. Four letters are read as a
+-- number, least significant byte first.
 use Rattle.rules.specs.Common.{ℕ, _+_, _*_, _/_, Bool, not, _||_, List, [], _∷_, _++_, eqb, ltb, length, take, drop}
 use Rattle.rules.specs.Leaf.{_leaving_}
 use Rattle.rules.specs.Refusals.{Row, _when_, refusing}
@@ -14,7 +15,7 @@ use Rattle.wav.specs.declared.seal.Seal.{Seal}
 use Rattle.wav.specs.declared.seal.Reading.{Reading}
 use Rattle.wav.specs.declared.seal.Reading.the-variants.{Whole, Refused}
 
--- "TUPB" and "TUPP"
+-- The letters "TUPB" and "TUPP".
 abbrev pub TUPB : ℕ
 TUPB = 0x42505554
 
@@ -25,9 +26,11 @@ abbrev pub wordOf : Word → ℕ
 wordOf Begins = TUPB
 wordOf Ends = TUPP
 
--- the seal without its own checksum: the word, the side's letters, a number of 64 bits, and one of 32 bits
+-- A seal without its own checksum: its word, the letters of the side, a number of 64 bits, and one of 32
+-- bits.
 abbrev pub twentyOf : ℕ → ℕ → ℕ → ℕ → List ℕ
-twentyOf letters name long short = four letters ++ (four name ++ (four long ++ (four (long / 4294967296) ++ four short)))
+twentyOf letters name long short =
+    four letters ++ (four name ++ (four long ++ (four (long / 4294967296) ++ four short)))
 
 unfoldable pub said : Word → Seal → List ℕ
 said w s = twentyOf (wordOf w) (lettersOf (s .side)) (s .long) (s .short)
@@ -56,7 +59,7 @@ long s = fromFour (drop 8 s) + 4294967296 * fromFour (drop 12 s)
 abbrev pub short : List ℕ → ℕ
 short s = fromFour (drop 16 s)
 
--- the first refusals, in order
+-- The refusals, in order.
 unfoldable pub sealFaults : Word → List ℕ → List Row
 sealFaults w s =
     51 when (ltb (length s) 24 || not (eqb (fromFour s) (wordOf w)))
@@ -70,7 +73,7 @@ sealFor Nothing long short = Refused 53
 unfoldable pub sealRead : Word → List ℕ → Reading
 sealRead w s = refusing (sealFaults w s) Refused (sealFor (ofLetters (name s)) (long s) (short s))
 
--- what a host is told: the side's number, and the two numbers
+-- What a host is told: the number of the side, and the two numbers.
 abbrev pub sealTold : Reading → List ℕ → ℕ × List ℕ
 sealTold (Whole s) out = 0 leaving numberOf (s .side) ∷ s .long ∷ s .short ∷ []
 sealTold (Refused n) out = n leaving out

@@ -1,4 +1,4 @@
-// Numbers in bytes, little end first.
+// Numbers as bytes, least significant byte first.
 ghost use mathlib.Core.Path.{_≡_};
 ghost use Prim.Native.Nat.{_+_, _≤_, _<_, _^_, min};
 ghost use lib.ListN.{length, drop};
@@ -28,7 +28,7 @@ pub(crate) fn lesser(a: u64, b: u64) -> u64
     if a < b { a } else { b }
 }
 
-// A number's four bytes.
+// The four bytes of a number.
 pub(crate) fn four_of(number: u64) -> [u8; 4]
     ensures { λ r. ⌜ r ≡ four number ⌝ }
 {

@@ -1,12 +1,13 @@
-// The head of a WAV file, read chunk by chunk from the bytes lent.
+// The head of a WAV file, read chunk by chunk from the bytes that are lent.
 ghost use mathlib.Core.Path.{_≡_};
 ghost use Prim.Native.Nat.{_+_, _≤_, _<_, _^_};
 ghost use lib.ListN.{length};
 ghost use Rattle.rules.specs.Leaf.{_leaving_};
-ghost use Rattle.wav.specs.Chunks.{tagIn, formatOf, frontOf, pastChunk, formatted, chunkOf, stepOf, headNumbers, stepTold};
+ghost use Rattle.wav.specs.Chunks.{tagIn, formatOf, frontOf, pastChunk, formatted, chunkOf, stepOf, headNumbers};
+ghost use Rattle.wav.specs.Chunks.{stepTold};
 use crate::bytes;
 
-// Four letters each, little end first.
+// Four letters each, as a number, least significant byte first.
 const RIFF: u64 = 0x4646_4952;
 
 const WAVE: u64 = 0x4556_4157;
@@ -15,8 +16,8 @@ const FMT: u64 = 0x2074_6d66;
 
 const DATA: u64 = 0x6174_6164;
 
-// Where a reading stands: the place in the file whose bytes it wants next, and what the format's chunk said, with format
-// 0 before that. At the end the audio starts at the place, and says that it is so many bytes long.
+// Where a reading is: the place in the file whose bytes it wants next, and what the chunk `fmt ` said (format
+// 0 before that). At the end the audio starts at the place and has so many bytes.
 pub struct Head {
     pub place: u64,
     pub format: u64,
@@ -54,7 +55,7 @@ fn front(file: &[u8]) -> Step
     })
 }
 
-// The format's tag: an extensible format has its own in front of its identifier's rest.
+// The tag of a format. An extensible format has its tag at the beginning of its identifier.
 fn tag_in(file: &[u8], size: u64) -> u64
     requires { ⌜ (24 ≤ length (now file)) × (26 ≤ size → 34 ≤ length (now file)) ⌝ }
     ensures { λ r. ⌜ r ≡ tagIn size (now (file .entry)) ⌝ }
@@ -69,7 +70,8 @@ fn tag_in(file: &[u8], size: u64) -> u64
     bytes::two_at(file, 32)
 }
 
-// 16 or 24 bits, 32 of a float, and 33 for 32 bits of a whole number; 0 of no format that is taken.
+// The format: 16 or 24 for whole numbers of that many bits, 33 for whole numbers of 32 bits, 32 for floats, 0
+// for any other.
 fn format_of(tag: u64, bits: u64) -> u64
     ensures { λ r. ⌜ (r ≡ formatOf tag bits) × (r ≤ 33) ⌝ }
 {
@@ -93,7 +95,7 @@ fn format_of(tag: u64, bits: u64) -> u64
     0
 }
 
-// The head past a chunk of this size, at a place below 2^63.
+// The reading after a chunk of this size, at a place below 2^63.
 fn pass(size: u64, head: Head) -> Head
     requires { ⌜ (size < 2 ^ 32) × (head .place < 2 ^ 63) ⌝ }
     ensures { λ r. ⌜ r ≡ pastChunk size head ⌝ }
@@ -107,7 +109,7 @@ fn pass(size: u64, head: Head) -> Head
     }
 }
 
-// The format's chunk of this size, whose contents stand behind its name and size, at a place below 2^63.
+// The chunk `fmt ` of this size, at a place below 2^63.
 fn format(file: &[u8], size: u64, head: Head) -> Step
     requires { ⌜ (8 ≤ length (now file)) × (size < 2 ^ 32) × (head .place < 2 ^ 63) ⌝ }
     ensures { λ r. ⌜ r ≡ formatted (now (file .entry)) size head ⌝ }
@@ -178,7 +180,8 @@ fn chunk(file: &[u8], head: Head) -> Step
     format(file, size, head)
 }
 
-// The next step of a reading. The bytes lent are the file's from the head's place on, 34 of them or as many as there are.
+// The next step of a reading. The bytes that are lent are the file's from the reading's place on: 34, or as
+// many as there are.
 pub fn go_on(file: &[u8], head: Head) -> Step
     ensures { λ r. ⌜ r ≡ stepOf (now (file .entry)) head ⌝ }
 {
@@ -199,8 +202,9 @@ fn tell(numbers: &mut [u64], head: Head)
     numbers[4] = head.size;
 }
 
-// For a host: a reading's next step, in numbers: place, format, channels, rate and size, all 0 at first. 0 where the
-// audio was found, 40 where bytes from the place on are wanted. Another length than five is refused with 5.
+// For a host: the next step of a reading, in numbers: place, format, channels, rate and size, all 0 at first.
+// Returns 0 if the audio was found, and 40 if the bytes from the place on are wanted. A buffer of other than
+// five numbers is refused with 5.
 pub fn read(numbers: &mut [u64], file: &[u8]) -> u32
     ensures { λ r. ⌜ (r leaving now (numbers .exit)) ≡ stepTold (now (file .entry)) (now (numbers .entry)) ⌝ }
 {

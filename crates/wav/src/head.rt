@@ -1,10 +1,10 @@
-// The head of the WAV files that the box writes: one channel of 16 bits.
+// The head of a WAV file with one channel of 16 bits.
 ghost use mathlib.Core.Path.{_≡_};
 ghost use Rattle.rules.specs.Leaf.{_leaving_};
 ghost use Rattle.wav.specs.Head.{riffSize, headOf, headWritten};
 use crate::bytes;
 
-// What RIFF's own size says: how much stands behind it, or the most that it can say.
+// RIFF's size: how many bytes follow it, or the most that 32 bits can hold.
 fn riff_size(size: u32, behind: u32) -> u64
     ensures { λ r. ⌜ r ≡ riffSize size behind ⌝ }
 {
@@ -69,8 +69,8 @@ pub fn head_of(rate: u32, size: u32, behind: u32) -> [u8; 44]
     ]
 }
 
-// The head of so many bytes of audio at a rate, with so many bytes of chunks behind them. 4,294,967,295 bytes of audio: to
-// the end of the file. Another length than 44 is refused with 5.
+// The head for so many bytes of audio at a rate, with so many bytes of chunks after them. 4,294,967,295 bytes
+// of audio mean: to the end of the file. A buffer of other than 44 bytes is refused with 5.
 pub fn write(out: &mut [u8], rate: u32, size: u32, behind: u32) -> u32
     ensures { λ r. ⌜ (r leaving now (out .exit)) ≡ headWritten rate size behind (now (out .entry)) ⌝ }
 {

@@ -1,4 +1,4 @@
-// What stands around a recording's audio: the head of its WAV file, and the seal in front of its side sheet.
+// What is around the audio of a recording: the head of a WAV file, and the two seals.
 pub mod bytes;
 pub mod chunks;
 pub mod head;

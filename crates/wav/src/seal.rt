@@ -1,5 +1,5 @@
-// The two seals of a recording, 24 bytes each, in one layout: a word, the side, a number of 64 bits, one of 32 bits, and
-// the checksum of these 20 bytes. The word says which seal it is.
+// The two seals of a recording, 24 bytes each, in one layout: a word, the side, a number of 64 bits, one of 32 bits,
+// and the checksum of these 20 bytes. The word says which seal it is.
 ghost use mathlib.Core.Path.{_≡_};
 ghost use lib.ListN.{length};
 ghost use Rattle.rules.specs.Leaf.{_leaving_};
@@ -31,7 +31,7 @@ pub enum Reading {
     Refused(u32),
 }
 
-// Four letters, little end first.
+// Four letters as a number, least significant byte first.
 fn word_of(word: Word) -> u64
     ensures { λ r. ⌜ r ≡ wordOf word ⌝ }
 {
@@ -101,8 +101,8 @@ pub fn of(word: Word, seal: Seal) -> [u8; 24]
     bytes
 }
 
-// For a host: a seal, of a side by its number. Another length than 24 is refused with 5, and a number that means no side
-// with 53.
+// For a host: a seal, of a side by its number. Another length than 24 is refused with 5, and a number that means no
+// side with 53.
 pub fn write(out: &mut [u8], word: Word, side: u32, long: u64, short: u32) -> u32
     ensures { λ r. ⌜ (r leaving now (out .exit)) ≡ sealWritten word side long short (now (out .entry)) ⌝ }
 {

@@ -3,7 +3,8 @@
 --     Take, take-accepted, take-known  a take; fits-sizes, its numbers
 --     good-bad, good-rest, good-both   samples behind others: whether all are good; logs-length, of our logarithms
 -- Assumes nothing.
-use Rattle.rules.proofs.Common.{ℕ, _*_, _≤_, Bool, true, false, not, _&&_, true≢false, false≢true, List, [], _∷_, _++_, _≡_, refl, sym, ap, _∙_, eqb, leb}
+use Rattle.rules.proofs.Common.{ℕ, _*_, _≤_, Bool, true, false, not, _&&_, true≢false, false≢true, List, [], _∷_, _++_}
+use Rattle.rules.proofs.Common.{_≡_, refl, sym, ap, _∙_, eqb, leb}
 use Rattle.rules.proofs.Common.{length, Float}
 use borrow.Author.Tests.{eqb-true, leb-true}
 use Rattle.rules.specs.Place.{get}
@@ -14,7 +15,7 @@ use Rattle.samples.specs.Samples.{goodSample, good}
 use Rattle.logs.specs.Log10.{logsOf}
 use Rattle.model.specs.Model.{readOf}
 use Rattle.frame.specs.declared.Reply.{Reply}
-use Rattle.frame.specs.Reply.{passed, _when_}
+use Rattle.frame.specs.Reply.{passed, _refusedIf_}
 use Rattle.frame.specs.Frame.{counted, checked}
 use Rattle.frame.proofs.Tables.{cleared, not-when}
 use Rattle.pieces.specs.Pieces.{waitingIn, completes, pieceFits}
@@ -30,7 +31,8 @@ unfolding good
 good-bad [] ys e = absurd (true≢false e)
 good-bad (x ∷ xs) ys e = go (goodSample x) e (good-bad xs ys)
   where
-    go : (t : Bool) → (t && good xs) ≡ false → (good xs ≡ false → good (xs ++ ys) ≡ false) → (t && good (xs ++ ys)) ≡ false
+    go : (t : Bool) → (t && good xs) ≡ false → (good xs ≡ false → good (xs ++ ys) ≡ false)
+        → (t && good (xs ++ ys)) ≡ false
     go true e f = f e
     go false e f = refl
 
@@ -61,20 +63,29 @@ pub record Frame (n side : ℕ) (rec : Record) (store samples : List Float) (mod
   pub fine : good samples ≡ true
 
 module _ (n side : ℕ) (rec : Record) (store samples : List Float) (model : List ℕ) (out : ℕ) where
-  pub frame-accepted : passed (frameReply n side rec (length store) samples model out) ≡ true → Frame n side rec store samples model out
+  pub frame-accepted : passed (frameReply n side rec (length store) samples model out) ≡ true
+      → Frame n side rec store samples model out
   unfolding frameReply
   frame-accepted p =
       let number = gate n side rec (length store) 1 in
-      let c = cleared (number when not (eqb number 0) ∷ frameRows rec samples model out) p in
+      let c = cleared (number refusedIf not (eqb number 0) ∷ frameRows rec samples model out) p in
       let l = right ((length samples, 480) ∷ (out, 480) ∷ []) (not-when 5 _ (c .1 .0)) in
-      record { gated = eqb-true _ 0 (not-not _ _ (c .0)); size = l .0; room = l .1 .0; right = c .1 .1 .0; fine = not-not 9 _ (c .1 .1 .1 .0) }
+      record {
+        gated = eqb-true _ 0 (not-not _ _ (c .0));
+        size = l .0;
+        room = l .1 .0;
+        right = c .1 .1 .0;
+        fine = not-not 9 _ (c .1 .1 .1 .0);
+      }
 
-  pub frame-known : {r : Reply} → r ≡ frameReply n side rec (length store) samples model out → passed r ≡ true → Frame n side rec store samples model out
+  pub frame-known : {r : Reply} → r ≡ frameReply n side rec (length store) samples model out → passed r ≡ true
+      → Frame n side rec store samples model out
   frame-known e p = frame-accepted (ap passed (sym e) ∙ p)
 
 -- ---- a take
 
-pub record Take (n side : ℕ) (rec : Record) (store samples : List Float) (model : List ℕ) (out answers : ℕ) : Type 0 where
+pub record Take (n side : ℕ) (rec : Record) (store samples : List Float) (model : List ℕ)
+    (out answers : ℕ) : Type 0 where
   pub gated : gate n side rec (length store) PIECE ≡ 0
   pub fits : pieceFits (rec .waiting) (length samples) out 22 ≡ true
   pub told : 3 * completes (rec .waiting) (length samples) ≤ answers
@@ -82,11 +93,14 @@ pub record Take (n side : ℕ) (rec : Record) (store samples : List Float) (mode
   pub fine : good (waitingIn (rec .waiting) (get (shareOf side) store) ++ samples) ≡ true
 
 module _ (n side : ℕ) (rec : Record) (store samples : List Float) (model : List ℕ) (out answers : ℕ) where
-  pub take-accepted : passed (takeReply n side rec store samples model out answers) ≡ true → Take n side rec store samples model out answers
+  pub take-accepted : passed (takeReply n side rec store samples model out answers) ≡ true
+      → Take n side rec store samples model out answers
   unfolding takeReply
   take-accepted p =
       let number = gate n side rec (length store) PIECE in
-      let c = cleared (number when not (eqb number 0) ∷ takeRows rec (get (shareOf side) store) samples model out answers) p in
+      let c =
+      cleared (number refusedIf not (eqb number 0) ∷ takeRows rec (get (shareOf side) store) samples model out answers)
+      p in
       record {
         gated = eqb-true _ 0 (not-not _ _ (c .0));
         fits = not-not 5 _ (c .1 .0);
@@ -95,7 +109,8 @@ module _ (n side : ℕ) (rec : Record) (store samples : List Float) (model : Lis
         fine = not-not 9 _ (c .1 .1 .1 .1 .0);
       }
 
-  pub take-known : {r : Reply} → r ≡ takeReply n side rec store samples model out answers → passed r ≡ true → Take n side rec store samples model out answers
+  pub take-known : {r : Reply} → r ≡ takeReply n side rec store samples model out answers → passed r ≡ true
+      → Take n side rec store samples model out answers
   take-known e p = take-accepted (ap passed (sym e) ∙ p)
 
 -- the numbers of a piece that fits

@@ -3,7 +3,8 @@
 --     take-fills                    how much it hands out
 --     answers-length, answers-both  the answers of frames in a row
 -- Assumes nothing.
-use Rattle.rules.proofs.Common.{ℕ, zero, suc, _*_, Bool, true, false, cond, false≢true, List, [], _∷_, _++_, _≡_, refl, sym, ap, _∙_, length, replicate}
+use Rattle.rules.proofs.Common.{ℕ, zero, suc, _*_, Bool, true, false, cond, false≢true, List, [], _∷_, _++_, _≡_, refl}
+use Rattle.rules.proofs.Common.{sym, ap, _∙_, length, replicate}
 use Rattle.rules.proofs.Common.{length-append, Float}
 use native.Mathlib.Omega.{arith}
 use mathlib.Core.List.{append-assoc}
@@ -35,7 +36,8 @@ use Rattle.whole.proofs.Accepted.{good-both, logs-length, take-accepted
 use Rattle.whole.proofs.Behind.{let-in-range}
 
 -- what a take lends fits each frame
-fitting : (rec : Record) (model : List ℕ) → checked (counted (rec .hearing)) (readOf model) ≡ Done → (m : ℕ) → Fitting rec (replicate m (ourLent model))
+fitting : (rec : Record) (model : List ℕ) → checked (counted (rec .hearing)) (readOf model) ≡ Done → (m : ℕ)
+    → Fitting rec (replicate m (ourLent model))
 fitting rec model e zero = tt
 fitting rec model e (suc m) = (logs-length, e, fitting rec model e m)
 
@@ -60,9 +62,11 @@ dictates n side rec store samples model held answers p =
     let t = through n side rec (length store) PIECE (k .gated) in
     let f = fits-sizes (rec .waiting) (length samples) (length held) 22 (k .fits) in
     let g = good-both (waitingIn (rec .waiting) (get (shareOf side) store)) samples (k .fine) in
-    let begun = accepts n side rec store samples held (t .0) (t .1) (let-in-range n side rec (length store) PIECE (k .gated))
+    let begun =
+    accepts n side rec store samples held (t .0) (t .1) (let-in-range n side rec (length store) PIECE (k .gated))
     (first-due n side rec (length store) (k .gated)) (f .1) (f .2) (f .3) (g .0) (g .1) in
-    comes-to-its-end n side rec store samples held (lentToEach rec samples model) (ap passed begun) (length-replicate m _)
+    comes-to-its-end n side rec store samples held (lentToEach rec samples model) (ap passed begun)
+    (length-replicate m _)
     (fitting rec model (is-done (counted (rec .hearing)) (readOf model) (k .right)) m)
 
 module _ (n side : ℕ) (rec : Record) (store samples : List Float) (model : List ℕ) (out answers : ℕ)
@@ -83,7 +87,8 @@ module _ (n side : ℕ) (rec : Record) (store samples : List Float) (model : Lis
       let d = dictates n side rec store samples model held answers accepted in
       rw places at (in-a-row n side rec store samples held (lentToEach rec samples model) (d .0) (d .1))
 
-  out-fills : length (dictatedOn rec (get (shareOf side) store) samples (lentToEach rec samples model) .out) ≡ 480 * completes (rec .waiting) (length samples)
+  out-fills : length (dictatedOn rec (get (shareOf side) store) samples (lentToEach rec samples model) .out)
+      ≡ 480 * completes (rec .waiting) (length samples)
   out-fills =
       let d = dictates n side rec store samples model held answers accepted in
       let f = fills-front n side rec store samples held (lentToEach rec samples model) (d .0) (d .1) in
@@ -101,14 +106,18 @@ three-long (Misread m l) = refl
 
 pub answers-length : (told : List Told) → length (answersOf told) ≡ 3 * length told
 answers-length [] = refl
-answers-length (f ∷ fs) = omega (arith, length-append (heardOf (f .1)) (answersOf fs), three-long (f .1), answers-length fs)
+answers-length (f ∷ fs) =
+    omega (arith, length-append (heardOf (f .1)) (answersOf fs), three-long (f .1), answers-length fs)
 
 pub answers-both : (fs gs : List Told) → answersOf (fs ++ gs) ≡ answersOf fs ++ answersOf gs
 answers-both [] gs = refl
-answers-both (f ∷ fs) gs = ap (λ (x : List Float). heardOf (f .1) ++ x) (answers-both fs gs) ∙ sym (append-assoc (heardOf (f .1)) (answersOf fs) (answersOf gs))
+answers-both (f ∷ fs) gs =
+    ap (λ (x : List Float). heardOf (f .1) ++ x) (answers-both fs gs)
+    ∙ sym (append-assoc (heardOf (f .1)) (answersOf fs) (answersOf gs))
 
 -- each frame is told of
-told-length : (rec : Record) (share xs : List Float) (lent : List Lent) → length (dictate rec share xs lent .told) ≡ length lent
+told-length : (rec : Record) (share xs : List Float) (lent : List Lent)
+    → length (dictate rec share xs lent .told) ≡ length lent
 unfolding dictate
 told-length rec share xs [] = refl
 told-length rec share xs (l ∷ more) = ap suc (told-length _ _ _ more)
@@ -116,7 +125,8 @@ told-length rec share xs (l ∷ more) = ap suc (told-length _ _ _ more)
 -- 480 samples and three answers of each frame
 pub take-fills : (n side : ℕ) (rec : Record) (store samples : List Float) (model : List ℕ) (out answers : ℕ)
     → passed (takeReply n side rec store samples model out answers) ≡ true
-    → let d = dictatedOn rec (get (shareOf side) store) samples (lentToEach rec samples model) in let k = completes (rec .waiting) (length samples) in
+    → let d = dictatedOn rec (get (shareOf side) store) samples (lentToEach rec samples model) in let k =
+    completes (rec .waiting) (length samples) in
     (length (d .out) ≡ 480 * k) × (length (answersOf (d .told)) ≡ 3 * k)
 take-fills n side rec store samples model out answers p =
     let share = get (shareOf side) store in
@@ -124,5 +134,6 @@ take-fills n side rec store samples model out answers p =
     let d = dictatedOn rec share samples lent in (
       out-fills n side rec store samples model out answers p,
       answers-length (d .told)
-          ∙ ap (λ (k : ℕ). 3 * k) (told-length rec share (waitingIn (rec .waiting) share ++ samples) lent ∙ length-replicate (completes (rec .waiting) (length samples)) _),
+          ∙ ap (λ (k : ℕ). 3 * k) (told-length rec share (waitingIn (rec .waiting) share ++ samples) lent
+          ∙ length-replicate (completes (rec .waiting) (length samples)) _),
     )

@@ -3,7 +3,8 @@
 --     gathered, gathered-good          its samples, of those that wait and of a piece's
 --     So, begun, goes-on, come-to-end  after j frames: at the start, a frame later, and where no frame is left
 -- Assumes nothing.
-use Rattle.rules.proofs.Common.{ℕ, suc, _+_, _-_, _*_, _≤_, true, List, [], _∷_, _++_, _≡_, refl, sym, ap, ap₂, _∙_, length, getD}
+use Rattle.rules.proofs.Common.{ℕ, suc, _+_, _-_, _*_, _≤_, true, List, [], _∷_, _++_, _≡_, refl, sym, ap, ap₂, _∙_}
+use Rattle.rules.proofs.Common.{length, getD}
 use Rattle.rules.proofs.Common.{take, drop, replicate, length-take, length-drop, length-append, Float}
 use native.Mathlib.Nat.{sub-zero}
 use native.Mathlib.Omega.{arith}
@@ -29,50 +30,63 @@ use Rattle.pieces.proofs.Shares.{part-length, waiting-length, frame-length, fra
 use Rattle.desk.specs.declared.Answer.{Answer}
 use Rattle.desk.specs.declared.Record.{Record}
 use Rattle.desk.specs.Desk.{holding}
-use Rattle.desk.specs.Parts.{toldSecond}
+use Rattle.desk.specs.Private.{toldSecond}
 use Rattle.desk.specs.Surface.{heardOf}
 use Rattle.desk.proofs.Ranged.{next-index}
 use Rattle.dictation.specs.Dictation.{Told, Dictated, sumsOf, frameOn, dictate}
-use Rattle.dictation.proofs.Joins.{first, itsLogs, second, first-part, second-part, after-length, toldThere, dictate-more, dictate-none}
+use Rattle.dictation.proofs.Joins.{first, itsLogs, second, first-part, second-part, after-length, toldThere}
+use Rattle.dictation.proofs.Joins.{dictate-more, dictate-none}
 use Rattle.whole.specs.Whole.{ourLent, answersOf, takenOn}
-use Rattle.whole.specs.Parts.{Fit, Ready}
+use Rattle.whole.specs.Private.{Fit, Ready}
 use Rattle.whole.proofs.Accepted.{logs-length}
 use Rattle.whole.proofs.Dictations.{three-long, answers-both}
 
 -- ---- a frame
 
-module _ (rec : Record) (share samples : List Float) (model : List ℕ) (fit : Fit rec share model) (k : length samples ≡ 480) (g : good samples ≡ true) where
+module _ (rec : Record) (share samples : List Float) (model : List ℕ) (fit : Fit rec share model)
+    (k : length samples ≡ 480) (g : good samples ≡ true) where
   pub spoke : {r₁ reply : Reply} {z sums logs part₁ part₂ out out′ : List Float} {a : Answer}
-      → Worked (firstHalf (get framePart share) (rec .hearing .way) samples 22) r₁ part₁ (z ∷ []) (sums ∷ []) → logs ≡ logsOf sums → length out ≡ 480
-      → Worked (secondHalf (get framePart (put framePart share part₁)) (rec .hearing) logs model (length out)) reply part₂ (out ∷ []) (out′ ∷ [])
+      → Worked (firstHalf (get framePart share) (rec .hearing .way) samples 22) r₁ part₁ (z ∷ []) (sums ∷ [])
+      → logs ≡ logsOf sums → length out ≡ 480
+      → Worked (secondHalf (get framePart (put framePart share part₁)) (rec .hearing) logs model (length out)) reply
+      part₂ (out ∷ []) (out′ ∷ [])
       → a ≡ toldSecond (holding 3 rec 0 0 0) reply
-      → Worked (frameOn rec share samples (ourLent model)) a (put framePart (put framePart share part₁) part₂) (out ∷ []) (out′ ∷ [])
+      → Worked (frameOn rec share samples (ourLent model)) a (put framePart (put framePart share part₁) part₂)
+      (out ∷ []) (out′ ∷ [])
   spoke {z = z} {sums = sums} {out = out} one lent n two e =
       let half = firstHalf (get framePart share) (rec .hearing .way) samples 22 in
       let h = first-passes (get framePart share) (rec .hearing .way) samples (part-length share (fit .whole)) k g in
       let filled : sums ≡ sumsOf rec share samples =
-      ap (λ (l : List (List Float)). getD l 0 []) (one .writes ∙ ap (λ (l : List Written). onto l (z ∷ [])) (h .writes)) in
+      ap (λ (l : List (List Float)). getD l 0 [])
+      (one .writes ∙ ap (λ (l : List Written). onto l (z ∷ [])) (h .writes)) in
       let logs-are = lent ∙ ap logsOf filled in
       let v = rw (one .keeps, frame-back share (fit .whole) (half .kept) (h .part), logs-are, n) at two in
-      let passes = second-passes (half .kept) (rec .hearing) (logsOf (sumsOf rec share samples)) model (h .part) (logs-length _) (fit .index) (fit .right) .passes in
+      let passes = second-passes (half .kept) (rec .hearing) (logsOf (sumsOf rec share samples)) model (h .part)
+      (logs-length _) (fit .index) (fit .right) .passes in
       record {
         answers = e ∙ ap (toldSecond (holding 3 rec 0 0 0)) (v .answers) ∙ rw passes;
-        keeps = ap₂ (λ (x y : List Float). put framePart (put framePart share x) y) (one .keeps) (v .keeps) ∙ frame-frame share (fit .whole) (half .kept) (h .part) _;
+        keeps =
+            ap₂ (λ (x y : List Float). put framePart (put framePart share x) y) (one .keeps) (v .keeps)
+            ∙ frame-frame share (fit .whole) (half .kept) (h .part) _;
         writes = v .writes;
       }
 
   pub spoke-length : (logs : List Float) {r₁ reply : Reply} {z sums part₁ part₂ out out′ : List Float}
       → Worked (firstHalf (get framePart share) (rec .hearing .way) samples 22) r₁ part₁ (z ∷ []) (sums ∷ [])
-      → Worked (secondHalf (get framePart (put framePart share part₁)) (rec .hearing) logs model (length out)) reply part₂ (out ∷ []) (out′ ∷ [])
+      → Worked (secondHalf (get framePart (put framePart share part₁)) (rec .hearing) logs model (length out)) reply
+      part₂ (out ∷ []) (out′ ∷ [])
       → length (put framePart (put framePart share part₁) part₂) ≡ length share
   spoke-length logs {part₁ = part₁} {part₂ = part₂} {out = out} one two =
-      let first = ap length (one .keeps) ∙ first-length (get framePart share) (rec .hearing .way) samples 22 (part-length share (fit .whole)) in
+      let first = ap length (one .keeps)
+      ∙ first-length (get framePart share) (rec .hearing .way) samples 22 (part-length share (fit .whole)) in
       let there = frame-length share (fit .whole) part₁ first in
       let last = ap length (two .keeps)
-      ∙ second-length (get framePart (put framePart share part₁)) (rec .hearing) logs model (length out) (part-length (put framePart share part₁) there) in
+      ∙ second-length (get framePart (put framePart share part₁)) (rec .hearing) logs model (length out)
+      (part-length (put framePart share part₁) there) in
       frame-length (put framePart share part₁) there part₂ last ∙ sym (fit .whole)
 
-module _ (xs : List Float) (j : ℕ) (enough : 480 * j + 480 ≤ length xs) {x : List Float} (e : x ≡ paddedTo 480 (drop (480 * j) xs)) where
+module _ (xs : List Float) (j : ℕ) (enough : 480 * j + 480 ≤ length xs) {x : List Float}
+    (e : x ≡ paddedTo 480 (drop (480 * j) xs)) where
   pub gathered : x ≡ take 480 (drop (480 * j) xs)
   gathered = e ∙ padded-full 480 (drop (480 * j) xs) (omega (arith, length-drop (480 * j) xs))
 
@@ -83,7 +97,8 @@ module _ (xs : List Float) (j : ℕ) (enough : 480 * j + 480 ≤ length xs) {x :
   gathered-good g = ap good gathered ∙ good-take 480 (drop (480 * j) xs) (good-drop (480 * j) xs g)
 
 -- as many as a frame needs
-pub samples-length : (j : ℕ) {w : ℕ} {share piece : List Float} {out answers : ℕ} → length share ≡ SHARE → Ready w share piece (j + 1) out answers
+pub samples-length : (j : ℕ) {w : ℕ} {share piece : List Float} {out answers : ℕ} → length share ≡ SHARE
+    → Ready w share piece (j + 1) out answers
     → 480 * j + 480 ≤ length (waitingIn w share ++ piece)
 samples-length j {w} {share} {piece} whole r =
     omega (arith, r .enough, length-append (waitingIn w share) piece, waiting-length share whole w (r .few))
@@ -92,23 +107,34 @@ samples-length j {w} {share} {piece} whole r =
 abbrev pub lentFrom : ℕ → Place
 lentFrom j = record { at = 480 * j; size = 480 * j + 480 - 480 * j }
 
-module _ (rec : Record) (share : List Float) (model : List ℕ) (out : List Float) (j : ℕ) (fit : Fit rec share model) where
+module _ (rec : Record) (share : List Float) (model : List ℕ) (out : List Float) (j : ℕ)
+    (fit : Fit rec share model) where
   second-is : (x : List Float) → Halved 480 (second rec share x (ourLent model))
   second-is x =
       second-passes (first rec share x (ourLent model) .kept) (rec .hearing) (itsLogs rec share x (ourLent model)) model
       (first-part rec share x (ourLent model) (fit .whole)) (logs-length _) (fit .index) (fit .right)
 
-  pub stepped : (xs answers : List Float) {x share′ new answers′ : List Float} {a : Answer} → x ≡ take 480 (drop (480 * j) xs)
-      → Worked (frameOn rec share x (ourLent model)) a share′ (get (lentFrom j) out ∷ []) (new ∷ []) → answers′ ≡ over (from (3 * j) (heardOf (a .reply))) answers
+  pub stepped : (xs answers : List Float) {x share′ new answers′ : List Float} {a : Answer}
+      → x ≡ take 480 (drop (480 * j) xs)
+      → Worked (frameOn rec share x (ourLent model)) a share′ (get (lentFrom j) out ∷ []) (new ∷ [])
+      → answers′ ≡ over (from (3 * j) (heardOf (a .reply))) answers
       → let o = frameOn rec share (take 480 (drop (480 * j) xs)) (ourLent model) in
       (a .rec ≡ o .answer .rec) × ((share′ ≡ o .kept)
-      × ((put (lentFrom j) out new ≡ over (from (480 * j) (firstIn (o .written))) out) × (answers′ ≡ over (from (3 * j) (heardOf (o .answer .reply))) answers)))
+      × ((put (lentFrom j) out new ≡ over (from (480 * j) (firstIn (o .written))) out)
+      × (answers′ ≡ over (from (3 * j) (heardOf (o .answer .reply))) answers)))
   stepped xs answers e w told =
       let v = rw e at w in
       let h = second-is (drop (480 * j) xs) in
-      let new-is = ap (λ (l : List (List Float)). getD l 0 []) (v .writes ∙ ap (λ (l : List Written). onto l (get (lentFrom j) out ∷ [])) (h .writes)) in (
+      let new-is = ap (λ (l : List (List Float)). getD l 0 [])
+      (v .writes ∙ ap (λ (l : List Written). onto l (get (lentFrom j) out ∷ [])) (h .writes)) in (
         ap (λ (b : Answer). b .rec) (v .answers),
-        (v .keeps, (lent-over (480 * j) 480 out _ _ new-is (h .fills), told ∙ ap (λ (b : Answer). over (from (3 * j) (heardOf (b .reply))) answers) (v .answers))),
+        (
+          v .keeps,
+          (
+            lent-over (480 * j) 480 out _ _ new-is (h .fills),
+            told ∙ ap (λ (b : Answer). over (from (3 * j) (heardOf (b .reply))) answers) (v .answers),
+          ),
+        ),
       )
 
 -- ---- frame by frame
@@ -118,7 +144,8 @@ abbrev ahead : List Told → List Float → Dictated → Dictated
 ahead told ys d = record { rec = d .rec; kept = d .kept; told = told ++ d .told; out = ys ++ d .out }
 
 -- what is written after the front of a buffer
-further-on : (m : ℕ) (xs ys held : List Float) → length xs ≡ m → over (from m ys) (over (from 0 xs) held) ≡ over (from 0 (xs ++ ys)) held
+further-on : (m : ℕ) (xs ys held : List Float) → length xs ≡ m
+    → over (from m ys) (over (from 0 xs) held) ≡ over (from 0 (xs ++ ys)) held
 further-on m xs ys held e =
     let here : m ≡ 0 + m = omega arith in
     ap (λ (i : ℕ). over (from i ys) (over (from 0 xs) held)) here ∙ over-next 0 m xs ys held e (omega arith)
@@ -133,7 +160,8 @@ module _ (rec : Record) (share piece : List Float) (model : List ℕ) (k : ℕ) 
   pub record So (j : ℕ) (b : Record) (now out′ answers′ : List Float) : Type 0 where
     pub told : List Told
     pub ys : List Float
-    pub same : dictate rec share xs (replicate k (ourLent model)) ≡ ahead told ys (dictate b now (drop (480 * j) xs) (replicate (k - j) (ourLent model)))
+    pub same : dictate rec share xs (replicate k (ourLent model))
+        ≡ ahead told ys (dictate b now (drop (480 * j) xs) (replicate (k - j) (ourLent model)))
     pub size : length ys ≡ 480 * j
     pub many : length (answersOf told) ≡ 3 * j
     pub outs : out′ ≡ over (from 0 ys) out
@@ -155,7 +183,8 @@ module _ (rec : Record) (share piece : List Float) (model : List ℕ) (k : ℕ) 
         waits = refl;
       }
 
-  pub goes-on : (j : ℕ) {b b′ : Record} {now now′ out₁ out₂ answers₁ answers₂ : List Float} → So j b now out₁ answers₁ → suc j ≤ k → rec .waiting ≤ 479
+  pub goes-on : (j : ℕ) {b b′ : Record} {now now′ out₁ out₂ answers₁ answers₂ : List Float} → So j b now out₁ answers₁
+      → suc j ≤ k → rec .waiting ≤ 479
       → let o = frameOn b now (take 480 (drop (480 * j) (waitingIn (rec .waiting) now ++ piece))) (ourLent model) in
       b′ ≡ o .answer .rec → now′ ≡ o .kept → out₂ ≡ over (from (480 * j) (firstIn (o .written))) out₁
       → answers₂ ≡ over (from (3 * j) (heardOf (o .answer .reply))) answers₁ → So (j + 1) b′ now′ out₂ answers₂
@@ -174,7 +203,8 @@ module _ (rec : Record) (share piece : List Float) (model : List ℕ) (k : ℕ) 
       let after : dictate b now rest (replicate (k - j) l) ≡ ahead (there ∷ []) zs d =
       ap (λ (m : ℕ). dictate b now rest (replicate m l)) count
       ∙ dictate-more b now rest l (replicate (k - (j + 1)) l)
-      ∙ ap (λ (us : List Float). ahead (there ∷ []) zs (dictate (o .answer .rec) (o .kept) us (replicate (k - (j + 1)) l))) next in
+      ∙ ap (λ (us : List Float).
+      ahead (there ∷ []) zs (dictate (o .answer .rec) (o .kept) us (replicate (k - (j + 1)) l))) next in
       let three = heardOf (o .answer .reply) in
       let heard : answersOf (p .told ++ (there ∷ [])) ≡ answersOf (p .told) ++ three =
       answers-both (p .told) (there ∷ []) ∙ ap (λ (us : List Float). answersOf (p .told) ++ us) (append-nil three) in
@@ -187,7 +217,14 @@ module _ (rec : Record) (share piece : List Float) (model : List ℕ) (k : ℕ) 
             ∙ ap₂ (λ (us : List Told) (vs : List Float). record { rec = d .rec; kept = d .kept; told = us; out = vs })
             (sym (append-assoc (p .told) (there ∷ []) (d .told))) (sym (append-assoc (p .ys) zs (d .out)));
         size = omega (arith, length-append (p .ys) zs, p .size, halved .fills);
-        many = omega (arith, ap length heard, length-append (answersOf (p .told)) three, three-long (o .answer .reply), p .many);
+        many =
+            omega (
+              arith,
+              ap length heard,
+              length-append (answersOf (p .told)) three,
+              three-long (o .answer .reply),
+              p .many,
+            );
         outs = ap (over (from (480 * j) zs)) (p .outs) ∙ further-on (480 * j) (p .ys) zs out (p .size);
         tells =
             ap (over (from (3 * j) three)) (p .tells) ∙ further-on (3 * j) (answersOf (p .told)) three answers (p .many)
@@ -199,12 +236,15 @@ module _ (rec : Record) (share piece : List Float) (model : List ℕ) (k : ℕ) 
               right = p .fit .right;
             };
         waits =
-            get-put-apart framePart (waitingPlace w) now (second b now rest l .kept) (omega (arith, p .fit .whole)) part (inl (omega arith)) ∙ p .waits;
+            get-put-apart framePart (waitingPlace w) now (second b now rest l .kept) (omega (arith, p .fit .whole)) part
+            (inl (omega arith)) ∙ p .waits;
       })
 
   -- and with this a further frame is ready
-  pub ready-on : {j : ℕ} {b : Record} {now out′ answers′ : List Float} → So j b now out′ answers′ → Ready (rec .waiting) share piece k (length out) (length answers)
-      → suc j ≤ k → length out′ ≡ length out → length answers′ ≡ length answers → Ready (rec .waiting) now piece (j + 1) (length out′) (length answers′)
+  pub ready-on : {j : ℕ} {b : Record} {now out′ answers′ : List Float} → So j b now out′ answers′
+      → Ready (rec .waiting) share piece k (length out) (length answers)
+      → suc j ≤ k → length out′ ≡ length out → length answers′ ≡ length answers
+      → Ready (rec .waiting) now piece (j + 1) (length out′) (length answers′)
   ready-on p r h lo la =
       record {
         few = r .few;
@@ -217,20 +257,24 @@ module _ (rec : Record) (share piece : List Float) (model : List ℕ) (k : ℕ) 
 
   pub come-to-end : k ≡ completes (rec .waiting) (length piece) → length share ≡ SHARE → rec .waiting ≤ 479
       → {j : ℕ} {b : Record} {now now′ out′ answers′ : List Float} → So j b now out′ answers′ → j ≡ k
-      → now′ ≡ waits now (drop (480 * k) (waitingIn (rec .waiting) now ++ piece)) → {r : Record} → r ≡ holding 1 b (rec .waiting + length piece - 480 * k) 0 0
+      → now′ ≡ waits now (drop (480 * k) (waitingIn (rec .waiting) now ++ piece)) → {r : Record}
+      → r ≡ holding 1 b (rec .waiting + length piece - 480 * k) 0 0
       → Worked (takenOn rec share piece model) (record { reply = Done; rec = r })
       now′ (out ∷ answers ∷ []) (out′ ∷ answers′ ∷ [])
   come-to-end count whole few {b = b} {now = now} {now′ = now′} {out′ = out′} {answers′ = answers′} at-end same e f =
       let p : So k b now out′ answers′ = rw same at at-end in
       let end = drop (480 * k) xs in
       let none : k - k ≡ 0 = omega arith in
-      let last : dictate rec share xs (replicate k (ourLent model)) ≡ record { rec = holding 1 b (length end) 0 0; kept = waits now end; told = p .told; out = p .ys } =
+      let last : dictate rec share xs (replicate k (ourLent model))
+      ≡ record { rec = holding 1 b (length end) 0 0; kept = waits now end; told = p .told; out = p .ys } =
       p .same ∙ ap (λ (m : ℕ). ahead (p .told) (p .ys) (dictate b now end (replicate m (ourLent model)))) none
       ∙ ap (ahead (p .told) (p .ys)) (dictate-none b now end)
-      ∙ ap₂ (λ (us : List Told) (vs : List Float). record { rec = holding 1 b (length end) 0 0; kept = waits now end; told = us; out = vs })
+      ∙ ap₂ (λ (us : List Told) (vs : List Float).
+      record { rec = holding 1 b (length end) 0 0; kept = waits now end; told = us; out = vs })
       (append-nil (p .told)) (append-nil (p .ys)) in
       let size : length xs ≡ rec .waiting + length piece =
-      length-append (waitingIn (rec .waiting) share) piece ∙ ap (λ (m : ℕ). m + length piece) (waiting-length share whole (rec .waiting) few) in
+      length-append (waitingIn (rec .waiting) share) piece
+      ∙ ap (λ (m : ℕ). m + length piece) (waiting-length share whole (rec .waiting) few) in
       let left : rec .waiting + length piece - 480 * k ≡ length end = omega (arith, length-drop (480 * k) xs, size) in
       let kept : now′ ≡ waits now end = rw (p .waits) at e in
       rw (f, ← count, last, left, kept, p .outs, p .tells) (record { answers = refl; keeps = refl; writes = refl })

@@ -1,4 +1,4 @@
--- A frame and a take in one call: what is claimed. The proofs are in proofs/Halves.antt and proofs/Dictations.antt.
+-- Claims about a frame and a take in one call. Proofs: proofs/Halves.antt, proofs/Dictations.antt.
 use Rattle.rules.specs.Common.{ℕ, true, List, _≡_, length, Float}
 use Rattle.frame.specs.Effect.{Effect}
 use Rattle.frame.specs.Reply.{passed}
@@ -11,7 +11,7 @@ use Rattle.dictation.specs.Dictation.{Dictated}
 use Rattle.dictation.specs.Cutting.{handedIn, Led}
 use Rattle.whole.specs.Whole.{frameReply, frame, takeReply, lentToEach}
 
--- the desk's two halves, the second with our logarithms of the first one's sums
+-- The desk's two halves. The second gets our logarithms of the first one's sums.
 abbrev pub frameBegins : ℕ → ℕ → Record → List Float → List Float → Effect Answer
 frameBegins n side rec store samples = desk n side rec store (firstHalf samples 22)
 
@@ -20,7 +20,8 @@ frameEnds n side rec store samples model out =
     let one = frameBegins n side rec store samples in
     desk n side (one .answer .rec) (one .kept) (secondHalf (logsOf (firstIn (one .written))) model out)
 
--- a frame that is accepted is these: neither is refused, and what the second gives is what the frame gives
+-- A frame that is accepted is these two halves: neither is refused, and what the second gives is what the
+-- frame gives.
 abbrev pub TwoHalves : Type 0
 TwoHalves =
     (n side : ℕ) (rec : Record) (store samples : List Float) (model : List ℕ) (out : ℕ)
@@ -29,7 +30,8 @@ TwoHalves =
     × (passed (frameEnds n side rec store samples model out .answer .reply) ≡ true)
     × (frame n side rec store samples model out ≡ frameEnds n side rec store samples model out)
 
--- and every call of an accepted take is done: the piece, and a resume with our logarithms for each frame. So by the law of cutting they give its dictation
+-- Every desk call of an accepted take is done: its piece, and a resume with our logarithms for each frame. So
+-- by the law of cutting they give the take's dictation.
 abbrev pub Dictates : Type 0
 Dictates =
     (n side : ℕ) (rec : Record) (store samples : List Float) (model : List ℕ) (held : List Float) (answers : ℕ)

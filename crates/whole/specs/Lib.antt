@@ -1,4 +1,4 @@
 pub mod Whole
 pub mod Surface
 pub mod Laws
-pub mod Parts
+pub mod Private

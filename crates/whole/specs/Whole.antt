@@ -1,5 +1,6 @@
--- A frame, and a piece, in one call: our logarithms are lent, and nothing is left to a host. By definition a frame is its two halves, and a piece is the
--- dictation of its samples, each on the side's own share. What may refuse them is tested before anything changes.
+-- A frame, or a piece, in one call, with our own logarithms, so that nothing is left to the host. By
+-- definition a frame is its two halves, and a take is the dictation of its samples, each on the side's own
+-- share. All refusals are tested before anything changes.
 use Rattle.rules.specs.Common.{ℕ, _*_, cond, not, List, [], _∷_, _++_, eqb, leb, length, replicate, Float}
 use Rattle.rules.specs.Place.{get}
 use Rattle.rules.specs.Refusals.{wrong}
@@ -8,7 +9,7 @@ use Rattle.samples.specs.Samples.{good}
 use Rattle.logs.specs.Log10.{logsOf}
 use Rattle.model.specs.Model.{readOf}
 use Rattle.frame.specs.Effect.{Effect, refusal}
-use Rattle.frame.specs.Reply.{passed, _when_, firstRefusal}
+use Rattle.frame.specs.Reply.{passed, _refusedIf_, firstRefusal}
 use Rattle.frame.specs.declared.Reply.{Reply}
 use Rattle.frame.specs.declared.Reply.the-variants.{Done}
 use Rattle.frame.specs.Frame.{counted, checked}
@@ -20,24 +21,26 @@ use Rattle.desk.specs.Laws.{placed}
 use Rattle.desk.specs.Surface.{heardOf}
 use Rattle.dictation.specs.Dictation.{Lent, Told, frameOn, dictatedOn}
 
--- a frame is lent our logarithms of its sums, and this model
+-- What is lent to a frame: our logarithms of its sums, and this model.
 abbrev pub ourLent : List ℕ → Lent
 ourLent model = record { logs = logsOf; model = model }
 
--- the gate's number, 1 to 4, and after it the rows of the call's own table
+-- The reply of a table: the gate's number, 1 to 4, then the rows of the call's own table.
 abbrev pub replyOf : ℕ → List Reply → Reply
-replyOf number rows = firstRefusal (number when not (eqb number 0) ∷ rows)
+replyOf number rows = firstRefusal (number refusedIf not (eqb number 0) ∷ rows)
 
--- a refused call changes nothing; otherwise this is done on the side's own share
+-- A refused call changes nothing. Otherwise o is done on the side's own share.
 abbrev pub unlessRefused : Reply → ℕ → Record → List Float → Effect Answer → Effect Answer
-unlessRefused reply side rec store o = cond (passed reply) (placed side store o) (refusal (record { reply = reply; rec = rec }) store)
+unlessRefused reply side rec store o =
+    cond (passed reply) (placed side store o) (refusal (record { reply = reply; rec = rec }) store)
 
 -- ---- a frame
 
--- 5, and then 7 to 9
+-- The rows of a frame: 5, then 7, 8 and 9.
 abbrev pub frameRows : Record → List Float → List ℕ → ℕ → List Reply
 frameRows rec samples model out =
-    5 when wrong ((length samples, 480) ∷ (out, 480) ∷ []) ∷ checked (counted (rec .hearing)) (readOf model) ∷ 9 when not (good samples) ∷ []
+    5 refusedIf wrong ((length samples, 480) ∷ (out, 480) ∷ []) ∷ checked (counted (rec .hearing)) (readOf model)
+    ∷ 9 refusedIf not (good samples) ∷ []
 
 unfoldable pub frameReply : ℕ → ℕ → Record → ℕ → List Float → List ℕ → ℕ → Reply
 frameReply n side rec len samples model out = replyOf (gate n side rec len 1) (frameRows rec samples model out)
@@ -49,34 +52,41 @@ frame n side rec store samples model out =
 
 -- ---- a piece
 
--- lengths as a piece's, and answers, three for each frame that it completes; the samples that wait are tested with its own
+-- The rows of a take: the lengths of a piece, room for three answers of each frame that it completes, the
+-- model, and the samples, those that wait included.
 abbrev pub takeRows : Record → List Float → List Float → List ℕ → ℕ → ℕ → List Reply
 takeRows rec share samples model out answers =
-    5 when not (pieceFits (rec .waiting) (length samples) out 22)
-    ∷ 5 when not (leb (3 * completes (rec .waiting) (length samples)) answers)
+    5 refusedIf not (pieceFits (rec .waiting) (length samples) out 22)
+    ∷ 5 refusedIf not (leb (3 * completes (rec .waiting) (length samples)) answers)
     ∷ checked (counted (rec .hearing)) (readOf model)
-    ∷ 9 when not (good (waitingIn (rec .waiting) share ++ samples))
+    ∷ 9 refusedIf not (good (waitingIn (rec .waiting) share ++ samples))
     ∷ []
 
 unfoldable pub takeReply : ℕ → ℕ → Record → List Float → List Float → List ℕ → ℕ → ℕ → Reply
 takeReply n side rec store samples model out answers =
     replyOf (gate n side rec (length store) PIECE) (takeRows rec (get (shareOf side) store) samples model out answers)
 
--- each frame that these samples complete is lent the same
+-- Each frame that these samples complete is lent the same.
 abbrev pub lentToEach : Record → List Float → List ℕ → List Lent
 lentToEach rec samples model = replicate (completes (rec .waiting) (length samples)) (ourLent model)
 
--- three answers of each frame: heard or not, voice and energy
+-- Three answers of each frame: heard (1 or 0), voice, energy.
 abbrev pub answersOf : List Told → List Float
 answersOf [] = []
 answersOf (f ∷ fs) = heardOf (f .1) ++ answersOf fs
 
--- the dictation: its samples and answers fill the front of their buffers, and the places after them stay
+-- The dictation of the samples. Its output and its answers fill the front of their buffers, and the places
+-- after them stay.
 abbrev pub takenOn : Record → List Float → List Float → List ℕ → Effect Answer
 takenOn rec share samples model =
     let d = dictatedOn rec share samples (lentToEach rec samples model) in
-    record { answer = record { reply = Done; rec = d .rec }; kept = d .kept; written = from 0 (d .out) ∷ from 0 (answersOf (d .told)) ∷ [] }
+    record {
+      answer = record { reply = Done; rec = d .rec };
+      kept = d .kept;
+      written = from 0 (d .out) ∷ from 0 (answersOf (d .told)) ∷ [];
+    }
 
 unfoldable pub take : ℕ → ℕ → Record → List Float → List Float → List ℕ → ℕ → ℕ → Effect Answer
 take n side rec store samples model out answers =
-    unlessRefused (takeReply n side rec store samples model out answers) side rec store (takenOn rec (get (shareOf side) store) samples model)
+    unlessRefused (takeReply n side rec store samples model out answers) side rec store
+    (takenOn rec (get (shareOf side) store) samples model)

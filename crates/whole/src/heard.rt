@@ -1,4 +1,4 @@
-// What a reply says of its frame as three numbers: heard or not, voice, energy.
+// The three numbers that a reply gives for its frame: heard (1 or 0), voice, energy.
 ghost use mathlib.Core.Path.{_≡_};
 ghost use mathlib.Core.List.{[], _∷_};
 ghost use Prim.Native.Nat.{_+_, _*_, _≤_};

@@ -1,9 +1,9 @@
-// A frame, and a piece, in one call: where they pause for logarithms, our own are lent. What may refuse them is tested before anything changes.
+// A frame, or a piece, in one call, with our own logarithms. All refusals are tested before anything changes.
 mod heard;
 mod one_frame;
 mod one_piece;
+mod refusals;
 mod spoken;
-mod tests;
 
 pub use heard::Three;
 pub use heard::three_of;

@@ -1,5 +1,5 @@
-// Dictation over one share: frame by frame a first half, our logarithms and a second half; what is left of the samples waits. Its callers have
-// tested what could refuse it.
+// Dictation on one share: for each frame a first half, our logarithms and a second half; the rest of the
+// samples waits. The callers have tested everything that could refuse it.
 ghost use mathlib.Core.Bool.{true};
 ghost use mathlib.Core.List.{[], _∷_, _++_};
 ghost use mathlib.Core.Path.{_≡_};
@@ -12,14 +12,14 @@ ghost use Rattle.pieces.specs.Pieces.{waitingIn, paddedTo, waits, completes};
 ghost use Rattle.desk.specs.Surface.{heardOf};
 ghost use Rattle.dictation.specs.Dictation.{frameOn};
 ghost use Rattle.whole.specs.Whole.{ourLent, takenOn};
-ghost use Rattle.whole.specs.Parts.{Fit, Ready, frameOf};
+ghost use Rattle.whole.specs.Private.{Fit, Ready, frameOf};
 use desk::Answer;
 use desk::Record;
 use frame::PART;
 use frame::Reply;
 
-// One frame over a share: 480 samples in, 480 numbers written, with our logarithms between its halves.
-pub(crate) fn speak(
+// One frame on a share: takes 480 samples and writes 480 numbers, with our logarithms between its halves.
+pub(crate) fn process_frame(
     share: &mut [f32],
     rec: Record,
     samples: &[f32],
@@ -41,11 +41,14 @@ pub(crate) fn speak(
     desk::told_second(desk::holding(3, rec, 0, 0, 0), reply)
 }
 
-// `out` becomes the samples from frame j on, of those that wait and of a piece's, as far as they go, and zeros.
+// `out` becomes the samples from frame j on, of those that wait followed by the piece's, as far as it has
+// room, filled up with zeros.
 fn gather(out: &mut [f32], share: &[f32], waiting: usize, piece: &[f32], j: usize)
-    requires { ⌜ (length (now share) ≡ 6144) × (waiting ≤ 479) × (length (now piece) ≤ 4096) × (480 * j ≤ waiting + length (now piece)) ⌝ }
+    requires { ⌜ (length (now share) ≡ 6144) × (waiting ≤ 479) × (length (now piece) ≤ 4096)
+        × (480 * j ≤ waiting + length (now piece)) ⌝ }
     ensures { λ _. ⌜ now (out .exit)
-        ≡ paddedTo (length (now (out .entry))) (drop (480 * j) (waitingIn waiting (now (share .entry)) ++ now (piece .entry))) ⌝ }
+        ≡ paddedTo (length (now (out .entry)))
+        (drop (480 * j) (waitingIn waiting (now (share .entry)) ++ now (piece .entry))) ⌝ }
 {
     if j == 0 {
         let end = PART + waiting;
@@ -56,7 +59,7 @@ fn gather(out: &mut [f32], share: &[f32], waiting: usize, piece: &[f32], j: usiz
     pieces::join(out, &piece[0..0], &piece[start..]);
 }
 
-// Frame j, from 0, of the samples that wait and of a piece's, and its three answers.
+// Frame j, counted from 0, of the samples that wait followed by the piece's, and its three answers.
 fn step(
     share: &mut [f32],
     rec: Record,
@@ -69,40 +72,48 @@ fn step(
 ) -> Record
     requires { ⌜ Fit rec (now share) (now model) ⌝ }
     requires { ⌜ Ready waiting (now share) (now piece) (j + 1) (length (now out)) (length (now answers)) ⌝ }
-    ensures { λ r. ⌜ r ≡ frameOf j waiting rec (now (share .entry)) (now (piece .entry)) (now (model .entry)) .answer .rec ⌝ }
-    ensures { λ _. ⌜ now (share .exit) ≡ frameOf j waiting rec (now (share .entry)) (now (piece .entry)) (now (model .entry)) .kept ⌝ }
+    ensures { λ r. ⌜ r ≡ frameOf j waiting rec (now (share .entry)) (now (piece .entry))
+        (now (model .entry)) .answer .rec ⌝ }
+    ensures { λ _. ⌜ now (share .exit)
+        ≡ frameOf j waiting rec (now (share .entry)) (now (piece .entry)) (now (model .entry)) .kept ⌝ }
     ensures { λ _. ⌜ now (out .exit)
-        ≡ over (from (480 * j) (firstIn (frameOf j waiting rec (now (share .entry)) (now (piece .entry)) (now (model .entry)) .written)))
+        ≡ over
+        (from (480 * j) (firstIn
+        (frameOf j waiting rec (now (share .entry)) (now (piece .entry)) (now (model .entry)) .written)))
         (now (out .entry)) ⌝ }
     ensures { λ _. ⌜ now (answers .exit)
-        ≡ over (from (3 * j) (heardOf (frameOf j waiting rec (now (share .entry)) (now (piece .entry)) (now (model .entry)) .answer .reply)))
+        ≡ over
+        (from (3 * j)
+        (heardOf (frameOf j waiting rec (now (share .entry)) (now (piece .entry)) (now (model .entry)) .answer .reply)))
         (now (answers .entry)) ⌝ }
 {
     let mut samples = [0.0f32; 480];
     gather(&mut samples, share, waiting, piece, j);
     let start = 480 * j;
     let end = start + 480;
-    let done = speak(share, rec, &samples, model, &mut out[start..end]);
+    let done = process_frame(share, rec, &samples, model, &mut out[start..end]);
     let reply = done.reply;
     crate::heard::tell(answers, j, reply);
     done.rec
 }
 
-// From frame::PART to here samples may wait.
+// The places at which samples may wait end here. They begin at frame::PART.
 const TO: usize = PART + 479;
 
-// The samples after so many frames wait, of those that waited and of a piece's.
+// Lets the samples after so many frames wait.
 fn settle(share: &mut [f32], waiting: usize, piece: &[f32], frames: usize)
-    requires { ⌜ (length (now share) ≡ 6144) × (waiting ≤ 479) × (length (now piece) ≤ 4096) × (480 * frames ≤ waiting + length (now piece)) ⌝ }
+    requires { ⌜ (length (now share) ≡ 6144) × (waiting ≤ 479) × (length (now piece) ≤ 4096)
+        × (480 * frames ≤ waiting + length (now piece)) ⌝ }
     ensures { λ _. ⌜ now (share .exit)
-        ≡ waits (now (share .entry)) (drop (480 * frames) (waitingIn waiting (now (share .entry)) ++ now (piece .entry))) ⌝ }
+        ≡ waits (now (share .entry))
+        (drop (480 * frames) (waitingIn waiting (now (share .entry)) ++ now (piece .entry))) ⌝ }
 {
     let mut rest = [0.0f32; 479];
     gather(&mut rest, share, waiting, piece, frames);
     rules::copy(&mut share[PART..TO], &rest);
 }
 
-// All frames that the samples complete, one after another, and the rest waits.
+// All frames that the samples complete, one after another. The rest waits.
 pub(crate) fn dictate(
     share: &mut [f32],
     rec: Record,
@@ -115,7 +126,8 @@ pub(crate) fn dictate(
     requires { ⌜ Ready (rec .waiting) (now share) (now piece) (completes (rec .waiting) (length (now piece)))
         (length (now out)) (length (now answers)) ⌝ }
     ensures { λ r. ⌜ Worked (takenOn rec (now (share .entry)) (now (piece .entry)) (now (model .entry)))
-        r (now (share .exit)) (now (out .entry) ∷ now (answers .entry) ∷ []) (now (out .exit) ∷ now (answers .exit) ∷ []) ⌝ }
+        r (now (share .exit)) (now (out .entry) ∷ now (answers .entry) ∷ [])
+        (now (out .exit) ∷ now (answers .exit) ∷ []) ⌝ }
 {
     let waiting = rec.waiting;
     let frames = (waiting + piece.len()) / 480;

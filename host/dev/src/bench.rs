@@ -5,7 +5,7 @@ use crate::reference::Reference;
 use std::thread::sleep;
 use std::time::{Duration, Instant};
 use tuppencehop::cleaning::demo::{grinder, HOUSE};
-use tuppencehop::cleaning::recorder::{Recorder, Side, Way, RECORD, STORE};
+use tuppencehop::cleaning::recorder::{Recorder, Side, Way, NOTE, RECORD, STORE};
 use tuppencehop::reading::block::{packed, Block, Layout};
 use tuppencehop::FRAME;
 
@@ -56,17 +56,17 @@ fn by_the_text(samples: &[f32]) -> Duration {
 fn idle(samples: &[f32]) -> f64 {
     let (mut store, mut records) = (vec![0.0; STORE], [[0; RECORD]; BENCHES]);
     for (side, record) in (0..).zip(&mut records) {
-        Way::Crate.open(record, &mut store, side, HOUSE).expect("the house model");
+        Way::Nnnoiseless.open(record, &mut store, side, HOUSE).expect("the house model");
     }
-    let (mut out, mut entry, mut answer) = ([0; 2 * FRAME], [0], [0.0; 3]);
+    let (mut out, mut note, mut answer) = ([0; 2 * FRAME], [0; NOTE], [0.0; 3]);
     let Layout { format, channels } = Layout::CLEANED;
     let (start, mut busy) = (Instant::now(), Duration::ZERO);
     for (samples, due) in samples.chunks_exact(FRAME).zip(1..=TICKS) {
         let (block, begun) = (packed(samples), Instant::now());
         for (side, record) in (0..).zip(&mut records) {
-            let (out, entry, answer) = (&mut out, &mut entry, &mut answer);
+            let (out, note, answer) = (&mut out, &mut note, &mut answer);
             let refused =
-                tuppence::feed(record, &mut store, side, &block, format, channels, 0, HOUSE, out, entry, answer);
+                tuppence::feed(record, &mut store, side, &block, format, channels, 0, HOUSE, out, note, answer);
             assert_eq!(refused, 0, "a frame is due and fits");
         }
         busy += begun.elapsed();
@@ -115,7 +115,8 @@ impl Speed {
 pub fn measure() -> Speed {
     let samples: Vec<f32> = grinder(FRAMES * FRAME, 7, 100.0, 340.0).iter().map(|x| (1_000.0 * x) as f32).collect();
     let (recorded, mut times) = (Block::of(&samples), [const { vec![] }; 4]);
-    let (mut recorder, mut own, mut calls) = (Recorder::new(Way::Crate), Recorder::new(Way::Asked), Calls::default());
+    let (mut recorder, mut own, mut calls) =
+        (Recorder::new(Way::Nnnoiseless), Recorder::new(Way::Own), Calls::default());
     for _ in 0..ROUNDS {
         times[0].push(pieces(&mut recorder, &recorded));
         times[1].push(pieces(&mut own, &recorded));

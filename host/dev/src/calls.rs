@@ -69,7 +69,7 @@ fn timed<R>(spent: &mut Duration, f: impl FnOnce() -> R) -> R {
 impl Calls {
     /// Opens a bench. The four calls ask nothing of its way.
     pub fn open(&mut self, side: Side, model: &[u8]) -> Result<(), Refusal> {
-        Way::Asked.open(&mut self.records[side as usize], &mut self.store, side as u32, model)?;
+        Way::Own.open(&mut self.records[side as usize], &mut self.store, side as u32, model)?;
         self.finders[side as usize] = PitchFinder::new();
         Ok(())
     }
@@ -78,8 +78,7 @@ impl Calls {
     pub fn frame(&mut self, side: Side, samples: &[f32], model: &[u8], out: &mut [f32]) -> Result<Frame, Refusal> {
         let number = self.records[side as usize][FRAMES];
         let heard = Heard::of(self.calls(side, samples, model, out)?);
-        let entry = u64::from(number) | u64::from(heard.is_heard()) << 32;
-        Ok(Frame { entry, heard, heard_so_far: self.records[side as usize][HEARD] })
+        Ok(Frame::of(side, number, heard, self.records[side as usize][HEARD]))
     }
 
     fn calls(&mut self, side: Side, samples: &[f32], model: &[u8], out: &mut [f32]) -> Result<[f32; 3], Refusal> {

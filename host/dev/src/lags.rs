@@ -86,7 +86,7 @@ fn effects() -> Result<()> {
     tuppencehop::say!("\nthe demo, cleaned in either way:\n");
     tuppencehop::say!("| bench | `--lag` | noise in the pauses | voice | signal to noise, after |");
     tuppencehop::say!("|---|---|---|---|---|");
-    for (name, way) in [("crate", Way::Crate), ("own", Way::Asked)] {
+    for (name, way) in [("crate", Way::Nnnoiseless), ("own", Way::Own)] {
         for (bench, dictation) in cleaned(&dictations, way)?.iter().zip(&dictations) {
             let e = effect(dictation, &bench.after);
             tuppencehop::say!(

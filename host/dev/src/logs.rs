@@ -27,7 +27,7 @@ struct Bench {
 impl Bench {
     fn opened(lend: fn(&Logs) -> Logs) -> Bench {
         let mut bench = Bench { lend, record: [0; RECORD], store: vec![0.0; STORE] };
-        Way::Crate.open(&mut bench.record, &mut bench.store, 0, HOUSE).expect("the house model");
+        Way::Nnnoiseless.open(&mut bench.record, &mut bench.store, 0, HOUSE).expect("the house model");
         bench
     }
 
@@ -71,7 +71,10 @@ fn moved(recording: &[f32], lends: [fn(&Logs) -> Logs; 2]) -> Moved {
 }
 
 pub fn logs() {
-    tuppencehop::say!("| recording | frames | logarithms that differ | largest difference of a sample | samples that differ in 16 bits |");
+    tuppencehop::say!(
+        "| recording | frames | logarithms that differ | largest difference of a sample | samples that \
+         differ in 16 bits |"
+    );
     tuppencehop::say!("|---|---|---|---|---|");
     for (bench, side) in Side::BOTH.into_iter().enumerate() {
         for (what, recording) in [("the demo", dictation(bench).noisy), ("ten minutes", minutes(10, bench))] {

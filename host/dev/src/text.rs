@@ -63,16 +63,17 @@ pub fn tell_distances() {
     tuppencehop::say!("|---|---|---|---|---|---|---|");
     for (bench, side) in Side::BOTH.into_iter().enumerate() {
         let rows = [
-            ("the demo", "crate", Way::Crate, dictation(bench).noisy),
-            ("ten minutes", "crate", Way::Crate, minutes(10, bench)),
-            ("the demo", "own", Way::Asked, dictation(bench).noisy),
+            ("the demo", "crate", Way::Nnnoiseless, dictation(bench).noisy),
+            ("ten minutes", "crate", Way::Nnnoiseless, minutes(10, bench)),
+            ("the demo", "own", Way::Own, dictation(bench).noisy),
         ];
         for (what, lag, way, recording) in rows {
             let distance = beside_text(&recording, HOUSE, way);
             let Distance { frames, most, rounded, voice, .. } = distance;
             let (side, below, samples) = (side.name(), distance.below(), FRAME * frames);
             tuppencehop::say!(
-                "| {what}, {side} | {lag} | {frames} | {most:.5} | {below:.1} dB | {voice:.7} | {rounded} of {samples} |"
+                "| {what}, {side} | {lag} | {frames} | {most:.5} | {below:.1} dB | {voice:.7} | {rounded} of \
+                 {samples} |"
             );
         }
     }

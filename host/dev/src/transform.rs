@@ -1,5 +1,5 @@
-//! The forward and inverse real transforms of 960 numbers, neither of them normalised: a complex transform of 480 numbers,
-//! worked out in f64 and rounded once.
+//! The forward and inverse real transforms of 960 numbers, neither of them normalised: a complex transform of 480
+//! numbers, worked out in f64 and rounded once.
 
 use std::f64::consts::TAU;
 

@@ -1,4 +1,5 @@
-//! What the box gives is what the Rust text's `process_frame` gives, but for the last bits of transforms and logarithms.
+//! What the box gives is what the Rust text's `process_frame` gives, but for the last bits of transforms and
+//! logarithms.
 //! In four calls a frame, with the text's own, it is the same bit for bit but for the signs of zeros. And however a
 //! recording is cut, it is the same.
 
@@ -77,7 +78,7 @@ fn both_agree(left: &[f32], right: &[f32], model: &[u8]) {
 
 /// What the box writes is the same, rounded to 16 bits, but for a sample of a thousand at most, which is one off.
 fn both_are_written(left: &[f32], right: &[f32], model: &[u8]) {
-    for bench in in_memory([left, right], model, Way::Crate).unwrap() {
+    for bench in in_memory([left, right], model, Way::Nnnoiseless).unwrap() {
         assert_eq!(bench.before, if bench.side == Side::Left { left } else { right });
         let (output, voices) = by_the_text(&bench.before, model);
         let rounded: Vec<f32> = output.iter().map(|x| x.round().clamp(-32_768.0, 32_767.0)).collect();
@@ -118,11 +119,11 @@ fn is_near(distance: &Distance) -> bool {
 fn as_the_text_gives_it_but_for_the_last_bits() {
     for bench in [0, 1] {
         for recording in [dictation(bench).noisy, minutes(1, bench)] {
-            let distance = beside_text(&recording, HOUSE, Way::Crate);
+            let distance = beside_text(&recording, HOUSE, Way::Nnnoiseless);
             assert!(is_near(&distance), "{distance:?}, {} dB", distance.below());
         }
         // our own lag, where it is another, moves it much further
-        let distance = beside_text(&dictation(bench).noisy, HOUSE, Way::Asked);
+        let distance = beside_text(&dictation(bench).noisy, HOUSE, Way::Own);
         assert!(distance.most > 100.0 && distance.below() < 60.0, "{distance:?}, {} dB", distance.below());
     }
 }
@@ -150,7 +151,7 @@ fn cut(way: Way, samples: &[f32], lengths: &[usize]) -> (Vec<u8>, Vec<Frame>) {
 #[test]
 fn however_it_is_cut() {
     let sound = &dictation(1).noisy[..200 * FRAME + 7];
-    for way in [Way::Crate, Way::Asked] {
+    for way in [Way::Nnnoiseless, Way::Own] {
         let whole = cut(way, sound, &[FRAME]);
         assert_eq!(whole.1.len(), 200);
         let voices = whole.1.iter().map(|frame| frame.heard.voice());

@@ -53,7 +53,7 @@ fn divided_by(by: f64, sample: f32) -> f64 {
 
 #[test]
 fn a_sample_of_5_is_heard_and_for_rnnoise_one_of_10() {
-    for way in [Way::Crate, Way::Asked] {
+    for way in [Way::Nnnoiseless, Way::Own] {
         assert_eq!((energy(way, 4.0), energy(way, 5.0).is_some()), (None, true));
         let ours = f64::from(energy(way, 5.0).unwrap());
         assert!((ours / divided_by(480.0, 5.0) - 1.0).abs() < 1e-4, "{ours}");

@@ -1,6 +1,7 @@
 //! `box clean`: two recordings, one for each bench, cleaned as they come.
 
 use crate::cleaning::cleaned::Summary;
+use crate::cleaning::day::Split;
 use crate::cleaning::demo::{HOUSE, HOUSE_NAME};
 use crate::cleaning::mix::{self, Apart};
 use crate::cleaning::recorder::{Recorder, Side, Way};
@@ -8,8 +9,7 @@ use crate::cleaning::run::{run, Refused};
 use crate::error::{At, Error, Reason, Result};
 use crate::models::import;
 use crate::page::about::About;
-use crate::reading::source::{How, Limited, Lost, Recordings, STANDARD_INPUT};
-use crate::reading::wav;
+use crate::reading::source::{How, Lost, Recordings, STANDARD_INPUT};
 use crate::recording::files::{recording, Files, Place};
 use crate::sys::signals;
 use crate::telling::progress::Watched;
@@ -21,6 +21,8 @@ pub struct Job {
     pub inputs: Inputs,
     /// The house model where none is named.
     pub model: Option<PathBuf>,
+    /// Whether the house model is used if the named one is refused.
+    pub or_house: bool,
     pub way: Way,
     /// Whether no progress is told.
     pub quiet: bool,
@@ -34,13 +36,11 @@ pub struct Job {
     pub out: PathBuf,
     /// What stands in front of the name of each file that is written.
     pub prefix: String,
+    /// How it is cut into dictations, if it is.
+    pub split: Option<Split>,
 }
 
 impl Job {
-    fn model_name(&self) -> &Path {
-        self.model.as_deref().unwrap_or(HOUSE_NAME.as_ref())
-    }
-
     /// Where a bench's recording comes to stand.
     pub fn place(&self, side: Side) -> PathBuf {
         self.out.join(self.prefix.clone() + &recording(side))
@@ -58,7 +58,7 @@ pub enum Inputs {
 }
 
 impl Inputs {
-    fn recordings(&self, how: How) -> Result<Recordings> {
+    pub fn recordings(&self, how: How) -> Result<Recordings> {
         match self {
             Inputs::One { side, file } => Recordings::one(*side, file, how),
             Inputs::Two { left, right } => Recordings::two(left, right, how),
@@ -103,7 +103,7 @@ impl Inputs {
     }
 
     /// Whether both benches are recorded.
-    fn are_both(&self) -> bool {
+    pub fn are_both(&self) -> bool {
         !matches!(self, Inputs::One { .. })
     }
 }
@@ -118,6 +118,8 @@ fn called(file: &Path) -> &Path {
 /// What was cleaned.
 pub struct Report {
     pub benches: [Summary; 2],
+    /// What the model is called that was used.
+    pub model: PathBuf,
     /// What of it is missing: one error for each bench or recording that ended before its time.
     pub lost: Vec<Error>,
     /// What was not as it should be, if nothing is lost by it.
@@ -131,12 +133,37 @@ fn is_in_the_way(file: &Path, job: &Job) -> bool {
     names.iter().filter_map(|name| name.file_name()).any(|name| file == out.join(name))
 }
 
-/// The model, which the library must take.
-fn model_of_job(job: &Job) -> Result<Vec<u8>> {
-    let Some(path) = &job.model else { return Ok(HOUSE.into()) };
-    let model = import::read_model(path)?;
-    Recorder::new(job.way).open(Side::Left, &model).at(path)?;
-    Ok(model)
+/// A model that the library takes.
+pub struct Model {
+    pub bytes: Vec<u8>,
+    pub name: PathBuf,
+    /// Why it is not the model that was named.
+    pub note: Option<String>,
+}
+
+impl Model {
+    fn house(note: Option<String>) -> Model {
+        Model { bytes: HOUSE.into(), name: HOUSE_NAME.into(), note }
+    }
+
+    fn in_place_of(refused: &Error) -> Model {
+        Model::house(Some(format!("{refused}; the house model is used instead")))
+    }
+}
+
+/// The model of a job. With `--or-house`, a named model that is refused gives way to the house model. Which of the two
+/// is used, the library says.
+pub fn model_of_job(job: &Job) -> Result<Model> {
+    let Some(path) = &job.model else { return Ok(Model::house(None)) };
+    let trial = match import::read_model(path) {
+        // a text whose layers the writer refuses
+        Err(error) if job.or_house && error.refusal().is_some() => return Ok(Model::in_place_of(&error)),
+        trial => trial?,
+    };
+    match Recorder::new(job.way).open(Side::Left, &trial).at(path) {
+        Err(error) if job.or_house && tuppence::model_choose(&trial, HOUSE) == 1 => Ok(Model::in_place_of(&error)),
+        opened => opened.map(|()| Model { bytes: trial, name: path.clone(), note: None }),
+    }
 }
 
 /// A bench that had to end, and when.
@@ -146,14 +173,9 @@ fn ended(side: Side, sample: u64, why: impl Into<Reason>) -> Lost {
 }
 
 /// The benches that the library refused.
-fn refused(benches: [Option<Refused>; 2]) -> impl Iterator<Item = Lost> {
+pub fn refused(benches: [Option<Refused>; 2]) -> impl Iterator<Item = Lost> {
     let told = |(side, bench): (Side, Option<Refused>)| bench.map(|at| ended(side, at.sample, at.refusal));
     Side::BOTH.into_iter().zip(benches).filter_map(told)
-}
-
-/// The benches that had more to say than a file can hold.
-fn too_long(cut: [bool; 2]) -> impl Iterator<Item = Lost> {
-    Side::BOTH.into_iter().zip(cut).filter(|(_, cut)| *cut).map(|(side, _)| ended(side, wav::MOST, wav::TOO_LONG))
 }
 
 /// Runs a job. What ends one bench leaves the other as it is; what was cleaned till then is kept, and told. Where
@@ -165,35 +187,34 @@ pub fn clean(job: &Job) -> Result<Report> {
         return Err(Error::undone("this would be written over; name another folder with --out").at(file));
     }
     let mut notes = mix::check(&job.inputs, job.anyway)?;
+    notes.extend(model.note);
     let (out, prefix, once) = (&*job.out, &*job.prefix, job.inputs.come_once());
     let mut files = Files::new(&Place { out, prefix, more: &[], force: job.force, once, csv: job.csv })?;
     let mut recordings = job.inputs.recordings(job.how)?;
-    Side::BOTH.into_iter().for_each(|side| files.about(side, job.inputs.about(side, job.model_name())));
+    Side::BOTH.into_iter().for_each(|side| files.about(side, job.inputs.about(side, &model.name)));
     let length = recordings.length();
     let is_raw = job.how.raw && matches!(job.inputs, Inputs::Stereo(_));
     let mut apart = Apart::new(&mut recordings, job.inputs.are_both(), job.anyway).in_turns(is_raw);
-    let mut limited = Limited::new(&mut apart, wav::MOST);
     let mut watched = Watched::new(&mut files, length, job.quiet);
-    let outcome = run(&mut limited, [&model; 2], job.way, &mut watched, |_| ());
+    let outcome = run(&mut apart, [&model.bytes; 2], job.way, &mut watched, |_| ());
     drop(watched);
-    let cut = limited.cut;
     notes.extend(apart.found(job.inputs.named(Side::Left))?);
     notes.extend(recordings.notes());
     let benches = match outcome {
         Ok(benches) => benches,
         Err(why) => return Err(files.give_up(why)),
     };
-    let lost: Vec<Lost> = recordings.lost().into_iter().chain(refused(benches)).chain(too_long(cut)).collect();
+    let lost: Vec<Lost> = recordings.lost().into_iter().chain(refused(benches)).collect();
     lost.iter().for_each(|lost| lost.sides.iter().for_each(|side| files.fault(*side, &lost.why.to_string())));
     let lost = lost.into_iter().map(|lost| lost.why).collect();
     if files.is_empty() {
         return Err(nothing(lost));
     }
-    Ok(Report { benches: files.keep(None)?, lost, notes })
+    Ok(Report { benches: files.keep(None)?, model: model.name, lost, notes })
 }
 
 /// Why nothing is written.
-fn nothing(mut lost: Vec<Error>) -> Error {
+pub fn nothing(mut lost: Vec<Error>) -> Error {
     let Some(last) = lost.pop() else { return Error::undone("no samples came: nothing is written") };
     lost.push(last.reworded(|why| format!("{why}; nothing is written")));
     Error::Several(lost)
@@ -220,12 +241,6 @@ mod tests {
         assert_eq!(told(refused([None, None])), []);
         let both = told(refused([at(8, 0), at(3, 0)]));
         assert_eq!([&both[0].0[..], &both[1].0], [[left], [right]]);
-        for (cut, side) in [([true, false], left), ([false, true], right)] {
-            let lost = told(too_long(cut));
-            assert_eq!((lost.len(), &lost[0].0[..]), (1, &[side][..]));
-            assert!(lost[0].1.starts_with(&format!("{}, at 44", side.name())), "{}", lost[0].1);
-            assert_eq!(lost[0].2, None);
-        }
     }
 
     /// Each bench's page names its own recording, and so does the answer.

@@ -1,10 +1,12 @@
 //! What cleaning a recording gave.
 
 use crate::cleaning::first_voice::FirstVoice;
+use crate::cleaning::measured::{within_frames, Measured};
 use crate::cleaning::pauses::Pauses;
 use crate::cleaning::recorder::{Frame, Heard, Side};
 use crate::page::about::About;
 use crate::page::overview::Overview;
+use crate::reading::block::Layout;
 use crate::{FRAME, RATE};
 
 /// One bench's recording before and after, and what each frame was.
@@ -30,6 +32,11 @@ pub fn is_gap(pair: [u32; 2]) -> bool {
 pub const LIKELY: f32 = 0.5;
 /// The ends of a sample: one that stands there was cut off, or nearly.
 const FULL_SCALE: [f32; 2] = [-32_768.0, 32_767.0];
+
+/// Whether a sample stands at full scale.
+fn is_full(x: f32) -> bool {
+    x <= FULL_SCALE[0] || x >= FULL_SCALE[1]
+}
 
 /// A cleaned recording in short, which takes no more room for ten hours than for a minute.
 pub struct Summary {
@@ -72,6 +79,13 @@ impl Summary {
         }
     }
 
+    /// Of a recording that was cut from a stream. The network has settled, and the first frame brings audio already.
+    pub fn cut(side: Side) -> Summary {
+        let mut summary = Summary { first_voice: FirstVoice::settled(), ..Summary::of(side) };
+        summary.pauses.frame(false);
+        summary
+    }
+
     pub fn seconds(&self) -> f64 {
         self.samples as f64 / f64::from(RATE)
     }
@@ -82,18 +96,30 @@ impl Summary {
         Some(at).filter(|at| *at < self.seconds())
     }
 
+    /// Samples as they were recorded.
     pub fn before(&mut self, samples: &[f32]) {
-        self.peak = samples.iter().fold(self.peak, |peak, x| peak.max(x.abs()));
-        self.clipped += samples.iter().filter(|x| **x <= FULL_SCALE[0] || **x >= FULL_SCALE[1]).count() as u64;
-        self.pauses.before(samples);
-        self.overview.samples(self.taken, samples, |column| &mut column.before);
+        for (place, part) in within_frames(self.taken, samples.len()) {
+            let measured = Measured::of(&samples[part.clone()]);
+            let [low, high] = measured.ends;
+            self.peak = self.peak.max(-low).max(high);
+            if low <= FULL_SCALE[0] || high >= FULL_SCALE[1] {
+                self.clipped += samples[part.clone()].iter().filter(|x| is_full(**x)).count() as u64;
+            }
+            self.pauses.before(&samples[part]);
+            self.overview.part(place, &measured, |column| &mut column.before);
+        }
         self.taken += samples.len() as u64;
     }
 
-    pub fn after(&mut self, samples: &[f32]) {
-        self.pauses.after(samples);
-        self.overview.samples(self.samples, samples, |column| &mut column.after);
-        self.samples += samples.len() as u64;
+    /// Samples as they came out: the bytes that the library packs.
+    pub fn after(&mut self, bytes: &[u8]) {
+        let size = Layout::CLEANED.size();
+        for (place, part) in within_frames(self.samples, bytes.len() / size) {
+            let measured = Measured::of_bytes(&bytes[size * part.start..size * part.end]);
+            self.pauses.after(&measured);
+            self.overview.part(place, &measured, |column| &mut column.after);
+        }
+        self.samples += (bytes.len() / size) as u64;
     }
 
     pub fn frame(&mut self, frame: &Frame) {
@@ -113,6 +139,7 @@ impl Summary {
 #[cfg(test)]
 mod tests {
     use super::*;
+    use crate::reading::block::packed;
 
     #[test]
     fn where_frames_are_missing() {
@@ -125,16 +152,16 @@ mod tests {
         let mut summary = Summary::of(Side::Left);
         let noise = Heard::Voice { probability: 0.5, energy: 1.0 };
         let voice = Heard::Voice { probability: 0.6, energy: 1.0 };
-        for (entry, heard) in [(7, Heard::Silent), (8, noise), (20, voice), (21, Heard::Silent), (23, voice)] {
-            summary.frame(&Frame { entry, heard, heard_so_far: 0 });
+        for (number, heard) in [(7, Heard::Silent), (8, noise), (20, voice), (21, Heard::Silent), (23, voice)] {
+            summary.frame(&Frame::of(Side::Left, number, heard, 0));
         }
         summary.before(&[1.0; 25_000]);
         summary.before(&[-32_768.0, 32_767.0, 32_766.0]);
-        summary.after(&[1.0; 24_000]);
+        summary.after(&packed(&[1.0; 24_000]));
         assert_eq!((summary.frames, summary.heard, summary.gaps, summary.seconds()), (5, 3, 2, 0.5));
         // two likely frames are no voice
         assert_eq!((summary.voices, summary.voice_at()), (2, None));
-        (0..45).for_each(|entry| summary.frame(&Frame { entry, heard: voice, heard_so_far: 0 }));
+        (0..45).for_each(|number| summary.frame(&Frame::of(Side::Left, number, voice, 0)));
         assert_eq!((summary.voices, summary.voice_at()), (47, Some(0.0)));
         assert_eq!((summary.peak, summary.clipped), (32_768.0, 2));
     }

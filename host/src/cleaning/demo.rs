@@ -133,7 +133,8 @@ fn db(ratio: f64) -> f64 {
     10.0 * ratio.log10()
 }
 
-/// What the cleaning did, in decibels; the first 1.5 seconds, in which a model may be looking for the noise floor, do not count.
+/// What the cleaning did, in decibels; the first 1.5 seconds, in which a model may be looking for the noise floor, do
+/// not count.
 pub struct Effect {
     pub pauses: f64,
     pub voice: f64,
@@ -178,13 +179,13 @@ pub fn cleaned(dictations: &[Dictation; 2], way: Way) -> Result<[Cleaned; 2]> {
 fn store([left, right]: &[Cleaned; 2], out: &Path, force: bool, csv: bool) -> Result<()> {
     let names = [left, right].map(|bench| before(bench.side));
     let mut files = Files::new(&Place { out, prefix: "", more: &names, force, once: false, csv })?;
+    files.frames(&[left.frames.clone(), right.frames.clone()])?;
     for (bench, name) in [left, right].into_iter().zip(&names) {
         files.about(bench.side, About::stream(name, HOUSE_NAME.as_ref()));
         files.add(name, &wav::write(RATE, &bench.before))?;
         files.before(bench.side, &bench.before)?;
         files.after(bench.side, &packed(&bench.after))?;
     }
-    files.frames(&[left.frames.clone(), right.frames.clone()])?;
     files.keep(Some([&names[0], &names[1]])).map(|_| ())
 }
 

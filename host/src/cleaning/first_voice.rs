@@ -2,38 +2,75 @@
 
 /// The frames of a quarter second. A voice begins with a likely frame if most of the quarter second from it on are
 /// likely. A single frame may be a knock on the bench.
-const QUARTER: u64 = 25;
+pub const QUARTER: u64 = 25;
 const MOST: u32 = QUARTER as u32 / 2 + 1;
 /// The network needs 0.3 s to settle: in its first frames it reports a voice in any noise. These frames don't count.
-const SETTLING: u64 = 30;
+pub const SETTLING: u64 = 30;
+
+/// The last quarter second: which of its frames were likely.
+#[derive(Clone, Copy, Default)]
+pub struct Quarter {
+    /// The frames that have come.
+    pub frames: u64,
+    /// The lowest bit is the newest frame.
+    likely: u64,
+}
+
+impl Quarter {
+    /// The next frame, and whether a voice is likely in it. While there is a voice, that is, while most frames of the
+    /// last quarter second are likely, the first likely one of these comes back.
+    pub fn frame(&mut self, likely: bool) -> Option<u64> {
+        self.likely = (self.likely << 1 | u64::from(likely)) & ((1 << QUARTER) - 1);
+        let newest = self.frames;
+        self.frames += 1;
+        (self.likely.count_ones() >= MOST).then(|| newest - u64::from(self.likely.ilog2()))
+    }
+}
 
 /// Looks for the first voice, frame by frame.
-#[derive(Default)]
 pub struct FirstVoice {
-    /// The frames that have come.
-    frames: u64,
-    /// Which of the last quarter second's frames were likely. The lowest bit is the newest frame.
-    likely: u64,
+    quarter: Quarter,
+    /// How many of the first frames don't count.
+    settling: u64,
     /// The frame with which the voice begins.
     begins: Option<u64>,
+    /// The newest likely frame of a voice.
+    ends: Option<u64>,
+}
+
+/// Of a recording that begins with an opening.
+impl Default for FirstVoice {
+    fn default() -> FirstVoice {
+        FirstVoice { quarter: Quarter::default(), settling: SETTLING, begins: None, ends: None }
+    }
 }
 
 impl FirstVoice {
+    /// Of a recording that was cut from a stream: the network has settled long ago.
+    pub fn settled() -> FirstVoice {
+        FirstVoice { settling: 0, ..FirstVoice::default() }
+    }
+
     /// The next frame, and whether a voice is likely in it.
     pub fn frame(&mut self, likely: bool) {
-        let counts = likely && self.frames >= SETTLING;
-        self.likely = (self.likely << 1 | u64::from(counts)) & ((1 << QUARTER) - 1);
-        if self.begins.is_none() && self.likely.count_ones() >= MOST {
-            let oldest = self.frames - u64::from(self.likely.ilog2());
-            // a voice that is there already when the network has settled may have begun at any time before
-            self.begins = Some(if oldest == SETTLING { 0 } else { oldest });
+        let counts = likely && self.quarter.frames >= self.settling;
+        let voice = self.quarter.frame(counts);
+        // a voice that is there already when the network has settled may have begun at any time before
+        let early = |oldest: u64| if oldest == self.settling { 0 } else { oldest };
+        self.begins = self.begins.or(voice.map(early));
+        if voice.is_some() && counts {
+            self.ends = Some(self.quarter.frames - 1);
         }
-        self.frames += 1;
     }
 
     /// The number of the frame with which it begins, counted from the start of the recording.
     pub fn begins(&self) -> Option<u64> {
         self.begins
+    }
+
+    /// The number of the last frame of the last voice.
+    pub fn ends(&self) -> Option<u64> {
+        self.ends
     }
 }
 
@@ -68,5 +105,17 @@ mod tests {
         assert_eq!(begins(|frame| !(30..50).contains(&frame)), Some(50));
         assert_eq!(begins(|frame| frame >= 10), Some(0));
         assert_eq!(begins(|frame| frame >= 31), Some(31));
+    }
+
+    /// In a recording that was cut from a stream every frame counts.
+    #[test]
+    fn after_a_cut() {
+        for begins in [0, 1, 10, 29, 30, 50] {
+            let mut first = FirstVoice::settled();
+            let voices = |frame: u64| (begins..begins + 20).contains(&frame) || (150..170).contains(&frame);
+            // a knock behind it is no voice
+            (0..300).for_each(|frame| first.frame(voices(frame) || frame == 200));
+            assert_eq!((first.begins(), first.ends()), (Some(begins), Some(169)));
+        }
     }
 }

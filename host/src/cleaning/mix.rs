@@ -63,8 +63,8 @@ fn both_the_same(why: &str) -> Doubt {
     Doubt { why: why.into(), anyway: "clean it as both regardless".into() }
 }
 
-/// Refuses one file for both benches, and a file whose name, seal or side sheet says the other bench. With `anyway` these
-/// come back as notes.
+/// Refuses one file for both benches, and a file whose name, seal or side sheet says the other bench. With `anyway`
+/// these come back as notes.
 pub fn check(inputs: &Inputs, anyway: bool) -> Result<Vec<String>> {
     let given: Vec<(&Path, Side)> = match inputs {
         Inputs::One { side, file } => vec![(file, *side)],
@@ -91,9 +91,9 @@ const SECOND: u64 = RATE as u64;
 /// Below this the samples of both channels in turn are one sound: see [`Turns`].
 const SMOOTHER: f64 = 0.85;
 
-/// Whether two channels are one that was read as two, each second sample as the other bench's. Then a sample lies closer
-/// to the line between its neighbours in the other channel than to that between its neighbours in its own, which are
-/// twice as far away. Of two microphones it is the other way round: the demo's benches give 5, the noise of two
+/// Whether two channels are one that was read as two, each second sample as the other bench's. Then a sample lies
+/// closer to the line between its neighbours in the other channel than to that between its neighbours in its own, which
+/// are twice as far away. Of two microphones it is the other way round: the demo's benches give 5, the noise of two
 /// microphones 1, and the demo's voices read in turns 0.67.
 #[derive(Default)]
 struct Turns {

@@ -1,6 +1,7 @@
-//! How much noise was taken away: by how many decibels the frames without a voice are softer, the middle one of them. (Of their powers together the end of
-//! a word, which is loud and not likely, would be all.)
+//! How much noise was taken away: by how many decibels the frames without a voice are softer, the middle one of them.
+//! (Of their powers together the end of a word, which is loud and not likely, would be all.)
 
+use crate::cleaning::measured::Measured;
 use crate::FRAME;
 use std::collections::VecDeque;
 
@@ -16,16 +17,28 @@ struct Powers {
 }
 
 impl Powers {
-    fn add(&mut self, samples: impl Iterator<Item = f64>) {
-        for x in samples {
-            self.sum += x * x;
-            self.samples += 1;
-            if self.samples == FRAME {
-                self.frames.push_back(self.sum);
-                (self.sum, self.samples) = (0.0, 0);
-            }
+    /// So many samples more of the frame, whose squares are now so much together.
+    fn add(&mut self, samples: usize, sum: f64) {
+        self.samples += samples;
+        self.sum = sum;
+        if self.samples == FRAME {
+            self.frames.push_back(self.sum);
+            (self.sum, self.samples) = (0.0, 0);
         }
     }
+}
+
+/// A sum, and the squares of these samples behind the high-pass filter added to it. It is in f64 throughout: this is
+/// for measuring alone.
+fn high_passed(mut sum: f64, [mut m0, mut m1]: [f64; 2], samples: &[f32]) -> (f64, [f64; 2]) {
+    let [a0, a1, b0, b1] = HIGH_PASS.map(f64::from);
+    for x in samples {
+        let x = f64::from(*x);
+        let y = x + m0;
+        (m0, m1) = (m1 + b0 * x - a0 * y, b1 * x - a1 * y);
+        sum += y * y;
+    }
+    (sum, [m0, m1])
 }
 
 /// Tenths of a decibel, counted from so many below 0 on; the last stands for all that is more.
@@ -51,18 +64,16 @@ impl Default for Pauses {
 }
 
 impl Pauses {
+    /// Samples of one frame as they were recorded.
     pub fn before(&mut self, samples: &[f32]) {
-        let ([a0, a1, b0, b1], memory) = (HIGH_PASS.map(f64::from), &mut self.memory);
-        // in f64 throughout: this is for measuring alone
-        self.before.add(samples.iter().map(|x| {
-            let (x, y) = (f64::from(*x), f64::from(*x) + memory[0]);
-            *memory = [memory[1] + b0 * x - a0 * y, b1 * x - a1 * y];
-            y
-        }));
+        let (sum, memory) = high_passed(self.before.sum, self.memory, samples);
+        self.before.add(samples.len(), sum);
+        self.memory = memory;
     }
 
-    pub fn after(&mut self, samples: &[f32]) {
-        self.after.add(samples.iter().map(|x| f64::from(*x)));
+    /// Samples of one frame as they came out.
+    pub fn after(&mut self, part: &Measured) {
+        self.after.add(part.samples, self.after.sum + part.squares);
         self.count();
     }
 
@@ -104,7 +115,8 @@ impl Pauses {
 mod tests {
     use super::*;
 
-    /// Noise of 100 that comes out as 10 in every other frame, which has no voice: 20 dB. The voice's frames do not count.
+    /// Noise of 100 that comes out as 10 in every other frame, which has no voice: 20 dB. The voice's frames do not
+    /// count.
     #[test]
     fn a_tenth_is_left() {
         let mut pauses = Pauses::default();
@@ -114,7 +126,7 @@ mod tests {
         }
         pauses.frame(true);
         for number in 0..199 {
-            pauses.after(&tone(if number % 2 == 0 { 5_000.0 } else { 10.0 }));
+            pauses.after(&Measured::of(&tone(if number % 2 == 0 { 5_000.0 } else { 10.0 })));
             pauses.frame(number % 2 == 0);
         }
         let taken = pauses.taken().unwrap();
@@ -131,12 +143,13 @@ mod tests {
                 let voices = (frames * block..frames * (block + 1)).map(|number| number % 3 == 0);
                 let samples: Vec<f32> = (0..frames * FRAME).map(|_| 300.0 * rng.number() as f32).collect();
                 let softer: Vec<f32> = samples.iter().map(|x| x * x / 3_000.0).collect();
-                pauses.before(&samples);
+                samples.chunks(FRAME).for_each(|part| pauses.before(part));
+                let softer = softer.chunks(FRAME).map(Measured::of);
                 if frames_first {
                     voices.for_each(|voice| pauses.frame(voice));
-                    pauses.after(&softer);
+                    softer.for_each(|part| pauses.after(&part));
                 } else {
-                    pauses.after(&softer);
+                    softer.for_each(|part| pauses.after(&part));
                     voices.for_each(|voice| pauses.frame(voice));
                 }
             }
@@ -154,7 +167,7 @@ mod tests {
         let mut pauses = Pauses::default();
         assert_eq!(pauses.taken(), None);
         pauses.before(&[1_000.0; FRAME]);
-        pauses.after(&[0.0; FRAME]);
+        pauses.after(&Measured::of(&[0.0; FRAME]));
         pauses.frame(false);
         pauses.frame(false);
         assert_eq!(pauses.taken(), Some(f64::INFINITY));

@@ -12,6 +12,8 @@ pub use tuppence::{PIECE, RECORD, STORE};
 const COMPLETED: usize = tuppence::FRAMES;
 /// The bytes of a frame that was cleaned.
 const CLEANED: usize = 2 * FRAME;
+/// The bytes of a frame's record in the side sheet.
+pub const NOTE: usize = tuppence::NOTE;
 
 /// The two benches.
 #[derive(Clone, Copy, Debug, PartialEq)]
@@ -29,6 +31,13 @@ impl Side {
             Side::Right => "right",
         }
     }
+
+    pub fn other(self) -> Side {
+        match self {
+            Side::Left => Side::Right,
+            Side::Right => Side::Left,
+        }
+    }
 }
 
 /// A bench's way, which its opening settles: the crate's own finder and the fast transforms; or what requests 04 and 08
@@ -36,16 +45,16 @@ impl Side {
 #[derive(Clone, Copy, Debug, Default, PartialEq)]
 pub enum Way {
     #[default]
-    Crate,
-    Asked,
+    Nnnoiseless,
+    Own,
 }
 
 impl Way {
     /// Opens a bench in this way. A refused opening changes nothing.
     pub fn open(self, record: &mut [u32], store: &mut [f32], side: u32, model: &[u8]) -> Result<(), Refusal> {
         done(match self {
-            Way::Crate => tuppence::open_crate(record, store, side, model),
-            Way::Asked => tuppence::open(record, store, side, model),
+            Way::Nnnoiseless => tuppence::open_crate(record, store, side, model),
+            Way::Own => tuppence::open(record, store, side, model),
         })
     }
 }
@@ -80,26 +89,35 @@ impl Heard {
     }
 }
 
-/// A frame by its entry in the side sheet, and what it was.
+/// A frame by its record in the side sheet, as the library wrote it, and what it was.
 #[derive(Clone, Copy, Debug, PartialEq)]
 pub struct Frame {
-    pub entry: u64,
+    pub record: [u8; NOTE],
     pub heard: Heard,
     /// How many frames were heard since the opening, this one among them.
     pub heard_so_far: u32,
 }
 
 impl Frame {
+    /// A frame of a side with this number. The library writes its record.
+    pub fn of(side: Side, number: u32, heard: Heard, heard_so_far: u32) -> Frame {
+        let (mut record, entry) = ([0; NOTE], u64::from(number) | u64::from(heard.is_heard()) << 32);
+        let refused = tuppence::sheet_records(&mut [0; 2], &mut record, side as u32, &[entry]);
+        assert_eq!(refused, 0, "a side, and one entry");
+        Frame { record, heard, heard_so_far }
+    }
+
     /// From 0 at the opening.
     pub fn number(&self) -> u32 {
-        self.entry as u32
+        let [a, b, c, d, ..] = self.record;
+        u32::from_le_bytes([a, b, c, d])
     }
 }
 
 /// What comes of a block, for whichever bench calls.
 struct Buffers {
     cleaned: [[u8; CLEANED]; COMPLETED],
-    entries: [u64; COMPLETED],
+    notes: [[u8; NOTE]; COMPLETED],
     answers: [[f32; 3]; COMPLETED],
 }
 
@@ -127,7 +145,7 @@ impl Recorder {
             records: [[0; RECORD]; 2],
             buffers: Box::new(Buffers {
                 cleaned: [[0; CLEANED]; COMPLETED],
-                entries: [0; COMPLETED],
+                notes: [[0; NOTE]; COMPLETED],
                 answers: [[0.0; 3]; COMPLETED],
             }),
             spent: Duration::ZERO,
@@ -165,17 +183,18 @@ impl Recorder {
         let (record, number) = (&mut records[side as usize], side as u32);
         let (before, mut heard_so_far) = (record[FRAMES], record[HEARD]);
         let (format, channels, channel) = (of.layout.format, of.layout.channels, of.channel);
-        let (out, entries, answers) = (b.cleaned.as_flattened_mut(), &mut b.entries, b.answers.as_flattened_mut());
+        let (out, notes, answers) =
+            (b.cleaned.as_flattened_mut(), b.notes.as_flattened_mut(), b.answers.as_flattened_mut());
         let start = Instant::now();
         let refused =
-            tuppence::feed(record, store, number, bytes, format, channels, channel, model, out, entries, answers);
+            tuppence::feed(record, store, number, bytes, format, channels, channel, model, out, notes, answers);
         *spent += start.elapsed();
         done(refused)?;
-        let frames = b.cleaned.iter().zip(b.entries).zip(b.answers).take(record[FRAMES].wrapping_sub(before) as usize);
-        for ((bytes, entry), answer) in frames {
+        let frames = b.cleaned.iter().zip(b.notes).zip(b.answers).take(record[FRAMES].wrapping_sub(before) as usize);
+        for ((bytes, note), answer) in frames {
             let heard = Heard::of(answer);
             heard_so_far = heard_so_far.wrapping_add(u32::from(heard.is_heard()));
-            each(Frame { entry, heard, heard_so_far }, bytes);
+            each(Frame { record: note, heard, heard_so_far }, bytes);
         }
         Ok(())
     }

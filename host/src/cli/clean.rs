@@ -3,22 +3,28 @@
 use crate::cleaning::clean::{self, Inputs, Job, Report};
 use crate::cleaning::cleaned::Summary;
 use crate::cleaning::demo::HOUSE_NAME;
+use crate::cleaning::jobs;
 use crate::cleaning::mix;
 use crate::cleaning::recorder::{Side, Way};
+use crate::cli::dictations;
 use crate::cli::words::Given;
 use crate::error::{Error, Result};
 use crate::reading::source::{How, STANDARD_INPUT};
+use crate::recording::folder::Folder;
 use crate::sys::signals;
 use crate::telling::json::{rounded, Json};
 use crate::telling::names;
+use crate::telling::progress::Counted;
 use crate::telling::shown::{line_of, shown, steers};
-use std::cell::Cell;
 use std::path::{Path, PathBuf};
+
+/// The most recordings that are cleaned at a time.
+const MOST_JOBS: usize = 256;
 
 fn way(given: &Given) -> Way {
     match given.word("--lag").as_deref() {
-        Some("own") => Way::Asked,
-        _ => Way::Crate,
+        Some("own") => Way::Own,
+        _ => Way::Nnnoiseless,
     }
 }
 
@@ -52,7 +58,12 @@ fn job(given: &Given, inputs: Inputs, out: PathBuf) -> Result<Job> {
     let (force, anyway) = (given.has("--force"), given.has("--anyway"));
     let how = How { raw: given.has("--raw"), to_the_end: given.has("--to-the-end") };
     let (way, csv, prefix) = (way(given), given.has("--csv"), prefix(given)?);
-    Ok(Job { inputs, model, way, quiet, force, anyway, how, csv, out, prefix })
+    let split = dictations::split(given)?;
+    let or_house = given.has("--or-house");
+    if or_house && model.is_none() {
+        return Err(given.wrong("--or-house is for a model that --model names"));
+    }
+    Ok(Job { inputs, model, or_house, way, quiet, force, anyway, how, csv, out, prefix, split })
 }
 
 /// Refuses `--raw` and `--channels` where they say nothing, or something else than the benches that are asked for.
@@ -145,53 +156,78 @@ fn written(report: &Report) -> impl Iterator<Item = &Summary> {
 }
 
 /// An object for each recording that was written, and for each that was read if nothing came of it.
-fn tell_as_json(job: &Job, outcome: &Result<Report>) {
-    let model = &job.model.as_deref().map_or(HOUSE_NAME.into(), shown);
+fn as_json(job: &Job, outcome: &Result<Report>) -> Vec<String> {
+    let named = job.model.as_deref().unwrap_or(HOUSE_NAME.as_ref());
+    let model = &shown(outcome.as_ref().map_or(named, |report| &report.model));
     match outcome {
         Ok(report) => {
-            for bench in report.benches.iter().filter(|bench| !bench.about.absent) {
+            let asked = report.benches.iter().filter(|bench| !bench.about.absent);
+            let json = asked.map(|bench| {
                 let (recording, fault) = (job.inputs.named(bench.side), bench.about.fault.as_deref());
                 let (place, status) = (job.place(bench.side), if fault.is_some() { 2 } else { 0 });
                 let notes = &report.notes;
-                crate::say!(
-                    "{}",
-                    recording_json(&match bench.samples {
-                        0 => {
-                            let error = fault.or(Some("no sound came"));
-                            Told { file: &job.out, recording, bench: None, model, notes, status, error }
-                        }
-                        _ => Told { file: &place, recording, bench: Some(bench), model, notes, status, error: fault },
-                    })
-                );
-            }
+                recording_json(&match bench.samples {
+                    0 => {
+                        let error = fault.or(Some("no sound came"));
+                        Told { file: &job.out, recording, bench: None, model, notes, status, error }
+                    }
+                    _ => Told { file: &place, recording, bench: Some(bench), model, notes, status, error: fault },
+                })
+            });
+            json.map(|json| json.to_string()).collect()
         }
         Err(error) => {
             let (status, error) = (error.status(), &*error.to_string());
-            for recording in job.inputs.names() {
+            let json = job.inputs.names().into_iter().map(|recording| {
                 let (file, error) = (&*job.out, Some(error));
-                crate::say!(
-                    "{}",
-                    recording_json(&Told { file, recording, bench: None, model, notes: &[], status, error })
-                );
-            }
+                recording_json(&Told { file, recording, bench: None, model, notes: &[], status, error })
+            });
+            json.map(|json| json.to_string()).collect()
         }
     }
 }
 
-/// Runs a job, tells it by `tell`, and gives what of it is missing.
-fn run_job(given: &Given, job: &Job, tell: impl Fn(&Report)) -> Result<()> {
+/// What there is to tell of a job: lines, and what of it is missing.
+struct Answer {
+    /// For standard error.
+    notes: Vec<String>,
+    /// For standard output.
+    lines: Vec<String>,
+    missing: Result<()>,
+    /// Whether something was cleaned.
+    cleaned: bool,
+}
+
+impl Answer {
+    fn tell(self) -> Result<()> {
+        self.notes.iter().for_each(|note| crate::warn!("{note}"));
+        self.lines.iter().for_each(|line| crate::say!("{line}"));
+        self.missing
+    }
+}
+
+/// Runs a job. `line` is what is said of a bench that was cleaned.
+fn run_job(given: &Given, job: &Job, line: impl Fn(&Summary) -> String) -> Answer {
+    if let Some(split) = &job.split {
+        // each dictation is told as it is closed
+        let missing = dictations::run_dictations(given, job, split);
+        return Answer { notes: vec![], lines: vec![], cleaned: missing.is_ok(), missing };
+    }
     let outcome = clean::clean(job);
-    let is_json = given.has("--json");
-    if is_json {
-        tell_as_json(job, &outcome);
-    }
+    let (is_json, cleaned) = (given.has("--json"), outcome.is_ok());
     let silent = |error: Error| if is_json { Error::Reported(error.status()) } else { error };
-    let report = outcome.map_err(silent)?;
-    if !is_json && !job.quiet {
-        report.notes.iter().for_each(|note| crate::warn!("{note}"));
-        tell(&report);
+    let (mut notes, mut lines) = (vec![], vec![]);
+    if is_json {
+        lines = as_json(job, &outcome);
     }
-    Error::several(report.lost).map_err(silent)
+    let missing = outcome.map_err(silent).and_then(|report| {
+        if !is_json && !given.has("-q") {
+            lines = written(&report).map(line).collect();
+            notes = report.notes;
+        }
+        Error::several(report.lost).map_err(silent)
+    });
+    Answer { notes, lines, missing, cleaned }
 }
 
 /// Tells that no model was named.
@@ -219,34 +255,57 @@ fn look_for_twins(given: &Given, out: &Path) -> Result<()> {
     Ok(())
 }
 
-/// Files of one bench each, every one into a folder of its own. All names are looked at before anything is written.
+/// How many recordings are cleaned at a time.
+fn jobs(given: &Given) -> Result<usize> {
+    let Some(word) = given.word("--jobs") else { return Ok(jobs::cores()) };
+    match word.parse() {
+        Ok(jobs @ 1..=MOST_JOBS) => Ok(jobs),
+        _ => {
+            let word = shown(Path::new(&word));
+            Err(given.wrong(format!("--jobs {word}: a number from 1 to {MOST_JOBS} is wanted")))
+        }
+    }
+}
+
+/// Files of one bench each, every one into a folder of its own, and as many at a time as `--jobs` says. All names are
+/// looked at before anything is written.
 fn many(given: &Given, out: &Path) -> Result<()> {
     look_for_twins(given, out)?;
-    let mut jobs = vec![];
+    // dictations are told while their recording goes on, so that one recording at a time is cut into them
+    let most = if given.has("--split") { 1 } else { given.files.len() };
+    let (at_a_time, mut all) = (jobs(given)?.min(most), vec![]);
     for file in &given.files {
         let inputs = Inputs::One { side: side_of(given, file)?, file: file.clone() };
         mix::check(&inputs, given.has("--anyway"))?;
-        jobs.push(job(given, inputs, folder_of(out, file))?);
+        let job = job(given, inputs, folder_of(out, file))?;
+        all.push((file, Job { quiet: job.quiet || at_a_time > 1, ..job }));
     }
-    let (mut bad, cleaned) = (vec![], Cell::new(false));
-    for (file, job) in given.files.iter().zip(jobs) {
-        if signals::asked() {
-            bad.push(Error::wrong("stopped before it").at(file));
-            continue;
+    // the folder around those of the files: none of them takes it away from another, and it goes if it stays empty
+    let _around = Folder::new(out, false);
+    let (mut bad, mut cleaned) = (vec![], false);
+    let mut line = Counted::new(all.len(), given.has("-q") || at_a_time == 1);
+    let tell = |(file, answer): (PathBuf, Option<Answer>)| match answer {
+        Some(answer) => {
+            cleaned |= answer.cleaned;
+            bad.extend(answer.tell().err());
         }
-        let tell = |report: &Report| {
-            cleaned.set(true);
-            for bench in written(report) {
-                let (side, frames, place) = (bench.side.name(), bench.frames, shown(&job.place(bench.side)));
-                crate::say!("{}", line_of(file, format!("{side} side, {frames} frames, in {place}")));
-            }
-        };
-        bad.extend(run_job(given, &job, tell).err());
-    }
-    if cleaned.get() {
+        None => bad.push(Error::wrong("stopped before it").at(&file)),
+    };
+    let work = |(file, job): &(&PathBuf, Job)| (file.to_path_buf(), one_of_many(given, file, job));
+    jobs::in_order(at_a_time, &all, work, || line.one_more(), tell);
+    if cleaned {
         tell_house(given);
     }
     Error::several(bad)
+}
+
+/// `None` if the end was asked for before this file's turn came.
+fn one_of_many(given: &Given, file: &Path, job: &Job) -> Option<Answer> {
+    let told = |bench: &Summary| {
+        let (side, frames, place) = (bench.side.name(), bench.frames, shown(&job.place(bench.side)));
+        line_of(file, format!("{side} side, {frames} frames, in {place}"))
+    };
+    (!signals::asked()).then(|| run_job(given, job, told))
 }
 
 /// Says how a stream without a header is read.
@@ -263,16 +322,20 @@ fn tell_raw(inputs: &Inputs) {
 pub fn run_clean(given: &Given) -> Result<()> {
     let (inputs, out) = (inputs(given)?, given.wanted("--out")?);
     let Some(inputs) = inputs else { return many(given, &out) };
+    if given.has("--jobs") {
+        return Err(given.wrong("--jobs is for several files that no option names"));
+    }
     if given.has("--raw") && !given.has("-q") && !given.has("--json") {
         tell_raw(&inputs);
     }
     let job = job(given, inputs, out)?;
-    run_job(given, &job, |report| {
-        for bench in written(report) {
-            crate::say!("{}: {} frames", bench.side.name(), bench.frames);
-        }
+    let answer = run_job(given, &job, |bench| format!("{}: {} frames", bench.side.name(), bench.frames));
+    let cleaned = answer.cleaned;
+    let missing = answer.tell();
+    if cleaned {
         tell_house(given);
-    })
+    }
+    missing
 }
 
 pub fn run_demo(given: &Given) -> Result<()> {

@@ -13,6 +13,14 @@ const LAG: Opt = Opt::of(
      bits; or our own, with transforms as plain sums, which takes several times as long.",
 );
 
+const SPLIT: Opt = Opt::of(
+    "--split",
+    Takes::Text("SECONDS"),
+    "Cut into dictations, DIR/2026-11-16/093012-left.wav and so on: one is over after so many seconds without a voice.",
+);
+const START: Opt =
+    Opt::of("--start", Takes::Text("TIME"), "When the first sample was recorded, as 2026-11-16T09:30:12. For --split.");
+
 /// The box.
 pub const BOX: Program = Program { name: "", commands: COMMANDS, help: help::help_of_box, asks: "what shall be done?" };
 
@@ -26,41 +34,82 @@ pub const COMMANDS: &[Command] = &[
             "FILE.. [--side left|right] --out DIR",
             "- --out DIR",
             "--left - [--raw] --out DIR",
+            "- --split SECONDS [--start TIME] --out DIR",
         ],
         files: Files::from(0, "FILE"),
         options: &[
-            Opt::of("--left", Takes::There("FILE"), "The left bench's recording; alone, that bench's alone. - is standard input."),
+            Opt::of(
+                "--left",
+                Takes::There("FILE"),
+                "The left bench's recording; alone, that bench's alone. - is standard input.",
+            ),
             Opt::of("--right", Takes::There("FILE"), "The right bench's."),
             Opt::of("--both", Takes::There("FILE"), "Both in one: the left channel is the left bench."),
             Opt::of("--side", Takes::OneOf(&["left", "right"]), "The side of the files whose name says none."),
-            Opt::flag("--raw", "Standard input has no header: 48,000 samples a second, 16 bits, little end first, left and right in turn."),
-            Opt::of("--channels", Takes::OneOf(&["1", "2"]), "The channels of --raw: 2 with -, 1 with --left - or --right -."),
+            Opt::flag(
+                "--raw",
+                "Standard input has no header: 48,000 samples a second, 16 bits, little end first, \
+                 left and right in turn.",
+            ),
+            Opt::of(
+                "--channels",
+                Takes::OneOf(&["1", "2"]),
+                "The channels of --raw: 2 with -, 1 with --left - or --right -.",
+            ),
             Opt::flag("--to-the-end", "Clean all that a file holds, even if its header announces less."),
-            Opt::of("--out", Takes::Place("DIR"), "Where the files are written. Of several FILEs each has a folder there."),
+            Opt::of(
+                "--out",
+                Takes::Place("DIR"),
+                "Where the files are written. Of several FILEs each has a folder there.",
+            ),
+            SPLIT,
+            START,
+            Opt::flag("--keep-before", "Keep each dictation as it was before cleaning, too. For --split."),
             Opt::of("--name", Takes::Text("NAME"), "Call what is written NAME-left.wav and so on."),
-            Opt::of("--model", Takes::There("FILE"), "The model: .rnn, .rnnn or rnn_data.c. The house model where none is named."),
+            Opt::of(
+                "--model",
+                Takes::There("FILE"),
+                "The model: .rnn, .rnnn or rnn_data.c. The house model where none is named.",
+            ),
+            Opt::flag("--or-house", "Clean with the house model if the library refuses the one that --model names."),
             LAG,
+            Opt::of("--jobs", Takes::Text("N"), "Clean N of several FILEs at a time; else as many as there are cores."),
             FORCE,
-            Opt::flag("--anyway", "Clean a recording although its name or its seal says the other side, or both benches' are identical."),
+            Opt::flag(
+                "--anyway",
+                "Clean a recording although its name or its seal says the other side, or both benches' are identical.",
+            ),
             CSV,
             Opt::flag("-q", "Print errors only."),
             JSON,
         ],
         about: "\
 Recordings of 48 kHz, 16-bit or 24-bit PCM or 32-bit float. Writes left.wav and right.wav, benches.svg and index.html, a
-page with all of it, into DIR. Each recording is sealed: behind its audio stands its side, with each frame's number. A
-recording whose name, seal or side sheet says the other bench, one file for both benches, and two recordings that are
-identical are refused before anything is written.
+page with all of it, into DIR. Each recording is sealed: its side is before its audio, and after it with each frame's
+number. A recording whose name, seal or side sheet says the other bench, one file for both benches, and two recordings
+that are identical are refused before anything is written.
 
-FILE.. are recordings of one bench each, every one with a folder of its own in DIR that is called like the file. Its side
-is what its name says: left or right as a word, or L or R as the last word (patientR.wav, p-r-2.wav), and if it says none,
+FILE.. are recordings of one bench each, every one with a folder of its own in DIR that is called like the file. Its \
+side
+is what its name says: left or right as a word, or L or R as the last word (patientR.wav, p-r-2.wav), and if it says \
+none,
 what its folder's name says; or what --side says.
 
-- is a stereo WAV stream on standard input, of any length up to 12 hours and 19 minutes, which is what a WAV file can
-hold. All recordings are cleaned as they are read, and written as they are cleaned: it takes no more memory for ten hours
+- is a stereo WAV stream on standard input, of any length. A WAV file can hold 12 hours and 19 minutes: then a recording
+goes on in left-2.wav, with the next frame. All recordings are cleaned as they are read, and written as they are \
+cleaned: it takes no more memory for ten hours
 than for a minute. On their way the files are called left.wav.part and so on, and the records of the side sheets lie in
 left.wav.sheet and right.wav.sheet; at the end all is closed and put in its place. Ctrl-C, TERM or HUP is the end of
 what is read: what came is closed and kept. A second one ends the program at once.
+
+With --split each bench's recording is cut into dictations. One is over after so many seconds without a voice at that
+bench, and the next one begins half a second before its first voice. Each is a sealed recording of its own, called by \
+the
+time at which it began, and told as soon as it is closed. No sample is lost: silence is at the end of the dictation \
+before
+it. index.html lists all dictations in DIR. The time is the clock's for a stream, and for a file its last change less \
+its
+length; --start says another.
 
 What is wrong with one bench ends that bench there and leaves the other as it is. A recording that breaks off is cleaned
 as far as it goes. Both are told. Where the files of a stream can't be written, as on a full disk, or the power fails,
@@ -69,26 +118,32 @@ they stay as they are, and box mend DIR closes them.",
             "box clean --left l.wav --right r.wav --out monday",
             "box clean *.wav --out monday",
             "arecord -f S16_LE -c 2 -r 48000 -t wav | box clean - --out monday",
+            "arecord -f S16_LE -c 2 -r 48000 -t wav | box clean - --split 8 --out monday",
         ],
         run: clean::run_clean,
     },
     Command {
         name: "side",
         what: "Tell whose recording a file is.",
-        usage: &["FILE.."],
-        files: Files::from(1, "FILE"),
-        options: &[Opt::flag("--quick", "Look at seal and sheet, and not at the audio."), JSON],
+        usage: &["FILE..", "DIR.."],
+        files: Files::from(1, "FILE or DIR"),
+        options: &[JSON],
         about: "\
-Of a sealed recording, whose audio is the one that it was sealed with: its side, how many frames it has and how many of
-them were heard. Of any other no side is told, but the reason, with an exit status of its own: 3 no side sheet, or none
-with frames; 4 a sheet without a seal; 5 a seal that is not of this audio, or damage; 6 a name or a folder that says
-another side. Of several files the highest. - is a recording on standard input.",
-        examples: &["box side monday/left.wav monday/right.wav", "box side --json *.wav"],
+Of a recording that is, from its first byte to its last, as the box writes it: its side, how many frames it has and how
+many of them were heard. Of any other file no side is told, but the reason, with an exit status of its own: 3 no
+recording; 4 one of an earlier version of the box, or a side sheet without a seal; 5 a recording that is not as the box
+wrote it; 6 a name or a folder that says another side. Of several files the highest. - is a recording on standard input,
+which is judged as it arrives.
+
+Of a folder all recordings in it and in the folders of its days are told, by time, and which frames of a bench are \
+missing
+between them: status 2.",
+        examples: &["box side monday/left.wav monday/right.wav", "box side monday", "box side --json *.wav"],
         run: sheets::run_side,
     },
     Command {
         name: "mend",
-        what: "Close what a crash left, or a sheet that was torn.",
+        what: "Close what a crash left, or mend a recording that was cut or damaged.",
         usage: &["DIR", "FILE --out FILE2 [--as left|right]"],
         files: Files::one("DIR or FILE"),
         options: &[
@@ -97,11 +152,13 @@ another side. Of several files the highest. - is a recording on standard input."
             JSON,
         ],
         about: "\
-Of a folder: what a run left unfinished, since the power failed or the disk was full. Each recording is closed as far as
-its audio and its records both go, and put in its place, or where that is taken under the next free name.
+Of a folder: what a run left unfinished, since the power failed or the disk was full. Each recording is closed with all
+of its audio, and put in its place, or where that is taken under the next free name. If a recording, its records and its
+name disagree about the side, nothing is closed. Dictations in the folders of its days are closed likewise.
 
-Of a file: a recording whose side sheet was torn. The side must stand in its seal; of a recording without one --as says
-it, and the answer says that you did. As much of the audio is kept as there are records of, and it is sealed again.",
+Of a file: a recording that was cut or damaged, or that an earlier version of the box wrote. Its side is what its seals
+say; if none is whole, --as says it, and the answer says that you did. All of its audio is kept. Records that were lost
+are written again, and their frames marked as heard. FILE2 gets its name only if box side accepts it.",
         examples: &["box mend monday", "box mend torn.wav --out left.wav"],
         run: sheets::run_mend,
     },

@@ -27,10 +27,14 @@ fn wrapped(text: &str, behind: usize) -> String {
 pub const EXIT: [(u8, &str); 7] = [
     (0, "done as asked"),
     (1, "it could not be done"),
-    (2, "what was given is not right: the command line, or a recording that is not whole or seems to be another bench's"),
-    (3, "`side` finds no side sheet: not a sealed recording"),
-    (4, "`side` finds a side sheet without a seal"),
-    (5, "`side` finds a recording that was changed after it was sealed, or is damaged"),
+    (
+        2,
+        "what was given is not right: the command line, or a recording that is not whole or seems to be another \
+         bench's",
+    ),
+    (3, "`side` finds no recording"),
+    (4, "`side` finds a recording of an earlier version of the box, or a side sheet without a seal"),
+    (5, "`side` finds a recording that is not as the box wrote it"),
     (6, "`side` finds a name, or a folder's name, that says the other side"),
 ];
 

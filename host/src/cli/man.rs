@@ -33,10 +33,13 @@ fn man_of(text: &mut String, command: &Command) {
 
 pub fn page() -> String {
     let mut text = format!(
-        ".TH TUPPENCEHOP 1 \"\" \"tuppencehop {}\"\n.SH NAME\nbox, tuppencehop \\- clean dictations over a grinder, and tell whose each is\n\
+        ".TH TUPPENCEHOP 1 \"\" \"tuppencehop {}\"\n.SH NAME\nbox, tuppencehop \\- clean dictations over a grinder, \
+         and tell whose each is\n\
          .SH SYNOPSIS\n.B box\nCOMMAND ..\n.PP\n.B box help\n[COMMAND]\n.PP\n.B box \\-\\-version\n\
-         .SH DESCRIPTION\nAt two benches, left and right, somebody dictates over a grinder. The box takes the grinder away, keeps the\n\
-         benches apart, and writes the side behind each recording's audio. Options may stand in front of files or behind\n\
+         .SH DESCRIPTION\nAt two benches, left and right, somebody dictates over a grinder. The box takes the grinder \
+         away, keeps the\n\
+         benches apart, and writes the side behind each recording's audio. Options may stand in front of files or \
+         behind\n\
          them; \\-\\-out=DIR is \\-\\-out DIR; behind \\-\\- are files alone.\n.SH COMMANDS\n",
         env!("CARGO_PKG_VERSION")
     );

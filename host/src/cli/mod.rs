@@ -5,6 +5,7 @@ mod clean;
 pub mod command;
 pub mod commands;
 mod completion;
+mod dictations;
 pub mod help;
 mod man;
 mod models;

@@ -3,20 +3,26 @@
 use crate::cleaning::recorder::Side;
 use crate::cli::words::Given;
 use crate::error::{Error, Result};
+use crate::recording::judge::Told;
+use crate::recording::mend::{mend_file, Mended};
 use crate::recording::rescue;
+use crate::recording::unfinished::Kept;
+use crate::telling::folder::look_into;
 use crate::telling::json::{rounded, Json};
-use crate::telling::side::{self, Sheet};
+use crate::telling::side;
 use std::path::Path;
 
 type Fields = Vec<(&'static str, Json)>;
 
-/// What a sheet says; nothing of one that is not there.
-fn sheet_fields(sheet: Option<&Sheet>) -> Fields {
+/// What the judge told of a recording; nothing of a file that it did not accept. An accepted recording has no gap.
+fn told_fields(told: Option<&Told>) -> Fields {
     vec![
-        ("side", sheet.map(|sheet| sheet.side.name()).into()),
-        ("frames", sheet.map(|sheet| sheet.frames).into()),
-        ("heard", sheet.map(|sheet| sheet.heard).into()),
-        ("gaps", sheet.map(|sheet| sheet.gaps.count).into()),
+        ("side", told.map(|told| told.front.side.name()).into()),
+        ("frames", told.map(|told| told.frames).into()),
+        ("heard", told.map(|told| told.heard).into()),
+        ("gaps", told.map(|_| 0u32).into()),
+        ("first", told.map(|told| told.front.first).into()),
+        ("began", told.map(|told| told.front.began).into()),
     ]
 }
 
@@ -29,10 +35,17 @@ fn object(file: &Path, fields: Fields, wrong: Option<&Error>) -> Json {
 /// An object for each file; and the highest status where one is bad.
 fn side_as_json(given: &Given) -> Result<()> {
     let mut statuses = vec![];
-    for path in &given.files {
-        let looked = side::sheet_of(path, given.has("--quick"));
-        crate::say!("{}", object(path, sheet_fields(looked.as_ref().ok()), looked.as_ref().err()));
+    let mut tell = |path: &Path, looked: Result<Told>| {
+        crate::say!("{}", object(path, told_fields(looked.as_ref().ok()), looked.as_ref().err()));
         statuses.extend(looked.err().map(|error| error.status()));
+    };
+    for path in &given.files {
+        if path.is_dir() {
+            let missing = look_into(path, &mut tell);
+            missing.into_iter().for_each(|missing| tell(path, Err(missing)));
+        } else {
+            tell(path, side::told_of(path));
+        }
     }
     Error::reported(statuses)
 }
@@ -40,7 +53,7 @@ fn side_as_json(given: &Given) -> Result<()> {
 pub fn run_side(given: &Given) -> Result<()> {
     match given.has("--json") {
         true => side_as_json(given),
-        false => side::tell_sides(&given.files, given.has("--quick")),
+        false => side::tell_sides(&given.files),
     }
 }
 
@@ -48,20 +61,21 @@ pub fn run_side(given: &Given) -> Result<()> {
 fn mend_folder_as_json(folder: &Path) -> Result<()> {
     let mended =
         rescue::mend_folder(folder).unwrap_or_else(|why| rescue::Mended { bad: vec![why], ..Default::default() });
-    let of = |seconds: [Option<f64>; 3]| {
-        let seconds = seconds.map(|seconds| seconds.map(|seconds| rounded(seconds, 5)).into());
-        ["seconds", "lost", "zeros"].into_iter().zip(seconds)
+    let fields = |told: Option<&Told>, kept: Option<&Kept>| {
+        let seconds = |of: fn(&Kept) -> f64| Json::from(kept.map(|kept| rounded(of(kept), 5)));
+        let more = [
+            ("seconds", seconds(|kept| kept.seconds)),
+            ("lost", seconds(|_| 0.0)),
+            ("zeros", seconds(|kept| kept.zeros)),
+            ("rewritten", kept.map(|kept| kept.rewritten).into()),
+        ];
+        told_fields(told).into_iter().chain(more).collect::<Fields>()
     };
     for closed in &mended.closed {
-        let kept = &closed.kept;
-        let seconds = of([kept.kept, kept.lost, kept.zeros].map(Some));
-        crate::say!(
-            "{}",
-            object(&closed.place, sheet_fields(Some(&kept.sheet)).into_iter().chain(seconds).collect(), None)
-        );
+        crate::say!("{}", object(&closed.place, fields(Some(&closed.told), Some(&closed.kept)), None));
     }
     for why in &mended.bad {
-        crate::say!("{}", object(folder, sheet_fields(None).into_iter().chain(of([None; 3])).collect(), Some(why)));
+        crate::say!("{}", object(folder, fields(None, None), Some(why)));
     }
     Error::reported(mended.bad.iter().map(Error::status))
 }
@@ -86,23 +100,20 @@ pub fn run_mend(given: &Given) -> Result<()> {
     }
     let out = given.wanted("--out")?;
     let said = given.word("--as").map(|side| if side == "left" { Side::Left } else { Side::Right });
-    let mended = crate::recording::mend::mend_file(file, &out, said);
+    let mended = mend_file(file, &out, said);
     if !given.has("--json") {
         mended?.tell(&out);
         return Ok(());
     }
-    let of = |lost: Json, whole: Json| vec![("recording", Json::from(&**file)), ("lost", lost), ("whole", whole)];
-    match mended {
-        Ok(mended) => {
-            let fields =
-                sheet_fields(Some(&mended.sheet)).into_iter().chain(of(mended.lost().into(), mended.whole.into()));
-            crate::say!("{}", object(&out, fields.collect(), None));
-            Ok(())
-        }
-        Err(why) => {
-            let fields = sheet_fields(None).into_iter().chain(of(Json::Null, Json::Null));
-            crate::say!("{}", object(&out, fields.collect(), Some(&why)));
-            Err(Error::Reported(why.status()))
-        }
-    }
+    let (done, why) = (mended.as_ref().ok(), mended.as_ref().err());
+    let of = |what: fn(&Mended) -> Json| done.map_or(Json::Null, what);
+    let more = [
+        ("recording", Json::from(&**file)),
+        ("lost", of(|mended| mended.plan.lost.into())),
+        ("rewritten", of(|mended| mended.plan.rewritten.into())),
+        ("whole", of(|mended| mended.plan.whole.into())),
+    ];
+    let fields = told_fields(done.map(|mended| &mended.told)).into_iter().chain(more);
+    crate::say!("{}", object(&out, fields.collect(), why));
+    Error::reported(why.map(Error::status))
 }

@@ -1,4 +1,5 @@
-//! `box pack` and `box unpack`: a model file from a folder of loose arrays, and back. `layers.txt` has a line for each layer:
+//! `box pack` and `box unpack`: a model file from a folder of loose arrays, and back. `layers.txt` has a line for each
+//! layer:
 //! its name, inputs, neurons and activation (0 tanh, 1 sigmoid, 2 relu). Each array is a file of signed bytes.
 
 use crate::error::{At, Error, Result};

@@ -13,6 +13,8 @@ pub struct About {
     pub model: String,
     /// Why it is not whole, where it is not.
     pub fault: Option<String>,
+    /// The names of the recordings in which it goes on, if it was too long for one.
+    pub more: Vec<String>,
     /// Whether nobody asked for this bench.
     pub absent: bool,
 }

@@ -1,4 +1,5 @@
-//! The colours of the page and of the picture, by their names, on a light ground and on a dark one. host/tests/page.rs reads their contrasts.
+//! The colours of the page and of the picture, by their names, on a light ground and on a dark one. host/tests/page.rs
+//! reads their contrasts.
 
 pub type Colours = [(&'static str, &'static str); 16];
 

@@ -1,8 +1,10 @@
-//! One page of both benches for a browser: a card for each, with its side in large letters, what a clerk wants to know of it, players for before and
-//! after, and its picture, in which a press plays from there. It is one file beside the recordings, and needs no network.
+//! One page of both benches for a browser: a card for each, with its side in large letters, what a clerk wants to know
+//! of it, players for before and after, and its picture, in which a press plays from there. It is one file beside the
+//! recordings, and needs no network.
 
 pub mod about;
 pub mod colours;
+pub mod day;
 pub mod overview;
 pub mod picture;
 pub mod table;
@@ -15,7 +17,7 @@ use crate::{FRAME, RATE};
 use std::fmt::Write;
 
 /// A text as it stands on a page: what means something to a browser is escaped, and control characters are shown.
-fn html_text(text: &str) -> String {
+pub fn html_text(text: &str) -> String {
     let one = |letter: char| match letter {
         '&' => "&amp;".into(),
         '<' => "&lt;".into(),
@@ -28,7 +30,7 @@ fn html_text(text: &str) -> String {
 }
 
 /// A file's name as a link has it: but for letters, digits and `-._`, each byte by its number.
-fn in_a_link(name: &str) -> String {
+pub fn in_a_link(name: &str) -> String {
     let one = |byte: u8| match byte {
         b'a'..=b'z' | b'A'..=b'Z' | b'0'..=b'9' | b'-' | b'.' | b'_' => char::from(byte).to_string(),
         byte => format!("%{byte:02X}"),
@@ -37,7 +39,7 @@ fn in_a_link(name: &str) -> String {
 }
 
 /// A number with a comma between each three digits.
-fn grouped(number: u64) -> String {
+pub fn grouped(number: u64) -> String {
     let digits = number.to_string();
     let threes: Vec<&str> =
         digits.as_bytes().rchunks(3).rev().map(|three| std::str::from_utf8(three).unwrap_or_default()).collect();
@@ -45,7 +47,7 @@ fn grouped(number: u64) -> String {
 }
 
 /// Seconds as `m:ss`, and where that says little with a tenth.
-fn length(seconds: f64) -> String {
+pub fn length(seconds: f64) -> String {
     if seconds < 1.0 {
         tenths(seconds)
     } else {
@@ -53,7 +55,7 @@ fn length(seconds: f64) -> String {
     }
 }
 
-fn tenths(seconds: f64) -> String {
+pub fn tenths(seconds: f64) -> String {
     let tenths = (10.0 * seconds) as u64;
     format!("{}.{}", clock(tenths / 10), tenths % 10)
 }
@@ -122,7 +124,8 @@ fn player_id(bench: &Summary, strip: Strip) -> String {
 fn player(bench: &Summary, strip: Strip, file: &str) -> String {
     let (id, side, when) = (player_id(bench, strip), bench.side.name(), strip.name());
     format!(
-        "<figure><figcaption>{when} cleaning</figcaption><audio id=\"{id}\" controls preload=\"metadata\" aria-label=\"{side} bench, {when} cleaning\" \
+        "<figure><figcaption>{when} cleaning</figcaption><audio id=\"{id}\" controls preload=\"metadata\" \
+         aria-label=\"{side} bench, {when} cleaning\" \
          src=\"{}\"></audio></figure>",
         in_a_link(file)
     )
@@ -134,7 +137,8 @@ fn strip_with_player(text: &mut String, bench: &Summary, strip: Strip, plays: St
     let (wide, high) = (picture::WIDE, picture::HIGH);
     writeln!(
         text,
-        "<div class=\"strip\"><svg viewBox=\"0 0 {wide} {high}\" preserveAspectRatio=\"none\" role=\"img\" aria-labelledby=\"{id}-title {id}-desc\">\n\
+        "<div class=\"strip\"><svg viewBox=\"0 0 {wide} {high}\" preserveAspectRatio=\"none\" role=\"img\" \
+         aria-labelledby=\"{id}-title {id}-desc\">\n\
          <title id=\"{id}-title\">The {side} recording {when} cleaning</title>\n<desc id=\"{id}-desc\">{}</desc>",
         picture::described(bench, strip)
     )
@@ -142,7 +146,8 @@ fn strip_with_player(text: &mut String, bench: &Summary, strip: Strip, plays: St
     picture::strip(text, bench, strip, seconds);
     writeln!(
         text,
-        "</svg><span class=\"what\">{when}</span>\n<input type=\"range\" min=\"0\" max=\"{seconds:.2}\" step=\"0.01\" value=\"0\" \
+        "</svg><span class=\"what\">{when}</span>\n<input type=\"range\" min=\"0\" max=\"{seconds:.2}\" step=\"0.01\" \
+         value=\"0\" \
          aria-label=\"{side} bench: listen {} cleaning from\" data-player=\"{}\" hidden></div>",
         plays.name(),
         player_id(bench, plays)
@@ -188,8 +193,10 @@ fn sound(text: &mut String, bench: &Summary, before: Option<&str>, prefix: &str)
     writeln!(
         text,
         "<div class=\"lane\"><svg viewBox=\"0 0 {wide} {high}\" preserveAspectRatio=\"none\" role=\"img\" \
-         aria-labelledby=\"{side}-voice-title {side}-voice-desc\">\n<title id=\"{side}-voice-title\">Where a voice is likely on the {side} \
-         recording</title>\n<desc id=\"{side}-voice-desc\">How likely a voice is, and below it a bar where something was heard.</desc>"
+         aria-labelledby=\"{side}-voice-title {side}-voice-desc\">\n<title id=\"{side}-voice-title\">Where a voice is \
+         likely on the {side} \
+         recording</title>\n<desc id=\"{side}-voice-desc\">How likely a voice is, and below it a bar where something \
+         was heard.</desc>"
     )
     .unwrap();
     picture::lane(text, bench, bench.seconds());
@@ -236,7 +243,10 @@ fn facts(text: &mut String, bench: &Summary) {
     ];
     let of_sound = of_sound.into_iter().filter(|_| bench.samples > 0);
     let name = [("recording", html_text(&about.name)), ("date", when)].into_iter();
-    let rows = name.chain(of_sound).chain([("model", html_text(&about.model))]);
+    let link = |name: &String| format!("<a href=\"{}\">{}</a>", in_a_link(name), html_text(name));
+    let more = about.more.iter().map(link).collect::<Vec<_>>().join(", ");
+    let more = [("goes on in", more)].into_iter().filter(|(_, more)| !more.is_empty());
+    let rows = name.chain(more).chain(of_sound).chain([("model", html_text(&about.model))]);
     writeln!(text, "<table class=\"facts\">\n<caption>The {} recording</caption>", bench.side.name()).unwrap();
     for (what, value) in rows {
         writeln!(text, "<tr><th scope=\"row\">{what}</th><td>{value}</td></tr>").unwrap();
@@ -248,7 +258,8 @@ fn card(text: &mut String, bench: &Summary, before: Option<&str>, prefix: &str) 
     let side = bench.side.name();
     writeln!(
         text,
-        "<section class=\"bench {side}\" aria-labelledby=\"{side}\">\n<div class=\"head\"><h2 id=\"{side}\">{}</h2>\n{}{}</div>",
+        "<section class=\"bench {side}\" aria-labelledby=\"{side}\">\n<div class=\"head\"><h2 \
+         id=\"{side}\">{}</h2>\n{}{}</div>",
         side.to_uppercase(),
         seal(bench),
         trouble(bench).unwrap_or_default(),
@@ -287,9 +298,11 @@ pub fn html(benches: &[Summary; 2], before: Option<[&str; 2]>, prefix: &str, has
         _ => "Both benches".into(),
     };
     let mut text = format!(
-        "<!DOCTYPE html>\n<html lang=\"en\">\n<head>\n<meta charset=\"utf-8\">\n<meta name=\"viewport\" content=\"width=device-width\">\n\
+        "<!DOCTYPE html>\n<html lang=\"en\">\n<head>\n<meta charset=\"utf-8\">\n<meta name=\"viewport\" \
+         content=\"width=device-width\">\n\
          <meta name=\"color-scheme\" content=\"light dark\">\n<title>{title}</title>\n<style>\n\
-         :root {{ color-scheme: light dark; {} }}\n@media (prefers-color-scheme: dark) {{ :root {{ {} }} }}\n{}{}</style>\n</head>\n<body>\n\
+         :root {{ color-scheme: light dark; {} }}\n@media (prefers-color-scheme: dark) {{ :root {{ {} }} \
+         }}\n{}{}</style>\n</head>\n<body>\n\
          <h1>{title}</h1>\n<main>\n",
         variables(&LIGHT),
         variables(&DARK),
@@ -307,9 +320,11 @@ pub fn html(benches: &[Summary; 2], before: Option<[&str; 2]>, prefix: &str, has
     key(&mut text);
     writeln!(
         text,
-        "<p>A press in a picture plays from there; by keyboard the arrows move, and Enter plays. A frame is {} ms. It was heard where it is not \
+        "<p>A press in a picture plays from there; by keyboard the arrows move, and Enter plays. A frame is {} ms. It \
+         was heard where it is not \
          silent, steady noise too; voice are the frames in which a voice is likely. The noise taken away \
-         is that of the others, the middle one of them. {}The picture of both is in <a href=\"{}\">benches.svg</a>.</p>\n</footer>\n\
+         is that of the others, the middle one of them. {}The picture of both is in <a \
+         href=\"{}\">benches.svg</a>.</p>\n</footer>\n\
          <script>\n{}</script>\n</body>\n</html>",
         1000 * FRAME / RATE as usize,
         table,

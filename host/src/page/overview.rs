@@ -1,5 +1,6 @@
 //! A recording in a limited number of columns, however long it is: where all are taken, every two become one.
 
+use crate::cleaning::measured::Measured;
 use crate::cleaning::recorder::{Frame, Heard};
 use crate::FRAME;
 
@@ -19,15 +20,15 @@ pub struct Loudness {
 
 impl Loudness {
     /// Samples of one frame: its first, or those behind them.
-    fn add(&mut self, samples: &[f32], begins: bool) {
+    fn add(&mut self, part: &Measured, begins: bool) {
         let before = if begins { [0.0; 2] } else { self.last };
-        self.last = samples.iter().fold(before, |ends, x| [ends[0].min(*x), ends[1].max(*x)]);
+        self.last = [before[0].min(part.ends[0]), before[1].max(part.ends[1])];
         for (sum, (now, then)) in self.ends.iter_mut().zip(self.last.iter().zip(before)) {
             *sum += f64::from(*now) - f64::from(then);
         }
         self.frames += u64::from(begins);
-        self.squares += samples.iter().map(|x| f64::from(*x).powi(2)).sum::<f64>();
-        self.samples += samples.len() as u64;
+        self.squares += part.squares;
+        self.samples += part.samples as u64;
     }
 
     fn joined(self, other: Loudness) -> Loudness {
@@ -114,14 +115,9 @@ impl Overview {
         &mut self.columns[column]
     }
 
-    /// Samples from a place on, into either strip.
-    pub fn samples(&mut self, mut place: u64, mut samples: &[f32], strip: fn(&mut Column) -> &mut Loudness) {
-        while !samples.is_empty() {
-            let within = (place % FRAME as u64) as usize;
-            let (frame, rest) = samples.split_at(samples.len().min(FRAME - within));
-            strip(self.at(place / FRAME as u64)).add(frame, within == 0);
-            (place, samples) = (place + frame.len() as u64, rest);
-        }
+    /// Samples of one frame from a place on, into either strip.
+    pub fn part(&mut self, place: u64, part: &Measured, strip: fn(&mut Column) -> &mut Loudness) {
+        strip(self.at(place / FRAME as u64)).add(part, place.is_multiple_of(FRAME as u64));
     }
 
     pub fn frame(&mut self, frame: &Frame, gap: bool) {
@@ -140,21 +136,29 @@ impl Overview {
 #[cfg(test)]
 mod tests {
     use super::*;
+    use crate::cleaning::measured::within_frames;
+    use crate::cleaning::recorder::Side;
 
-    fn voice(entry: u64) -> Frame {
-        Frame { entry, heard: Heard::Voice { probability: 0.9, energy: 1.0 }, heard_so_far: 0 }
+    /// Samples from a place on, into either strip.
+    fn add(overview: &mut Overview, place: u64, samples: &[f32], strip: fn(&mut Column) -> &mut Loudness) {
+        within_frames(place, samples.len())
+            .for_each(|(at, part)| overview.part(at, &Measured::of(&samples[part]), strip));
+    }
+
+    fn voice(number: u32) -> Frame {
+        Frame::of(Side::Left, number, Heard::Voice { probability: 0.9, energy: 1.0 }, 0)
     }
 
     /// Ten hours take no more columns than ten seconds, and nothing that happened once is lost.
     #[test]
     fn ten_hours_in_a_thousand_columns() {
         let mut overview = Overview::default();
-        for entry in 0..3_600_000 {
-            let heard = if entry % 3_600 < 1_200 { voice(0).heard } else { Heard::Silent };
-            overview.frame(&Frame { entry, heard, heard_so_far: 0 }, entry == 77_777);
+        for number in 0..3_600_000 {
+            let heard = if number % 3_600 < 1_200 { voice(0).heard } else { Heard::Silent };
+            overview.frame(&Frame::of(Side::Left, number, heard, 0), number == 77_777);
             assert!(overview.columns.len() <= MOST);
         }
-        overview.samples(1_000_000_320, &[-5.0, 9.0], |column| &mut column.after);
+        add(&mut overview, 1_000_000_320, &[-5.0, 9.0], |column| &mut column.after);
         assert!(overview.columns.len() > MOST / 2 && overview.wide == 4_096);
         assert_eq!(overview.columns.iter().map(|c| c.frames).sum::<u64>(), 3_600_000);
         assert_eq!(overview.columns.iter().map(|c| c.heard).sum::<u64>(), 1_200_000);
@@ -169,9 +173,10 @@ mod tests {
     fn a_short_recording_is_exact() {
         let mut overview = Overview::default();
         overview.frame(&voice(0), false);
-        overview.frame(&Frame { entry: 1, heard: Heard::Silent, heard_so_far: 1 }, false);
-        overview.samples(0, &[0.0; 470], |column| &mut column.before);
-        overview.samples(470, &[1.0, -1.0, 2.0, 3.0, 4.0, 5.0, 6.0, 7.0, 8.0, 9.0, -2.0], |column| &mut column.before);
+        overview.frame(&Frame::of(Side::Left, 1, Heard::Silent, 1), false);
+        add(&mut overview, 0, &[0.0; 470], |column| &mut column.before);
+        let more = [1.0, -1.0, 2.0, 3.0, 4.0, 5.0, 6.0, 7.0, 8.0, 9.0, -2.0];
+        add(&mut overview, 470, &more, |column| &mut column.before);
         assert_eq!(overview.columns[0].likelihood(), f64::from(0.9f32));
         assert_eq!((overview.columns[1].likelihood(), overview.columns[1].is_heard()), (0.0, false));
         assert_eq!((overview.columns[0].before.peak(), overview.columns[1].before.peak()), ([-1.0, 9.0], [-2.0, 0.0]));
@@ -185,7 +190,7 @@ mod tests {
         for block in [480, 1_000, 4_096, sound.len()] {
             let (mut overview, mut place) = (Overview::default(), 0);
             for samples in sound.chunks(block) {
-                overview.samples(place, samples, |column| &mut column.before);
+                add(&mut overview, place, samples, |column| &mut column.before);
                 place += samples.len() as u64;
             }
             assert_eq!((overview.wide, overview.columns.len()), (4, 1_000));

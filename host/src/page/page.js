@@ -1,5 +1,6 @@
 'use strict';
-// A press in a picture, or on a time, plays from there; the line in the picture is where the player stands. Without this the players do all the same.
+// A press in a picture, or on a time, plays from there; the line in the picture is where the player stands. Without
+// this the players do all the same.
 const player = element => document.getElementById(element.dataset.player);
 const clock = at => Math.floor(at / 60) + ':' + String(Math.floor(at % 60)).padStart(2, '0');
 

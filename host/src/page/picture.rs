@@ -1,4 +1,5 @@
-//! The picture of a recording: its peak and its RMS before and after, where a voice is likely, what was heard, and where frames are missing.
+//! The picture of a recording: its peak and its RMS before and after, where a voice is likely, what was heard, and
+//! where frames are missing.
 //! `svg` is one picture of both benches; the page has the strips of each bench by themselves.
 
 use crate::cleaning::cleaned::Summary;
@@ -9,10 +10,13 @@ use std::fmt::Write;
 
 /// The shapes' classes and their colours.
 pub const RULES: &str = include_str!("picture.css");
-/// A strip's own measure, in whole numbers: the width of a recording, the height of a strip, and of the lane of voices below it.
+/// A strip's own measure, in whole numbers: the width of a recording, the height of a strip, and of the lane of voices
+/// below it.
 pub const WIDE: f64 = 2_000.0;
 pub const HIGH: f64 = 200.0;
 pub const LANE: f64 = 40.0;
+/// The letters of a point: two numbers of up to four digits, and what stands between them.
+const POINT: usize = 10;
 /// The lane's foot, where it is told what was heard.
 const FOOT: f64 = 10.0;
 
@@ -83,10 +87,15 @@ fn shape(bench: &Summary, seconds: f64, heights: impl Fn(&Column) -> [f64; 2]) -
     let middles = all.iter().map(|([from, to], heights)| ((from + to) / 2.0, *heights));
     let points: Vec<(f64, [f64; 2])> =
         [(first.0[0], first.1)].into_iter().chain(middles).chain([(last.0[1], last.1)]).collect();
-    let point = |at: f64, height: f64| format!("{} {}", across(at, seconds), height.round());
-    let there = points.iter().map(|(at, heights)| point(*at, heights[0]));
-    let back = points.iter().rev().map(|(at, heights)| point(*at, heights[1]));
-    there.chain(back).collect::<Vec<_>>().join(",")
+    let there = points.iter().map(|(at, heights)| (*at, heights[0]));
+    let back = points.iter().rev().map(|(at, heights)| (*at, heights[1]));
+    let mut text = String::with_capacity(2 * POINT * points.len());
+    for (at, height) in there.chain(back) {
+        // they are whole numbers, which are written faster as such
+        write!(text, "{} {},", across(at, seconds) as i64, height.round() as i64).unwrap();
+    }
+    text.pop();
+    text
 }
 
 /// The stretches of columns in a row for which `test` holds, in seconds.
@@ -171,8 +180,10 @@ const VOICES: f64 = 20.0;
 const ACROSS: f64 = 1_000.0;
 
 const LEGEND: [&str; 2] = [
-    "Both benches, before and after: the peak, and darker or brighter over it the RMS. Below each: how likely a voice is,",
-    "and a bar where something was heard. A red stroke is a place where frames are missing. Time is in minutes:seconds.",
+    "Both benches, before and after: the peak, and darker or brighter over it the RMS. Below each: how likely a voice \
+     is,",
+    "and a bar where something was heard. A red stroke is a place where frames are missing. Time is in \
+     minutes:seconds.",
 ];
 
 /// A strip for each recording, before and after, on one axis.
@@ -181,9 +192,12 @@ pub fn svg(benches: &[Summary; 2]) -> String {
     let bench_high = 2.0 * (STRIP + BETWEEN) + VOICES + BETWEEN;
     let (wide, high) = (LEFT + ACROSS + 40.0, TOP + 2.0 * bench_high + 30.0);
     let mut text = format!(
-        "<svg xmlns=\"http://www.w3.org/2000/svg\" viewBox=\"0 0 {wide} {high}\" font-family=\"sans-serif\" font-size=\"16\" role=\"img\" \
-         aria-labelledby=\"title desc\">\n<title id=\"title\">Both benches, before and after</title>\n<desc id=\"desc\">{}</desc>\n\
-         <style>\n{}@media (prefers-color-scheme: dark) {{\n{}}}\n</style>\n<rect class=\"ground\" width=\"100%\" height=\"100%\"/>\n",
+        "<svg xmlns=\"http://www.w3.org/2000/svg\" viewBox=\"0 0 {wide} {high}\" font-family=\"sans-serif\" \
+         font-size=\"16\" role=\"img\" \
+         aria-labelledby=\"title desc\">\n<title id=\"title\">Both benches, before and after</title>\n<desc \
+         id=\"desc\">{}</desc>\n\
+         <style>\n{}@media (prefers-color-scheme: dark) {{\n{}}}\n</style>\n<rect class=\"ground\" width=\"100%\" \
+         height=\"100%\"/>\n",
         benches.each_ref().map(|bench| described(bench, Strip::After)).join(" "),
         plain(RULES, &LIGHT),
         plain(RULES, &DARK),
@@ -227,16 +241,17 @@ fn both_strips(text: &mut String, bench: &Summary, seconds: f64, mut top: f64) {
 mod tests {
     use super::*;
     use crate::cleaning::recorder::{Frame, Heard, Side};
+    use crate::reading::block::packed;
 
     /// Half a second of either side; frames 20 to 29 of the left one are missing.
     fn benches() -> [Summary; 2] {
         Side::BOTH.map(|side| {
             let mut summary = Summary::of(side);
             summary.before(&[100.0; 24_000]);
-            summary.after(&[50.0; 24_000]);
+            summary.after(&packed(&[50.0; 24_000]));
             for number in (0..51).filter(|number| side == Side::Right || !(20..30).contains(number)) {
                 let heard = Heard::Voice { probability: 0.25, energy: 1.0 };
-                summary.frame(&Frame { entry: number.into(), heard, heard_so_far: number + 1 });
+                summary.frame(&Frame::of(side, number, heard, number + 1));
             }
             summary
         })
@@ -266,7 +281,7 @@ mod tests {
         let mut summary = Summary::of(Side::Left);
         let sound: Vec<f32> = (0..48_000).map(|i| if i % 480 == 0 { 100.0 } else { [-50.0, 50.0][i % 2] }).collect();
         summary.before(&sound);
-        summary.after(&sound);
+        summary.after(&packed(&sound));
         let mut text = String::new();
         strip(&mut text, &summary, Strip::Before, 1.0);
         let shapes: Vec<&str> = text.split("points=\"").skip(1).map(|part| part.split('"').next().unwrap()).collect();

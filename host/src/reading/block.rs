@@ -29,13 +29,19 @@ impl Layout {
     }
 }
 
-/// Whether a sample lies beyond what the library takes, which clips it there. (None of 16 bits does.)
-fn is_beyond(sample: &[u8]) -> bool {
-    match *sample {
-        [a, b, c] => i32::from_le_bytes([0, a, b, c]) > 0x7FFF_0000,
-        [a, b, c, d] => !(-1.0..=32_767.0 / 32_768.0).contains(&f32::from_le_bytes([a, b, c, d])),
+/// Whether a sample of a format lies beyond what the library takes, which clips it there. (None of 16 bits does.)
+fn is_beyond(format: u32, sample: &[u8]) -> bool {
+    match (format, sample) {
+        (24, &[a, b, c]) => i32::from_le_bytes([0, a, b, c]) > 0x7FFF_0000,
+        (33, &[a, b, c, d]) => i32::from_le_bytes([a, b, c, d]) > 0x7FFF_0000,
+        (32, &[a, b, c, d]) => !(-1.0..=32_767.0 / 32_768.0).contains(&f32::from_le_bytes([a, b, c, d])),
         _ => false,
     }
+}
+
+/// Whether a sample of a format is NaN or infinite: only a float can be, and the library leaves it as it is.
+fn is_broken(format: u32, sample: &[u8]) -> bool {
+    matches!((format, sample), (32, &[a, b, c, d]) if !f32::from_le_bytes([a, b, c, d]).is_finite())
 }
 
 /// Samples as the library packs them.
@@ -97,16 +103,28 @@ impl Block {
         self.layout.samples(self.bytes(), self.channel)
     }
 
+    /// The bytes of each of the bench's own samples.
+    fn own(&self) -> impl Iterator<Item = &[u8]> {
+        let (size, width) = (self.layout.size(), self.layout.format as usize / 8);
+        self.bytes().chunks_exact(size).map(move |all| &all[width * self.channel as usize..][..width])
+    }
+
     /// The first of its samples that is NaN or infinite.
     pub fn broken(&self) -> Option<usize> {
-        self.samples().iter().position(|x| !x.is_finite())
+        let format = self.layout.format;
+        if format != Layout::FLOATS.format {
+            return None;
+        }
+        self.own().position(|sample| is_broken(format, sample))
     }
 
     /// How many of its samples the library clips.
     pub fn clipped(&self) -> u64 {
-        let (size, width) = (self.layout.size(), self.layout.format as usize / 8);
-        let own = self.bytes().chunks_exact(size).map(|all| &all[width * self.channel as usize..][..width]);
-        own.filter(|sample| is_beyond(sample)).count() as u64
+        let format = self.layout.format;
+        if format == Layout::CLEANED.format {
+            return 0;
+        }
+        self.own().filter(|sample| is_beyond(format, sample)).count() as u64
     }
 }
 
@@ -130,12 +148,36 @@ mod tests {
     }
 
     #[test]
-    fn what_is_clipped_of_24_bits() {
+    fn what_is_clipped_of_whole_numbers() {
         let layout = Layout { format: 24, channels: 1 };
         let whole = [0x7F_FF00, 0x7F_FF01, 0x7F_FFFF, -0x80_0000, 0];
         let bytes: Vec<u8> = whole.iter().flat_map(|x: &i32| x.to_le_bytes()[..3].to_vec()).collect();
         assert_eq!(Block::new(bytes.into(), layout, 0).clipped(), 2);
+        let layout = Layout { format: 33, channels: 1 };
+        let whole = [0x7FFF_0000, 0x7FFF_0001, i32::MAX, i32::MIN, 0, 0x7F80_0000];
+        let bytes: Vec<u8> = whole.iter().flat_map(|x: &i32| x.to_le_bytes()).collect();
+        let block = Block::new(bytes.into(), layout, 0);
+        assert_eq!((block.clipped(), block.broken()), (2, None));
         assert_eq!(Block::new(packed(&[-40_000.0, 40_000.0]).into(), Layout::CLEANED, 0).clipped(), 0);
+    }
+
+    /// What is looked for in the bytes is what the library unpacks: of any bytes in every format, the first sample that
+    /// is not a finite number.
+    #[test]
+    fn broken_is_what_the_library_gives() {
+        let mut rng = crate::cleaning::demo::Rng(11);
+        let mut bytes: Vec<u8> = (0..24_000).map(|_| (rng.draw() >> 32) as u8).collect();
+        for (place, float) in [(5_000, f32::MAX), (9_000, f32::NEG_INFINITY), (15_000, f32::NAN), (21_000, 1e30)] {
+            bytes[place..place + 4].copy_from_slice(&float.to_le_bytes());
+        }
+        for (format, channels) in [(16, 1), (16, 2), (24, 1), (24, 2), (32, 1), (32, 2), (32, 3), (33, 2)] {
+            for (from, channel) in (0..24_000).step_by(1_200).flat_map(|from| (0..channels).map(move |c| (from, c))) {
+                let whole = Layout { format, channels }.size();
+                let part: Vec<u8> = bytes[from..from + (24_000 - from) / whole * whole].into();
+                let block = Block::new(part.into(), Layout { format, channels }, channel);
+                assert_eq!(block.broken(), block.samples().iter().position(|x| !x.is_finite()), "{format} from {from}");
+            }
+        }
     }
 
     /// What is in memory goes through bytes as it is.

@@ -36,32 +36,6 @@ impl Source for Memory<'_> {
     }
 }
 
-/// No more than so many samples of each bench, as many as a file can hold.
-pub struct Limited<'a, S> {
-    source: &'a mut S,
-    room: [u64; 2],
-    /// Which of them had more.
-    pub cut: [bool; 2],
-}
-
-impl<S> Limited<'_, S> {
-    pub fn new(source: &mut S, most: u64) -> Limited<'_, S> {
-        Limited { source, room: [most; 2], cut: [false; 2] }
-    }
-}
-
-impl<S: Source> Source for Limited<'_, S> {
-    fn next(&mut self) -> [Block; 2] {
-        let mut blocks = self.source.next();
-        for ((block, room), cut) in blocks.iter_mut().zip(&mut self.room).zip(&mut self.cut) {
-            *cut |= block.len() as u64 > *room;
-            block.truncate(*room);
-            *room -= block.len() as u64;
-        }
-        blocks
-    }
-}
-
 /// Seconds, of which both are told so that they can be told apart.
 fn seconds(samples: u64, of: u64) -> [String; 2] {
     let told = |digits: usize| [samples, of].map(|n| format!("{:.digits$}", n as f64 / f64::from(RATE)));
@@ -337,6 +311,14 @@ impl Recordings {
     /// The length of the longer one, where that is known.
     pub fn length(&self) -> Option<u64> {
         self.all().iter().map(|recording| recording.length).max().flatten()
+    }
+
+    /// The length of a bench's, where that is known.
+    pub fn length_of(&self, side: Side) -> Option<u64> {
+        match self {
+            Recordings::Two(both) => both[side as usize].length,
+            Recordings::One(_, one) | Recordings::Stereo(one) => one.length,
+        }
     }
 
     /// What was not as it should be, if nothing is lost by it.

@@ -1,27 +1,21 @@
 //! WAV files: 16-bit or 24-bit PCM or f32 in, 16-bit PCM out, both block by block, as bytes: which samples these are is
 //! the library's.
 
-use crate::cleaning::recorder::Side;
 use crate::reading::block::{packed, Block, Layout};
 use crate::reading::form::Form;
 use crate::reading::head::{self, Head};
-use crate::recording::seal::Seal;
 use crate::telling::refusal::Refusal;
-use crate::{FRAME, RATE};
+use crate::RATE;
 use std::fmt;
-use std::io::{self, BufReader, ErrorKind, Read, Seek, SeekFrom, Write};
+use std::io::{self, ErrorKind, Read, Seek, SeekFrom};
 use std::rc::Rc;
 
 /// What a header says of a length that is not known yet.
 const UNKNOWN: u32 = u32::MAX;
 /// Programs that write a stream don't know its length: they say 0, or 2 GiB or 4 GiB, or a little less.
 const OPEN: [std::ops::RangeInclusive<u64>; 3] = [0..=0, 0x7FFF_F000..=0x8000_0000, 0xFFFF_F000..=0xFFFF_FFFF];
-/// The most samples that a file can hold: its sizes have 32 bits, and that of the whole counts 8 bytes more of each
-/// frame, and 92 besides: of the header, the seal, the last frame and the trailer.
-pub const MOST: u64 = (UNKNOWN as u64 - 1 - 92) / (2 * FRAME as u64 + 8) * FRAME as u64;
-pub const TOO_LONG: &str = "a WAV file can't hold more than 12 hours and 19 minutes";
-/// The bytes of the header that is written.
-pub const HEAD: usize = 44;
+/// The bytes of the header of a plain file.
+const HEAD: usize = 44;
 
 /// Why a file is not taken.
 #[derive(Clone, Debug, PartialEq)]
@@ -211,7 +205,8 @@ impl<R: Read> Reader<R> {
     }
 
     fn of(from: R, read: Vec<u8>, Head { place, format, channels, rate, size, is_long }: Head) -> Self {
-        // A stream that does not know its length says so, and a recorder that lost power leaves a size that is too large: what is there counts.
+        // A stream that does not know its length says so, and a recorder that lost power leaves a size that is too
+        // large: what is there counts.
         let most = if size == UNKNOWN.into() { u64::MAX } else { size };
         let (early, sample) = (read.len(), Sample::of(format));
         let from = io::Cursor::new(read).chain(from).take(most);
@@ -234,7 +229,8 @@ impl<R: Read> Reader<R> {
         self.place[0] > 0
     }
 
-    /// Where the audio ends, as the header says: behind the samples, and the byte that an odd number of them is filled up with.
+    /// Where the audio ends, as the header says: behind the samples, and the byte that an odd number of them is filled
+    /// up with.
     pub fn end(&self) -> u64 {
         self.place[0] + self.place[1] + self.place[1] % 2
     }
@@ -282,8 +278,8 @@ const CHUNKS: [&[u8; 4]; 14] = [
     b"iXML", b"_PMX",
 ];
 
-/// Whether a chunk begins at this place of a file: one with a name that programs use, or with any name in letters if the
-/// file is long enough for it.
+/// Whether a chunk begins at this place of a file: one with a name that programs use, or with any name in letters if
+/// the file is long enough for it.
 pub fn is_chunk(mut from: impl Read + Seek, at: u64) -> io::Result<bool> {
     let end = from.seek(SeekFrom::End(0))?;
     from.seek(SeekFrom::Start(at))?;
@@ -339,121 +335,33 @@ pub fn read(bytes: &[u8]) -> Result<Wav, Fault> {
 const BLOCK: usize = 4_096;
 
 /// The header of one channel of 16-bit PCM, with so many bytes of audio and of chunks behind it.
-pub fn header(rate: u32, size: u32, behind: u32) -> [u8; HEAD] {
+fn header(rate: u32, size: u32, behind: u32) -> [u8; HEAD] {
     let mut bytes = [0; HEAD];
     assert_eq!(tuppence::wav_head(&mut bytes, rate, size, behind), 0, "a header has 44 bytes");
     bytes
 }
 
-/// The header of a recording that is under way.
-pub fn open_head(rate: u32) -> [u8; HEAD] {
-    header(rate, UNKNOWN, 0)
-}
-
-/// How many bytes of audio the header of a file of ours says, where it was known when that was written.
-pub fn said_size(head: &[u8; HEAD], rate: u32) -> Option<u32> {
-    let number = |at: usize| u32::from_le_bytes([head[at], head[at + 1], head[at + 2], head[at + 3]]);
-    let size = number(40);
-    let behind = number(4).checked_sub(36)?.checked_sub(size)?;
-    (size != UNKNOWN && *head == header(rate, size, behind)).then_some(size)
-}
-
-/// Writes on, and keeps up the checksum of what went through.
-pub struct Summed<W> {
-    to: W,
-    pub sum: u32,
-}
-
-impl<W: Write> Summed<W> {
-    pub fn new(to: W) -> Summed<W> {
-        Summed { to, sum: 0 }
-    }
-}
-
-impl<W: Write> Write for Summed<W> {
-    fn write(&mut self, bytes: &[u8]) -> io::Result<usize> {
-        let written = self.to.write(bytes)?;
-        self.sum = tuppence::checksum(self.sum, &bytes[..written]);
-        Ok(written)
-    }
-
-    fn flush(&mut self) -> io::Result<()> {
-        self.to.flush()
-    }
-}
-
 /// How many bytes there are, of so many at most, and their checksum.
 pub fn checksum(from: &mut impl Read, most: u64) -> io::Result<(u64, u32)> {
-    let mut summed = Summed::new(io::sink());
-    let bytes = io::copy(&mut BufReader::with_capacity(65_536, from.take(most)), &mut summed)?;
-    Ok((bytes, summed.sum))
-}
-
-/// One channel as 16-bit PCM, written as it comes. Until its end is known the header says that the audio goes on to the
-/// end of the file. Its checksum is kept up.
-pub struct Writer<W: Write + Seek> {
-    to: W,
-    rate: u32,
-    size: u32,
-    checksum: u32,
-}
-
-impl<W: Write + Seek> Writer<W> {
-    pub fn new(mut to: W, rate: u32) -> io::Result<Writer<W>> {
-        to.write_all(&open_head(rate))?;
-        Ok(Writer { to, rate, size: 0, checksum: 0 })
-    }
-
-    pub fn write(&mut self, bytes: &[u8]) -> io::Result<()> {
-        let more = u32::try_from(bytes.len()).ok().and_then(|more| self.size.checked_add(more));
-        let Some(size) = more.filter(|size| u64::from(*size) <= 2 * MOST) else {
-            return Err(io::Error::other(TOO_LONG));
-        };
-        if bytes.is_empty() {
-            return Ok(());
+    let (mut count, mut sum, mut bytes) = (0, 0, vec![0; 65_536]);
+    let mut from = from.take(most);
+    loop {
+        match from.read(&mut bytes) {
+            Ok(0) => return Ok((count, sum)),
+            Ok(more) => {
+                sum = tuppence::checksum(sum, &bytes[..more]);
+                count += more as u64;
+            }
+            Err(why) if why.kind() == ErrorKind::Interrupted => {}
+            Err(why) => return Err(why),
         }
-        self.to.write_all(bytes)?;
-        self.checksum = tuppence::checksum(self.checksum, bytes);
-        self.size = size;
-        Ok(())
-    }
-
-    pub fn inner(&self) -> &W {
-        &self.to
-    }
-
-    /// The seal of what was written, as one side's.
-    pub fn seal(&self, side: Side) -> Seal {
-        Seal { side, bytes: self.size.into(), checksum: self.checksum }
-    }
-
-    /// Mends the header, which says from then on how many bytes of chunks stand behind the audio. What follows is
-    /// written there.
-    pub fn finish(mut self, behind: u32) -> io::Result<W> {
-        self.to.seek(SeekFrom::Start(0))?;
-        self.to.write_all(&header(self.rate, self.size, behind))?;
-        self.to.seek(SeekFrom::Start(HEAD as u64 + u64::from(self.size)))?;
-        Ok(self.to)
-    }
-}
-
-impl<W: Read + Write + Seek> Writer<W> {
-    /// A file that was left with so many bytes of audio, which are read once more.
-    pub fn resume(mut to: W, rate: u32, size: u32) -> io::Result<Writer<W>> {
-        to.seek(SeekFrom::Start(HEAD as u64))?;
-        let (read, checksum) = self::checksum(&mut to, size.into())?;
-        if read < size.into() {
-            return Err(ErrorKind::UnexpectedEof.into());
-        }
-        Ok(Writer { to, rate, size, checksum })
     }
 }
 
 /// A whole file of one channel.
 pub fn write(rate: u32, samples: &[f32]) -> Vec<u8> {
-    let mut writer = Writer::new(io::Cursor::new(Vec::new()), rate).expect("memory takes it");
-    writer.write(&packed(samples)).expect("memory takes it");
-    writer.finish(0).expect("memory takes it").into_inner()
+    let audio = packed(samples);
+    [&header(rate, audio.len() as u32, 0)[..], &audio].concat()
 }
 
 #[cfg(test)]
@@ -467,29 +375,12 @@ mod tests {
         assert_eq!(wav, Wav { rate: 48_000, channels: vec![vec![0.0, 1.0, -2.0, 32_767.0, -32_768.0]], clipped: 0 });
     }
 
-    /// The sizes of a header have 32 bits: what would go beyond them is not written.
-    #[test]
-    fn more_than_a_file_can_hold() {
-        let mut writer = Writer::new(io::Cursor::new(Vec::new()), 48_000).unwrap();
-        writer.size = 2 * MOST as u32 - 4;
-        assert!(writer.write(&[1; 6]).is_err() && writer.write(&[1; 4]).is_ok() && writer.write(&[1; 2]).is_err());
-        let whole = |samples: u64| {
-            36 + 2 * samples + u64::from(crate::recording::records::behind(crate::cleaning::run::frames_of(samples)))
-        };
-        assert!(whole(MOST) < UNKNOWN.into() && whole(MOST + FRAME as u64) >= UNKNOWN.into());
-        let file = writer
-            .finish(crate::recording::records::behind(crate::cleaning::run::frames_of(MOST)))
-            .unwrap()
-            .into_inner();
-        assert_eq!((file.len(), &file[4..8]), (44 + 4, &(whole(MOST) as u32).to_le_bytes()[..]));
-    }
-
     /// Until the end is known, what is there counts.
     #[test]
     fn a_file_that_was_never_closed() {
-        let mut writer = Writer::new(io::Cursor::new(Vec::new()), 48_000).unwrap();
-        writer.write(&[5, 0, 6, 0]).unwrap();
-        assert_eq!(read(&writer.to.into_inner()).unwrap().channels, [[5.0, 6.0]]);
+        let mut file = write(48_000, &[5.0, 6.0]);
+        file[40..44].copy_from_slice(&UNKNOWN.to_le_bytes());
+        assert_eq!(read(&file).unwrap().channels, [[5.0, 6.0]]);
     }
 
     /// A file of 32-bit floats.

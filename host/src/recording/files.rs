@@ -1,23 +1,23 @@
-//! What `box clean` writes, as it goes: for each bench the recording with its seal and side sheet, and of both the table, the picture and the page.
+//! What `box clean` writes, as it goes: for each bench the recording with its seals and side sheet, and of both the
+//! table, the picture and the page.
 //! All that has come out of a bench is in its files before the next block is read, and on the disk a second later.
 
 use crate::cleaning::cleaned::Summary;
-use crate::cleaning::recorder::{Frame, Side};
+use crate::cleaning::recorder::{Frame, Side, NOTE};
 use crate::cleaning::run::Sink;
 use crate::error::{At, Error, Result};
+use crate::page;
 use crate::page::about::About;
 use crate::page::{picture, table};
-use crate::reading::block::Layout;
-use crate::reading::wav::Writer;
 use crate::recording::folder::Folder;
-use crate::recording::records::Records;
+use crate::recording::front::MOST;
+use crate::recording::rolling::Rolling;
 use crate::recording::through::Through;
 use crate::recording::unfinished;
-use crate::sys::disk::{sync_all, sync_data, sync_folder};
-use crate::{page, RATE};
+use crate::sys::disk::{sync_all, sync_folder};
 use std::fs::File;
 use std::io::{self, BufWriter, Write};
-use std::path::{Path, PathBuf};
+use std::path::Path;
 
 pub const TABLE: &str = "frames.csv";
 pub const PICTURE: &str = "benches.svg";
@@ -39,43 +39,36 @@ pub fn names() -> Vec<String> {
 }
 
 struct Bench {
-    place: PathBuf,
-    audio: Writer<File>,
-    records: Records,
+    recordings: Rolling,
+    /// The records of frames whose audio comes next.
+    waiting: Vec<[u8; NOTE]>,
     summary: Summary,
 }
 
 impl Bench {
+    /// When the recording began is not known of a file.
     fn new(side: Side, folder: &mut Folder) -> Result<Bench> {
-        let (name, place) = (recording(side), folder.place(recording(side)));
-        let audio = Writer::new(folder.create(&name)?, RATE).at(&place)?;
-        let (path, sheet) = folder.scratch(&name, unfinished::SHEET)?;
-        Ok(Bench { place, audio, records: Records::new(path, sheet, side)?, summary: Summary::of(side) })
+        let recordings = Rolling::new(folder, side.name(), side, 0, MOST)?;
+        Ok(Bench { recordings, waiting: vec![], summary: Summary::of(side) })
     }
 
     fn is_empty(&self) -> bool {
-        self.summary.samples == 0
+        self.recordings.is_empty()
     }
 
-    /// Closes the recording: its header, which says from then on where the audio ends, and then the chunk with its
-    /// seal and its sheet.
+    /// Closes the recording, if there is any.
     fn finish(self) -> Result<Summary> {
-        let seal = self.audio.seal(self.summary.side);
-        let mut file = self.audio.finish(self.records.behind()).at(&self.place)?;
-        sync_data(&file).at(&self.place)?;
-        self.records.finish(&mut file, seal)?;
-        sync_all(&file).at(&self.place)?;
+        if !self.is_empty() {
+            self.recordings.finish()?;
+        }
         Ok(self.summary)
     }
 }
 
 /// The recordings and the records of both benches are written through to the disk as they grow.
 fn written_through(benches: &[Bench; 2]) -> io::Result<Through> {
-    let mut files = Vec::new();
-    for bench in benches {
-        files.extend([bench.audio.inner().try_clone()?, bench.records.inner().try_clone()?]);
-    }
-    Ok(Through::new(files))
+    let files = benches.iter().flat_map(|bench| bench.recordings.files());
+    Ok(Through::new(files.map(File::try_clone).collect::<io::Result<_>>()?))
 }
 
 /// A folder on its way. (It is the last to go, once nothing lies in it any more.)
@@ -117,6 +110,12 @@ impl Files {
         table.as_mut().map_or(Ok(()), table::head).at(&folder.place(TABLE))?;
         sync_folder(place.out);
         Ok(Files { benches, table, through, folder, once: place.once })
+    }
+
+    /// The same, with recordings of at most so many bytes of audio.
+    pub fn at_most(mut self, bytes: u32) -> Files {
+        self.benches.iter_mut().for_each(|bench| bench.recordings.most = bytes);
+        self
     }
 
     /// Whether there is nothing to keep.
@@ -194,17 +193,21 @@ impl Sink for Files {
 
     fn after(&mut self, side: Side, bytes: &[u8]) -> Result<()> {
         let bench = &mut self.benches[side as usize];
-        bench.summary.after(&Layout::CLEANED.samples(bytes, 0));
-        bench.audio.write(bytes).at(&bench.place)
+        bench.summary.after(bytes);
+        let records = std::mem::take(&mut bench.waiting);
+        if bench.recordings.write(&mut self.folder, &records, bytes)? {
+            let prefix = self.folder.prefix().to_owned();
+            let named = |name: &String| format!("{prefix}{name}");
+            bench.summary.about.more = bench.recordings.more.iter().map(named).collect();
+            self.through = written_through(&self.benches).at(self.folder.path())?;
+        }
+        Ok(())
     }
 
     fn frames(&mut self, frames: &[Vec<Frame>; 2]) -> Result<()> {
         for (bench, frames) in self.benches.iter_mut().zip(frames) {
-            for frame in frames {
-                bench.summary.frame(frame);
-                bench.records.push(frame.entry)?;
-            }
-            bench.records.put()?;
+            frames.iter().for_each(|frame| bench.summary.frame(frame));
+            bench.waiting.extend(frames.iter().map(|frame| frame.record));
         }
         if let Some(table) = &mut self.table {
             table::rows(table, frames).and_then(|()| table.flush()).at(&self.folder.place(TABLE))?;

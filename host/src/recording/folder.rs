@@ -130,7 +130,7 @@ impl Folder {
     }
 
     /// Where it is on its way there, as `NAME.part`.
-    fn part(&self, name: impl AsRef<Path>) -> PathBuf {
+    pub fn part(&self, name: impl AsRef<Path>) -> PathBuf {
         beside(&self.path.join(name), ".part")
     }
 

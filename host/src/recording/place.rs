@@ -28,15 +28,6 @@ pub fn new_file(place: &Path) -> io::Result<fs::File> {
     fs::File::options().read(true).write(true).create_new(true).open(place)
 }
 
-/// A new file without a name, which goes with the last who has it open.
-pub fn without_name() -> io::Result<fs::File> {
-    let folder = std::env::temp_dir();
-    let place = free(|number| folder.join(format!("host-{}-{}", std::process::id(), number.unwrap_or(1))));
-    let file = new_file(&place)?;
-    fs::remove_file(place)?;
-    Ok(file)
-}
-
 /// Gives a file its place, where nothing may stand. Linux makes it one step, so that nothing that comes there
 /// meanwhile is lost.
 pub fn give_place(from: &Path, place: &Path) -> io::Result<()> {

@@ -1,14 +1,18 @@
 //! `box mend DIR`: all that a run left unfinished in a folder is closed. It can be ended at any moment, and begun
 //! again: what it has to know stands in the recording and in its records, until the recording has its place.
 
-use crate::cleaning::recorder::Side;
 use crate::error::{At, Error, Result};
-use crate::recording::files::{recording, TABLE};
+use crate::recording::day::{is_page_ours, put_page};
+use crate::recording::files::TABLE;
 use crate::recording::folder::Folder;
+use crate::recording::front::{Front, SEAL};
+use crate::recording::judge::{judged, Told};
+use crate::recording::listed::{days, note_dictation, Voice, BEFORE};
+use crate::recording::original;
 use crate::recording::place::{beside, free, give_place, is_taken};
-use crate::recording::unfinished::{left_over, of_others, open_ours, Kept, Unfinished, PART, SHEET};
+use crate::recording::times::is_day;
+use crate::recording::unfinished::{left_over, of_others, open_ours, recordings, Kept, Unfinished, PART, SHEET};
 use crate::sys::disk::{sync_all, sync_folder};
-use crate::telling::found::sealed;
 use crate::telling::shown::line_of;
 use std::fs::{self, File};
 use std::io::{self, ErrorKind, Read, Seek, SeekFrom};
@@ -31,45 +35,61 @@ fn remove(path: &Path) -> Result<()> {
     }
 }
 
-/// A recording that was closed, and where it stands.
+/// A recording that was closed, and where it is.
 pub struct Closed {
     pub place: PathBuf,
+    /// What the judge told of it.
+    pub told: Told,
     pub kept: Kept,
 }
 
-/// Closes a recording and puts it in its place, which its side names. Nothing comes back where nothing was recorded.
-fn mend_part(folder: &Path, part: &Path, sheet: &Path) -> Result<Option<Closed>> {
-    let Some(mut unfinished) = Unfinished::find(part, sheet)? else {
-        remove(part)?;
-        remove(sheet)?;
-        return Ok(None);
-    };
-    let place = folder.join(recording(unfinished.side));
-    let kept = unfinished.kept().at(part)?;
-    unfinished.close(part, sheet)?;
-    let place = put_free(part, &place)?;
-    sync_folder(folder);
-    remove(sheet)?;
-    Ok(Some(Closed { place, kept }))
-}
-
-/// Records whose recording has its place already, since the run ended just before it would have removed them.
-fn mend_sheet(place: &Path, sheet: &Path) -> Result<()> {
-    let good = File::open(place).is_ok_and(|mut file| sealed(&mut file, true).is_ok());
-    if !good {
-        return Err(Error::undone("there is no recording beside it").at(sheet));
-    }
-    remove(sheet)
-}
-
 /// What a run left of a recording.
-fn mend_recording(folder: &Path, side: Side) -> Result<Option<Closed>> {
-    let place = folder.join(recording(side));
-    let (part, sheet) = (beside(&place, PART), beside(&place, SHEET));
-    match (is_taken(&part), is_taken(&sheet)) {
-        (true, _) => mend_part(folder, &part, &sheet),
-        (false, true) => mend_sheet(&place, &sheet).map(|()| None),
-        (false, false) => Ok(None),
+enum Left {
+    Recording(Box<Unfinished>),
+    /// Nothing was recorded yet.
+    Empty,
+    /// Its records, although the recording has its place already: the run ended just before it would have removed them.
+    Records,
+    Nothing,
+}
+
+/// What a run left of the recording that was to get this place. Nothing is changed.
+fn left(place: &Path) -> Result<Left> {
+    Ok(match (is_taken(&beside(place, PART)), is_taken(&beside(place, SHEET))) {
+        (true, _) => Unfinished::find(place)?.map_or(Left::Empty, |found| Left::Recording(Box::new(found))),
+        (false, true) => Left::Records,
+        (false, false) => Left::Nothing,
+    })
+}
+
+/// Closes a recording and puts it in its place.
+fn close_and_place(place: &Path, mut unfinished: Unfinished) -> Result<Closed> {
+    let (part, sheet) = (beside(place, PART), beside(place, SHEET));
+    let kept = unfinished.kept().at(&part)?;
+    let told = unfinished.close(&part)?;
+    let place = put_free(&part, place)?;
+    place.parent().into_iter().for_each(sync_folder);
+    remove(&sheet)?;
+    Ok(Closed { place, told, kept })
+}
+
+/// Whether these records are those of a recording that has its place.
+fn is_placed(place: &Path, sheet: &Path) -> Result<bool> {
+    let mut seal = [0; SEAL];
+    open_ours(sheet)?.read_exact(&mut seal).at(sheet)?;
+    let told = File::open(place).and_then(|mut file| judged(&mut file));
+    Ok(told.is_ok_and(|told| told.is_ok_and(|told| Front::read(&seal) == Ok(told.front))))
+}
+
+/// What becomes of what a run left.
+fn mend_recording(place: &Path, left: Left) -> Result<Option<Closed>> {
+    let (part, sheet) = (beside(place, PART), beside(place, SHEET));
+    match left {
+        Left::Recording(unfinished) => close_and_place(place, *unfinished).map(Some),
+        Left::Empty => remove(&part).and_then(|()| remove(&sheet)).map(|()| None),
+        Left::Records if is_placed(place, &sheet)? => remove(&sheet).map(|()| None),
+        Left::Records => Err(Error::undone("there is no recording beside it").at(&sheet)),
+        Left::Nothing => Ok(None),
     }
 }
 
@@ -90,6 +110,9 @@ fn cut_table(part: &Path) -> io::Result<bool> {
 fn mend_other(part: &Path) -> Result<()> {
     open_ours(part)?;
     let place = part.with_extension("");
+    if part.parent().is_some_and(|folder| folder.ends_with(BEFORE)) {
+        original::mend_original(part)?;
+    }
     let is_table = place.file_name() == Some(TABLE.as_ref());
     if is_table && !cut_table(part).at(part)? {
         return remove(part);
@@ -111,7 +134,7 @@ impl Mended {
     /// Tells what was kept, and gives what could not be.
     pub fn tell(self, path: &Path) -> Result<()> {
         for closed in &self.closed {
-            crate::say!("{}", line_of(&closed.place, &closed.kept));
+            crate::say!("{}\n{}", line_of(&closed.place, closed.told), closed.kept);
         }
         if !self.bad.is_empty() {
             return Error::several(self.bad);
@@ -125,20 +148,44 @@ impl Mended {
     }
 }
 
-/// Closes all that a run left unfinished in a folder.
+/// Whether an error says that files of different sides are together: what is in the folder was mixed up.
+fn is_mixed(error: &Error) -> bool {
+    matches!(error, Error::Wrong(_))
+}
+
+/// Closes all that a run left unfinished in a folder. Where files disagree about a side, nothing is closed.
 pub fn mend_folder(path: &Path) -> Result<Mended> {
     let mut folder = Folder::new(path, false)?;
     folder.lock()?;
     let mut mended = Mended { was_left: left_over(path).is_some(), ..Mended::default() };
-    if mended.was_left {
-        for side in Side::BOTH {
-            match mend_recording(path, side) {
-                Ok(closed) => mended.closed.extend(closed),
-                Err(why) => mended.bad.push(why),
-            }
-        }
-        let others = of_others(path).filter(|part| is_taken(part));
-        mended.bad.extend(others.filter_map(|part| mend_other(&part).err()));
+    let found: Vec<_> = recordings(path).into_iter().map(|place| (left(&place), place)).collect();
+    if found.iter().any(|(left, _)| left.as_ref().is_err_and(is_mixed)) {
+        mended.bad = found.into_iter().filter_map(|(left, _)| left.err()).collect();
+        return Ok(mended);
     }
+    for (left, place) in found {
+        match left.and_then(|left| mend_recording(&place, left)) {
+            Ok(closed) => mended.closed.extend(closed),
+            Err(why) => mended.bad.push(why),
+        }
+    }
+    let others = of_others(path).filter(|part| is_taken(part));
+    mended.bad.extend(others.filter_map(|part| mend_other(&part).err()));
+    mended.bad.extend(list_dictations(path, &mended.closed).err());
     Ok(mended)
+}
+
+/// Lists what was closed in the folders of the days, and writes the page anew. Where the voice is nobody has looked.
+fn list_dictations(path: &Path, closed: &[Closed]) -> Result<()> {
+    for Closed { place, told, kept } in closed {
+        let (Some(day), Some(file)) = (place.parent(), place.file_name()) else { continue };
+        if day.parent() == Some(path) && day.file_name().is_some_and(|day| is_day(&day.to_string_lossy())) {
+            let file = file.to_string_lossy();
+            note_dictation(day, &file, told.front, told.frames, told.heard, kept.seconds, Voice::Unknown)?;
+        }
+    }
+    if days(path).is_empty() || !is_page_ours(path) {
+        return Ok(());
+    }
+    put_page(path)
 }

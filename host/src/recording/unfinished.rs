@@ -1,39 +1,47 @@
 //! Recordings that a run left unfinished, as where the power failed: `left.wav.part`, with its records in
-//! `left.wav.sheet`.
+//! `left.wav.sheet`. Both begin with the side, and so does the name: where these disagree, nothing is closed.
 
 use crate::cleaning::recorder::Side;
-use crate::cleaning::run::frames_of;
 use crate::error::{At, Error, Result};
-use crate::reading::wav::{self, Writer};
+use crate::reading::wav;
+use crate::recording::after::{look_after, write_after, Rebuilt};
 use crate::recording::files::{self, recording};
+use crate::recording::front::{seal_in, size_in, Front, HEAD, MOST, OPEN, SEAL};
+use crate::recording::judge::Told;
+use crate::recording::listed::{begun, originals};
+use crate::recording::mend::rewritten;
 use crate::recording::place::{beside, is_taken};
-use crate::recording::records::Records;
-use crate::recording::seal;
+use crate::recording::writing::accepted;
 use crate::sys::disk::{sync_all, sync_data};
-use crate::telling::kept::Row;
+use crate::telling::names;
 use crate::telling::shown::{quoted, shown};
-use crate::telling::side::Sheet;
 use crate::{FRAME, RATE};
 use std::fmt;
 use std::fs::{self, File};
-use std::io::{self, ErrorKind, Read, Seek, SeekFrom};
+use std::io::{self, Read, Seek, SeekFrom, Write};
 use std::path::{Path, PathBuf};
 
 /// How the names end of a file on its way to its place, and of its records.
 pub const PART: &str = ".part";
-pub const SHEET: &str = ".sheet";
+pub use crate::recording::writing::SHEET;
+
+/// The recordings that a run may be writing into a folder: one of each side, those in which these go on, and the
+/// dictations in the folders of its days.
+pub fn recordings(folder: &Path) -> Vec<PathBuf> {
+    Side::BOTH.map(|side| folder.join(recording(side))).into_iter().chain(begun(folder)).collect()
+}
 
 /// What a run may leave beside the recordings' places.
 fn of_recordings(folder: &Path) -> impl Iterator<Item = PathBuf> {
-    let place = |side: Side| folder.join(recording(side));
-    Side::BOTH.map(place).into_iter().flat_map(|place| [PART, SHEET].map(|ending| beside(&place, ending)))
+    recordings(folder).into_iter().flat_map(|place| [PART, SHEET].map(|ending| beside(&place, ending)))
 }
 
 /// What it may leave of the table, of the picture and so on.
 pub fn of_others(folder: &Path) -> impl Iterator<Item = PathBuf> {
     let others = [files::TABLE, files::PICTURE, files::PAGE].map(String::from).into_iter();
     let place = |name: String| beside(&folder.join(name), PART);
-    others.chain(Side::BOTH.map(files::before)).map(place).collect::<Vec<_>>().into_iter()
+    let others: Vec<PathBuf> = others.chain(Side::BOTH.map(files::before)).map(place).collect();
+    others.into_iter().chain(originals(folder))
 }
 
 /// What a run did leave in a folder.
@@ -67,114 +75,189 @@ fn not_ours(path: &Path) -> Error {
     Error::undone("this is no file that the box wrote; it stays as it is").at(path)
 }
 
-/// Refuses a file that does not begin with one of these, or with zeros in their place, as a power cut may leave them.
-fn begins(path: &Path, with: &[&[u8]]) -> Result<()> {
-    let (mut file, mut bytes) = (open_ours(path)?, vec![]);
-    let length = with.iter().map(|with| with.len()).max().unwrap_or(0);
-    Read::by_ref(&mut file).take(length as u64).read_to_end(&mut bytes).at(path)?;
-    let alike = |with: &&[u8]| bytes.iter().zip(*with).all(|(byte, ours)| byte == ours || *byte == 0);
-    with.iter().any(alike).then_some(()).ok_or_else(|| not_ours(path))
-}
-
-/// How many samples there are behind the header, which has their number where the recording was about to be closed.
-fn samples(file: &mut File) -> io::Result<u64> {
-    let size = file.metadata()?.len().saturating_sub(wav::HEAD as u64);
-    let mut head = [0; wav::HEAD];
+/// The first bytes of a file, so many at most.
+fn first_bytes(file: &mut File, most: usize) -> io::Result<Vec<u8>> {
+    let mut bytes = Vec::new();
     file.rewind()?;
-    let said = match file.read_exact(&mut head) {
-        Err(why) if why.kind() == ErrorKind::UnexpectedEof => Some(0),
-        read => read.map(|()| wav::said_size(&head, RATE))?,
-    };
-    Ok(said.map_or(size, |said| size.min(said.into())) / 2)
+    file.take(most as u64).read_to_end(&mut bytes)?;
+    Ok(bytes)
 }
 
-/// How many of the last samples are zeros, of ten seconds at most.
-fn zeros(file: &mut File, samples: u64) -> io::Result<u64> {
-    let looked = samples.min(10 * u64::from(RATE));
-    let mut bytes = vec![0; 2 * looked as usize];
-    file.seek(SeekFrom::Start(wav::HEAD as u64 + 2 * (samples - looked)))?;
+/// Whether some bytes are the beginning of these, or have zeros in their place, as a power cut may leave them.
+fn alike(bytes: &[u8], ours: &[u8]) -> bool {
+    bytes.iter().zip(ours).all(|(byte, ours)| byte == ours || *byte == 0)
+}
+
+/// How many of the last seconds of some audio are zeros: none if these are less than a frame, and ten at most.
+pub fn zeros(file: &mut File, place: u64, size: u64) -> io::Result<f64> {
+    let looked = size.min(20 * u64::from(RATE));
+    let mut bytes = vec![0; looked as usize];
+    file.seek(SeekFrom::Start(place + size - looked))?;
     file.read_exact(&mut bytes)?;
-    Ok(bytes.chunks_exact(2).rev().take_while(|sample| **sample == [0, 0]).count() as u64)
+    let zeros = bytes.chunks_exact(2).rev().take_while(|sample| **sample == [0, 0]).count();
+    Ok(if zeros >= FRAME { seconds_of(2 * zeros as u64) } else { 0.0 })
 }
 
-/// A recording that is as far as its audio and its records both go.
-pub struct Unfinished {
-    pub side: Side,
+fn seconds_of(bytes: u64) -> f64 {
+    bytes as f64 / 2.0 / f64::from(RATE)
+}
+
+/// What the head of a file on its way says, if it is whole: its front, and the size of its audio, or that it is open.
+fn whole_head(head: &[u8]) -> Option<(Front, u32)> {
+    let head: &[u8; HEAD] = head.try_into().ok()?;
+    let (front, size) = (Front::read(&seal_in(head)).ok()?, size_in(head));
+    (front.head(size) == Ok(*head)).then_some((front, size))
+}
+
+/// Both files of a recording on its way, as far as they begin with what the box writes.
+struct Pair {
     audio: File,
-    sheet: File,
-    row: Row,
-    /// How many samples are kept, and how many there are.
-    kept: u64,
-    there: u64,
+    /// What its head says.
+    head: Option<(Front, u32)>,
+    sheet: Option<File>,
+    /// What the seal at the start of its records says.
+    seal: Option<Front>,
+}
+
+impl Pair {
+    fn open(part: &Path, sheet: &Path) -> Result<Pair> {
+        let mut audio = open_ours(part)?;
+        let mut records = if is_taken(sheet) { Some(open_ours(sheet)?) } else { None };
+        let first = first_bytes(&mut audio, HEAD).at(part)?;
+        let front = records.as_mut().map_or(Ok(vec![]), |file| first_bytes(file, SEAL)).at(sheet)?;
+        let (head, seal) = (whole_head(&first), Front::read(&front).ok());
+        // where one of them is whole, the other is that or zeros; a front of any side begins alike
+        let any = Front { side: Side::Left, began: 0, first: 0 };
+        let known = head.map(|(front, _)| front).or(seal);
+        let of_head = known.map_or(any.open_head()[..SEAL].to_vec(), |front| front.open_head().to_vec());
+        let of_seal = known.map_or(any.seal()[..4].to_vec(), |front| front.seal().to_vec());
+        if head.is_none() && !alike(&first, &of_head) {
+            return Err(not_ours(part));
+        }
+        if seal.is_none() && !alike(&front, &of_seal) {
+            return Err(not_ours(sheet));
+        }
+        Ok(Pair { audio, head, sheet: records, seal })
+    }
+
+    /// How many bytes of audio there are. Where the recording was about to be closed, its head says it.
+    fn size(&self) -> io::Result<u32> {
+        let here = self.audio.metadata()?.len().saturating_sub(HEAD as u64).min(MOST.into()) as u32;
+        let said = self.head.map(|(_, size)| size).filter(|size| *size != OPEN);
+        let size = said.map_or(here, |said| said.min(here));
+        Ok(size - size % 2)
+    }
+
+    /// The side and so on. The head says it, and the seal of the records, and both alike.
+    fn front(&self, part: &Path, sheet: &Path) -> Result<Front> {
+        match (self.head.map(|(front, _)| front), self.seal) {
+            (Some(head), Some(seal)) if head.side != seal.side => {
+                let (head, seal) = (head.side.name(), seal.side.name());
+                Err(mixed(part, format!("its head says {head}, but {} says {seal}", shown(sheet))))
+            }
+            (Some(head), Some(seal)) if head != seal => {
+                Err(mixed(part, format!("{} is of another recording of the same side", shown(sheet))))
+            }
+            (Some(front), _) | (None, Some(front)) => Ok(front),
+            (None, None) => {
+                let why = "neither its head nor its records tell its side; it stays until you move it";
+                Err(Error::undone(why).at(part))
+            }
+        }
+    }
+}
+
+/// What belongs to different sides is together here: nothing of the folder is closed.
+fn mixed(part: &Path, why: String) -> Error {
+    Error::wrong(format!("{why}; nothing is closed, and all files stay as they are")).at(part)
+}
+
+/// A recording that was not finished.
+pub struct Unfinished {
+    pub front: Front,
+    audio: File,
+    sheet: Option<File>,
+    size: u32,
+    found: Rebuilt,
+    /// What the judge says, if only its place is missing.
+    finished: Option<Told>,
+}
+
+/// The records, as far as they are there.
+fn records(sheet: &mut Option<File>) -> io::Result<Box<dyn Read + '_>> {
+    Ok(match sheet {
+        Some(file) => {
+            file.seek(SeekFrom::Start(SEAL as u64))?;
+            Box::new(file)
+        }
+        None => Box::new(io::empty()),
+    })
 }
 
 impl Unfinished {
-    /// `None` where nothing was recorded yet.
-    pub fn find(part: &Path, sheet: &Path) -> Result<Option<Unfinished>> {
-        let mut audio = open_ours(part)?;
-        let there = samples(&mut audio).at(part)?;
-        if there == 0 {
-            begins(part, &[&wav::open_head(RATE)])?;
-            if is_taken(sheet) {
-                begins(sheet, &Side::BOTH.map(seal::under_way).each_ref().map(|seal| &seal[..]))?;
-            }
+    /// What a run left of the recording that was to get this place; nothing where nothing was recorded yet.
+    pub fn find(place: &Path) -> Result<Option<Unfinished>> {
+        let (part, sheet) = (beside(place, PART), beside(place, SHEET));
+        let pair = Pair::open(&part, &sheet)?;
+        let size = pair.size().at(&part)?;
+        if size == 0 {
             return Ok(None);
         }
-        let mut records = open_ours(sheet)?;
-        let mut seal = Vec::new();
-        Read::by_ref(&mut records).take(seal::LENGTH as u64).read_to_end(&mut seal).at(sheet)?;
-        let stays =
-            |why: &str| Error::undone(format!("{why} {}, which stays until you move it", shown(part))).at(sheet);
-        let no_seal = "it does not begin with a seal, so nothing tells the side of";
-        let side = seal::side_under_way(&seal).ok_or_else(|| stays(no_seal))?;
-        let row = Row::read(&mut records, frames_of(there), Some(side), true).at(sheet)?;
-        if row.frames() < 2 {
-            return Err(stays("no record in it is of the sound in"));
+        let front = pair.front(&part, &sheet)?;
+        if let Some((named, whose)) = names::meant(place).filter(|(named, _)| *named != front.side) {
+            let (named, side) = (named.name(), front.side.name());
+            return Err(mixed(&part, format!("its {whose} says {named}, but its head says {side}")));
         }
-        let kept = there.min((row.frames() - 1) * FRAME as u64);
-        Ok(Some(Unfinished { side, audio, sheet: records, row, kept, there }))
+        let Pair { audio, sheet: mut file, .. } = pair;
+        if let Ok(told) = accepted(&part, front) {
+            let (found, finished) = (Rebuilt::default(), Some(told));
+            return Ok(Some(Unfinished { front, audio, sheet: file, size, found, finished }));
+        }
+        let found = look_after(front, size, &mut records(&mut file).at(&sheet)?).at(&sheet)?;
+        if found.is_mixed() {
+            let (side, other) = (front.side.name(), front.side.other().name());
+            return Err(mixed(&part, format!("its head says {side}, but records in {} say {other}", shown(&sheet))));
+        }
+        Ok(Some(Unfinished { front, audio, sheet: file, size, found, finished: None }))
     }
 
-    /// Closes the recording as `box clean` does: header, audio, seal, sheet. From the first step on the header says
-    /// where the audio ends.
-    pub fn close(self, part: &Path, sheet: &Path) -> Result<()> {
-        let size = 2 * self.kept as u32;
-        let audio = Writer::resume(self.audio, RATE, size).at(part)?;
-        let records = Records::of(sheet.to_owned(), self.sheet, self.side, self.row.tally);
-        let seal = audio.seal(self.side);
-        let mut file = audio.finish(records.behind()).at(part)?;
-        sync_data(&file).and_then(|()| file.set_len(wav::HEAD as u64 + u64::from(size))).at(part)?;
-        records.finish(&mut file, seal)?;
-        sync_all(&file).at(part)
+    /// Closes the recording as `box clean` does: head, audio, seal, records. From the first step on the head says where
+    /// the audio ends. The judge must accept it as it is on the disk.
+    pub fn close(&mut self, part: &Path) -> Result<Told> {
+        if let Some(told) = self.finished {
+            return Ok(told);
+        }
+        let end = HEAD as u64 + u64::from(self.size);
+        let head = self.front.head(self.size).at(part)?;
+        let file = &mut self.audio;
+        file.seek(SeekFrom::Start(HEAD as u64)).at(part)?;
+        let (_, checksum) = wav::checksum(file, self.size.into()).at(part)?;
+        file.rewind().and_then(|()| file.write_all(&head)).and_then(|()| sync_data(file)).at(part)?;
+        file.set_len(end).and_then(|()| file.seek(SeekFrom::Start(end))).at(part)?;
+        write_after(file, self.front, self.size, checksum, &mut records(&mut self.sheet).at(part)?).at(part)?;
+        sync_all(&self.audio).at(part)?;
+        accepted(part, self.front).at(part)
     }
 
-    /// What a clerk is told of it.
+    /// What a clerk is told of it, besides what it became.
     pub fn kept(&mut self) -> io::Result<Kept> {
-        let seconds = |samples: u64| samples as f64 / f64::from(RATE);
-        let sheet = Sheet::of_row(self.side, &self.row);
-        let zeros = zeros(&mut self.audio, self.kept)?;
-        let zeros = if zeros >= FRAME as u64 { zeros } else { 0 };
-        let [kept, lost, zeros] = [self.kept, self.there - self.kept, zeros].map(seconds);
-        Ok(Kept { sheet, kept, lost, zeros })
+        let zeros = zeros(&mut self.audio, HEAD as u64, self.size.into())?;
+        Ok(Kept { seconds: seconds_of(self.size.into()), rewritten: self.found.lost, zeros })
     }
 }
 
-/// What is kept of an unfinished recording; the rest in seconds.
+/// What is kept of an unfinished recording.
 pub struct Kept {
-    pub sheet: Sheet,
-    pub kept: f64,
-    /// Those behind them, which have no records.
-    pub lost: f64,
-    /// The last of them that are zeros, where these are a frame or more.
+    pub seconds: f64,
+    /// How many frames had no record.
+    pub rewritten: u64,
+    /// The last seconds that are zeros, where these are a frame or more.
     pub zeros: f64,
 }
 
 impl fmt::Display for Kept {
     fn fmt(&self, f: &mut fmt::Formatter) -> fmt::Result {
-        write!(f, "{}\nKept {:.2} s.", self.sheet, self.kept)?;
-        if self.lost > 0.0 {
-            write!(f, " The {:.2} s after them have no records and are lost.", self.lost)?;
-        }
+        write!(f, "Kept {:.2} s.{}", self.seconds, rewritten(self.rewritten))?;
         if self.zeros > 0.0 {
             write!(f, " The last {:.2} s are zeros, as a power cut may leave them.", self.zeros)?;
         }

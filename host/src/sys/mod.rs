@@ -1,5 +1,5 @@
-//! What is asked of the operating system, each call with its reason. All that is `unsafe` in this program is in here; the
-//! compiler refuses it anywhere else (lib.rs).
+//! What is asked of the operating system, each call with its reason. All that is `unsafe` in this program is in here;
+//! the compiler refuses it anywhere else (lib.rs).
 //!
 //! | Call | Where | Why |
 //! |---|---|---|
@@ -11,7 +11,9 @@
 //! | `renameat2` | `rename` | a file gets its place in one step that writes over nothing |
 //! | `fdatasync`, `fsync` | `disk` | what was recorded is on the disk, and not in memory, when the power fails |
 //! | `flock` | `lock` | two runs must not write into one folder |
+//! | `tzset`, `localtime_r`, `mktime` | `clock` | a dictation is called by the time that the clock on the wall showed |
 
+pub mod clock;
 pub mod disk;
 pub mod lock;
 pub mod rename;

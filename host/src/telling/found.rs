@@ -1,133 +1,104 @@
-//! What is found in a file of a recording's audio, seal and side sheet, each looked for by itself. Whatever lengths a
-//! file claims, it is read in parts.
+//! What is found in a file that the judge did not accept: seals and side sheets, each looked for by itself. Nothing of
+//! it is told as the side of a file. It is for hints, for `mend`, and for `clean`, which refuses a recording in which
+//! anything says the other bench. Whatever lengths a file claims, it is read in parts.
 
 use crate::cleaning::recorder::Side;
-use crate::cleaning::run::frames_of;
-use crate::error::{Error, Reason, Result};
 use crate::reading::wav::{self, Audio, Fault};
-use crate::recording::records::{CHUNK, NAME};
-use crate::recording::seal::{self, Seal};
+use crate::recording::after::{is_sheet, RECORD, TRAILER};
+use crate::recording::front::{seal_in, Front, CHUNK, HEAD, SEAL};
+use crate::recording::seal::Seal;
 use crate::telling::refusal::Refusal;
-use crate::telling::side::Sheet;
 use std::io::{self, Read, Seek, SeekFrom};
 
-/// The chunk `side` where some audio ends: its contents' length, as it says, and the seal in front of them.
-pub struct Chunk {
-    pub audio: Audio,
-    length: u64,
-    pub seal: Result<Seal, Refusal>,
+/// The side sheet at the end of a file.
+#[derive(Clone, Copy, Debug, PartialEq)]
+pub struct Sheet {
+    pub side: Side,
+    pub frames: u64,
+    /// Where its records start.
+    pub start: u64,
 }
 
 pub struct Found {
     /// The bytes of the file.
     pub size: u64,
+    /// Its first bytes, if it has as many as a head.
+    pub head: Option<[u8; HEAD]>,
+    /// What its front seal says, if it is whole.
+    pub front: Option<Front>,
     /// Where the audio is, as the header says.
     pub audio: Result<Audio, Fault>,
-    /// The chunk where the audio ends.
-    pub chunk: Option<Chunk>,
-    /// The sheet at the file's end, and where its records start.
-    pub sheet: Result<(Sheet, u64), Refusal>,
-    /// A seal in front of these records.
-    before: Option<Seal>,
+    /// The end seal, if a chunk of its name is where the audio ends.
+    pub seal: Option<Result<Seal, Refusal>>,
+    pub sheet: Option<Sheet>,
+    /// A whole end seal before the records of the sheet, wherever these are.
+    pub before: Option<Seal>,
 }
 
 /// At most so many bytes from a place on.
-fn bytes(file: &mut (impl Read + Seek), place: u64, most: u64) -> io::Result<Vec<u8>> {
+pub fn bytes_at(file: &mut (impl Read + Seek), place: u64, most: usize) -> io::Result<Vec<u8>> {
     let mut bytes = Vec::new();
     file.seek(SeekFrom::Start(place))?;
-    file.take(most).read_to_end(&mut bytes)?;
+    file.take(most as u64).read_to_end(&mut bytes)?;
     Ok(bytes)
 }
 
-impl Chunk {
-    fn behind(audio: Audio, file: &mut (impl Read + Seek)) -> io::Result<Option<Chunk>> {
-        let bytes = bytes(file, audio.end(), CHUNK + seal::LENGTH as u64)?;
-        let Some(([name @ .., a, b, c, d], seal)) = bytes.split_first_chunk::<8>() else { return Ok(None) };
-        let length = u32::from_le_bytes([*a, *b, *c, *d]).into();
-        Ok((name == NAME).then(|| Chunk { audio, length, seal: Seal::read(seal) }))
-    }
+/// The number at a place of some bytes; 0 if they end before it.
+fn number(bytes: &[u8], at: usize) -> u32 {
+    bytes.get(at..).and_then(|bytes| bytes.first_chunk()).map_or(0, |number| u32::from_le_bytes(*number))
+}
 
-    /// Where its records start, and where it ends.
-    pub fn records(&self) -> u64 {
-        self.audio.end() + CHUNK + seal::LENGTH as u64
-    }
-
-    fn end(&self) -> u64 {
-        self.audio.end() + CHUNK + self.length
-    }
+/// The side sheet at the end of a file. Its frames number up from any first one.
+fn sheet_at_end(file: &mut (impl Read + Seek)) -> io::Result<Option<Sheet>> {
+    let size = file.seek(SeekFrom::End(0))?;
+    let Some(end) = size.checked_sub(TRAILER as u64) else { return Ok(None) };
+    let trailer = bytes_at(file, end, TRAILER)?;
+    let (distance, frames) = (u64::from(number(&trailer, 0)), u64::from(number(&trailer, 4)));
+    let side = Side::BOTH.into_iter().find(|side| number(&trailer, 8) == *side as u32);
+    let start = end.checked_sub(distance).filter(|_| distance == RECORD as u64 * frames && frames > 0);
+    let (Some(side), Some(start)) = (side, start) else { return Ok(None) };
+    let first = number(&bytes_at(file, start, RECORD)?, 0);
+    file.seek(SeekFrom::Start(start))?;
+    let is_one =
+        is_sheet(Front { side, began: 0, first }, frames, file).map_err(|why| io::Error::other(why.to_string()))?;
+    Ok(is_one.then_some(Sheet { side, frames, start }))
 }
 
 impl Found {
     pub fn of(file: &mut (impl Read + Seek)) -> io::Result<Found> {
         let size = file.seek(SeekFrom::End(0))?;
+        let head: Option<[u8; HEAD]> = bytes_at(file, 0, HEAD)?.try_into().ok();
         file.rewind()?;
         let audio = match wav::audio(&mut *file) {
             Err(Fault::Unreadable(why)) => return Err(io::Error::other(why)),
             audio => audio,
         };
-        let chunk = audio.as_ref().map_or(Ok(None), |audio| Chunk::behind(*audio, file))?;
-        let sheet = Sheet::read(file)?;
-        let place = sheet.as_ref().ok().and_then(|(_, start)| start.checked_sub(seal::LENGTH as u64));
-        let before = place.map(|place| bytes(file, place, seal::LENGTH as u64)).transpose()?;
-        Ok(Found { size, audio, chunk, sheet, before: before.and_then(|seal| Seal::read(&seal).ok()) })
+        let chunk = audio.as_ref().map_or(Ok(vec![]), |audio| bytes_at(file, audio.end(), CHUNK))?;
+        let seal = chunk.strip_prefix(b"side").and_then(|rest| rest.get(4..)).map(Seal::read);
+        let sheet = sheet_at_end(file)?;
+        let place = sheet.and_then(|sheet| sheet.start.checked_sub(SEAL as u64));
+        let before = place.map(|place| bytes_at(file, place, SEAL)).transpose()?;
+        let before = before.and_then(|seal| Seal::read(&seal).ok());
+        Ok(Found {
+            size,
+            head,
+            front: head.and_then(|head| Front::read(&seal_in(&head)).ok()),
+            audio,
+            seal,
+            sheet,
+            before,
+        })
     }
 
     /// The sides that it says, and what says them.
     pub fn sides(&self) -> impl Iterator<Item = (&'static str, Side)> {
-        let sealed = self.chunk.as_ref().and_then(|chunk| chunk.seal.ok()).or(self.before);
-        let sheet = self.sheet.as_ref().ok().filter(|(sheet, _)| sheet.frames > 0);
-        let (seal, sheet) = (sealed.map(|seal| seal.side), sheet.map(|(sheet, _)| sheet.side));
-        [("its seal", seal), ("its side sheet", sheet)].into_iter().filter_map(|(what, side)| Some((what, side?)))
-    }
-
-    /// The seal where the audio ends.
-    pub fn seal(&self) -> Result<(&Chunk, Seal)> {
-        let cut = self.audio.as_ref().is_ok_and(|audio| audio.end() > self.size);
-        Err(match (&self.chunk, &self.sheet) {
-            (Some(chunk), _) => match chunk.seal {
-                Ok(seal) => return Ok((chunk, seal)),
-                Err(refused) => Error::Damaged(refused.into()),
-            },
-            (None, Ok(_)) if self.before.is_some() => {
-                Error::Damaged("its seal does not stand where its audio ends".into())
-            }
-            (None, Ok((sheet, _))) if sheet.frames > 0 => {
-                Error::Unsealed(format!("a side sheet without a seal says: {sheet}").into())
-            }
-            (None, Ok(_)) => Error::NoSheet(NO_FRAMES.into()),
-            (None, Err(_)) if cut => Error::NoSheet(Refusal(37).into()),
-            (None, Err(refused @ Refusal(31 | 32))) => Error::NoSheet((*refused).into()).reworded(|_| {
-                let number = refused.0;
-                format!(
-                    "not a sealed recording: another program saved it, or it was never sealed. Ask for the file as the \
-                     box wrote it (refusal {number})"
-                )
-            }),
-            (None, Err(refused)) => Error::NoSheet((*refused).into()),
-        })
-    }
-
-    /// The sheet of a recording with this seal: its records start behind it and are the last of the file, number up
-    /// from 0 and fit the audio's length.
-    fn sheet_of(&self, chunk: &Chunk, seal: Seal) -> Result<&Sheet> {
-        let (sheet, start) = self.sheet.as_ref().map_err(torn)?;
-        let frames = frames_of(chunk.audio.size / 2);
-        let why = if !chunk.audio.is_ours {
-            "its header is none that the box writes".into()
-        } else if *start != chunk.records() || self.size != chunk.end() {
-            "its side sheet does not stand where its seal does".into()
-        } else if sheet.side != seal.side {
-            format!("its seal says {}, and its side sheet {}", seal.side.name(), sheet.side.name())
-        } else if !sheet.numbers_up() {
-            format!("its frames don't number up from 0: {sheet}")
-        } else if sheet.frames as u64 != frames {
-            format!("its side sheet has {} frames, and its audio {frames}", sheet.frames)
-        } else if seal.bytes != chunk.audio.size {
-            format!("its seal is of {} bytes of audio, and it has {}", seal.bytes, chunk.audio.size)
-        } else {
-            return Ok(sheet);
-        };
-        Err(Error::Damaged(Reason::words(why)))
+        let end = self.seal.and_then(Result::ok).or(self.before);
+        let said = [
+            ("its seal", self.front.map(|front| front.side)),
+            ("its seal", end.map(|seal| seal.side)),
+            ("its side sheet", self.sheet.map(|sheet| sheet.side)),
+        ];
+        said.into_iter().filter_map(|(what, side)| Some((what, side?)))
     }
 }
 
@@ -135,44 +106,6 @@ impl Found {
 pub fn is_of(seal: Seal, audio: Audio, file: &mut (impl Read + Seek)) -> io::Result<bool> {
     file.seek(SeekFrom::Start(audio.place))?;
     Ok(wav::checksum(file, audio.size)? == (seal.bytes, seal.checksum))
-}
-
-const NO_FRAMES: &str = "a side sheet without frames tells no side";
-pub const OTHER_AUDIO: &str = "its audio is not the one that it was sealed with";
-
-/// A seal whose sheet is refused.
-fn torn(refused: &Refusal) -> Error {
-    Error::Damaged((*refused).into()).reworded(|why| format!("its seal is whole, but {why}"))
-}
-
-/// The beginning of a file, up to a place.
-struct Front<'a, F> {
-    file: &'a mut F,
-    at: u64,
-    end: u64,
-}
-
-impl<F: Read + Seek> Read for Front<'_, F> {
-    fn read(&mut self, to: &mut [u8]) -> io::Result<usize> {
-        let left = usize::try_from(self.end.saturating_sub(self.at)).unwrap_or(usize::MAX);
-        let most = to.len().min(left);
-        self.file.seek(SeekFrom::Start(self.at))?;
-        let read = self.file.read(&mut to[..most])?;
-        self.at += read as u64;
-        Ok(read)
-    }
-}
-
-impl<F: Read + Seek> Seek for Front<'_, F> {
-    fn seek(&mut self, to: SeekFrom) -> io::Result<u64> {
-        let at = match to {
-            SeekFrom::Start(at) => Some(at),
-            SeekFrom::End(by) => self.end.checked_add_signed(by),
-            SeekFrom::Current(by) => self.at.checked_add_signed(by),
-        };
-        self.at = at.ok_or(io::ErrorKind::InvalidInput)?;
-        Ok(self.at)
-    }
 }
 
 /// What follows the end of a recording in its file.
@@ -185,26 +118,14 @@ pub enum Follows {
     Recording,
 }
 
-/// What follows a recording that is sealed, but for that. The box writes nothing after a recording.
-pub fn follows(file: &mut (impl Read + Seek), quick: bool) -> io::Result<Follows> {
-    let found = Found::of(file)?;
-    let Ok((chunk, _)) = found.seal() else { return Ok(Follows::Nothing) };
-    let end = chunk.end();
-    if end >= found.size || sealed(&mut Front { file, at: 0, end }, quick).is_err() {
-        return Ok(Follows::Nothing);
-    }
-    let next = bytes(file, end, 12)?;
+/// What follows a recording that ends here.
+pub fn follows(file: &mut (impl Read + Seek), end: u64) -> io::Result<Follows> {
+    let size = file.seek(SeekFrom::End(0))?;
+    let next = bytes_at(file, end, 12)?;
     let is_wave = next.starts_with(b"RIFF") && next.ends_with(b"WAVE");
-    Ok(if is_wave { Follows::Recording } else { Follows::Bytes(found.size - end) })
-}
-
-/// The sheet of a sealed recording, or why it is none. `quick` looks at seal and sheet alone, and not at the audio.
-pub fn sealed(file: &mut (impl Read + Seek), quick: bool) -> Result<Sheet> {
-    let found = Found::of(file)?;
-    let (chunk, seal) = found.seal()?;
-    let frames = found.sheet_of(chunk, seal)?.frames;
-    if !quick && !is_of(seal, chunk.audio, file)? {
-        return Err(Error::Damaged(OTHER_AUDIO.into()));
-    }
-    found.sheet.map(|(sheet, _)| sheet).ok().filter(|_| frames > 0).ok_or_else(|| Error::NoSheet(NO_FRAMES.into()))
+    Ok(match size.saturating_sub(end) {
+        0 => Follows::Nothing,
+        _ if is_wave => Follows::Recording,
+        bytes => Follows::Bytes(bytes),
+    })
 }

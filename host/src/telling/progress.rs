@@ -87,7 +87,9 @@ impl<S> Watched<'_, S> {
 
 impl<S> Drop for Watched<'_, S> {
     fn drop(&mut self) {
-        still();
+        if self.line.is_some() {
+            still();
+        }
     }
 }
 
@@ -119,6 +121,45 @@ impl<S: Sink> Sink for Watched<'_, S> {
     }
 }
 
+/// How many recordings are finished, where several are cleaned at a time: one line that moves.
+pub struct Counted {
+    finished: usize,
+    of: usize,
+    is_shown: bool,
+}
+
+impl Counted {
+    pub fn new(of: usize, quiet: bool) -> Counted {
+        let line = Counted { finished: 0, of, is_shown: !quiet && terminal::is_there() };
+        line.show();
+        line
+    }
+
+    /// One more is finished.
+    pub fn one_more(&mut self) {
+        self.finished += 1;
+        self.show();
+    }
+
+    fn told(&self) -> String {
+        format!("{} of {} recordings are finished", self.finished, self.of)
+    }
+
+    fn show(&self) {
+        if self.is_shown {
+            moving(&self.told());
+        }
+    }
+}
+
+impl Drop for Counted {
+    fn drop(&mut self) {
+        if self.is_shown {
+            still();
+        }
+    }
+}
+
 #[cfg(test)]
 mod tests {
     use super::*;
@@ -131,5 +172,7 @@ mod tests {
         let line = |length| Line { length, start, last, benches }.told();
         assert_eq!(line(None), "1:15  left  -20 dB voice  right no sound");
         assert_eq!(line(Some(48_000 * 150)), " 50 %  1:15 of 2:30, 0:11 remaining");
+        let counted = Counted { finished: 3, of: 12, is_shown: false };
+        assert_eq!(counted.told(), "3 of 12 recordings are finished");
     }
 }

@@ -40,21 +40,23 @@ pub fn of_model(number: u32) -> &'static str {
     }
 }
 
-fn of_sheet(number: u32) -> &'static str {
-    match number {
-        31 => "the file is too short for one",
-        32 => "it does not end in a trailer that points back to records",
-        33 => "its trailer names neither the left nor the right side",
-        34 => "a record is broken or of the other side",
-        _ => "its records are not those that it was closed with",
-    }
-}
-
 fn of_seal(number: u32) -> &'static str {
     match number {
         51 => "it is none",
         52 => "its own checksum does not fit it",
         _ => "it names neither the left nor the right side",
+    }
+}
+
+/// What the judge says of a file, in a clerk's words.
+fn of_recording(number: u32) -> &'static str {
+    match number {
+        61 => "not a sealed recording: another program saved it, or it was never sealed",
+        62 => "it ends within its audio",
+        63 => "its audio was changed, or the seal after it",
+        64 => "the records of its frames are damaged or missing",
+        65 => "the end of its records is damaged or missing",
+        _ => "something was added after its end",
     }
 }
 
@@ -68,10 +70,12 @@ impl fmt::Display for Refusal {
                 write!(f, ")")
             }
             8 => write!(f, "the model's GRU counts are not those of the opening (refusal 8)"),
-            31..=35 => write!(f, "no side sheet: {} (refusal {number})", of_sheet(number)),
             37 => write!(f, "the file ends within its audio (refusal 37)"),
-            38 => write!(f, "no whole record follows the audio (refusal 38)"),
             51..=53 => write!(f, "its seal is damaged: {} (refusal {number})", of_seal(number)),
+            61..=66 => {
+                let then = if number == 61 { ". Ask for the file as the box wrote it" } else { "" };
+                write!(f, "{}{then} (refusal {number})", of_recording(number))
+            }
             _ => write!(f, "the library refused a call with {number}"),
         }
     }

@@ -2,7 +2,7 @@
 #![allow(dead_code)]
 
 use std::fs;
-use std::io::{Cursor, Write};
+use std::io::Write;
 use std::os::unix::process::CommandExt;
 use std::path::{Path, PathBuf};
 use std::process::{Child, Command, Output, Stdio};
@@ -11,10 +11,11 @@ use std::thread::sleep;
 use std::time::{Duration, Instant};
 use tuppencehop::cleaning::demo::{dictation, HOUSE};
 use tuppencehop::reading::wav;
-use tuppencehop::telling::found::sealed;
-use tuppencehop::telling::side::Sheet;
+use tuppencehop::recording::judge::{judged, Told};
 
+/// The bytes before the audio of a plain file, and of a recording.
 pub const HEADER: usize = 44;
+pub const HEAD: usize = 76;
 /// What `clean` writes, and what it writes with `--csv`.
 pub const WRITTEN: [&str; 4] = ["benches.svg", "index.html", "left.wav", "right.wav"];
 pub const WITH_TABLE: [&str; 5] = ["benches.svg", "frames.csv", "index.html", "left.wav", "right.wav"];
@@ -118,19 +119,18 @@ pub fn raw(seconds: f64) -> Vec<u8> {
     (0..2 * n).map(|i| sides[i % 2][i / 2 % sides[i % 2].len()] as i16).flat_map(i16::to_le_bytes).collect()
 }
 
-/// The audio of a sealed recording of one channel, and what its sheet says.
-pub fn recording(path: &Path) -> (Vec<f32>, Sheet) {
+/// The audio of a recording, and what the judge tells of it.
+pub fn recording(path: &Path) -> (Vec<f32>, Told) {
     let bytes = fs::read(path).unwrap_or_else(|why| panic!("{}: {why}", path.display()));
-    let sheet =
-        sealed(&mut Cursor::new(&bytes), false).unwrap_or_else(|failure| panic!("{}: {failure:?}", path.display()));
-    (wav::read(&bytes).unwrap().channels.remove(0), sheet)
+    let told = judged(&mut &bytes[..]).unwrap().unwrap_or_else(|refusal| panic!("{}: {refusal}", path.display()));
+    (wav::read(&bytes).unwrap().channels.remove(0), told)
 }
 
-/// A recording, its sheet that of its side and of its length, and no gap in it.
+/// A recording of this side, and of its length.
 pub fn sound(path: &Path, side: &str) -> Vec<f32> {
-    let (audio, sheet) = recording(path);
-    let frames = tuppencehop::cleaning::run::frames_of(audio.len() as u64) as usize;
-    assert_eq!((sheet.side.name(), sheet.frames, sheet.gaps.count), (side, frames, 0), "{}", path.display());
+    let (audio, told) = recording(path);
+    let frames = tuppencehop::cleaning::run::frames_of(audio.len() as u64);
+    assert_eq!((told.front.side.name(), told.frames), (side, frames), "{}", path.display());
     audio
 }
 

@@ -1,11 +1,13 @@
-//! Sealed recordings made by hand, byte by byte and by a checksum of their own: what the box is to write and to read.
+//! Recordings made by hand, byte by byte and by a checksum of their own: what the box is to write and to read.
 #![allow(dead_code)]
 
 use tuppencehop::cleaning::demo::Rng;
 use tuppencehop::cleaning::run::frames_of;
 
 pub const HEARD: u64 = 1 << 32;
+/// The bytes before the audio of a plain file, or of a recording of an earlier version; and of a recording.
 pub const HEADER: usize = 44;
+pub const HEAD: usize = 76;
 
 /// CRC-32, a bit at a time.
 pub fn crc32(bytes: &[u8]) -> u32 {
@@ -31,12 +33,21 @@ pub fn sheet(side: u32, entries: &[u64]) -> Vec<u8> {
     [records, [8 * n, n, side, sum].map(u32::to_le_bytes).concat()].concat()
 }
 
-pub fn seal(side: u32, audio: &[u8]) -> Vec<u8> {
+fn sealed_as(word: &[u8; 4], side: u32, long: u64, short: u32) -> Vec<u8> {
     let name = if side == 0 { b"LEFT" } else { b"RGHT" };
-    let size = (audio.len() as u64).to_le_bytes();
-    let mut seal = [b"TUPP", &name[..], &size, &crc32(audio).to_le_bytes()].concat();
+    let mut seal = [word, &name[..], &long.to_le_bytes(), &short.to_le_bytes()].concat();
     seal.extend(crc32(&seal).to_le_bytes());
     seal
+}
+
+/// The end seal of some audio.
+pub fn seal(side: u32, audio: &[u8]) -> Vec<u8> {
+    sealed_as(b"TUPP", side, audio.len() as u64, crc32(audio))
+}
+
+/// A front seal.
+pub fn front(side: u32, began: u64, first: u32) -> Vec<u8> {
+    sealed_as(b"TUPB", side, began, first)
 }
 
 /// A WAV file of one channel of 16 bits, with so much behind its audio.
@@ -54,12 +65,29 @@ pub fn chunk(seal: &[u8], sheet: &[u8]) -> Vec<u8> {
     [b"side", &size.to_le_bytes()[..], seal, sheet].concat()
 }
 
-/// A recording with these entries, sealed.
-pub fn with_entries(side: u32, audio: &[u8], entries: &[u64]) -> Vec<u8> {
-    riff(audio, &chunk(&seal(side, audio), &sheet(side, entries)))
+/// A recording with this front seal, and with so much behind its audio.
+pub fn fronted(front: &[u8], audio: &[u8], behind: &[u8]) -> Vec<u8> {
+    let plain = riff(audio, &[&[0; 32], behind].concat());
+    [&plain[..36], b"side\x18\0\0\0", front, &plain[36..HEADER + audio.len()], behind].concat()
 }
 
-/// A sealed recording.
+/// A recording that began then, with these frames.
+pub fn recording(side: u32, began: u64, audio: &[u8], entries: &[u64]) -> Vec<u8> {
+    let front = front(side, began, entries.first().map_or(0, |entry| *entry as u32));
+    fronted(&front, audio, &chunk(&seal(side, audio), &sheet(side, entries)))
+}
+
+/// A recording with these frames, of which nobody knows when it began.
+pub fn with_entries(side: u32, audio: &[u8], entries: &[u64]) -> Vec<u8> {
+    recording(side, 0, audio, entries)
+}
+
+/// A recording whose frames number up from 0.
 pub fn sealed(side: u32, audio: &[u8]) -> Vec<u8> {
     with_entries(side, audio, &entries(frames_of(audio.len() as u64 / 2)))
+}
+
+/// The same as an earlier version of the box wrote it: without a front seal.
+pub fn earlier(side: u32, audio: &[u8]) -> Vec<u8> {
+    riff(audio, &chunk(&seal(side, audio), &sheet(side, &entries(frames_of(audio.len() as u64 / 2)))))
 }

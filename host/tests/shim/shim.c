@@ -1,5 +1,5 @@
-/* Calls of the system that fail as the environment says, for tests: SHIM names one of the calls below. If SHIM_WHEN names
-   a file, the call fails once that file is there. It is loaded in front of the system's library by LD_PRELOAD. */
+/* Calls of the system that fail as the environment says, for tests: SHIM names one of the calls below. If SHIM_WHEN
+   names a file, the call fails once that file is there. It is loaded in front of the system's library by LD_PRELOAD. */
 #define _GNU_SOURCE
 #include <dlfcn.h>
 #include <errno.h>

@@ -1,5 +1,6 @@
-//! Recordings whose first word begins at a known second: a voice over noise. The voice is synthesised here, or it is one
-//! of the demo's, played faster or slower. Everything follows from a seed.
+//! Recordings whose first word begins at a known second: a voice over noise. The voice is synthesised here, or it is
+//! one of the demo's, played faster or slower. Everything follows from a seed.
+#![allow(dead_code)]
 
 use std::f64::consts::TAU;
 use tuppencehop::cleaning::demo::{dictation, grinder, power, Rng};
@@ -159,7 +160,7 @@ pub struct Spoken {
 }
 
 /// A voice without the silence before its first word, as loud as `LEVEL` while it speaks.
-fn voice(rng: &mut Rng, is_made: bool) -> Vec<f64> {
+pub fn voice(rng: &mut Rng, is_made: bool) -> Vec<f64> {
     let voice = if is_made { made(rng) } else { spoken(rng) };
     // the word begins with the first sample that is less than 40 dB softer than the loudest
     let loudest = voice.iter().fold(0.0f64, |most, x| most.max(x.abs()));
@@ -170,8 +171,8 @@ fn voice(rng: &mut Rng, is_made: bool) -> Vec<f64> {
     voice.iter().map(|x| scale * x).collect()
 }
 
-/// The recording of a seed. Its noise is 5 to 20 dB below the voice. The first word begins after `lead` seconds, or after
-/// 0.5 to 4 if none are given.
+/// The recording of a seed. Its noise is 5 to 20 dB below the voice. The first word begins after `lead` seconds, or
+/// after 0.5 to 4 if none are given.
 pub fn recording(seed: u64, lead: Option<f64>) -> Spoken {
     let mut rng = seeded(seed);
     let voice = voice(&mut rng, seed.is_multiple_of(2));

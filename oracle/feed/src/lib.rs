@@ -3,8 +3,9 @@
 //! A feed belongs to its thread and is in one of two modes.
 //!
 //! **Fed.** [`start`] empties the feed; then every number that the text will ask for is put in, in the text's order:
-//! [`spectrum`] twice, [`lag`], [`logs`], and [`inverse`]. [`finish`] gives back what the text handed over at those places
-//! ([`Seen`]), and fails where something was not asked for. The text panics where it asks for more than there is.
+//! [`spectrum`] twice, [`lag`], [`logs`], and [`inverse`]. [`finish`] gives back what the text handed over at those
+//! places ([`Seen`]), and fails where something was not asked for. The text panics where it asks for more than there
+//! is.
 //!
 //! ```
 //! feed::start();
@@ -48,7 +49,8 @@ pub struct Functions {
     pub log10: fn(f32) -> f32,
 }
 
-/// What a frame remembers of its first half: it takes the place of the text's own at the moment when the lag is asked for.
+/// What a frame remembers of its first half: it takes the place of the text's own at the moment when the lag is asked
+/// for.
 pub struct Kept {
     /// The scaled first spectrum.
     pub x: Vec<f32>,

@@ -1,9 +1,9 @@
 //! The text of nnnoiseless 0.5.2, unchanged but for the list in changes.rs.
 //!
-//! The text's two transforms, its logarithm and its lag come from the crate [`feed`], in one of two modes: **fed**, every
-//! number put in beforehand ([`feed::start`], [`feed::spectrum`], [`feed::lag`], [`feed::logs`], [`feed::inverse`]), or
-//! **computed**, by functions that the user installs ([`feed::install`]). Computed, [`DenoiseState::process_frame`] runs
-//! whole, with the lag of the text's own finder:
+//! The text's two transforms, its logarithm and its lag come from the crate [`feed`], in one of two modes: **fed**,
+//! every number put in beforehand ([`feed::start`], [`feed::spectrum`], [`feed::lag`], [`feed::logs`],
+//! [`feed::inverse`]), or **computed**, by functions that the user installs ([`feed::install`]). Computed,
+//! [`DenoiseState::process_frame`] runs whole, with the lag of the text's own finder:
 //!
 //! ```
 //! use nnnoiseless_text::{feed, probe::pitch::PitchFinder, DenoiseState, RnnModel};

@@ -1,8 +1,9 @@
 //! `bench`: the proved library's time beside the Rust text's, in one process and on the same inputs; one table.
 //! `bench ROW ours|rust N`: runs one side of one row N times and measures nothing, for callgrind.
 //!
-//! Each row is measured in rounds, ours and the Rust's in turn; the table has the medians of all samples, in nanoseconds
-//! for one call, and ours divided by the Rust's. A sample is as many calls as take 20 us; of six layers it is one frame.
+//! Each row is measured in rounds, ours and the Rust's in turn; the table has the medians of all samples, in
+//! nanoseconds for one call, and ours divided by the Rust's. A sample is as many calls as take 20 us; of six layers it
+//! is one frame.
 
 #![cfg_attr(not(feature = "frame"), allow(unused_imports))]
 
@@ -487,14 +488,15 @@ impl Bench {
     }
 }
 
-/// The text's `process_frame` with its own lag and the machine's logarithms; its transforms are ours of a way, of which it has none here.
+/// The text's `process_frame` with its own lag and the machine's logarithms; its transforms are ours of a way, of which
+/// it has none here.
 #[cfg(feature = "frame")]
 fn text_with_our_transforms(way: Way, samples: &'static [f32], model: &[u8]) -> Side {
     let mut text = DenoiseState::from_model(RnnModel::from_bytes(model).unwrap());
     let mut frames = samples.chunks_exact(480).cycle();
     let [forward, inverse]: [fn(&mut [f32], &[f32]) -> u32; 2] = match way {
-        Way::Asked => [tuppence::forward, tuppence::inverse],
-        Way::Crate => [tuppence::fft_forward, tuppence::fft_inverse],
+        Way::Own => [tuppence::forward, tuppence::inverse],
+        Way::Nnnoiseless => [tuppence::fft_forward, tuppence::fft_inverse],
     };
     Box::new(move |times| {
         feed::install(feed::Functions {
@@ -546,8 +548,8 @@ fn of_whole(rng: &mut Rng) -> Vec<Row> {
     Way::BOTH.into_iter().zip(names).flat_map(of_way).collect()
 }
 
-/// Of each way, the share of a second for which one core has nothing to do while it serves sixteen benches in real time: each has a second of
-/// sound, a frame at a time in turn.
+/// Of each way, the share of a second for which one core has nothing to do while it serves sixteen benches in real
+/// time: each has a second of sound, a frame at a time in turn.
 #[cfg(feature = "frame")]
 fn idle(rng: &mut Rng) -> [f64; 2] {
     let (samples, model) = (second(rng), models::of_shape(rng, models::USUAL));
@@ -575,18 +577,18 @@ fn idle(rng: &mut Rng) -> [f64; 2] {
 #[cfg(feature = "blocks")]
 fn of_blocks(rng: &mut Rng) -> Vec<Row> {
     let model = models::of_shape(rng, models::USUAL);
-    let [mut one, mut other] = [(); 2].map(|_| Bench::opened(Way::Asked, &model));
+    let [mut one, mut other] = [(); 2].map(|_| Bench::opened(Way::Own, &model));
     let blocks: Vec<Vec<u8>> = (0..10).map(|_| rng.bytes(4 * 4_096)).collect();
     let layout = Layout { format: 16, channels: 2, channel: 1 };
     let pieces: Vec<Vec<f32>> = blocks.iter().map(|block| plain_pcm::unpack(block, layout).unwrap()).collect();
     let (blocks, pieces): (&'static [_], &'static [_]) = (blocks.leak(), pieces.leak());
     let (mut blocks, mut pieces) = (blocks.iter().cycle(), pieces.iter().cycle());
-    let (mut cleaned, mut entries) = ([0; 8_640], [0; 9]);
+    let (mut cleaned, mut records) = ([0; 8_640], [0; 72]);
     let feed = move || {
         let Bench { record, store, model, answers, .. } = &mut one;
         let block = blocks.next().unwrap();
-        let refused = tuppence::feed(record, store, 1, block, 16, 2, 1, model, &mut cleaned, &mut entries, answers);
-        assert!(refused == 0 && entries[0] >> 32 == 1, "the frames are heard");
+        let refused = tuppence::feed(record, store, 1, block, 16, 2, 1, model, &mut cleaned, &mut records, answers);
+        assert!(refused == 0 && records[4] == 1, "the frames are heard");
     };
     vec![row("4,096 stereo samples fed; taken", feed, move || other.take(pieces.next().unwrap()))]
 }

@@ -2,10 +2,10 @@
 //!
 //! Without a group, all expected groups, on two threads; if this program lacks one of them, it fails. A line a group,
 //! after its first differences in full; exit status 1 if there are any. `--calls` is the number of calls of each leaf,
-//! or of files, networks, calls or frames; `--tenth` a tenth of what it is otherwise. `--seed` is what the inputs are made
-//! from, 1 if none is given; `--fresh` takes another one in each run, and a tenth of the calls. The last line tells the
-//! seed, and how to make the same run again. `--all`: all 4,294,967,296 numbers, for the groups `numbers`, `logs` and
-//! `pcm`.
+//! or of files, networks, calls or frames; `--tenth` a tenth of what it is otherwise. `--seed` is what the inputs are
+//! made from, 1 if none is given; `--fresh` takes another one in each run, and a tenth of the calls. The last line
+//! tells the seed, and how to make the same run again. `--all`: all 4,294,967,296 numbers, for the groups `numbers`,
+//! `logs` and `pcm`.
 
 use oracle::{wrong_groups, Group, Options, GROUPS};
 use std::sync::Mutex;

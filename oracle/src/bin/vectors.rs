@@ -1,15 +1,17 @@
-//! `vectors`: a fixed list of the text's answers, for the program crates/replay, which needs no Rust; to standard output.
+//! `vectors`: a fixed list of the text's answers, for the program crates/replay, which needs no Rust; to standard
+//! output.
 //!
 //! The list is words of 32 bits, little end first, record after record to its end. A record is
 //!
 //! - the leaf's number;
-//! - how many lists it was given, and each list: its length, then its words. They are the leaf's parameters in the order of
-//!   the C surface; an answer buffer comes with what it holds before the call. A number by itself is a list of one;
-//! - how many lists are expected, and each list likewise: first the number returned, a list of one, then each answer buffer
-//!   as it is left, in the order of the parameters. A refused call leaves it as it was.
+//! - how many lists it was given, and each list: its length, then its words. They are the leaf's parameters in the
+//!   order of the C surface; an answer buffer comes with what it holds before the call. A number by itself is a list of
+//!   one;
+//! - how many lists are expected, and each list likewise: first the number returned, a list of one, then each answer
+//!   buffer as it is left, in the order of the parameters. A refused call leaves it as it was.
 //!
-//! A word is the bits of an f32, but sizes, pitches and numbers returned are whole numbers. All NaNs are taken alike, and
-//! both zeros.
+//! A word is the bits of an f32, but sizes, pitches and numbers returned are whole numbers. All NaNs are taken alike,
+//! and both zeros.
 //!
 //! | bands | | pitch | |
 //! |---|---|---|---|
@@ -38,7 +40,8 @@ impl List {
         }
     }
 
-    /// A leaf whose first parameter is its answer buffer: the text's answer, or where there is none 5 and nothing changed.
+    /// A leaf whose first parameter is its answer buffer: the text's answer, or where there is none 5 and nothing
+    /// changed.
     fn leaf(&mut self, leaf: u32, given: &[&[f32]], more: &[u32], answer: Option<impl FnOnce(&mut [f32])>) {
         let mut lists: Vec<Vec<u32>> = given.iter().map(|list| bits(list)).collect();
         lists.extend(more.iter().map(|word| vec![*word]));

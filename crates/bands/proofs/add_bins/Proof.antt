@@ -1,4 +1,5 @@
--- `bands::add_bins` meets its contract. The loop's invariant: the two sums held in locals, put in their places, are what the turns so far give.
+-- `bands::add_bins` meets its contract. The loop's invariant: the two sums held in locals, put in their places, are
+-- what the turns so far give.
 -- Assumes nothing.
 use Rattle.rules.proofs.Common.{_+_, _-_, _≤_, _<_, _≡_, _∙_, length-set}
 use native.Mathlib.Omega.{arith}
@@ -14,7 +15,8 @@ use Rattle.bands.proofs.add_bins.Tie as tie
 
 abbrev Inv-loop : tie.InvT-loop
 Inv-loop out table x p i first start size low₀ high₀ j₀ low high j =
-    (first ≤ j) × (j ≤ size) × (start ≡ edge i) × (size ≡ edge (i + 1) - edge i) × (start + size ≤ 400) × (size ≤ 88) × (0 < start + first)
+    (first ≤ j) × (j ≤ size) × (start ≡ edge i) × (size ≡ edge (i + 1) - edge i) × (start + size ≤ 400) × (size ≤ 88)
+    × (0 < start + first)
     × (held out i low high ≡ range first j (corrStep x p i) out)
 
 abbrev μ-loop : tie.MeasureT-loop
@@ -40,7 +42,17 @@ add-bins-spec =
     (λ c. search turns)  -- add-high
     (λ c. search turns)  -- mul-high
     (λ c. search turns)  -- slice-read-high
-    (λ c. let b = band (c .before .before .before .before .before .before .before) in (omega arith, omega arith, b .start, omega arith, omega arith, omega arith, omega arith, held-none _ _ ∙ range-begin _ _ _))  -- loop-holds
+    (λ c.
+    let b = band (c .before .before .before .before .before .before .before) in (
+      omega arith,
+      omega arith,
+      b .start,
+      omega arith,
+      omega arith,
+      omega arith,
+      omega arith,
+      held-none _ _ ∙ range-begin _ _ _,
+    ))  -- loop-holds
     (λ c. casts _ (omega arith))  -- int-to-float-frac
     (λ c. casts _ (omega arith))  -- int-to-float-frac-2
     (λ c. search turns)  -- add-corr-at
@@ -50,8 +62,17 @@ add-bins-spec =
     (λ c.
     let l = c .before .before .before .before .loop in
     let inv = l .inv in
-    let a = c .before .before .before .before .before .before .before .before .before .before .before .before .args in
-    (omega arith, omega arith, inv .2, inv .3, inv .4, inv .5, inv .6, range-more _ _ (a .first) (l .j) (omega arith) (inv .7) (turn _ _ (now (a .out)) (a .i) _ _ _ _ _ _ (omega arith) (inv .2) (inv .3) (c .corr-at .ensures))))  -- loop-again
+    let a = c .before .before .before .before .before .before .before .before .before .before .before .before .args in (
+      omega arith,
+      omega arith,
+      inv .2,
+      inv .3,
+      inv .4,
+      inv .5,
+      inv .6,
+      range-more _ _ (a .first) (l .j) (omega arith) (inv .7)
+          (turn _ _ (now (a .out)) (a .i) _ _ _ _ _ _ (omega arith) (inv .2) (inv .3) (c .corr-at .ensures)),
+    ))  -- loop-again
     (λ c. search turns)  -- mul-out
     (λ c. search turns)  -- slice-write-out
     (λ c. search turns)  -- add-out

@@ -35,6 +35,8 @@ apply-window-core-spec =
     (λ c. search turns)  -- slice-write-output
     (λ c. search turns)  -- add-i
     (λ c. search turns)  -- loop-less
-    (λ c. let l = c .before .before .before .loop in (omega arith, simp length-set (l .inv .1), tab-more _ _ _ _ _ (l .inv .2) refl (omega arith)))  -- loop-again
+    (λ c.
+    let l = c .before .before .before .loop in
+    (omega arith, simp length-set (l .inv .1), tab-more _ _ _ _ _ (l .inv .2) refl (omega arith)))  -- loop-again
     (λ c. search turns)  -- same-length
     returns)  -- returns

@@ -1,4 +1,5 @@
--- `bands::apply_window_in_place` meets its contract: a refusal by the test, else what the core ensures. Assumes nothing.
+-- `bands::apply_window_in_place` meets its contract: a refusal by the test, else what the core ensures.
+-- Assumes nothing.
 use mathlib.Core.Path.{refl}
 use borrow.Author.Needs.{needs}
 use Rattle.rules.specs.Leaf.{done, refused}

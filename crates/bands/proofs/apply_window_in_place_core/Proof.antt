@@ -35,6 +35,11 @@ apply-window-in-place-core-spec =
     (λ c. search turns)  -- slice-write-xs
     (λ c. search turns)  -- add-i
     (λ c. search turns)  -- loop-less
-    (λ c. let l = c .before .before .before .loop in (omega arith, simp length-set (l .inv .1), tab-more _ _ _ _ _ (l .inv .2) (rw (l .inv .2, tab-ahead _ _ (l .i) (l .i) _ (omega arith))) (omega arith)))  -- loop-again
+    (λ c.
+    let l = c .before .before .before .loop in (
+      omega arith,
+      simp length-set (l .inv .1),
+      tab-more _ _ _ _ _ (l .inv .2) (rw (l .inv .2, tab-ahead _ _ (l .i) (l .i) _ (omega arith))) (omega arith),
+    ))  -- loop-again
     (λ c. search turns)  -- same-length
     returns)  -- returns

@@ -16,12 +16,23 @@ band-0-spec =
     tie.close
     (tie.spec
     (λ c κs. search turns)  -- clear-requires
-    (λ c κs. cleared (c .before .before .before .clear .kept .0) (c .before .before .before .before .before .before .before .before .pre .0))  -- add-bin-0-requires
+    (λ c κs. cleared (c .before .before .before .clear .kept .0)
+    (c .before .before .before .before .before .before .before .before .pre .0))  -- add-bin-0-requires
     (λ c κs.
-    let s = c .before .before .before .before .before .before .before .before .before .before .before .before in
-    (cleared (c .before .before .before .add-bin-0 .kept .0 ∙ c .before .before .before .before .before .before .before .clear .kept .0) (s .pre .0), (s .pre .1, omega arith, omega arith, omega arith)))  -- add-bins-requires
+    let s = c .before .before .before .before .before .before .before .before .before .before .before .before in (
+      cleared (c .before .before .before .add-bin-0 .kept .0
+          ∙ c .before .before .before .before .before .before .before .clear .kept .0) (s .pre .0),
+      (s .pre .1, omega arith, omega arith, omega arith),
+    ))  -- add-bins-requires
     (λ c. search turns)  -- same-length
     (λ c.
-    let s = c .before .before .before .before .before .before .before .before .before .before .before .before .before .before .before in
-    let zero = c .before .before .before .before .before .before .before .before .before .before .clear .ensures ∙ zeros-of (now (s .args .out)) 22 (s .pre .0 .bands) in
-    rw (c .before .before .add-bins .ensures, c .before .before .before .before .before .before .add-bin-0 .ensures, zero) (first-band _ _ _)))  -- returns
+    let s =
+    c .before .before .before .before .before .before .before .before .before .before .before .before .before .before
+    .before in
+    let zero = c .before .before .before .before .before .before .before .before .before .before .clear .ensures
+    ∙ zeros-of (now (s .args .out)) 22 (s .pre .0 .bands) in
+    rw (
+      c .before .before .add-bins .ensures,
+      c .before .before .before .before .before .before .add-bin-0 .ensures,
+      zero,
+    ) (first-band _ _ _)))  -- returns

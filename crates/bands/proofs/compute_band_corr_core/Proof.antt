@@ -29,17 +29,35 @@ compute-band-corr-core-spec =
     Inv-loop
     μ-loop
     (λ c κs. search turns)  -- all-edges-requires
-    (λ c κs. (c .before .before .before .before .before .before .pre, c .before .before .all-edges .ensures))  -- band-0-requires
-    (λ c. (omega arith, omega arith, c .before .before .band-0 .kept .0 ∙ c .before .before .before .before .before .before .before .before .before .pre .bands, c .before .before .before .before .before .all-edges .ensures, c .before .before .band-0 .ensures))  -- loop-holds
+    (λ c κs. (
+      c .before .before .before .before .before .before .pre,
+      c .before .before .all-edges .ensures,
+    ))  -- band-0-requires
+    (λ c. (
+      omega arith,
+      omega arith,
+      c .before .before .band-0 .kept .0
+          ∙ c .before .before .before .before .before .before .before .before .before .pre .bands,
+      c .before .before .before .before .before .all-edges .ensures,
+      c .before .before .band-0 .ensures,
+    ))  -- loop-holds
     (λ c κs.
     let l = c .before .before .before .loop in
-    let fits = c .before .before .before .before .before .before .before .before .before .before .before .before .before .pre in
-    (record { bands = l .inv .2; left = fits .left; right = fits .right }, (l .inv .3, omega arith, omega arith, omega arith)))  -- add-bins-requires
+    let fits =
+    c .before .before .before .before .before .before .before .before .before .before .before .before .before .pre in (
+      record { bands = l .inv .2; left = fits .left; right = fits .right },
+      (l .inv .3, omega arith, omega arith, omega arith),
+    ))  -- add-bins-requires
     (λ c. search turns)  -- add-i
     (λ c. search turns)  -- loop-less
     (λ c.
-    let l = c .before .before .before .before .before .before .loop in
-    (omega arith, omega arith, c .before .before .add-bins .kept .0 ∙ l .inv .2, l .inv .3, more _ _ _ (l .inv .4) (c .before .before .add-bins .ensures ∙ any-band _ _ _ _)))  -- loop-again
+    let l = c .before .before .before .before .before .before .loop in (
+      omega arith,
+      omega arith,
+      c .before .before .add-bins .kept .0 ∙ l .inv .2,
+      l .inv .3,
+      more _ _ _ (l .inv .4) (c .before .before .add-bins .ensures ∙ any-band _ _ _ _),
+    ))  -- loop-again
     (λ c. search turns)  -- slice-read-out
     (λ c. search turns)  -- slice-write-out
     (λ c. search turns)  -- slice-read-out-2

@@ -30,13 +30,22 @@ interp-band-gain-core-spec =
     (λ c κs. search turns)  -- all-edges-requires
     (λ c κs. search turns)  -- clear-requires
     (λ c.
-    let fits = c .before .before .before .before .before .before .before .pre .bins in
-    (omega arith, c .before .before .clear .kept .0 ∙ fits, c .before .before .before .before .all-edges .ensures, c .before .before .clear .ensures ∙ zeros-of (now (c .before .before .before .before .before .before .before .args .out)) 481 fits ∙ begin _ _))  -- loop-holds
+    let fits = c .before .before .before .before .before .before .before .pre .bins in (
+      omega arith,
+      c .before .before .clear .kept .0 ∙ fits,
+      c .before .before .before .before .all-edges .ensures,
+      c .before .before .clear .ensures
+          ∙ zeros-of (now (c .before .before .before .before .before .before .before .args .out)) 481 fits ∙ begin _ _,
+    ))  -- loop-holds
     (λ c κs. (search turns, (c .before .before .before .loop .inv .2, omega arith)))  -- fill-band-requires
     (λ c. search turns)  -- add-i
     (λ c. search turns)  -- loop-less
     (λ c.
-    let l = c .before .before .before .before .before .before .loop in
-    (omega arith, c .before .before .fill-band .kept .0 ∙ l .inv .1, l .inv .2, more _ _ _ (l .inv .3) (c .before .before .fill-band .ensures)))  -- loop-again
+    let l = c .before .before .before .before .before .before .loop in (
+      omega arith,
+      c .before .before .fill-band .kept .0 ∙ l .inv .1,
+      l .inv .2,
+      more _ _ _ (l .inv .3) (c .before .before .fill-band .ensures),
+    ))  -- loop-again
     (λ c. search turns)  -- same-length
     returns)

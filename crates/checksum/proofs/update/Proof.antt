@@ -1,4 +1,5 @@
--- The loop's invariant: from the register on, the bytes that are left come to what all of them come to. Assumes nothing.
+-- The loop's invariant: from the register on, the bytes that are left come to what all of them come to.
+-- Assumes nothing.
 use Rattle.rules.proofs.Common.{_-_, _≤_, _≡_, refl, sym, _∙_, length, drop}
 use native.Mathlib.Omega.{arith}
 use Rattle.rules.proofs.Loops.{turns}
@@ -8,15 +9,20 @@ use Rattle.checksum.proofs.update.Statement.{statement}
 use Rattle.checksum.proofs.update.Tie as tie
 
 abbrev Inv-loop : tie.InvT-loop
-Inv-loop entries start bytes register₀ i₀ i-end register i = (i ≤ i-end) × (i-end ≡ length bytes) × (crc start bytes ≡ crc register (drop i bytes))
+Inv-loop entries start bytes register₀ i₀ i-end register i =
+    (i ≤ i-end) × (i-end ≡ length bytes) × (crc start bytes ≡ crc register (drop i bytes))
 
 abbrev μ-loop : tie.MeasureT-loop
 μ-loop entries start bytes register₀ i₀ i-end register i = i-end - i
 
 loop-again : tie.Need-loop-again Inv-loop μ-loop
 loop-again c =
-    let l = c .before .before .before .before .loop in
-    (omega arith, refl, l .inv .2 ∙ crc-more _ (l .register) (l .i) (omega arith) ∙ rw (c .before .wide .ensures, c .before .before .before .before .before .before .pre))
+    let l = c .before .before .before .before .loop in (
+      omega arith,
+      refl,
+      l .inv .2 ∙ crc-more _ (l .register) (l .i) (omega arith)
+          ∙ rw (c .before .wide .ensures, c .before .before .before .before .before .before .pre),
+    )
 
 pub update-spec : {M : Type 1} → statement M
 update-spec =

@@ -9,8 +9,10 @@ use Rattle.desk.proofs.all_zero.Statement.{statement}
 use Rattle.desk.proofs.all_zero.Tie as tie
 
 -- where everything else is 0, the way decides
-by-way : (rec : Record) {n : ℕ} → rec .hearing .index ≡ 0 → rec .hearing .vad ≡ 0 → rec .hearing .noise ≡ 0 → rec .hearing .denoise ≡ 0
-    → rec .frame ≡ 0 → rec .heard ≡ 0 → idle rec ≡ true → rec .progress ≡ 0 → n ≡ wayNumber (rec .hearing .way) → eqb n 0 ≡ allZero rec
+by-way : (rec : Record) {n : ℕ} → rec .hearing .index ≡ 0 → rec .hearing .vad ≡ 0 → rec .hearing .noise ≡ 0
+    → rec .hearing .denoise ≡ 0
+    → rec .frame ≡ 0 → rec .heard ≡ 0 → idle rec ≡ true → rec .progress ≡ 0 → n ≡ wayNumber (rec .hearing .way)
+    → eqb n 0 ≡ allZero rec
 unfolding allZero
 by-way rec i v n d f h k p w =
     rw (
@@ -35,7 +37,8 @@ returns-9 c =
     let noise = denoise .before .before in
     let vad = noise .before .before in
     let index = vad .before .before in
-    by-way _ (index .if1 .left) (vad .if2 .left) (noise .if3 .left) (denoise .if4 .left) (frame .if5 .left) (heard .if6 .left)
+    by-way _ (index .if1 .left) (vad .if2 .left) (noise .if3 .left) (denoise .if4 .left) (frame .if5 .left)
+    (heard .if6 .left)
     (answered-yes (idle .before .idle .ensures) (idle .if7 .left)) (progress .if8 .left) (c .way-number .ensures)
 
 pub all-zero-spec : {M : Type 1} → statement M
@@ -51,6 +54,10 @@ all-zero-spec =
     (λ c. search tests)  -- returns-6
     (λ c κs. search needs)  -- idle-requires
     (λ c. search (tests, answered-no (c .before .idle .ensures) (c .if7 .taken)))  -- returns-7
-    (λ c. search (tests, answered-yes (c .before .before .before .idle .ensures) (c .before .before .if7 .left)))  -- returns-8
+    (λ c.
+    search (
+      tests,
+      answered-yes (c .before .before .before .idle .ensures) (c .before .before .if7 .left),
+    ))  -- returns-8
     (λ c κs. search needs)  -- way-number-requires
     returns-9)

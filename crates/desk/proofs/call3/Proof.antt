@@ -1,4 +1,5 @@
--- `desk::call3` meets its contract: the gate turns it away, or a frame's part of the side's share is lent to `frame::call3`. Assumes nothing.
+-- `desk::call3` meets its contract: the gate turns it away, or a frame's part of the side's share is lent to
+-- `frame::call3`. Assumes nothing.
 use borrow.Author.Needs.{needs}
 use Rattle.rules.specs.Place.{get, put}
 use Rattle.desk.proofs.Serve.{turned-away, framed}
@@ -10,7 +11,8 @@ unfolding get put
 returns-2 c =
     let k = c .before .before .before .before .before in
     let o = k .before .before .before in
-    framed _ _ _ _ _ _ _ _ (o .before .admit .ensures .number) (o .if1 .left) (o .before .admit .ensures .share) (k .call3 .ensures) (λ e. rw e) (c .told .ensures)
+    framed _ _ _ _ _ _ _ _ (o .before .admit .ensures .number) (o .if1 .left) (o .before .admit .ensures .share)
+    (k .call3 .ensures) (λ e. rw e) (c .told .ensures)
 
 pub call3-spec : {M : Type 1} → statement M
 unfolding get put

@@ -15,11 +15,23 @@ gate-spec =
     (λ c κs. search needs)  -- in-range-requires
     (λ c. search (tests, answered-no (c .before .in-range .ensures) (c .if3 .taken)))  -- returns-3
     (λ c. search (tests, answered-yes (c .before .before .in-range .ensures) (c .before .if3 .left)))  -- returns-4
-    (λ c. search (tests, answered-yes (c .before .before .before .before .in-range .ensures) (c .before .before .before .if3 .left)))  -- returns-5
+    (λ c.
+    search (
+      tests,
+      answered-yes (c .before .before .before .before .in-range .ensures) (c .before .before .before .if3 .left),
+    ))  -- returns-5
     (λ c κs. search needs)  -- is-due-requires
     (λ c.
     let o = c .before .before .before .before .before in
-    search (tests, answered-yes (o .before .in-range .ensures) (o .if3 .left), answered-no (c .before .is-due .ensures) (c .if6 .taken)))  -- returns-6
+    search (
+      tests,
+      answered-yes (o .before .in-range .ensures) (o .if3 .left),
+      answered-no (c .before .is-due .ensures) (c .if6 .taken),
+    ))  -- returns-6
     (λ c.
     let o = c .before .before .before .before .before in
-    search (tests, answered-yes (o .before .in-range .ensures) (o .if3 .left), answered-yes (c .before .is-due .ensures) (c .if6 .left))))  -- returns-7
+    search (
+      tests,
+      answered-yes (o .before .in-range .ensures) (o .if3 .left),
+      answered-yes (c .before .is-due .ensures) (c .if6 .left),
+    )))  -- returns-7

@@ -17,4 +17,9 @@ in-range-spec =
     (λ c κs. search needs)  -- in-counts-requires
     (λ c. search (tests, answered-no (c .before .in-counts .ensures) (c .if4 .taken)))  -- returns-4
     (λ c κs. search needs)  -- in-pieces-requires
-    (λ c. search (tests, answered-yes (c .before .before .in-counts .ensures) (c .before .if4 .left), ← c .in-pieces .ensures)))  -- returns-5
+    (λ c.
+    search (
+      tests,
+      answered-yes (c .before .before .in-counts .ensures) (c .before .if4 .left),
+      ← c .in-pieces .ensures,
+    )))  -- returns-5

@@ -1,4 +1,5 @@
--- `desk::open` meets its contract: the gate turns it away, the model is refused, or the side's share is wiped. Assumes nothing.
+-- `desk::open` meets its contract: the gate turns it away, the model is refused, or the side's share is wiped.
+-- Assumes nothing.
 use borrow.Author.Needs.{needs}
 use Rattle.rules.specs.Place.{get, put}
 use Rattle.desk.proofs.Serve.{turned-away, misread, wiped}
@@ -12,7 +13,8 @@ returns-3 c =
     let t = k .before .before in
     let m = t .before .before in
     let o = m .before .before in
-    wiped _ _ _ _ _ _ _ _ _ _ (o .before .admit .ensures .number) (o .if1 .left) (m .before .read .ensures) (m .opened .ensures) (t .before .passed .ensures)
+    wiped _ _ _ _ _ _ _ _ _ _ (o .before .admit .ensures .number) (o .if1 .left) (m .before .read .ensures)
+    (m .opened .ensures) (t .before .passed .ensures)
     _ _ _ _ (t .if2 .left) (o .before .admit .ensures .share) (k .clear .ensures)
 
 pub open-spec : {M : Type 1} → statement M

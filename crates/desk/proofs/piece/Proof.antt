@@ -1,4 +1,5 @@
--- `desk::piece` meets its contract: the gate turns it away, or the side's share is lent to `pieces::piece`. Assumes nothing.
+-- `desk::piece` meets its contract: the gate turns it away, or the side's share is lent to `pieces::piece`.
+-- Assumes nothing.
 use borrow.Author.Needs.{needs}
 use Rattle.rules.specs.Place.{get, put}
 use Rattle.desk.proofs.Pieced.{piece-told}
@@ -11,7 +12,8 @@ unfolding get put
 returns-2 c =
     let k = c .before .before .before .before .before .before .before in
     let o = k .before .before .before .before .before in
-    served _ _ _ _ _ _ _ _ (o .before .admit .ensures .number) (o .if1 .left) (o .before .admit .ensures .share) (k .piece .ensures) (c .told-piece .ensures)
+    served _ _ _ _ _ _ _ _ (o .before .admit .ensures .number) (o .if1 .left) (o .before .admit .ensures .share)
+    (k .piece .ensures) (c .told-piece .ensures)
 
 pub piece-spec : {M : Type 1} → statement M
 unfolding get put
@@ -26,7 +28,9 @@ piece-spec =
     (λ c. search needs)  -- part-piece-start
     (λ c. search needs)  -- part-piece-end
     (λ c κs. search needs)  -- piece-requires
-    (λ c κs. piece-told _ _ _ _ _ _ (c .before .before .before .before .before .before .piece .ensures .answers))  -- told-piece-requires
+    (λ c κs.
+    piece-told
+    _ _ _ _ _ _ (c .before .before .before .before .before .before .piece .ensures .answers))  -- told-piece-requires
     (λ c. search needs)  -- same-length
     (λ c. search needs)  -- same-length-2
     (λ c. search needs)  -- same-length-3

@@ -1,4 +1,5 @@
--- `desk::resume` meets its contract: the gate turns it away, or the side's share is lent to `pieces::resume`. Assumes nothing.
+-- `desk::resume` meets its contract: the gate turns it away, or the side's share is lent to `pieces::resume`.
+-- Assumes nothing.
 use borrow.Author.Needs.{needs}
 use Rattle.rules.specs.Place.{get, put}
 use Rattle.desk.proofs.Pieced.{resume-told}
@@ -11,7 +12,8 @@ unfolding get put
 returns-2 c =
     let k = c .before .before .before .before .before .before .before in
     let o = k .before .before .before .before in
-    served _ _ _ _ _ _ _ _ (o .before .admit .ensures .number) (o .if1 .left) (o .before .admit .ensures .share) (k .resume .ensures) (c .told-resume .ensures)
+    served _ _ _ _ _ _ _ _ (o .before .admit .ensures .number) (o .if1 .left) (o .before .admit .ensures .share)
+    (k .resume .ensures) (c .told-resume .ensures)
 
 pub resume-spec : {M : Type 1} → statement M
 unfolding get put
@@ -26,7 +28,10 @@ resume-spec =
     (λ c. search needs)  -- part-resume-start
     (λ c. search needs)  -- part-resume-end
     (λ c κs. search needs)  -- resume-requires
-    (λ c κs. resume-told _ _ _ _ _ _ _ _ _ (c .before .before .before .before .before .before .resume .ensures .answers))  -- told-resume-requires
+    (λ c κs.
+    resume-told
+    _ _ _ _ _ _ _ _ _ (c .before .before .before .before .before .before .resume .ensures
+    .answers))  -- told-resume-requires
     (λ c. search needs)  -- same-length
     (λ c. search needs)  -- same-length-2
     (λ c. search needs)  -- same-length-3

@@ -10,4 +10,6 @@ told-first-spec =
     (tie.spec
     (λ c κs. search needs)  -- told-requires
     (λ c κs. search needs)  -- told-requires-2
-    (λ c. let a = c .before .before .before .args in twice (a .rec) (a .reply) (c .before .before .told .ensures) (c .told2 .ensures)))  -- returns
+    (λ c.
+    let a = c .before .before .before .args in
+    twice (a .rec) (a .reply) (c .before .before .told .ensures) (c .told2 .ensures)))  -- returns

@@ -14,4 +14,8 @@ told-fourth-spec =
     (λ c κs. search needs)  -- numbered-requires
     (λ c.
     let o = c .before .before in
-    rw (c .before .one-more .ensures, c .numbered .ensures, answered-yes (o .before .passed .ensures) (o .if1 .left))))  -- returns-2
+    rw (
+      c .before .one-more .ensures,
+      c .numbered .ensures,
+      answered-yes (o .before .passed .ensures) (o .if1 .left),
+    )))  -- returns-2

@@ -7,7 +7,8 @@ use Rattle.desk.proofs.Twice.{further}
 use Rattle.desk.proofs.told_resume.Statement.{statement}
 use Rattle.desk.proofs.told_resume.Tie as tie
 
-fits : (c : tie.Else1) → (c .before .before .args .rec .progress ≤ c .before .before .args .size) × (c .before .before .args .size ≤ 4096)
+fits : (c : tie.Else1) → (c .before .before .args .rec .progress ≤ c .before .before .args .size)
+    × (c .before .before .args .size ≤ 4096)
 fits c = c .before .before .pre (answered-yes (c .before .passed .ensures) (c .if1 .left))
 
 returns-2 : tie.Need-returns-2
@@ -15,7 +16,8 @@ returns-2 c =
     let t = c .before .before .before .before in
     let e = t .before in
     let a = e .before .before .args in
-    further (a .rec) (a .size) (a .reply) (answered-yes (e .before .passed .ensures) (e .if1 .left)) (t .told-second .ensures) (c .carried .ensures)
+    further (a .rec) (a .size) (a .reply) (answered-yes (e .before .passed .ensures) (e .if1 .left))
+    (t .told-second .ensures) (c .carried .ensures)
 
 pub told-resume-spec : {M : Type 1} → statement M
 told-resume-spec =

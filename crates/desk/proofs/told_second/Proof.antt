@@ -10,7 +10,8 @@ returns-2 c =
     let t = c .before .before in
     let e = t .before in
     let a = e .before .before .args in
-    lastly (a .rec) (a .reply) (answered-yes (e .before .passed .ensures) (e .if1 .left)) (t .told .ensures) (c .numbered .ensures)
+    lastly (a .rec) (a .reply) (answered-yes (e .before .passed .ensures) (e .if1 .left)) (t .told .ensures)
+    (c .numbered .ensures)
 
 pub told-second-spec : {M : Type 1} → statement M
 told-second-spec =

@@ -18,8 +18,10 @@ abbrev μ-loop : tie.MeasureT-loop
 
 loop-again : tie.Need-loop-again Inv-loop μ-loop
 loop-again c =
-    let l = c .before .before .before .loop in
-    (omega arith, filling-more _ _ _ (l .inv .1) (omega arith) (rw (filling-ahead _ _ (l .n) (l .n) nan (l .inv .1) (omega arith))))
+    let l = c .before .before .before .loop in (
+      omega arith,
+      filling-more _ _ _ (l .inv .1) (omega arith) (rw (filling-ahead _ _ (l .n) (l .n) nan (l .inv .1) (omega arith))),
+    )
 
 pub apply-gains-spec : {M : Type 1} → statement M
 unfolding applied

@@ -11,7 +11,8 @@ use Rattle.features.proofs.hold_gains.Tie as tie
 
 abbrev Inv-loop : tie.InvT-loop
 Inv-loop g₀ last₀ i₀ g last i =
-    (i ≤ 22) × Filling (λ k. atLeast (at g₀ k) (at last₀ k)) g₀ i g × Filling (λ k. atLeast (at g₀ k) (at last₀ k)) last₀ i last
+    (i ≤ 22) × Filling (λ k. atLeast (at g₀ k) (at last₀ k)) g₀ i g
+    × Filling (λ k. atLeast (at g₀ k) (at last₀ k)) last₀ i last
 
 abbrev μ-loop : tie.MeasureT-loop
 μ-loop g₀ last₀ i₀ g last i = 22 - i

@@ -30,4 +30,6 @@ listen-spec =
     (λ c. search turns)  -- loop-less
     (λ c. search turns)  -- loop-again
     (λ c κs. search turns)  -- sound-of-requires
-    (λ c. done (search needs) (c .sound-of .ensures ∙ ap soundOf (ended _ _ _ 22 (omega arith) (omega arith) (c .before .before .loop .inv .1)))))  -- returns-2
+    (λ c. done (search needs)
+    (c .sound-of .ensures ∙ ap soundOf
+    (ended _ _ _ 22 (omega arith) (omega arith) (c .before .before .loop .inv .1)))))  -- returns-2

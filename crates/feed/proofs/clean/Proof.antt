@@ -13,6 +13,8 @@ clean-spec =
     (λ c. search needs)  -- slice-aggregate-take
     (λ c κs. search needs)  -- take-requires
     (λ c κs. search needs)  -- passed-requires
+    (λ c κs. search needs)  -- side-of-requires
+    (λ c. search needs)  -- cast-own
     (λ c. search needs)  -- slice-aggregate-hand-out
     (λ c κs. search needs)  -- hand-out-requires
     (λ c. search needs)  -- same-length
@@ -21,10 +23,12 @@ clean-spec =
     (λ c. search needs)  -- same-length-4
     (λ c.
     let h = c .before .before .before .before in
-    let i = h .before .before .before .before .before in
+    let o = h .before .before .before .before .before in
+    let i = o .before in
     let p = i .before in
     let t = p .before .before .before .before .before .before in
-    handed _ _ _ _ _ _ (t .take .ensures) (p .passed .ensures) (i .if1 .taken) _ refl (h .hand-out .ensures))  -- returns
+    handed _ _ _ _ _ _ (t .take .ensures) (p .passed .ensures) (i .if1 .taken) (o .side-of .ensures) _ refl
+    (h .hand-out .ensures))  -- returns
     (λ c. search needs)  -- same-length-5
     (λ c. search needs)  -- same-length-6
     (λ c.

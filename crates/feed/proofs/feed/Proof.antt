@@ -22,7 +22,8 @@ feed-spec =
     (λ c κs. search needs)  -- fits-requires
     (λ c.
     let o = c .before .before .before in
-    shut _ _ _ _ _ _ _ _ _ (sym (o .before .gate .ensures) ∙ o .if1 .left) (c .before .before .samples-in .ensures) (c .before .fits2 .ensures) (c .if2 .taken))  -- returns-2
+    shut _ _ _ _ _ _ _ _ _ (sym (o .before .gate .ensures) ∙ o .if1 .left) (c .before .before .samples-in .ensures)
+    (c .before .fits2 .ensures) (c .if2 .taken))  -- returns-2
     (λ c. search needs)  -- sub-samples
     (λ c. search needs)  -- part-places-start
     (λ c. many c)  -- part-places-end
@@ -30,7 +31,8 @@ feed-spec =
     (λ c κs.
     let u = c .before .before .before .before .before .before .before in
     let e = u .before .before .before in
-    ready _ _ _ _ (e .before .fits2 .ensures) (e .if2 .left) (u .unpack .kept .0 ∙ part-length _ _ refl (many e)))  -- clean-requires
+    ready _ _ _ _ (e .before .fits2 .ensures) (e .if2 .left)
+    (u .unpack .kept .0 ∙ part-length _ _ refl (many e)))  -- clean-requires
     (λ c. search needs)  -- same-length
     (λ c. search needs)  -- same-length-2
     (λ c. search needs)  -- same-length-3
@@ -40,5 +42,6 @@ feed-spec =
     let u = k .before .before .before .before .before .before .before .before in
     let e = u .before .before .before in
     let o = e .before .before .before in
-    fed _ _ _ _ _ _ _ _ _ (sym (o .before .gate .ensures) ∙ o .if1 .left) (e .before .before .samples-in .ensures) (e .before .fits2 .ensures) (e .if2 .left)
+    fed _ _ _ _ _ _ _ _ _ (sym (o .before .gate .ensures) ∙ o .if1 .left) (e .before .before .samples-in .ensures)
+    (e .before .fits2 .ensures) (e .if2 .left)
     (part-length _ _ refl (many e)) (left (u .unpack .ensures)) (k .clean .ensures)))  -- returns-3

@@ -14,4 +14,11 @@ forward-core-spec =
     (λ c κs. search needs)  -- transform-requires
     (λ c κs. search needs)  -- spectrum-requires
     (λ c. search needs)  -- same-length
-    (λ c. forward-right (c .before .before .before .before .before .before .before .before .before .before .before .before .before .before .before .before .args .x .now) (c .before .before .spectrum .ensures) (c .before .before .before .before .before .before .transform .ensures) (c .before .before .before .before .before .before .before .before .before .before .before .pack .ensures) (c .before .before .before .before .before .before .before .before .before .before .before .before .before .all .ensures)))  -- returns
+    (λ c.
+    forward-right
+    (c .before .before .before .before .before .before .before .before .before .before .before .before .before .before
+    .before .before .args .x .now) (c .before .before .spectrum .ensures)
+    (c .before .before .before .before .before .before .transform .ensures)
+    (c .before .before .before .before .before .before .before .before .before .before .before .pack .ensures)
+    (c .before .before .before .before .before .before .before .before .before .before .before .before .before .all
+    .ensures)))  -- returns

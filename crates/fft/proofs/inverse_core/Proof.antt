@@ -14,4 +14,11 @@ inverse-core-spec =
     (λ c κs. search needs)  -- transform-requires
     (λ c κs. search needs)  -- samples-requires
     (λ c. search needs)  -- same-length
-    (λ c. inverse-right (c .before .before .before .before .before .before .before .before .before .before .before .before .before .before .before .before .args .x .now) (c .before .before .samples .ensures) (c .before .before .before .before .before .transform .ensures) (c .before .before .before .before .before .before .before .before .before .before .merge-all .ensures) (c .before .before .before .before .before .before .before .before .before .before .before .before .before .all .ensures)))  -- returns
+    (λ c.
+    inverse-right
+    (c .before .before .before .before .before .before .before .before .before .before .before .before .before .before
+    .before .before .args .x .now) (c .before .before .samples .ensures)
+    (c .before .before .before .before .before .transform .ensures)
+    (c .before .before .before .before .before .before .before .before .before .before .merge-all .ensures)
+    (c .before .before .before .before .before .before .before .before .before .before .before .before .before .all
+    .ensures)))  -- returns

@@ -17,4 +17,5 @@ process-core-spec =
     (λ c. omega (arith, place-small _ (c .search .ensures)))  -- sub-pitch-idx
     (λ c. search needs)  -- slice-aggregate-remove-doubling
     (λ c κs. (search needs, omega (arith, place-small _ (c .before .search .ensures))))  -- remove-doubling-requires
-    (λ c. processed _ _ _ (search (needs, fitted)) (c .before .before .search .ensures) (c .remove-doubling .ensures)))  -- returns
+    (λ c. processed _ _ _ (search (needs, fitted)) (c .before .before .search .ensures)
+    (c .remove-doubling .ensures)))  -- returns

@@ -1,5 +1,6 @@
 -- `frame::call1` meets its contract. Assumes nothing.
-use Rattle.rules.proofs.Common.{List, [], _∷_, refl, ap, ap₂, _∙_, length, length-set, length-drop, length-append, Float}
+use Rattle.rules.proofs.Common.{List, [], _∷_, refl, ap, ap₂, _∙_, length, length-set, length-drop, length-append}
+use Rattle.rules.proofs.Common.{Float}
 use native.Mathlib.Omega.{arith}
 use borrow.Author.Needs.{needs}
 use denote.Ref.{now}
@@ -47,8 +48,10 @@ returns-5 c =
     (record {
       answers = refl;
       keeps =
-          put-sets (put inputMem share (w .last .0)) (memoryList (w .result)) 3192 (simp (length-append, length-drop) (omega arith))
-          ∙ ap₂ (λ (mem : List Float) (m : Memory). put memHpX (put inputMem share mem) (memoryList m)) (w .ensures .1 .0) (w .ensures .0);
+          put-sets (put inputMem share (w .last .0)) (memoryList (w .result)) 3192
+          (simp (length-append, length-drop) (omega arith))
+          ∙ ap₂ (λ (mem : List Float) (m : Memory). put memHpX (put inputMem share mem) (memoryList m))
+          (w .ensures .1 .0) (w .ensures .0);
       writes = ap (λ (l : List Float). l ∷ []) (w .ensures .1 .1);
     })
 

@@ -36,15 +36,21 @@ returns-6 : tie.Need-returns-6
 returns-6 c =
     let n = c .before .before .before .before in
     let w = n .before .before .before .before .before in
-    let a = w .before .before .before .before .before .before .before .before .before .before .before .before .before .before .args in
+    let a =
+    w .before .before .before .before .before .before .before .before .before .before .before .before .before .before
+    .args in
     let share = now (a .share) in
     let lag = a .lag .0 in
-    let window = fitted (w .apply-window .ensures) (record { into = omega arith; from = simp (length-take, length-drop) (omega arith) }) in
-    rw (call2-done share (omega arith) (now (a .spectrum)) lag (length (now (a .window))) (length (now (a .sums))) (omega arith) (omega arith) (omega arith) (omega arith))
+    let window = fitted (w .apply-window .ensures)
+    (record { into = omega arith; from = simp (length-take, length-drop) (omega arith) }) in
+    rw (call2-done share (omega arith) (now (a .spectrum)) lag (length (now (a .window))) (length (now (a .sums)))
+    (omega arith) (omega arith) (omega arith) (omega arith))
     (record {
       answers = refl;
       keeps = n .note .ensures .0;
-      writes = ap₂ (λ (x y : List Float). x ∷ y ∷ []) (window ∙ ap windowed (looked-at share lag (omega arith) (omega arith))) (n .note .ensures .1);
+      writes =
+          ap₂ (λ (x y : List Float). x ∷ y ∷ [])
+          (window ∙ ap windowed (looked-at share lag (omega arith) (omega arith))) (n .note .ensures .1);
     })
 
 pub call2-spec : {M : Type 1} → statement M

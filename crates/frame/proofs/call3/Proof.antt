@@ -37,7 +37,8 @@ returns-6 c =
     rw
     (call3-done (now (a .share)) (omega arith) (a .hearing) (now (a .spectrum)) (now (a .logs)) (now (a .model))
     (length (now (a .out))) (omega arith) (omega arith) (omega arith) (omega arith))
-    (modelled-no (counted (a .hearing)) (now (a .share)) (now (a .out) ∷ []) (done3 (now (a .share)) (a .hearing .index) (now (a .spectrum)) (now (a .logs)) (now (a .model)))
+    (modelled-no (counted (a .hearing)) (now (a .share)) (now (a .out) ∷ [])
+    (done3 (now (a .share)) (a .hearing .index) (now (a .spectrum)) (now (a .logs)) (now (a .model)))
     (readOf (now (a .model))) (k .check .ensures) (answered-no (c .before .passed .ensures) (c .if6 .taken)))
 
 returns-7 : tie.Need-returns-7
@@ -49,8 +50,10 @@ returns-7 c =
     rw
     (call3-done (now (a .share)) (omega arith) (a .hearing) (now (a .spectrum)) (now (a .logs)) (now (a .model))
     (length (now (a .out))) (omega arith) (omega arith) (omega arith) (omega arith))
-    (modelled-yes (counted (a .hearing)) (now (a .share)) (now (a .out) ∷ []) (done3 (now (a .share)) (a .hearing .index) (now (a .spectrum)) (now (a .logs)) (now (a .model)))
-    (readOf (now (a .model))) (k .check .ensures) (answered-yes (i .before .passed .ensures) (i .if6 .left)) (l .listen .ensures))
+    (modelled-yes (counted (a .hearing)) (now (a .share)) (now (a .out) ∷ [])
+    (done3 (now (a .share)) (a .hearing .index) (now (a .spectrum)) (now (a .logs)) (now (a .model)))
+    (readOf (now (a .model))) (k .check .ensures) (answered-yes (i .before .passed .ensures) (i .if6 .left))
+    (l .listen .ensures))
 
 pub call3-spec : {M : Type 1} → statement M
 call3-spec =

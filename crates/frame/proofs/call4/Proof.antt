@@ -28,7 +28,8 @@ unfolding put get
 returns-4 c =
     let w = c .before .before .before .before in
     let a = w .before .before .before .before .before .before .before .before .before .args in
-    rw (call4-done (now (a .share)) (omega arith) (now (a .inverse)) (length (now (a .out))) (omega arith) (omega arith))
+    rw (call4-done (now (a .share)) (omega arith) (now (a .inverse)) (length (now (a .out))) (omega arith)
+    (omega arith))
     (record {
       answers = refl;
       keeps = ap (put synthesisMem (now (a .share))) (w .synthesise .ensures .0);

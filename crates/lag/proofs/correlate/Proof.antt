@@ -11,7 +11,10 @@ returns : tie.Need-returns
 returns c =
     correlated (c .before .before .before .before .before .before .before .args .low .now)
     (fitted (c .before .before .pitch-xcorr .ensures)
-    (record { enough = λ h. simp (length-take, length-drop) (omega arith); rounded = λ h. simp (length-take, length-drop) (omega arith) }))
+    (record {
+      enough = λ h. simp (length-take, length-drop) (omega arith);
+      rounded = λ h. simp (length-take, length-drop) (omega arith);
+    }))
     (omega arith)
 
 pub correlate-spec : {M : Type 1} → statement M

@@ -25,7 +25,8 @@ returns c = log-of-infinity (c .before .before .args .x) (c .if2 .taken)
 float-to-float-log-of-bits : tie.Need-float-to-float-log-of-bits
 float-to-float-log-of-bits c =
     let x = c .before .before .before .args .x in
-    and-i (fits binary64 x) (not (isNan x)) (fits-widens x (held (c .before .before .before))) (above-real x (positive (c .before .before)))
+    and-i (fits binary64 x) (not (isNan x)) (fits-widens x (held (c .before .before .before)))
+    (above-real x (positive (c .before .before)))
 
 float-to-bits-log-of-bits : tie.Need-float-to-bits-log-of-bits
 float-to-bits-log-of-bits c = above-real (c .before .before .before .args .x) (positive (c .before .before))
@@ -34,7 +35,8 @@ returns-2 : tie.Need-returns-2
 unfolding ofBits div
 returns-2 c =
     let start = c .before .before .before .before .before in
-    c .narrow .ensures ∙ ap narrowed (c .before .log-of-bits .ensures) ∙ log-above (start .args .x) (positive (c .before .before .before .before)) (c .before .before .before .if2 .left)
+    c .narrow .ensures ∙ ap narrowed (c .before .log-of-bits .ensures)
+    ∙ log-above (start .args .x) (positive (c .before .before .before .before)) (c .before .before .before .if2 .left)
 
 returns-3 : tie.Need-returns-3
 unfolding ofBits div neg

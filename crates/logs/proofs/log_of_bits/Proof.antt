@@ -27,7 +27,8 @@ returns : tie.Need-returns
 unfolding logOfBits offCentre highOf lowOf
 returns c =
     let bits = c .before .before .before .before .before .before .args .bits in
-    let by : Row → Float = λ w. summed (exponentOf bits *₆₄ twoHigh +₆₄ w .high) (exponentOf bits *₆₄ twoLow +₆₄ w .low) (mantissaOf bits *₆₄ w .centre -₆₄ f64 0x3FF0000000000000) in
+    let by : Row → Float = λ w. summed (exponentOf bits *₆₄ twoHigh +₆₄ w .high) (exponentOf bits *₆₄ twoLow +₆₄ w .low)
+    (mantissaOf bits *₆₄ w .centre -₆₄ f64 0x3FF0000000000000) in
     c .sum-of .ensures ∙ ap by (c .before .before .before .before .row-at .ensures)
 
 pub log-of-bits-spec : {M : Type 1} → statement M

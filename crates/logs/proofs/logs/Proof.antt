@@ -10,14 +10,17 @@ use Rattle.logs.proofs.logs.Statement.{statement}
 use Rattle.logs.proofs.logs.Tie as tie
 
 abbrev Inv-loop : tie.InvT-loop
-Inv-loop out₀ sums i₀ out i = (i ≤ 22) × (length out₀ ≡ 22) × (length sums ≡ 22) × Filling (λ k. log10Of (at sums k)) out₀ i out
+Inv-loop out₀ sums i₀ out i =
+    (i ≤ 22) × (length out₀ ≡ 22) × (length sums ≡ 22) × Filling (λ k. log10Of (at sums k)) out₀ i out
 
 abbrev μ-loop : tie.MeasureT-loop
 μ-loop out₀ sums i₀ out i = 22 - i
 
 returns-3 : tie.Need-returns-3 Inv-loop μ-loop
 unfolding logsOf
-returns-3 c = let l = c .before .loop in done (record { into = l .inv .1; from = l .inv .2 }) (leaves (filling-ended _ _ _ 22 (omega arith) (omega arith) (l .inv .1) (l .inv .3)))
+returns-3 c = let l = c .before .loop in
+    done (record { into = l .inv .1; from = l .inv .2 })
+    (leaves (filling-ended _ _ _ 22 (omega arith) (omega arith) (l .inv .1) (l .inv .3)))
 
 pub logs-spec : {M : Type 1} → statement M
 logs-spec =

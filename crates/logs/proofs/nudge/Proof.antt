@@ -34,7 +34,8 @@ returns-3 c = let start = c .before .before .before in sym (nothing-lost (start 
 next-to : (c : tie.Else3) → Beside (c .before .before .before .args .t)
 next-to c =
     let start = c .before .before .before in
-    beside (start .args .t) (held start) (real-of (start .args .t) (c .before .before .if1 .left)) (c .before .if2 .left)
+    beside (start .args .t) (held start) (real-of (start .args .t) (c .before .before .if1 .left))
+    (c .before .if2 .left)
 
 returns-4 : tie.Need-returns-4
 returns-4 c =

@@ -9,7 +9,14 @@ returns c =
     let l2 = l3 .before in
     let l1 = l2 .before in
     let l0 = l1 .before in
-    rw (l0 .counts-of .ensures, l1 .counts-of2 .ensures, l2 .counts-of3 .ensures, l3 .counts-of4 .ensures, l4 .counts-of5 .ensures, c .counts-of6 .ensures)
+    rw (
+      l0 .counts-of .ensures,
+      l1 .counts-of2 .ensures,
+      l2 .counts-of3 .ensures,
+      l3 .counts-of4 .ensures,
+      l4 .counts-of5 .ensures,
+      c .counts-of6 .ensures,
+    )
 
 pub counts-in-spec : {M : Type 1} → statement M
 counts-in-spec =

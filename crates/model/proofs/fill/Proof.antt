@@ -13,13 +13,15 @@ use Rattle.model.proofs.fill.Statement.{statement}
 use Rattle.model.proofs.fill.Tie as tie
 
 abbrev Inv-loop : tie.InvT-loop
-Inv-loop numbers₀ bytes i₀ numbers i = (i ≤ 30) × (length numbers ≡ 30) × (numbers ≡ tab i (numberIn (readOf bytes)) ++ drop i numbers₀)
+Inv-loop numbers₀ bytes i₀ numbers i =
+    (i ≤ 30) × (length numbers ≡ 30) × (numbers ≡ tab i (numberIn (readOf bytes)) ++ drop i numbers₀)
 
 abbrev μ-loop : tie.MeasureT-loop
 μ-loop numbers₀ bytes i₀ numbers i = 30 - i
 
 loop-holds : tie.Need-loop-holds Inv-loop μ-loop
-loop-holds c = let a = c .before .before .args in (omega arith, c .before .before .pre, tab-none (numberIn (readOf (now (a .bytes)))) (now (a .numbers)))
+loop-holds c = let a = c .before .before .args in
+    (omega arith, c .before .before .pre, tab-none (numberIn (readOf (now (a .bytes)))) (now (a .numbers)))
 
 array-read-numbers : tie.Need-array-read-numbers Inv-loop μ-loop
 array-read-numbers c = omega (arith, mod-lt (c .before .before .loop .i) {m = 5} (omega arith))
@@ -27,7 +29,8 @@ array-read-numbers c = omega (arith, mod-lt (c .before .before .loop .i) {m = 5}
 cast-numbers : tie.Need-cast-numbers Inv-loop μ-loop
 cast-numbers c =
     let l = c .before .before in
-    rw (c .line .ensures) (omega (arith, line-small (now (l .before .before .before .args .bytes)) (l .loop .i / 5) (l .loop .i % 5)))
+    rw (c .line .ensures) (omega
+    (arith, line-small (now (l .before .before .before .args .bytes)) (l .loop .i / 5) (l .loop .i % 5)))
 
 loop-again : tie.Need-loop-again Inv-loop μ-loop
 unfolding numberIn
@@ -37,14 +40,16 @@ loop-again c =
     let row = numberIn (readOf (now (a .bytes))) in (
       omega arith,
       simp length-set (l .loop .inv .1),
-      tab-more row (now (a .numbers)) (l .loop .numbers) (l .loop .i) _ (l .loop .inv .2) (rw (c .line .ensures)) (omega (arith, l .before .before .before .pre)),
+      tab-more row (now (a .numbers)) (l .loop .numbers) (l .loop .i) _ (l .loop .inv .2) (rw (c .line .ensures))
+          (omega (arith, l .before .before .before .pre)),
     )
 
 returns : tie.Need-returns Inv-loop μ-loop
 returns c =
     let l = c .before in
     let a = l .before .before .before .args in
-    l .loop .inv .2 ∙ tab-done (numberIn (readOf (now (a .bytes)))) (now (a .numbers)) (l .loop .i) 30 (omega arith) (omega (arith, l .before .before .before .pre))
+    l .loop .inv .2 ∙ tab-done (numberIn (readOf (now (a .bytes)))) (now (a .numbers)) (l .loop .i) 30 (omega arith)
+    (omega (arith, l .before .before .before .pre))
 
 pub fill-spec : {M : Type 1} → statement M
 fill-spec =

@@ -11,7 +11,8 @@ use Rattle.model.proofs.headed_by.Tie as tie
 returns : tie.Need-returns
 returns c =
     let a = c .before .before .args in
-    sym (bad-header (a .kind) (a .inputs) (a .neurons) (a .number) (a .start) (a .left) (c .before .header-fault .ensures) (c .if1 .taken))
+    sym (bad-header (a .kind) (a .inputs) (a .neurons) (a .number) (a .start) (a .left)
+    (c .before .header-fault .ensures) (c .if1 .taken))
 
 size-requires : tie.Need-size-requires
 size-requires c κs =
@@ -31,7 +32,14 @@ returns-3 c =
     let f = c .before .before .before in
     let a = f .before .before .args in
     let good = good-header (a .inputs) (a .neurons) (a .number) (f .before .header-fault .ensures) (f .if1 .left) in
-    rw (good .0, good .1 .0, good .1 .1 .0, good .1 .1 .1 .0, c .activation-of .ensures, ← c .before .before .size .ensures) (search tests)
+    rw (
+      good .0,
+      good .1 .0,
+      good .1 .1 .0,
+      good .1 .1 .1 .0,
+      c .activation-of .ensures,
+      ← c .before .before .size .ensures,
+    ) (search tests)
 
 pub headed-by-spec : {M : Type 1} → statement M
 headed-by-spec =

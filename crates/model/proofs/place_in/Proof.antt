@@ -20,4 +20,5 @@ place-in-spec =
     (λ c κs. search needs)  -- lies-within-requires
     (λ c. rw (answered-no (c .before .lies-within .ensures) (c .if1 .taken)) (refl, refl))  -- returns
     place-of-requires
-    (λ c. rw (answered-yes (c .before .before .lies-within .ensures) (c .before .if1 .left)) (c .place-of .ensures)))  -- returns-2
+    (λ c. rw (answered-yes (c .before .before .lies-within .ensures) (c .before .if1 .left))
+    (c .place-of .ensures)))  -- returns-2

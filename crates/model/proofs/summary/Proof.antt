@@ -17,13 +17,15 @@ returns c = search tests
 mul-result : tie.Need-mul-result
 mul-result c =
     let r = c .before .before .before in
-    let small = refused-in (now (r .before .before .before .before .args .bytes)) (sym (c .before .number .given .1) ∙ r .read .ensures) in
+    let small = refused-in (now (r .before .before .before .before .args .bytes))
+    (sym (c .before .number .given .1) ∙ r .read .ensures) in
     omega (arith, small .2)
 
 add-result : tie.Need-add-result
 add-result c =
     let r = c .before .before .before in
-    let small = refused-in (now (r .before .before .before .before .args .bytes)) (sym (c .before .number .given .1) ∙ r .read .ensures) in
+    let small = refused-in (now (r .before .before .before .before .args .bytes))
+    (sym (c .before .number .given .1) ∙ r .read .ensures) in
     omega (arith, small .1, small .2)
 
 returns-2 : tie.Need-returns-2
@@ -31,7 +33,11 @@ unfolding summaryOf
 returns-2 c =
     let e = c .before .before .before .before in
     let r = e .before .before in
-    rw (eq-eqb _ 30 (r .before .if1 .left), c .before .before .fill .ensures, ← sym (e .enum-told .given .1) ∙ r .read .ensures)
+    rw (
+      eq-eqb _ 30 (r .before .if1 .left),
+      c .before .before .fill .ensures,
+      ← sym (e .enum-told .given .1) ∙ r .read .ensures,
+    )
 
 returns-3 : tie.Need-returns-3
 unfolding summaryOf

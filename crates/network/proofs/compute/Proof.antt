@@ -24,19 +24,29 @@ returns-3 c =
 
 returns-4 : tie.Need-returns-4
 returns-4 c =
-    let o = c .before .before .before .before .before .before .before .before .before .before .before .before .before .before .before .before .before .before .before .before .before .before .before in
+    let o =
+    c .before .before .before .before .before .before .before .before .before .before .before .before .before .before
+    .before .before .before .before .before .before .before .before .before in
     let j = o .before .before .before .before .before in
     let e = j .before .before .before .before .before in
     let a = e .before .before .before .before .before .before .before .before .before .before .args in
     let s = o .compute-on .last .1 .1 .0 in
     let whole : length s ≡ 384 = o .compute-on .kept .1 .1 .0 ∙ j .join .kept .0 in
-    let part-of : (k : ℕ) → k + 128 ≤ 384 → 128 ≡ length (part k (k + 128) s) = λ k h. sym (cut-length s k (k + 128) 128 refl (omega (arith, whole))) in
+    let part-of : (k : ℕ) → k + 128 ≤ 384 → 128 ≡ length (part k (k + 128) s) =
+    λ k h. sym (cut-length s k (k + 128) 128 refl (omega (arith, whole))) in
     let lv = e .before .before .if1 .left in
     let ln = e .before .if2 .left in
     let ld = e .if3 .left in
-    let was = joined-in (a .vad .now) (a .noise .now) (a .denoise .now) (j .join .last .0) lv ln ld (j .join .kept .0) (j .join .ensures) in
-    parted s whole (fitted (c .before .before .before .before .before .before .before .before .before .before .before .before .before .before .copy .ensures) (lv ∙ part-of 0 (omega arith))) (fitted (c .before .before .before .before .before .before .before .before .copy2 .ensures) (ln ∙ part-of 128 (omega arith)))
-    (fitted (c .before .before .copy3 .ensures) (ld ∙ part-of 256 (omega arith))) (rw (was .0, was .1, was .2) at (o .compute-on .ensures))
+    let was = joined-in (a .vad .now) (a .noise .now) (a .denoise .now) (j .join .last .0) lv ln ld (j .join .kept .0)
+    (j .join .ensures) in
+    parted s whole
+    (fitted
+    (c .before .before .before .before .before .before .before .before .before .before .before .before .before .before
+    .copy .ensures) (lv ∙ part-of 0 (omega arith)))
+    (fitted (c .before .before .before .before .before .before .before .before .copy2 .ensures)
+    (ln ∙ part-of 128 (omega arith)))
+    (fitted (c .before .before .copy3 .ensures) (ld ∙ part-of 256 (omega arith)))
+    (rw (was .0, was .1, was .2) at (o .compute-on .ensures))
 
 pub compute-spec : {M : Type 1} → statement M
 compute-spec =

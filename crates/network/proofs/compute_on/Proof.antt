@@ -25,21 +25,29 @@ returns-4 c =
 frame-requires : tie.Need-frame-requires
 frame-requires c κs =
     let r = c .before .before .before .before .before .before in
-    let e = r .before in
-    (sym (r .read .ensures) ∙ c .before .before .before .before .m .given .1, e .before .before .before .if1 .left, e .before .before .if2 .left, e .before .if3 .left, e .if4 .left)
+    let e = r .before in (
+      sym (r .read .ensures) ∙ c .before .before .before .before .m .given .1,
+      e .before .before .before .if1 .left,
+      e .before .before .if2 .left,
+      e .before .if3 .left,
+      e .if4 .left,
+    )
 
 returns-5 : tie.Need-returns-5
 returns-5 c =
     let f = c .before .before .before .before .before .before in
     let r = f .before .before .before .before .before .before .before in
     let e = r .before in
-    computed-done _ _ _ _ _ _ _ (fit-on _ (e .before .before .before .if1 .left) (e .before .before .if2 .left) (e .before .if3 .left) (e .if4 .left)) (sym (r .read .ensures) ∙ f .before .before .before .before .before .m .given .1) (f .frame .ensures)
+    computed-done _ _ _ _ _ _ _ (fit-on _ (e .before .before .before .if1 .left) (e .before .before .if2 .left)
+    (e .before .if3 .left) (e .if4 .left))
+    (sym (r .read .ensures) ∙ f .before .before .before .before .before .m .given .1) (f .frame .ensures)
 
 returns-6 : tie.Need-returns-6
 returns-6 c =
     let r = c .before .before .before in
     let e = r .before in
-    computed-misread _ _ _ _ _ _ _ (fit-on _ (e .before .before .before .if1 .left) (e .before .before .if2 .left) (e .before .if3 .left) (e .if4 .left)) (sym (r .read .ensures) ∙ c .before .number .given .1)
+    computed-misread _ _ _ _ _ _ _ (fit-on _ (e .before .before .before .if1 .left) (e .before .before .if2 .left)
+    (e .before .if3 .left) (e .if4 .left)) (sym (r .read .ensures) ∙ c .before .number .given .1)
 
 pub compute-on-spec : {M : Type 1} → statement M
 compute-on-spec =

@@ -1,4 +1,5 @@
--- `network::gru` meets its contract: each refusal by the test that failed, and the rest by what the layer ensures. Assumes nothing.
+-- `network::gru` meets its contract: each refusal by the test that failed, and the rest by what the layer ensures.
+-- Assumes nothing.
 use mathlib.Core.Path.{refl}
 use native.Mathlib.Omega.{arith}
 use borrow.Author.Needs.{needs}

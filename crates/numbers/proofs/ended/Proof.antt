@@ -27,4 +27,9 @@ ended-spec =
     simp (← nan-test, c .before .before .if1 .left, under x (c .before .if2 .left), no))  -- returns-3
     (λ c.
     let x = c .before .before .before .args .x in
-    simp (← nan-test, c .before .before .if1 .left, under x (c .before .if2 .left), over x (c .if3 .left))))  -- returns-4
+    simp (
+      ← nan-test,
+      c .before .before .if1 .left,
+      under x (c .before .if2 .left),
+      over x (c .if3 .left),
+    )))  -- returns-4

@@ -12,6 +12,8 @@ entry-at-spec =
     (λ c.
     let below = listed (c .before .args .x) in
     (not-below _ _ below (c .before .pre), rw (number-is _ _ below (c .before .pre)) (omega (arith, below))))  -- cast
-    (λ c. let below = listed (c .before .args .x) in rw (number-is _ _ below (c .before .pre)) (omega (arith, below)))  -- mul
-    (λ c. let below = listed (c .before .args .x) in rw (number-is _ _ below (c .before .pre)) below)  -- element-copy-out
+    (λ c.
+    let below = listed (c .before .args .x) in rw (number-is _ _ below (c .before .pre)) (omega (arith, below)))  -- mul
+    (λ c.
+    let below = listed (c .before .args .x) in rw (number-is _ _ below (c .before .pre)) below)  -- element-copy-out
     (λ c. rw (number-is _ _ (listed (c .before .before .args .x)) (c .before .before .pre))))  -- returns

@@ -12,4 +12,10 @@ follow-spec =
     (λ c κs. rw (c .inside .ensures) (inside-within _))  -- place-of-requires
     (λ c κs. search needs)  -- sign-of-requires
     (λ c κs. search needs)  -- ended-requires
-    (λ c. rw (c .ended .ensures, c .before .sign-of .ensures, c .before .before .place-of .ensures, c .before .before .before .inside .ensures)))  -- returns
+    (λ c.
+    rw (
+      c .ended .ensures,
+      c .before .sign-of .ensures,
+      c .before .before .place-of .ensures,
+      c .before .before .before .inside .ensures,
+    )))  -- returns

@@ -9,4 +9,5 @@ gives-way-spec =
     (tie.spec
     (λ c. no-zero-left _ _ (c .if1 .taken))  -- returns
     (λ c. no-zero-right (c .before .before .args .a) (c .before .before .args .b) (c .if2 .taken))  -- returns-2
-    (λ c. by-sign (c .before .before .args .a) (c .before .before .args .b) (c .before .if1 .left) (c .if2 .left)))  -- returns-3
+    (λ c. by-sign (c .before .before .args .a) (c .before .before .args .b) (c .before .if1 .left)
+    (c .if2 .left)))  -- returns-3

@@ -1,4 +1,5 @@
--- `numbers::root_digits` meets its contract: what passes the tests is nearest to the root, and there is only one such number. Assumes nothing.
+-- `numbers::root_digits` meets its contract: what passes the tests is nearest to the root, and there is only one such
+-- number. Assumes nothing.
 use Rattle.rules.proofs.Common.{ℕ, _+_, _-_, _*_, _^_, _<_, _≡_, ap, _∙_}
 use native.Mathlib.Nat.{le-of-lt}
 use native.Mathlib.Omega.{arith}
@@ -11,7 +12,8 @@ use Rattle.numbers.proofs.root_digits.Statement.{statement}
 use Rattle.numbers.proofs.root_digits.Tie as tie
 
 -- strictly between the two halfway points
-between : (n q : ℕ) → 0 < q → (8 * q - 4) * (8 * q - 4) < n → n < (8 * q - 4 + 8) * (8 * q - 4 + 8) → q ≡ closest (twiceRoot n) (2 ^ 4)
+between : (n q : ℕ) → 0 < q → (8 * q - 4) * (8 * q - 4) < n → n < (8 * q - 4 + 8) * (8 * q - 4 + 8)
+    → q ≡ closest (twiceRoot n) (2 ^ 4)
 between n q some below above =
     let low : 2 * (q * 4) - 4 ≡ 8 * q - 4 = omega arith in
     let high : 2 * (q * 4) + 4 ≡ 8 * q - 4 + 8 = omega arith in
@@ -35,5 +37,10 @@ root-digits-spec =
     (λ c. record { fits = square-fits _ (omega (arith, c .before .before .guessed-digits .ensures)) })  -- mul-if3
     (λ c. between _ _ (omega arith) (c .before .if2 .taken) (c .if3 .taken))  -- returns
     (λ c κs. search needs)  -- twice-root-requires
-    (λ c κs. let start = c .before .before .before in (omega (arith, c .twice-root .ensures, twice-lt (start .args .n) (2 ^ 27) (start .pre)), lit< tt, lit< tt))  -- rounded-requires
+    (λ c κs.
+    let start = c .before .before .before in (
+      omega (arith, c .twice-root .ensures, twice-lt (start .args .n) (2 ^ 27) (start .pre)),
+      lit< tt,
+      lit< tt,
+    ))  -- rounded-requires
     (λ c. c .rounded .ensures ∙ ap (λ (y : ℕ). closest y (2 ^ 4)) (c .before .twice-root .ensures)))  -- returns-2

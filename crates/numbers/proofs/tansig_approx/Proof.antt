@@ -2,7 +2,7 @@
 use mathlib.Core.Path.{_≡_}
 use native.Mathlib.Omega.{arith}
 use borrow.Author.Needs.{needs}
-use Rattle.numbers.specs.Parts.{placeIn}
+use Rattle.numbers.specs.Private.{placeIn}
 use Rattle.numbers.proofs.Floors.{inside-within, ends, listed, castable, not-below, number-is}
 use Rattle.numbers.proofs.tansig_approx.Statement.{statement}
 use Rattle.numbers.proofs.tansig_approx.Tie as tie
@@ -19,9 +19,13 @@ tansig-approx-spec =
     (λ c κs. rw (c .inside .ensures) (inside-within _))  -- place-of-requires
     (λ c. castable _ _ (listed _) (found (c .before)))  -- float-to-int-i
     (λ c.
+    let below = listed (c .before .before .before .args .x) in (
+      not-below _ _ below (found (c .before)),
+      rw (number-is _ _ below (found (c .before))) (omega (arith, below)),
+    ))  -- cast-entry
+    (λ c κs.
     let below = listed (c .before .before .before .args .x) in
-    (not-below _ _ below (found (c .before)), rw (number-is _ _ below (found (c .before))) (omega (arith, below))))  -- cast-entry
-    (λ c κs. let below = listed (c .before .before .before .args .x) in rw (number-is _ _ below (found (c .before))) (omega (arith, below)))  -- entry-requires
+    rw (number-is _ _ below (found (c .before))) (omega (arith, below)))  -- entry-requires
     (λ c κs. search needs)  -- follow-requires
     (λ c.
     let placed = c .before .before .before in

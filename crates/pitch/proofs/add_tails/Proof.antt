@@ -12,7 +12,8 @@ use Rattle.pitch.proofs.add_tails.Tie as tie
 
 abbrev Inv-loop : tie.InvT-loop
 Inv-loop x ac₀ from k₀ k-end ac k =
-    (k ≤ k-end) × (k-end ≡ length ac₀) × (length ac ≡ length ac₀) × (ac ≡ tab k (λ k. at ac₀ k ⊕ tailOf x k from) ++ drop k ac₀)
+    (k ≤ k-end) × (k-end ≡ length ac₀) × (length ac ≡ length ac₀)
+    × (ac ≡ tab k (λ k. at ac₀ k ⊕ tailOf x k from) ++ drop k ac₀)
 
 abbrev μ-loop : tie.MeasureT-loop
 μ-loop x ac₀ from k₀ k-end ac k = k-end - k
@@ -21,7 +22,8 @@ loop-again : tie.Need-loop-again Inv-loop μ-loop
 loop-again c =
     let l = c .before .before .before .loop in
     let a = c .before .before .before .before .before .before .args in
-    let ahead : at (l .ac) (l .k) ≡ at (now (a .ac)) (l .k) = tab-still _ _ _ (l .k) (l .k) nan (l .inv .3) (omega arith) in (
+    let ahead : at (l .ac) (l .k)
+    ≡ at (now (a .ac)) (l .k) = tab-still _ _ _ (l .k) (l .k) nan (l .inv .3) (omega arith) in (
       omega arith,
       refl,
       simp length-set (l .inv .2),
@@ -44,4 +46,7 @@ add-tails-spec =
     (λ c. search turns)  -- loop-less
     loop-again
     (λ c. search turns)  -- same-length
-    (λ c. let l = c .before .loop in l .inv .3 ∙ tab-done _ _ _ (length (now (c .before .before .before .before .args .ac))) (omega arith) (omega arith)))  -- returns
+    (λ c.
+    let l = c .before .loop in
+    l .inv .3 ∙ tab-done _ _ _ (length (now (c .before .before .before .before .args .ac))) (omega arith)
+    (omega arith)))  -- returns

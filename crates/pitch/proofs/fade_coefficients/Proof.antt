@@ -12,7 +12,8 @@ use Rattle.pitch.proofs.fade_coefficients.Tie as tie
 
 abbrev Inv-loop : tie.InvT-loop
 Inv-loop lpc₀ tmp₀ i₀ lpc tmp i =
-    (i ≤ 4) × (length lpc₀ ≡ 4) × (length lpc ≡ 4) × (tmp ≡ fade i) × (lpc ≡ tab i (λ i. at lpc₀ i ⊗ fade (i + 1)) ++ drop i lpc₀)
+    (i ≤ 4) × (length lpc₀ ≡ 4) × (length lpc ≡ 4) × (tmp ≡ fade i)
+    × (lpc ≡ tab i (λ i. at lpc₀ i ⊗ fade (i + 1)) ++ drop i lpc₀)
 
 abbrev μ-loop : tie.MeasureT-loop
 μ-loop lpc₀ tmp₀ i₀ lpc tmp i = 4 - i
@@ -23,8 +24,13 @@ again c =
     let l = c .before .before .loop in
     let old = now (c .before .before .before .args .lpc) in
     let next = more fadeStep _ (l .i) (l .inv .3) refl in
-    let ahead : at (l .lpc) (l .i) ≡ at old (l .i) = tab-still _ _ _ (l .i) (l .i) nan (l .inv .4) (omega arith) in
-    (omega arith, l .inv .1, simp length-set (l .inv .2), next, tab-more _ _ _ _ _ (l .inv .4) (rw (ahead, ← next)) (omega arith))
+    let ahead : at (l .lpc) (l .i) ≡ at old (l .i) = tab-still _ _ _ (l .i) (l .i) nan (l .inv .4) (omega arith) in (
+      omega arith,
+      l .inv .1,
+      simp length-set (l .inv .2),
+      next,
+      tab-more _ _ _ _ _ (l .inv .4) (rw (ahead, ← next)) (omega arith),
+    )
 
 returns : tie.Need-returns Inv-loop μ-loop
 unfolding fadedLpc

@@ -7,7 +7,8 @@ use Rattle.pitch.specs.Downsample.{floored, fadedLpc, withZero, coeffici
 use Rattle.pitch.proofs.flatten_in.Statement.{statement}
 use Rattle.pitch.proofs.flatten_in.Tie as tie
 
-in-turn : (low : List Float) (n : ℕ) {ac ac′ c c′ : List Float} → n ≡ 4 → ac ≡ celtAutocorr low → ac′ ≡ floored ac → c ≡ lpcOf n ac′ → c′ ≡ fadedLpc c
+in-turn : (low : List Float) (n : ℕ) {ac ac′ c c′ : List Float} → n ≡ 4 → ac ≡ celtAutocorr low → ac′ ≡ floored ac
+    → c ≡ lpcOf n ac′ → c′ ≡ fadedLpc c
     → withZero c′ ≡ coefficients low
 unfolding coefficients
 in-turn low n four a f l d = rw (d, l, f, a, four)
@@ -19,7 +20,8 @@ returns c =
     let floor = lpc .before .before .before .before .before in
     let autocorr = floor .before .before .before .before in
     let start = autocorr .before .before .before .before .before in
-    in-turn _ _ (start .pre .2) (autocorr .celt-autocorr-core .ensures) (floor .floor .ensures) (lpc .lpc-core .ensures) (fade .fade-coefficients .ensures)
+    in-turn _ _ (start .pre .2) (autocorr .celt-autocorr-core .ensures) (floor .floor .ensures) (lpc .lpc-core .ensures)
+    (fade .fade-coefficients .ensures)
 
 pub flatten-in-spec : {M : Type 1} → statement M
 flatten-in-spec =

@@ -11,7 +11,8 @@ use Rattle.pitch.proofs.floor.Statement.{statement}
 use Rattle.pitch.proofs.floor.Tie as tie
 
 abbrev Inv-loop : tie.InvT-loop
-Inv-loop ac₀ i₀ ac i = (i ≤ 5) × (length ac₀ ≡ 5) × (length ac ≡ 5) × (ac ≡ tab i (λ i. flooredAt (at ac₀ i) i) ++ drop i ac₀)
+Inv-loop ac₀ i₀ ac i =
+    (i ≤ 5) × (length ac₀ ≡ 5) × (length ac ≡ 5) × (ac ≡ tab i (λ i. flooredAt (at ac₀ i) i) ++ drop i ac₀)
 
 abbrev μ-loop : tie.MeasureT-loop
 μ-loop ac₀ i₀ ac i = 5 - i
@@ -20,8 +21,12 @@ again : tie.Need-loop-again Inv-loop μ-loop
 again c =
     let l = c .before .before .before .loop in
     let old = now (c .before .before .before .before .before .args .ac) in
-    let ahead : at (l .ac) (l .i) ≡ at old (l .i) = tab-still _ _ _ (l .i) (l .i) nan (l .inv .3) (omega arith) in
-    (omega arith, l .inv .1, simp length-set (l .inv .2), tab-more _ _ _ _ _ (l .inv .3) (rw (← ahead) (c .floor-at .ensures)) (omega arith))
+    let ahead : at (l .ac) (l .i) ≡ at old (l .i) = tab-still _ _ _ (l .i) (l .i) nan (l .inv .3) (omega arith) in (
+      omega arith,
+      l .inv .1,
+      simp length-set (l .inv .2),
+      tab-more _ _ _ _ _ (l .inv .3) (rw (← ahead) (c .floor-at .ensures)) (omega arith),
+    )
 
 returns : tie.Need-returns Inv-loop μ-loop
 unfolding floored

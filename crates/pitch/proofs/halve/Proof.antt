@@ -30,6 +30,11 @@ halve-spec =
     (λ c. search turns)  -- slice-write-x-lp
     (λ c. search turns)  -- add-i
     (λ c. search turns)  -- loop-less
-    (λ c. let l = c .before .before .loop in (omega arith, simp length-set (l .inv .1), tab-more _ _ _ _ _ (l .inv .2) (c .halve-at .ensures) (omega arith)))  -- loop-again
+    (λ c.
+    let l = c .before .before .loop in (
+      omega arith,
+      simp length-set (l .inv .1),
+      tab-more _ _ _ _ _ (l .inv .2) (c .halve-at .ensures) (omega arith),
+    ))  -- loop-again
     (λ c. search turns)  -- same-length
     returns)

@@ -15,4 +15,8 @@ lpc-core-spec =
     (λ c. rw (c .if1 .taken) (c .before .before .before .before .clear .ensures))  -- returns
     (λ c κs. search needs)  -- lags-requires
     (λ c. search needs)  -- same-length-2
-    (λ c. rw (c .before .before .before .before .if1 .left, ← c .before .before .before .before .before .before .before .before .clear .ensures) (c .before .before .lags .ensures)))  -- returns-2
+    (λ c.
+    rw (
+      c .before .before .before .before .if1 .left,
+      ← c .before .before .before .before .before .before .before .before .clear .ensures,
+    ) (c .before .before .lags .ensures)))  -- returns-2

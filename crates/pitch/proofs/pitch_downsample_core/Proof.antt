@@ -6,7 +6,8 @@ use Rattle.pitch.specs.Downsample.{halved, coefficients, downsampled}
 use Rattle.pitch.proofs.pitch_downsample_core.Statement.{statement}
 use Rattle.pitch.proofs.pitch_downsample_core.Tie as tie
 
-in-turn : (x : List Float) {low num out : List Float} → low ≡ halved x → num ≡ coefficients low → out ≡ fir5 low num → out ≡ downsampled x
+in-turn : (x : List Float) {low num out : List Float} → low ≡ halved x → num ≡ coefficients low → out ≡ fir5 low num
+    → out ≡ downsampled x
 unfolding downsampled
 in-turn x h n f = rw (f, n, h)
 
@@ -19,4 +20,7 @@ pitch-downsample-core-spec =
     (λ c. search needs)  -- slice-aggregate-fir5-core
     (λ c κs. search needs)  -- fir5-core-requires
     (λ c. search needs)  -- same-length
-    (λ c. let fir = c .before .before in let flatten = fir .before .before .before in in-turn _ (flatten .before .before .before .before .halve .ensures) (flatten .flatten .ensures) (fir .fir5-core .ensures)))  -- returns
+    (λ c.
+    let fir = c .before .before in let flatten = fir .before .before .before in
+    in-turn _ (flatten .before .before .before .before .halve .ensures) (flatten .flatten .ensures)
+    (fir .fir5-core .ensures)))  -- returns

@@ -22,7 +22,8 @@ pub pitch-xcorr-spec : {M : Type 1} → statement M
 pitch-xcorr-spec =
     tie.close
     (tie.spec
-    (λ c. done (record { enough = λ h. omega arith; rounded = λ h. omega arith }) (leaves (none _ _ _ (c .if1 .taken))))  -- returns
+    (λ c. done (record { enough = λ h. omega arith; rounded = λ h. omega arith })
+    (leaves (none _ _ _ (c .if1 .taken))))  -- returns
     (λ c. refused (λ fits. omega (arith, fits .enough (omega arith))) refl)  -- returns-2
     (λ c. omega arith)  -- sub-if3
     (λ c. omega arith)  -- sub-if3-2
@@ -33,4 +34,6 @@ pitch-xcorr-spec =
     (λ c. refused (λ fits. omega (arith, fits .rounded (omega arith))) refl)  -- returns-4
     core-requires
     (λ c. search needs)  -- same-length
-    (λ c. let core = c .before .before .pitch-xcorr-core in done (core-requires (c .before .before .before) (core .lifetimes)) (leaves (core .ensures))))  -- returns-5
+    (λ c.
+    let core = c .before .before .pitch-xcorr-core in
+    done (core-requires (c .before .before .before) (core .lifetimes)) (leaves (core .ensures))))  -- returns-5

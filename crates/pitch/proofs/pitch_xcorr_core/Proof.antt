@@ -10,6 +10,8 @@ pitch-xcorr-core-spec =
     (λ c κs. search needs)  -- xcorr-fours-requires
     (λ c κs.
     let fours = c .before .before .before .xcorr-fours in
-    rw (fours .kept .1 .1 .0) (c .before .before .before .before .before .before .before .before .pre, fours .ensures))  -- xcorr-rest-requires
+    rw (fours .kept .1 .1 .0)
+    (c .before .before .before .before .before .before .before .before .pre, fours .ensures))  -- xcorr-rest-requires
     (λ c. search needs)  -- same-length
-    (λ c. rw (← c .before .before .before .before .before .before .xcorr-fours .kept .1 .1 .0) (c .before .before .xcorr-rest .ensures)))  -- returns
+    (λ c. rw (← c .before .before .before .before .before .before .xcorr-fours .kept .1 .1 .0)
+    (c .before .before .xcorr-rest .ensures)))  -- returns

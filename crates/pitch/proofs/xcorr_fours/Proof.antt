@@ -10,6 +10,10 @@ xcorr-fours-spec =
     (λ c κs. search needs)  -- xcorr-sixteens-requires
     (λ c κs.
     let sixteens = c .before .before .before .xcorr-sixteens in
-    rw (sixteens .kept .1 .1 .0) (c .before .before .before .before .before .before .before .before .pre, sixteens .ensures))  -- xcorr-fours-left-requires
+    rw (sixteens .kept .1 .1 .0) (
+      c .before .before .before .before .before .before .before .before .pre,
+      sixteens .ensures,
+    ))  -- xcorr-fours-left-requires
     (λ c. search needs)  -- same-length
-    (λ c. rw (← c .before .before .before .before .before .before .xcorr-sixteens .kept .1 .1 .0) (c .before .before .xcorr-fours-left .ensures)))  -- returns
+    (λ c. rw (← c .before .before .before .before .before .before .xcorr-sixteens .kept .1 .1 .0)
+    (c .before .before .xcorr-fours-left .ensures)))  -- returns

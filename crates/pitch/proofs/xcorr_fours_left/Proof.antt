@@ -5,7 +5,7 @@ use denote.Ref.{now}
 use Rattle.rules.proofs.Loops.{turns}
 use Rattle.rules.proofs.Lists.{Filling, tab-front, front-tab}
 use Rattle.pitch.specs.Xcorr.{lagOf, wholeFours}
-use Rattle.pitch.specs.Parts.{wholeSixteens}
+use Rattle.pitch.specs.Private.{wholeSixteens}
 use Rattle.pitch.proofs.Sums.{lags-stored}
 use Rattle.pitch.proofs.xcorr_fours_left.Statement.{statement}
 use Rattle.pitch.proofs.xcorr_fours_left.Tie as tie
@@ -25,8 +25,12 @@ loop-holds c =
 loop-again : tie.Need-loop-again Inv-loop μ-loop
 loop-again c =
     let l = c .before .before .before .before .before .before .loop in
-    let next : 4 * (l .k + 1) ≡ 4 * l .k + 4 = omega arith in
-    (omega arith, refl, rw next (lags-stored _ _ _ _ refl (4 * l .k) (l .inv .2) (omega arith) (c .before .before .before .corr4 .ensures) (c .before .before .put-four .ensures)))
+    let next : 4 * (l .k + 1) ≡ 4 * l .k + 4 = omega arith in (
+      omega arith,
+      refl,
+      rw next (lags-stored _ _ _ _ refl (4 * l .k) (l .inv .2) (omega arith) (c .before .before .before .corr4 .ensures)
+          (c .before .before .put-four .ensures)),
+    )
 
 returns : tie.Need-returns Inv-loop μ-loop
 returns c =
@@ -44,7 +48,8 @@ xcorr-fours-left-spec =
     (λ c. search turns)  -- mul-k
     loop-holds
     (λ c. search turns)  -- mul-i
-    (λ c κs. omega (arith, c .before .before .before .before .before .before .pre .0 .enough (omega arith)))  -- corr4-requires
+    (λ c κs.
+    omega (arith, c .before .before .before .before .before .before .pre .0 .enough (omega arith)))  -- corr4-requires
     (λ c κs. omega (arith, c .before .before .before .loop .inv .2 .same))  -- put-four-requires
     (λ c. search turns)  -- add-k
     (λ c. search turns)  -- loop-less

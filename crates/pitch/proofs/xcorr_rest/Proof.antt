@@ -30,7 +30,8 @@ returns : tie.Need-returns Inv-loop μ-loop
 unfolding pitchXcorr
 returns c =
     let l = c .before .loop in
-    l .inv .3 ∙ tab-done _ _ _ (length (now (c .before .before .before .before .before .args .xcorr))) (omega arith) (omega arith)
+    l .inv .3 ∙ tab-done _ _ _ (length (now (c .before .before .before .before .before .args .xcorr))) (omega arith)
+    (omega arith)
 
 pub xcorr-rest-spec : {M : Type 1} → statement M
 xcorr-rest-spec =

@@ -1,4 +1,5 @@
--- `pitch_search::find_best_pitch` meets its contract: a refusal by the test, else what the core ensures. Assumes nothing.
+-- `pitch_search::find_best_pitch` meets its contract: a refusal by the test, else what the core ensures.
+-- Assumes nothing.
 use mathlib.Core.Path.{refl, ap}
 use native.Mathlib.Omega.{arith}
 use borrow.Author.Needs.{needs}
@@ -16,4 +17,6 @@ find-best-pitch-spec =
     (λ c. search needs)  -- sub-if2
     (λ c. refused (λ fits. omega arith) refl)  -- returns-2
     (λ c κs. search needs)  -- find-best-pitch-core-requires
-    (λ c. done (search needs) (ap (λ (s : Search). Pitches.Best (s .bestPitch) (s .secondBestPitch)) (c .find-best-pitch-core .ensures))))  -- returns-3
+    (λ c. done (search needs)
+    (ap (λ (s : Search). Pitches.Best (s .bestPitch) (s .secondBestPitch))
+    (c .find-best-pitch-core .ensures))))  -- returns-3

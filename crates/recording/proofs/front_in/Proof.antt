@@ -13,4 +13,10 @@ front-in-spec =
     (λ c. search needs)  -- add-t6
     (λ c κs. search needs)  -- number-in-requires-3
     (λ c. search needs)  -- cast-t8
-    (λ c. rw (c .before .before .before .side-in .ensures, c .before .before .number-in .ensures .0, c .before .number-in2 .ensures .0, c .number-in3 .ensures .0)))  -- returns
+    (λ c.
+    rw (
+      c .before .before .before .side-in .ensures,
+      c .before .before .number-in .ensures .0,
+      c .before .number-in2 .ensures .0,
+      c .number-in3 .ensures .0,
+    )))  -- returns

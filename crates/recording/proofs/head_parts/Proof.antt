@@ -11,7 +11,12 @@ returns : tie.Need-returns
 unfolding four
 returns c =
     let p = now (c .before .before .before .before .before .before .before .before .before .args .plain) in
-    c .put4 .ensures ∙ rw (take-all (length p - 36) (drop 36 p) (simp length-drop (omega arith)), c .before .before .put3 .ensures, c .before .before .before .put2 .ensures, c .before .before .before .before .before .put .ensures)
+    c .put4 .ensures ∙ rw (
+      take-all (length p - 36) (drop 36 p) (simp length-drop (omega arith)),
+      c .before .before .put3 .ensures,
+      c .before .before .before .put2 .ensures,
+      c .before .before .before .before .before .put .ensures,
+    )
 
 pub head-parts-spec : {M : Type 1} → statement M
 head-parts-spec =

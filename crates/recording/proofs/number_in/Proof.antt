@@ -16,4 +16,6 @@ number-in-spec =
     (λ c. search needs)  -- add-joined-3
     (λ c. search needs)  -- array-read-joined-4
     (λ c κs. search needs)  -- joined-requires
-    (λ c. let a = c .before .args in (c .joined .ensures .0 ∙ sym (four-at (a .t1) (a .at)), c .joined .ensures .1)))  -- returns
+    (λ c.
+    let a = c .before .args in
+    (c .joined .ensures .0 ∙ sym (four-at (a .t1) (a .at)), c .joined .ensures .1)))  -- returns

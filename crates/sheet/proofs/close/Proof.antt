@@ -21,4 +21,8 @@ close-spec =
     (λ c. search needs)  -- slice-aggregate-copy
     (λ c κs. search needs)  -- copy-requires
     (λ c. search needs)  -- same-length
-    (λ c. let n = c .before .before .before .before .before .before .before .before .before in closing (now (n .args .out)) _ _ (c .before .before .copy .ensures ∙ c .before .before .before .before .before .trailer-of .ensures) (c .before .before .before .before .before .before .total .ensures .0) (n .pre .0)))  -- returns
+    (λ c.
+    let n = c .before .before .before .before .before .before .before .before .before in
+    closing (now (n .args .out))
+    _ _ (c .before .before .copy .ensures ∙ c .before .before .before .before .before .trailer-of .ensures)
+    (c .before .before .before .before .before .before .total .ensures .0) (n .pre .0)))  -- returns

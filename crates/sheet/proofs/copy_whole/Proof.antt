@@ -12,7 +12,8 @@ returns-2 : tie.Need-returns-2
 returns-2 c =
     let a = c .before .before .before .before .before .before .before .before in
     rw (le-ltb _ _ (c .before .before .before .before .if1 .left), c .before .before .copy .ensures)
-    (leave-both (all-stored (now (a .args .numbers)) (length (now (a .args .file)) ∷ a .args .records ∷ []) (a .pre)) refl)
+    (leave-both (all-stored (now (a .args .numbers)) (length (now (a .args .file)) ∷ a .args .records ∷ []) (a .pre))
+    refl)
 
 pub copy-whole-spec : {M : Type 1} → statement M
 copy-whole-spec =

@@ -46,7 +46,8 @@ returns-3 c =
     let r = c .before .before .before .before .before in
     let told = sym (c .before .before .before .start .given .1) ∙ r .read .ensures in
     let one = r .before .if1 .left in
-    rw (eq-eqb _ 1 one, entry-found _ _ _ told (c .before .if2 .left), ← c .entry-of .ensures) (leaves (all-stored (now (r .before .before .before .before .args .entry)) (c .entry-of .result ∷ []) one))
+    rw (eq-eqb _ 1 one, entry-found _ _ _ told (c .before .if2 .left), ← c .entry-of .ensures)
+    (leaves (all-stored (now (r .before .before .before .before .args .entry)) (c .entry-of .result ∷ []) one))
 
 returns-4 : tie.Need-returns-4
 unfolding entryAt

@@ -14,5 +14,10 @@ entry-of-spec =
     (λ c. search needs)  -- shared-slice-read-result
     (λ c. omega (arith, c .shared-slice-known2 .given (c .before .before .before .args .at + 4)))  -- cast-result
     (λ c. omega (arith, c .shared-slice-known2 .given (c .before .before .before .args .at + 4)))  -- mul-result
-    (λ c. omega (arith, c .before .number-at .ensures .1, c .shared-slice-known2 .given (c .before .before .before .args .at + 4)))  -- add-result-2
+    (λ c.
+    omega (
+      arith,
+      c .before .number-at .ensures .1,
+      c .shared-slice-known2 .given (c .before .before .before .args .at + 4),
+    ))  -- add-result-2
     (λ c. rw (entry-at, c .before .number-at .ensures .0)))  -- returns

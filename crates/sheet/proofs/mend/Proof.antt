@@ -16,18 +16,31 @@ returns-2 c = search tests
 
 returns-3 : tie.Need-returns-3
 returns-3 c =
-    let told = sym (c .before .before .before .before .before .before .before .before .before .start .given .1) ∙ c .before .before .before .before .before .before .before .before .before .before .before .read .ensures in
-    c .before .before .before .before .copy-whole .ensures ∙ by-copy _ _ _ _ (c .before .before .before .before .before .before .before .before .before .before .before .before .before .if1 .left) (c .before .before .before .before .before .before .before .before .before .before .before .before .if2 .left) (rw (c .before .before .before .before .before .before .before .if3 .taken) at told)
+    let told = sym (c .before .before .before .before .before .before .before .before .before .start .given .1)
+    ∙ c .before .before .before .before .before .before .before .before .before .before .before .read .ensures in
+    c .before .before .before .before .copy-whole .ensures
+    ∙ by-copy
+    _ _ _ _ (c .before .before .before .before .before .before .before .before .before .before .before .before .before
+    .if1 .left)
+    (c .before .before .before .before .before .before .before .before .before .before .before .before .if2 .left)
+    (rw (c .before .before .before .before .before .before .before .if3 .taken) at told)
 
 mend-run-requires : tie.Need-mend-run-requires
 mend-run-requires c κs =
-    let told = sym (c .before .before .before .before .start .given .1) ∙ c .before .before .before .before .before .before .read .ensures in
-    (c .before .before .before .before .before .before .before .before .if1 .left, c .before .before .before .before .before .before .before .if2 .left, read-elsewhere _ _ told (c .before .before .if3 .left))
+    let told = sym (c .before .before .before .before .start .given .1)
+    ∙ c .before .before .before .before .before .before .read .ensures in (
+      c .before .before .before .before .before .before .before .before .if1 .left,
+      c .before .before .before .before .before .before .before .if2 .left,
+      read-elsewhere _ _ told (c .before .before .if3 .left),
+    )
 
 mend-run-requires-2 : tie.Need-mend-run-requires-2
 mend-run-requires-2 c κs =
-    let told = sym (c .before .before .enum-told .given .1) ∙ c .before .before .before .before .read .ensures in
-    (c .before .before .before .before .before .before .if1 .left, c .before .before .before .before .before .if2 .left, not-read _ _ told)
+    let told = sym (c .before .before .enum-told .given .1) ∙ c .before .before .before .before .read .ensures in (
+      c .before .before .before .before .before .before .if1 .left,
+      c .before .before .before .before .before .if2 .left,
+      not-read _ _ told,
+    )
 
 pub mend-spec : {M : Type 1} → statement M
 mend-spec =

@@ -4,7 +4,8 @@ use native.Mathlib.Omega.{arith}
 use borrow.Author.Needs.{needs}
 use borrow.Author.Tests.{not-true, not-false}
 use denote.Ref.{now}
-use Rattle.sheet.proofs.Halves.{distance-is, number-is, side-is, padded-is, at-31, at-32, at-32′, at-33, at-33′, at-good}
+use Rattle.sheet.proofs.Halves.{distance-is, number-is, side-is, padded-is, at-31, at-32, at-32′, at-33, at-33′}
+use Rattle.sheet.proofs.Halves.{at-good}
 use Rattle.sheet.proofs.pointed_to.Statement.{statement}
 use Rattle.sheet.proofs.pointed_to.Tie as tie
 
@@ -28,15 +29,20 @@ returns-3 c =
     (at-32′ s ds ns (omega arith) (c .before .if2 .left) (c .if3 .taken), tt)
 
 cast-side : tie.Need-cast-side
-cast-side c = let s = now (c .before .before .before .before .before .before .before .args .file) in omega (arith, c .shared-slice-known2 .given (length s - 16 + 8))
+cast-side c = let s = now (c .before .before .before .before .before .before .before .args .file) in
+    omega (arith, c .shared-slice-known2 .given (length s - 16 + 8))
 
 returns-4 : tie.Need-returns-4
 returns-4 c =
     let n = c .before .before .before .before in
     let s = now (n .before .before .before .before .args .file) in
     let ds = n .before .number-at .ensures .0 ∙ sym (distance-is s) in
-    let ns = n .number-at2 .ensures .0 ∙ sym (number-is s) in
-    (at-33 s ds ns (omega arith) (c .before .before .before .if2 .left) (c .before .before .if3 .left) (sym (side-is s)) (c .if4 .taken), tt)
+    let ns = n .number-at2 .ensures .0 ∙ sym (number-is s) in (
+      at-33 s ds ns (omega arith) (c .before .before .before .if2 .left) (c .before .before .if3 .left)
+          (sym (side-is s))
+          (c .if4 .taken),
+      tt,
+    )
 
 returns-5 : tie.Need-returns-5
 returns-5 c =
@@ -44,8 +50,11 @@ returns-5 c =
     let s = now (n .before .before .before .before .args .file) in
     let ds = n .before .number-at .ensures .0 ∙ sym (distance-is s) in
     let ns = n .number-at2 .ensures .0 ∙ sym (number-is s) in
-    let z = padded-is s ∙ sym (c .before .zeros-at .ensures) ∙ not-true _ (c .if5 .taken) in
-    (at-33′ s ds ns (omega arith) (c .before .before .before .before .before .if2 .left) (c .before .before .before .before .if3 .left) (sym (side-is s)) (c .before .before .if4 .left) z, tt)
+    let z = padded-is s ∙ sym (c .before .zeros-at .ensures) ∙ not-true _ (c .if5 .taken) in (
+      at-33′ s ds ns (omega arith) (c .before .before .before .before .before .if2 .left)
+          (c .before .before .before .before .if3 .left) (sym (side-is s)) (c .before .before .if4 .left) z,
+      tt,
+    )
 
 returns-6 : tie.Need-returns-6
 returns-6 c =
@@ -53,8 +62,11 @@ returns-6 c =
     let s = now (n .before .before .before .before .args .file) in
     let ds = n .before .number-at .ensures .0 ∙ sym (distance-is s) in
     let ns = n .number-at2 .ensures .0 ∙ sym (number-is s) in
-    let z = padded-is s ∙ sym (c .before .zeros-at .ensures) ∙ not-false _ (c .if5 .left) in
-    (at-good s ds ns (omega arith) (c .before .before .before .before .before .if2 .left) (c .before .before .before .before .if3 .left) (sym (side-is s)) (c .before .before .if4 .left) z, omega (arith, n .before .number-at .ensures .1, c .before .before .before .before .before .if2 .left))
+    let z = padded-is s ∙ sym (c .before .zeros-at .ensures) ∙ not-false _ (c .if5 .left) in (
+      at-good s ds ns (omega arith) (c .before .before .before .before .before .if2 .left)
+          (c .before .before .before .before .if3 .left) (sym (side-is s)) (c .before .before .if4 .left) z,
+      omega (arith, n .before .number-at .ensures .1, c .before .before .before .before .before .if2 .left),
+    )
 
 pub pointed-to-spec : {M : Type 1} → statement M
 pointed-to-spec =

@@ -23,8 +23,16 @@ run-of-spec =
     (λ c. (omega arith, run-begin _ _ _))  -- loop-holds
     (λ c. search needs)  -- mul-is-good
     (λ c κs. search needs)  -- is-good-requires
-    (λ c. let l = c .before .before .before .loop in sym (l .inv .1 ∙ run-stops _ _ _ (l .i) (omega arith) (sym (c .before .is-good .ensures) ∙ not-true _ (c .if1 .taken))))  -- returns
+    (λ c.
+    let l = c .before .before .before .loop in
+    sym (l .inv .1 ∙ run-stops _ _ _ (l .i) (omega arith)
+    (sym (c .before .is-good .ensures) ∙ not-true _ (c .if1 .taken))))  -- returns
     (λ c. search needs)  -- add-i
     (λ c. search needs)  -- loop-less
-    (λ c. let l = c .before .before .before .loop in (omega arith, l .inv .1 ∙ run-more _ _ _ (l .i) (omega arith) (sym (c .before .is-good .ensures) ∙ not-false _ (c .if1 .left))))  -- loop-again
-    (λ c. let l = c .before .loop in sym (l .inv .1 ∙ run-ended _ _ _ (l .i) (omega arith) (omega arith))))  -- returns-2
+    (λ c.
+    let l = c .before .before .before .loop in (
+      omega arith,
+      l .inv .1 ∙ run-more _ _ _ (l .i) (omega arith) (sym (c .before .is-good .ensures) ∙ not-false _ (c .if1 .left)),
+    ))  -- loop-again
+    (λ c.
+    let l = c .before .loop in sym (l .inv .1 ∙ run-ended _ _ _ (l .i) (omega arith) (omega arith))))  -- returns-2

@@ -25,5 +25,7 @@ total-spec =
     (λ c. omega (arith, c .shared-slice-known .given (c .before .before .loop .i)))  -- add-sum
     (λ c. search needs)  -- add-i
     (λ c. search needs)  -- loop-less
-    (λ c. let l = c .before .before .loop in let b = c .shared-slice-known .given (l .i) in (omega arith, refl, omega arith, sum-more _ (l .i) (omega arith) (l .inv .3)))  -- loop-again
+    (λ c.
+    let l = c .before .before .loop in let b = c .shared-slice-known .given (l .i) in
+    (omega arith, refl, omega arith, sum-more _ (l .i) (omega arith) (l .inv .3)))  -- loop-again
     (λ c. let l = c .before .loop in (l .inv .3 ∙ ap sum (take-all (l .i) _ (omega arith)), omega arith)))  -- returns

@@ -34,20 +34,30 @@ returns-4 c =
 
 write-records-requires : tie.Need-write-records-requires
 write-records-requires c κs =
-    let k = c .before .before .before in
-    (simp length-take (omega arith), k .before .if2 .left, all-heard _ (sym (k .kinds-good .ensures) ∙ not-false _ (c .before .before .if3 .left)))
+    let k = c .before .before .before in (
+      simp length-take (omega arith),
+      k .before .if2 .left,
+      all-heard _ (sym (k .kinds-good .ensures) ∙ not-false _ (c .before .before .if3 .left)),
+    )
 
 close-requires : tie.Need-close-requires
 close-requires c κs =
-    let a = c .before .before .before .before .before .before .before .before .before .before .before .before .args in
-    (front-size (a .side) (now (a .entries)) (now (a .out)) (c .before .before .before .write-records .ensures) (c .before .before .before .before .before .if4 .left), omega (arith, c .before .before .before .before .before .before .before .before .before .if1 .left), c .before .before .before .before .before .before .before .before .if2 .left)
+    let a = c .before .before .before .before .before .before .before .before .before .before .before .before .args in (
+      front-size (a .side) (now (a .entries)) (now (a .out)) (c .before .before .before .write-records .ensures)
+          (c .before .before .before .before .before .if4 .left),
+      omega (arith, c .before .before .before .before .before .before .before .before .before .if1 .left),
+      c .before .before .before .before .before .before .before .before .if2 .left,
+    )
 
 returns-5 : tie.Need-returns-5
 unfolding writtenOf
 returns-5 c =
     let k = c .before .before .before .before .before .before .before .before .before .before in
-    let heard = sym (k .kinds-good .ensures) ∙ not-false _ (c .before .before .before .before .before .before .before .before .before .if3 .left) in
-    let a = c .before .before .before .before .before .before .before .before .before .before .before .before .before .before .before .args in
+    let heard = sym (k .kinds-good .ensures)
+    ∙ not-false _ (c .before .before .before .before .before .before .before .before .before .if3 .left) in
+    let a =
+    c .before .before .before .before .before .before .before .before .before .before .before .before .before .before
+    .before .args in
     rw (
       le-ltb _ _ (k .before .before .if1 .left),
       le-ltb 1 _ (k .before .if2 .left),
@@ -56,7 +66,8 @@ returns-5 c =
       c .before .before .close .ensures,
       c .before .before .before .before .before .before .write-records .ensures,
     )
-    (leaves (close-all (record { side = a .side; entries = now (a .entries) }) (now (a .out)) (c .before .before .before .before .before .before .before .before .if4 .left)))
+    (leaves (close-all (record { side = a .side; entries = now (a .entries) }) (now (a .out))
+    (c .before .before .before .before .before .before .before .before .if4 .left)))
 
 pub write-spec : {M : Type 1} → statement M
 write-spec =
@@ -73,7 +84,10 @@ write-spec =
     (λ c. simp length-take (omega arith))  -- slice-aggregate-write-records
     write-records-requires
     (λ c. search needs)  -- slice-relend-prefix-close
-    (λ c. let a = c .before .before .before .before .before .before .before .before .before .before .before .before .args in sym (front-size (a .side) (now (a .entries)) (now (a .out)) (c .before .before .before .write-records .ensures) (c .before .before .before .before .before .if4 .left)))  -- slice-aggregate-close
+    (λ c.
+    let a = c .before .before .before .before .before .before .before .before .before .before .before .before .args in
+    sym (front-size (a .side) (now (a .entries)) (now (a .out)) (c .before .before .before .write-records .ensures)
+    (c .before .before .before .before .before .if4 .left)))  -- slice-aggregate-close
     close-requires
     (λ c. search needs)  -- same-length
     returns-5)

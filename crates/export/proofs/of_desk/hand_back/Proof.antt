@@ -21,7 +21,10 @@ hand-back-spec =
     (tie.spec
     (λ c κs. search needs)  -- passed-requires
     (λ c κs. search needs)  -- number-of-requires
-    (λ c. (c .number-of .ensures, rw (answered-no (c .before .before .passed .ensures) (c .before .if1 .taken))))  -- returns
+    (λ c. (
+      c .number-of .ensures,
+      rw (answered-no (c .before .before .passed .ensures) (c .before .if1 .taken)),
+    ))  -- returns
     put-record-requires
     (λ c κs. search needs)  -- number-of-requires-2
     (λ c. search needs)  -- same-length

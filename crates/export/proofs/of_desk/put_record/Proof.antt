@@ -28,7 +28,8 @@ returns : tie.Need-returns
 returns c =
     let way = c .before in
     let start = way .before .before .before .before .before .before .before .before .before .before .before in
-    rw (c .bench-number .ensures, way .way-number .ensures) (all-stored (now (start .args .«record»)) (numbersOf (start .args .side) (start .args .rec)) (start .pre .0))
+    rw (c .bench-number .ensures, way .way-number .ensures)
+    (all-stored (now (start .args .«record»)) (numbersOf (start .args .side) (start .args .rec)) (start .pre .0))
 
 pub put-record-spec : {M : Type 1} → statement M
 put-record-spec =
@@ -50,7 +51,11 @@ put-record-spec =
     (λ c. simp length-set (omega arith))  -- slice-write-record-8
     (λ c. search needs)  -- cast-record-7
     (λ c. simp length-set (omega arith))  -- slice-write-record-9
-    (λ c. omega (arith, c .before .before .before .before .before .before .before .before .before .pre .1 .progress))  -- cast-record-8
+    (λ c.
+    omega (
+      arith,
+      c .before .before .before .before .before .before .before .before .before .pre .1 .progress,
+    ))  -- cast-record-8
     (λ c. simp length-set (omega arith))  -- slice-write-record-10
     (λ c κs. search needs)  -- way-number-requires
     (λ c. simp length-set (omega arith))  -- slice-write-record-11

@@ -11,15 +11,19 @@ use Rattle.export.proofs.of_desk.record_in.Statement.{statement}
 use Rattle.export.proofs.of_desk.record_in.Tie as tie
 
 -- a record from twelve places
-made : (side : ℕ) (ns : List ℕ) → length ns ≡ RECORD → getD ns 10 0 ≤ 1 → eqb (getD ns 11 0) (benchNumber side (getD ns 0 0)) ≡ true
+made : (side : ℕ) (ns : List ℕ) → length ns ≡ RECORD → getD ns 10 0 ≤ 1
+    → eqb (getD ns 11 0) (benchNumber side (getD ns 0 0)) ≡ true
     → {idle r : Record} {hearing : Hearing} {due waiting size progress : ℕ}
-    → r ≡ holding due idle waiting size progress → idle ≡ recordOf 0 hearing (getD ns 5 0) (getD ns 6 0) → hearing ≡ hearingIn ns
+    → r ≡ holding due idle waiting size progress → idle ≡ recordOf 0 hearing (getD ns 5 0) (getD ns 6 0)
+    → hearing ≡ hearingIn ns
     → due ≡ getD ns 0 0 → waiting ≡ getD ns 7 0 → size ≡ getD ns 8 0 → progress ≡ getD ns 9 0 → r ≡ recordIn side ns
 unfolding recordIn
-made side ns whole way own h o k d w s p = rw (eq-eqb (length ns) RECORD whole, le-leb (getD ns 10 0) 1 way, own, h, o, k, d, w, s, p)
+made side ns whole way own h o k d w s p =
+    rw (eq-eqb (length ns) RECORD whole, le-leb (getD ns 10 0) 1 way, own, h, o, k, d, w, s, p)
 
 -- another bench's
-strange : (side : ℕ) (ns : List ℕ) → length ns ≡ RECORD → getD ns 10 0 ≤ 1 → eqb (getD ns 11 0) (benchNumber side (getD ns 0 0)) ≡ false
+strange : (side : ℕ) (ns : List ℕ) → length ns ≡ RECORD → getD ns 10 0 ≤ 1
+    → eqb (getD ns 11 0) (benchNumber side (getD ns 0 0)) ≡ false
     → {r : Record} → r ≡ recordOf 5 noHearing 0 0 → r ≡ recordIn side ns
 unfolding recordIn
 strange side ns whole way other e = rw (eq-eqb (length ns) RECORD whole, le-leb (getD ns 10 0) 1 way, other) e
@@ -29,7 +33,8 @@ returns-3 c =
     let i = c .before in
     let b = i .before in
     let way = b .before in
-    strange _ _ (way .before .before .if1 .left) (way .if2 .left) (answered-no (b .belongs .ensures) (i .if3 .taken)) (c .no-record3 .ensures)
+    strange _ _ (way .before .before .if1 .left) (way .if2 .left) (answered-no (b .belongs .ensures) (i .if3 .taken))
+    (c .no-record3 .ensures)
 
 returns-4 : tie.Need-returns-4
 returns-4 c =
@@ -42,7 +47,8 @@ returns-4 c =
     let i = h .before in
     let b = i .before in
     let way = b .before in
-    made _ _ (way .before .before .if1 .left) (way .if2 .left) (answered-yes (b .belongs .ensures) (i .if3 .left)) (c .holding .ensures) (r .record-of .ensures)
+    made _ _ (way .before .before .if1 .left) (way .if2 .left) (answered-yes (b .belongs .ensures) (i .if3 .left))
+    (c .holding .ensures) (r .record-of .ensures)
     (h .hearing-in .ensures) (w1 .wide .ensures) (w2 .wide2 .ensures) (w3 .wide3 .ensures) (w4 .wide4 .ensures)
 
 pub record-in-spec : {M : Type 1} → statement M

@@ -18,7 +18,8 @@ sized c = c .before .before .before .before .pre (done c)
 returns-2 : tie.Need-returns-2
 returns-2 c =
     let three = c .three-of .result in
-    rw (done c) (all-stored (now (c .before .before .before .before .args .answer)) (three .heard ∷ three .voice ∷ three .energy ∷ []) (sized c) ∙ c .three-of .ensures)
+    rw (done c) (all-stored (now (c .before .before .before .before .args .answer))
+    (three .heard ∷ three .voice ∷ three .energy ∷ []) (sized c) ∙ c .three-of .ensures)
 
 pub tell-spec : {M : Type 1} → statement M
 tell-spec =

@@ -1,4 +1,5 @@
--- `tuppence_open` meets its contract: it is the call of the desk, and its answer is handed back as numbers. Assumes nothing.
+-- `tuppence_open` meets its contract: it is the call of the desk, and its answer is handed back as numbers.
+-- Assumes nothing.
 use mathlib.Core.Path.{refl}
 use borrow.Author.Needs.{needs}
 use Rattle.export.proofs.Handed.{hands-back, handed}

@@ -1,4 +1,5 @@
--- `tuppence_resume` meets its contract: it is the call of the desk, and its answer is handed back as numbers. Assumes nothing.
+-- `tuppence_resume` meets its contract: it is the call of the desk, and its answer is handed back as numbers.
+-- Assumes nothing.
 use Rattle.rules.proofs.Common.{[], _∷_, refl, length}
 use native.Mathlib.Omega.{arith}
 use borrow.Author.Needs.{needs}
@@ -25,8 +26,10 @@ tell-requires c κs =
     let r = d .before .before .before .before in
     let p = r .before .before in
     let a = p .before .before .before .before .before .before .before .before .before .args in
-    three _ _ _ _ _ (λ n. resume (now (a .samples)) (now (a .logs)) (now (a .model)) n (length (now (a .sums)))) (now (a .out)) (now (a .answer)) _ (now (a .sums) ∷ []) _ _
-    (p .places .result) (no-resume-out BENCHES _ _ _ (now (a .samples)) (now (a .logs)) (now (a .model)) (length (now (a .sums)))) (λ _. refl) (λ _ _. refl)
+    three _ _ _ _ _ (λ n. resume (now (a .samples)) (now (a .logs)) (now (a .model)) n (length (now (a .sums))))
+    (now (a .out)) (now (a .answer)) _ (now (a .sums) ∷ []) _ _
+    (p .places .result) (no-resume-out BENCHES _ _ _ (now (a .samples)) (now (a .logs)) (now (a .model))
+    (length (now (a .sums)))) (λ _. refl) (λ _ _. refl)
     (r .record-in .ensures) (p .places .ensures) (d .resume .ensures)
 
 hand-back-requires : tie.Need-hand-back-requires
@@ -43,8 +46,10 @@ returns c =
     let r = d .before .before .before .before in
     let p = r .before .before in
     let a = p .before .before .before .before .before .before .before .before .before .args in
-    handed-three _ _ _ _ _ (λ n. resume (now (a .samples)) (now (a .logs)) (now (a .model)) n (length (now (a .sums)))) (now (a .out)) (now (a .answer)) _ (now (a .sums) ∷ []) _ _
-    (p .places .result) (no-resume-out BENCHES _ _ _ (now (a .samples)) (now (a .logs)) (now (a .model)) (length (now (a .sums)))) (λ _. refl) (λ _ _. refl)
+    handed-three _ _ _ _ _ (λ n. resume (now (a .samples)) (now (a .logs)) (now (a .model)) n (length (now (a .sums))))
+    (now (a .out)) (now (a .answer)) _ (now (a .sums) ∷ []) _ _
+    (p .places .result) (no-resume-out BENCHES _ _ _ (now (a .samples)) (now (a .logs)) (now (a .model))
+    (length (now (a .sums)))) (λ _. refl) (λ _ _. refl)
     (r .record-in .ensures) (p .places .ensures) (d .resume .ensures)
     (omega (arith, d .resume .kept)) (t .tell .ensures) (h .hand-back .ensures)
 

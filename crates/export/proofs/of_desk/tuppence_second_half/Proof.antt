@@ -1,4 +1,5 @@
--- `tuppence_second_half` meets its contract: it is the call of the desk, and its answer is handed back as numbers. Assumes nothing.
+-- `tuppence_second_half` meets its contract: it is the call of the desk, and its answer is handed back as numbers.
+-- Assumes nothing.
 use Rattle.rules.proofs.Common.{[], refl, length}
 use native.Mathlib.Omega.{arith}
 use borrow.Author.Needs.{needs}
@@ -25,8 +26,10 @@ tell-requires c κs =
     let r = d .before .before .before in
     let p = r .before .before in
     let a = p .before .before .before .before .before .before .before .args in
-    three _ _ _ _ _ (secondHalf (now (a .logs)) (now (a .model))) (now (a .out)) (now (a .answer)) _ [] [] _ (p .places .result)
-    (no-half-out BENCHES _ _ _ (now (a .logs)) (now (a .model))) (λ _. refl) (λ _ _. refl) (r .record-in .ensures) (p .places .ensures) (d .second-half .ensures)
+    three _ _ _ _ _ (secondHalf (now (a .logs)) (now (a .model))) (now (a .out)) (now (a .answer)) _ []
+    [] _ (p .places .result)
+    (no-half-out BENCHES _ _ _ (now (a .logs)) (now (a .model))) (λ _. refl) (λ _ _. refl) (r .record-in .ensures)
+    (p .places .ensures) (d .second-half .ensures)
 
 hand-back-requires : tie.Need-hand-back-requires
 hand-back-requires c κs =
@@ -42,8 +45,10 @@ returns c =
     let r = d .before .before .before in
     let p = r .before .before in
     let a = p .before .before .before .before .before .before .before .args in
-    handed-three _ _ _ _ _ (secondHalf (now (a .logs)) (now (a .model))) (now (a .out)) (now (a .answer)) _ [] [] _ (p .places .result)
-    (no-half-out BENCHES _ _ _ (now (a .logs)) (now (a .model))) (λ _. refl) (λ _ _. refl) (r .record-in .ensures) (p .places .ensures) (d .second-half .ensures)
+    handed-three _ _ _ _ _ (secondHalf (now (a .logs)) (now (a .model))) (now (a .out)) (now (a .answer)) _ []
+    [] _ (p .places .result)
+    (no-half-out BENCHES _ _ _ (now (a .logs)) (now (a .model))) (λ _. refl) (λ _ _. refl) (r .record-in .ensures)
+    (p .places .ensures) (d .second-half .ensures)
     (omega (arith, d .second-half .kept)) (t .tell .ensures) (h .hand-back .ensures)
 
 pub tuppence-second-half-spec : {M : Type 1} → statement M

@@ -1,4 +1,5 @@
--- `tuppence_find` meets its contract: a period is at most 767, so that nothing is lost in 32 bits, nor in an f32. Assumes nothing.
+-- `tuppence_find` meets its contract: a period is at most 767, so that nothing is lost in 32 bits, nor in an f32.
+-- Assumes nothing.
 use Rattle.rules.proofs.Common.{ℕ, _≤_, _≡_, refl, sym, ap, _∙_, length, length-set, pos, binary32, ofInt}
 use native.Mathlib.Omega.{arith}
 use borrow.Author.Needs.{needs}
@@ -24,10 +25,12 @@ returns-3 c =
 -- the answer is a pitch
 found : (c : tie.After-period)
     → let a = c .before .before .before .before .before .before .before .before .before .before .before .args in
-    (length (now (a .input-mem)) ≡ 1728) × (c .before .before .before .find .result ≡ Found.At (foundAfter (now (a .numbers)) (now (a .input-mem))))
+    (length (now (a .input-mem)) ≡ 1728)
+    × (c .before .before .before .find .result ≡ Found.At (foundAfter (now (a .numbers)) (now (a .input-mem))))
 found c =
     let asked = c .before .before in
-    taken-up foundNumber (asked .before .find .ensures) (λ z. omega arith) (sym (asked .number .ensures) ∙ c .before .if3 .left)
+    taken-up foundNumber (asked .before .find .ensures) (λ z. omega arith)
+    (sym (asked .number .ensures) ∙ c .before .if3 .left)
 
 period-is : (c : tie.After-period)
     → let a = c .before .before .before .before .before .before .before .before .before .before .before .args in
@@ -47,7 +50,8 @@ returns-4 c =
     let one : length (now (a .place)) ≡ 1 = omega arith in
     done (record { two = two; one = one; whole = found period .0 })
     (leave-both
-    (stored-two (now (a .numbers)) two (ap (λ (n : ℕ). ofInt binary32 (pos n)) (period-is period)) (c .gain .ensures ∙ ap gainIn (found period .1)))
+    (stored-two (now (a .numbers)) two (ap (λ (n : ℕ). ofInt binary32 (pos n)) (period-is period))
+    (c .gain .ensures ∙ ap gainIn (found period .1)))
     (stored (now (a .place)) one (period-is period)))
 
 pub tuppence-find-spec : {M : Type 1} → statement M

@@ -19,14 +19,21 @@ returns-2 c =
 
 -- the answer is a lag
 found : (c : tie.After-lag)
-    → let mem = now (c .before .before .before .before .before .before .before .args .input-mem) in (length mem ≡ 1728) × (c .lag .result ≡ ownLag mem)
+    → let mem = now (c .before .before .before .before .before .before .before .args .input-mem) in
+    (length mem ≡ 1728) × (c .lag .result ≡ ownLag mem)
 found c =
     let asked = c .before .before in
-    let t = taken-up ownNumber (asked .before .lag-of .ensures) (λ z. omega arith) (sym (asked .number .ensures) ∙ c .before .if2 .left) in
+    let t = taken-up ownNumber (asked .before .lag-of .ensures) (λ z. omega arith)
+    (sym (asked .number .ensures) ∙ c .before .if2 .left) in
     (t .0, c .lag .ensures ∙ ap lagIn (t .1))
 
 cast-place : tie.Need-cast-place
-cast-place c = omega (arith, found c .1, in-range (now (c .before .before .before .before .before .before .before .args .input-mem)) .1)
+cast-place c =
+    omega (
+      arith,
+      found c .1,
+      in-range (now (c .before .before .before .before .before .before .before .args .input-mem)) .1,
+    )
 
 returns-3 : tie.Need-returns-3
 returns-3 c =

@@ -15,4 +15,5 @@ tuppence-dense-spec =
     (λ c κs. search needs)  -- activation-of-requires
     (λ c κs. search needs)  -- dense-requires
     (λ c. search needs)  -- same-length
-    (λ c. rw (← c .before .before .before .activation-of .ensures) (known (omega arith) (c .before .before .dense .ensures))))  -- returns-2
+    (λ c. rw (← c .before .before .before .activation-of .ensures)
+    (known (omega arith) (c .before .before .dense .ensures))))  -- returns-2

@@ -12,7 +12,10 @@ number-of-requires c κs =
     answered-by _ _ _ _ _ _ _ (called .compute .ensures)
 
 returns : tie.Need-returns
-returns c = rw (c .number-of .ensures) (ap computedTold (c .before .before .before .before .before .before .before .before .before .before .before .compute .ensures))
+returns c =
+    rw (c .number-of .ensures)
+    (ap computedTold
+    (c .before .before .before .before .before .before .before .before .before .before .before .compute .ensures))
 
 pub tuppence-network-spec : {M : Type 1} → statement M
 tuppence-network-spec =

@@ -14,11 +14,15 @@ use Rattle.export.proofs.of_numbers.tuppence_filter.Tie as tie
 returns-4 : tie.Need-returns-4
 returns-4 c =
     let called = c .before .before in
-    let a = called .before .before .before .before .before .before .before .before .before .before .before .before .before .before .before .args in
-    let fits : BiquadFits (length (now (a .output))) (length (now (a .memory))) (length (now (a .coefficients))) (length (now (a .input))) =
+    let a =
+    called .before .before .before .before .before .before .before .before .before .before .before .before .before
+    .before .before .args in
+    let fits : BiquadFits (length (now (a .output))) (length (now (a .memory))) (length (now (a .coefficients)))
+    (length (now (a .input))) =
     record { memories = omega arith; four = omega arith; same = omega arith } in
     let m = called .filter .result .memory in
-    let f = filters (biquadOf (now (a .coefficients))) (memoryOf (now (a .memory))) (now (a .input)) (called .filter .ensures) (fits .same) in
+    let f = filters (biquadOf (now (a .coefficients))) (memoryOf (now (a .memory))) (now (a .input))
+    (called .filter .ensures) (fits .same) in
     done fits (rw (all-stored (now (a .memory)) (memoryList m) (fits .memories), f .0, f .1))
 
 pub tuppence-filter-spec : {M : Type 1} → statement M

@@ -19,7 +19,8 @@ returns-2 c =
 returns-3 : tie.Need-returns-3
 returns-3 c =
     let asked = c .before .before in
-    let t = taken-up productNumber (asked .before .inner-prod .ensures) (λ z. omega arith) (sym (asked .number .ensures) ∙ c .before .if2 .left) in
+    let t = taken-up productNumber (asked .before .inner-prod .ensures) (λ z. omega arith)
+    (sym (asked .number .ensures) ∙ c .before .if2 .left) in
     let sum = now (asked .before .before .before .before .before .before .args .sum) in
     let one : length sum ≡ 1 = omega arith in
     done (record { one = one; inner = t .0 }) (leaves (stored sum one (c .sum .ensures ∙ ap sumOf (t .1))))

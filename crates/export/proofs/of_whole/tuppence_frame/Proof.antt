@@ -1,4 +1,5 @@
--- `tuppence_frame` meets its contract: it is a frame of `whole`, and its answer is handed back as numbers. Assumes nothing.
+-- `tuppence_frame` meets its contract: it is a frame of `whole`, and its answer is handed back as numbers.
+-- Assumes nothing.
 use Rattle.rules.proofs.Common.{ℕ, List, [], length, Float}
 use native.Mathlib.Omega.{arith}
 use borrow.Author.Needs.{needs}
@@ -23,7 +24,11 @@ module _ (side : ℕ) (b : Record) (store samples : List Float) (model : List �
       }
 
   known : Telling 1 (frame BENCHES side b store samples model)
-  known = record { no-place = frame-no-out BENCHES side b store samples model; writes = frame-buffers BENCHES side b store samples model }
+  known =
+      record {
+        no-place = frame-no-out BENCHES side b store samples model;
+        writes = frame-buffers BENCHES side b store samples model;
+      }
 
 part-frame-end : tie.Need-part-frame-end
 part-frame-end c =
@@ -38,15 +43,19 @@ tell-requires c κs =
     let r = d .before .before .before in
     let p = r .before .before in
     let a = p .before .before .before .before .before .before .before .args in
-    three (a .side) [] _ (frame BENCHES (a .side) (r .record-in .result) (now (a .store)) (now (a .samples)) (now (a .model))) (now (a .out)) (now (a .answer)) _ [] [] _ (p .places .result)
-    (known (a .side) (r .record-in .result) (now (a .store)) (now (a .samples)) (now (a .model))) (p .places .ensures) (d .frame .ensures)
+    three (a .side) [] _ (frame BENCHES (a .side) (r .record-in .result) (now (a .store)) (now (a .samples))
+    (now (a .model))) (now (a .out)) (now (a .answer)) _ [] [] _ (p .places .result)
+    (known (a .side) (r .record-in .result) (now (a .store)) (now (a .samples)) (now (a .model))) (p .places .ensures)
+    (d .frame .ensures)
 
 hand-back-requires : tie.Need-hand-back-requires
 hand-back-requires c κs =
     let d = c .before .before .before .before .before .before .before .before .before in
     let r = d .before .before .before in
     let a = r .before .before .before .before .before .before .before .before .before .args in
-    hands-back (a .side) _ _ (r .record-in .ensures) (sound (a .side) (r .record-in .result) (now (a .store)) (now (a .samples)) (now (a .model)) _) (d .frame .ensures .answers)
+    hands-back (a .side) _ _ (r .record-in .ensures)
+    (sound (a .side) (r .record-in .result) (now (a .store)) (now (a .samples)) (now (a .model)) _)
+    (d .frame .ensures .answers)
 
 returns : tie.Need-returns
 unfolding get put hostedFrame
@@ -58,8 +67,10 @@ returns c =
     let p = r .before .before in
     let a = p .before .before .before .before .before .before .before .args in
     rw (← r .record-in .ensures)
-    (told-three (a .side) _ _ (frame BENCHES (a .side) (r .record-in .result) (now (a .store)) (now (a .samples)) (now (a .model))) (now (a .out)) (now (a .answer)) _ [] [] _ (p .places .result)
-    (known (a .side) (r .record-in .result) (now (a .store)) (now (a .samples)) (now (a .model))) (p .places .ensures) (d .frame .ensures)
+    (told-three (a .side) _ _ (frame BENCHES (a .side) (r .record-in .result) (now (a .store)) (now (a .samples))
+    (now (a .model))) (now (a .out)) (now (a .answer)) _ [] [] _ (p .places .result)
+    (known (a .side) (r .record-in .result) (now (a .store)) (now (a .samples)) (now (a .model))) (p .places .ensures)
+    (d .frame .ensures)
     (omega (arith, d .frame .kept)) (t .tell .ensures) (h .hand-back .ensures))
 
 pub tuppence-frame-spec : {M : Type 1} → statement M

@@ -12,9 +12,12 @@ use Rattle.features.proofs.Places.{place, laid-out}
 use Rattle.features.proofs.cepstra.add_deltas.Statement.{statement}
 use Rattle.features.proofs.cepstra.add_deltas.Tie as tie
 
-together : (l a b d mem : List Float) (index c1 c2 : ℕ) (v : Float) → length l ≡ 42 → c1 ≡ back index 1 → c2 ≡ back index 2
-    → a ≡ deltas smoothed mem index c1 c2 → b ≡ deltas slope mem index c1 c2 → d ≡ deltas bend mem index c1 c2 → v ≡ variability mem
-    → set (put (place 28 6) (put (place 22 6) (put (place 0 6) l a) b) d) 41 v ≡ laid (part 6 22 l) (part 34 41 l) mem index
+together : (l a b d mem : List Float) (index c1 c2 : ℕ) (v : Float) → length l ≡ 42 → c1 ≡ back index 1
+    → c2 ≡ back index 2
+    → a ≡ deltas smoothed mem index c1 c2 → b ≡ deltas slope mem index c1 c2 → d ≡ deltas bend mem index c1 c2
+    → v ≡ variability mem
+    → set (put (place 28 6) (put (place 22 6) (put (place 0 6) l a) b) d) 41 v
+    ≡ laid (part 6 22 l) (part 34 41 l) mem index
 unfolding laid
 together l a b d mem index c1 c2 v all one two p q r s =
     let six : (of : Float → Float → Float → Float) → length (deltas of mem index (back index 1) (back index 2)) ≡ 6
@@ -30,10 +33,13 @@ returns c =
     let two = first .before .before in
     let one = two .before in
     let start = one .before .before .before in
-    together (now (start .args .features)) (first .delta-rows .last .0) (second .delta-rows2 .last .0) (third .delta-rows3 .last .0)
-    (now (start .args .mem)) (start .args .index) (one .row-back .result) (two .row-back2 .result) (c .spectral-variability .result)
+    together (now (start .args .features)) (first .delta-rows .last .0) (second .delta-rows2 .last .0)
+    (third .delta-rows3 .last .0)
+    (now (start .args .mem)) (start .args .index) (one .row-back .result) (two .row-back2 .result)
+    (c .spectral-variability .result)
     (start .pre .0) (one .row-back .ensures .0) (two .row-back2 .ensures .0)
-    (first .delta-rows .ensures) (second .delta-rows2 .ensures) (third .delta-rows3 .ensures) (c .spectral-variability .ensures)
+    (first .delta-rows .ensures) (second .delta-rows2 .ensures) (third .delta-rows3 .ensures)
+    (c .spectral-variability .ensures)
 
 pub add-deltas-spec : {M : Type 1} → statement M
 add-deltas-spec =

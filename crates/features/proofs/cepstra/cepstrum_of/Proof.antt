@@ -9,7 +9,8 @@ use Rattle.features.specs.Cepstra.{followLogs, lessen, cepstrum}
 use Rattle.features.proofs.cepstra.cepstrum_of.Statement.{statement}
 use Rattle.features.proofs.cepstra.cepstrum_of.Tie as tie
 
-together : (logs ly out : List Float) → ly ≡ followLogs logs → out ≡ dctOf ly → lessen 1 (f32 0x40800000) (lessen 0 (f32 0x41400000) out) ≡ cepstrum logs
+together : (logs ly out : List Float) → ly ≡ followLogs logs → out ≡ dctOf ly
+    → lessen 1 (f32 0x40800000) (lessen 0 (f32 0x41400000) out) ≡ cepstrum logs
 unfolding cepstrum
 together logs ly out a b = rw (b, a)
 

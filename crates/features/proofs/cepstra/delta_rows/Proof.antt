@@ -2,12 +2,13 @@
 use Prim.Native.Nat.{_≤_, _-_}
 use Rattle.rules.proofs.Lists.{Filling, fills}
 use Rattle.features.specs.Cepstra.{cell, deltas}
-use Rattle.features.specs.Parts.{deltaOf}
+use Rattle.features.specs.Private.{deltaOf}
 use Rattle.features.proofs.cepstra.delta_rows.Statement.{statement}
 use Rattle.features.proofs.cepstra.delta_rows.Tie as tie
 
 abbrev Inv-loop : tie.InvT-loop
-Inv-loop out₀ kind mem c0 c1 c2 i₀ out i = (i ≤ 6) × Filling (λ k. deltaOf kind (cell mem c0 k) (cell mem c1 k) (cell mem c2 k)) out₀ i out
+Inv-loop out₀ kind mem c0 c1 c2 i₀ out i =
+    (i ≤ 6) × Filling (λ k. deltaOf kind (cell mem c0 k) (cell mem c1 k) (cell mem c2 k)) out₀ i out
 
 abbrev μ-loop : tie.MeasureT-loop
 μ-loop out₀ kind mem c0 c1 c2 i₀ out i = 6 - i

@@ -11,7 +11,8 @@ use Rattle.features.proofs.cepstra.follow_logs.Tie as tie
 
 abbrev Inv-loop : tie.InvT-loop
 Inv-loop ly₀ logs logMax₀ follow₀ i₀ ly logMax follow i =
-    (i ≤ 22) × (floorsOf logMax follow ≡ loop i (floorStep logs) (floorsOf logMax₀ follow₀)) × Filling (λ k. lyOf (at logs k) (floors logs k)) ly₀ i ly
+    (i ≤ 22) × (floorsOf logMax follow ≡ loop i (floorStep logs) (floorsOf logMax₀ follow₀))
+    × Filling (λ k. lyOf (at logs k) (floors logs k)) ly₀ i ly
 
 abbrev μ-loop : tie.MeasureT-loop
 μ-loop ly₀ logs logMax₀ follow₀ i₀ ly logMax follow i = 22 - i

@@ -10,4 +10,5 @@ nearer-spec = tie.close
     (λ c. rw (eq-eqb _ _ (c .if1 .taken)))  -- returns
     (λ c κs. search needs)  -- row-distance-requires
     (λ c κs. search needs)  -- min-requires
-    (λ c. rw (ne-eqb _ _ (c .before .before .if1 .left), ← c .before .row-distance .ensures) (c .min .ensures)))  -- returns-2
+    (λ c. rw (ne-eqb _ _ (c .before .before .if1 .left), ← c .before .row-distance .ensures)
+    (c .min .ensures)))  -- returns-2

@@ -8,7 +8,8 @@ use Rattle.rules.proofs.Refusals.{left}
 use Rattle.features.proofs.cepstra.remember.Statement.{statement}
 use Rattle.features.proofs.cepstra.remember.Tie as tie
 
-written : (mem ys zs : List Float) (a n : ℕ) → n ≡ 22 → ys ≡ zs → take a mem ++ (ys ++ drop n (drop a mem)) ≡ put (record { at = a; size = 22 }) mem zs
+written : (mem ys zs : List Float) (a n : ℕ) → n ≡ 22 → ys ≡ zs
+    → take a mem ++ (ys ++ drop n (drop a mem)) ≡ put (record { at = a; size = 22 }) mem zs
 unfolding put
 written mem ys zs a n size same = rw (size, same)
 
@@ -17,7 +18,8 @@ returns c =
     let start = c .before .before .before .before .before .before in
     let mem = now (start .args .mem) in
     let at = start .args .index * 22 in
-    written mem _ (now (start .args .ceps)) at (at + 22 - at) (omega arith) (left (c .before .before .copy .ensures) (simp (length-take, length-drop) (omega arith)))
+    written mem _ (now (start .args .ceps)) at (at + 22 - at) (omega arith)
+    (left (c .before .before .copy .ensures) (simp (length-take, length-drop) (omega arith)))
 
 pub remember-spec : {M : Type 1} → statement M
 remember-spec =

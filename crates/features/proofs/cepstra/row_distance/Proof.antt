@@ -2,7 +2,7 @@
 use Rattle.rules.proofs.Common.{_-_, _≤_, _≡_}
 use Rattle.rules.specs.Loop.{loop}
 use Rattle.rules.proofs.Loops.{turns}
-use Rattle.features.specs.Cepstra.{distStep, distance}
+use Rattle.features.specs.Cepstra.{distStep, cepstralDistance}
 use Rattle.features.proofs.cepstra.row_distance.Statement.{statement}
 use Rattle.features.proofs.cepstra.row_distance.Tie as tie
 
@@ -13,7 +13,7 @@ abbrev μ-loop : tie.MeasureT-loop
 μ-loop mem i j dist₀ k₀ dist k = 22 - k
 
 pub row-distance-spec : {M : Type 1} → statement M
-unfolding distance
+unfolding cepstralDistance
 row-distance-spec =
     tie.close
     (tie.spec

@@ -36,8 +36,11 @@ returns c =
     let transforms = remembers .before .before .before .before .before .before in
     let finds = transforms .before .before .before .before in
     let start = finds .before .before .before .before .before .before in
-    together (now (start .args .features)) (finds .pitch-features .last .0) (transforms .cepstrum-of .last .0) _ _ (now (start .args .exp)) (start .args .lag) (now (start .args .logs)) (now (start .args .mem)) (start .args .index)
-    (start .pre .0) (finds .pitch-features .ensures) (transforms .cepstrum-of .ensures) (remembers .remember .ensures) (differs .add-deltas .ensures)
+    together (now (start .args .features)) (finds .pitch-features .last .0)
+    (transforms .cepstrum-of .last .0) _ _ (now (start .args .exp)) (start .args .lag) (now (start .args .logs))
+    (now (start .args .mem)) (start .args .index)
+    (start .pre .0) (finds .pitch-features .ensures) (transforms .cepstrum-of .ensures) (remembers .remember .ensures)
+    (differs .add-deltas .ensures)
 
 pub fill-features-spec : {M : Type 1} → statement M
 fill-features-spec =

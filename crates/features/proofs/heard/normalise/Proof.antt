@@ -17,8 +17,11 @@ abbrev μ-loop : tie.MeasureT-loop
 
 loop-again : tie.Need-loop-again Inv-loop μ-loop
 loop-again c =
-    let l = c .before .before .before .before .before .loop in
-    (omega arith, filling-more _ _ _ (l .inv .1) (omega arith) (rw (filling-ahead _ _ (l .i) (l .i) nan (l .inv .1) (omega arith), c .sqrt .ensures)))
+    let l = c .before .before .before .before .before .loop in (
+      omega arith,
+      filling-more _ _ _ (l .inv .1) (omega arith)
+          (rw (filling-ahead _ _ (l .i) (l .i) nan (l .inv .1) (omega arith), c .sqrt .ensures)),
+    )
 
 pub normalise-spec : {M : Type 1} → statement M
 unfolding normalised

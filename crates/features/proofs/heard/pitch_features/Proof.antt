@@ -15,10 +15,13 @@ use Rattle.features.proofs.heard.pitch_features.Tie as tie
 
 -- seven stores into seven places
 whole : (vs out : List Float) → length vs ≡ 7 → length out ≡ 7 → sets out 0 vs ≡ vs
-whole vs out n l = sets-eq vs out 0 (omega arith) ∙ ap (λ (t : List Float). vs ++ t) (drop-of-length-le out {i = 0 + length vs} (omega arith)) ∙ append-nil vs
+whole vs out n l =
+    sets-eq vs out 0 (omega arith)
+    ∙ ap (λ (t : List Float). vs ++ t) (drop-of-length-le out {i = 0 + length vs} (omega arith)) ∙ append-nil vs
 
 stored : (out tmp exp : List Float) (lag : Float) → length out ≡ 7 → tmp ≡ dctOf exp
-    → sets out 0 ((at tmp 0 ⊖ f32 0x3FA66666) ∷ (at tmp 1 ⊖ f32 0x3F666666) ∷ at tmp 2 ∷ at tmp 3 ∷ at tmp 4 ∷ at tmp 5 ∷ (f32 0x3C23D70A ⊗ (lag ⊖ f32 0x43960000)) ∷ [])
+    → sets out 0 ((at tmp 0 ⊖ f32 0x3FA66666) ∷ (at tmp 1 ⊖ f32 0x3F666666) ∷ at tmp 2 ∷ at tmp 3 ∷ at tmp 4 ∷ at tmp 5
+    ∷ (f32 0x3C23D70A ⊗ (lag ⊖ f32 0x43960000)) ∷ [])
     ≡ pitchFeatures exp lag
 unfolding pitchFeatures
 stored out tmp exp lag l e = rw e (whole (pitchFeatures exp lag) out refl l)
@@ -27,7 +30,8 @@ returns : tie.Need-returns
 returns c =
     let transforms = c .before in
     let start = transforms .before .before .before .before in
-    stored (now (start .args .out)) _ (now (start .args .exp)) (start .args .lag) (start .pre .0) (left (transforms .dct .ensures) (search needs))
+    stored (now (start .args .out)) _ (now (start .args .exp)) (start .args .lag) (start .pre .0)
+    (left (transforms .dct .ensures) (search needs))
 
 pub pitch-features-spec : {M : Type 1} → statement M
 pitch-features-spec =

@@ -8,7 +8,8 @@ use Rattle.features.proofs.pitch.filter.Statement.{statement}
 use Rattle.features.proofs.pitch.filter.Tie as tie
 
 together : (x p gains exp ex ep r rf y out : List Float)
-    → r ≡ pitchGains gains exp ex ep → rf ≡ bandGain r → y ≡ pitchAdded x p rf → out ≡ restored y ex → out ≡ pitchFiltered x p gains exp ex ep
+    → r ≡ pitchGains gains exp ex ep → rf ≡ bandGain r → y ≡ pitchAdded x p rf → out ≡ restored y ex
+    → out ≡ pitchFiltered x p gains exp ex ep
 unfolding pitchFiltered
 together x p gains exp ex ep r rf y out a b c d = cc
 
@@ -19,7 +20,10 @@ returns c =
     let spreads = adds .before .before .before .before .before in
     let divides = spreads .before .before .before .before .before in
     let start = divides .before .before .before .before .before .before .before .before .before .before in
-    together _ _ _ _ _ _ _ _ _ _ (divides .gains-of .ensures) (left (spreads .interp-band-gain .ensures) (record { bins = start .pre .1 .1; from = divides .gains-of .kept .0 ∙ start .pre .1 .0 })) (adds .add-pitch .ensures) (restores .restore .ensures)
+    together _ _ _ _ _ _ _ _ _ _ (divides .gains-of .ensures)
+    (left (spreads .interp-band-gain .ensures)
+    (record { bins = start .pre .1 .1; from = divides .gains-of .kept .0 ∙ start .pre .1 .0 }))
+    (adds .add-pitch .ensures) (restores .restore .ensures)
 
 pub filter-spec : {M : Type 1} → statement M
 filter-spec =

@@ -2,12 +2,13 @@
 use Prim.Native.Nat.{_≤_, _-_}
 use Rattle.rules.specs.F32.{at}
 use Rattle.rules.proofs.Lists.{Filling, fills}
-use Rattle.features.specs.Pitch.{pitchGain, pitchGains}
+use Rattle.features.specs.Pitch.{bandPitchGain, pitchGains}
 use Rattle.features.proofs.pitch.gains_of.Statement.{statement}
 use Rattle.features.proofs.pitch.gains_of.Tie as tie
 
 abbrev Inv-loop : tie.InvT-loop
-Inv-loop r₀ exp gains ex ep i₀ r i = (i ≤ 22) × Filling (λ k. pitchGain (at gains k) (at exp k) (at ex k) (at ep k)) r₀ i r
+Inv-loop r₀ exp gains ex ep i₀ r i =
+    (i ≤ 22) × Filling (λ k. bandPitchGain (at gains k) (at exp k) (at ex k) (at ep k)) r₀ i r
 
 abbrev μ-loop : tie.MeasureT-loop
 μ-loop r₀ exp gains ex ep i₀ r i = 22 - i

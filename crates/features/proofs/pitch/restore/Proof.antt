@@ -7,7 +7,8 @@ use Rattle.features.specs.Pitch.{renormalised, applied, restored}
 use Rattle.features.proofs.pitch.restore.Statement.{statement}
 use Rattle.features.proofs.pitch.restore.Tie as tie
 
-together : (x ex e r rf out : List Float) → e ≡ bandCorr x x → r ≡ renormalised ex e → rf ≡ bandGain r → out ≡ applied x rf → out ≡ restored x ex
+together : (x ex e r rf out : List Float) → e ≡ bandCorr x x → r ≡ renormalised ex e → rf ≡ bandGain r
+    → out ≡ applied x rf → out ≡ restored x ex
 unfolding restored
 together x ex e r rf out a b c d = cc
 

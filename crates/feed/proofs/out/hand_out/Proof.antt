@@ -1,22 +1,21 @@
 -- `feed::out::hand_out` meets its contract: each part that is lent comes back filled. Assumes nothing.
-use Rattle.rules.proofs.Common.{ℕ, _-_, _*_, List, _≡_, ap, _∙_, length, take, length-take, Float}
+use Rattle.rules.proofs.Common.{ℕ, _-_, _*_, List, _≡_, ap, _∙_, length, length-take, Float}
 use native.Mathlib.Nat.{sub-zero}
 use native.Mathlib.Omega.{arith}
 use borrow.Author.Needs.{needs}
 use denote.Ref.{now}
-use Rattle.rules.specs.F32.{at, part}
+use Rattle.rules.specs.F32.{part}
 use Rattle.rules.specs.Place.{put}
-use Rattle.rules.specs.Tab.{tab}
 use Rattle.rules.proofs.Refusals.{left}
 use Rattle.rules.proofs.Lists.{length-tab}
 use Rattle.pcm.specs.Pcm.{packed}
 use Rattle.frame.specs.Written.{atFront}
-use Rattle.feed.specs.Feed.{entryOf}
 use Rattle.feed.proofs.out.hand_out.Statement.{statement}
 use Rattle.feed.proofs.out.hand_out.Tie as tie
 
 -- what fills a front part of a list
-filled : (n : ℕ) (new held : List ℕ) → length new ≡ n → put (record { at = 0; size = n - 0 }) held new ≡ atFront new held
+filled : (n : ℕ) (new held : List ℕ) → length new ≡ n
+    → put (record { at = 0; size = n - 0 }) held new ≡ atFront new held
 unfolding put
 filled n new held e = rw (sub-zero n, ← e)
 
@@ -32,14 +31,11 @@ returns c =
     let s = p .before .before .before .before .before .before .before in
     let a = s .args in
     let some = part 0 (480 * a .frames) (now (a .out)) in
-    let size : length some ≡ 480 * a .frames = simp length-take (omega arith) in
-    let many : length (take (a .frames - 0) (now (a .entries))) ≡ a .frames = simp length-take (omega arith) in
-    let notes = tab (a .frames) (λ j. entryOf (a .frame) j (at (now (a .answers)) (3 * j))) in (
-      ap (λ (x : List ℕ). put (record { at = 0; size = 960 * a .frames - 0 }) (now (a .cleaned)) x) (left (p .pack .ensures) (record { size = simp length-take (omega arith) }))
+    let size : length some ≡ 480 * a .frames = simp length-take (omega arith) in (
+      ap (λ (x : List ℕ). put (record { at = 0; size = 960 * a .frames - 0 }) (now (a .cleaned)) x)
+          (left (p .pack .ensures) (record { size = simp length-take (omega arith) }))
           ∙ filled (960 * a .frames) (packed some) (now (a .cleaned)) (omega (arith, packed-length some, size)),
-      ap (λ (x : List ℕ). put (record { at = 0; size = a .frames - 0 }) (now (a .entries)) x)
-          (n .note .ensures ∙ ap (λ (k : ℕ). tab k (λ j. entryOf (a .frame) j (at (now (a .answers)) (3 * j)))) many)
-          ∙ filled (a .frames) notes (now (a .entries)) (length-tab (a .frames) _),
+      n .note-each .ensures,
     )
 
 pub hand-out-spec : {M : Type 1} → statement M
@@ -55,10 +51,7 @@ hand-out-spec =
     (λ c. search needs)  -- part-pack-start-2
     (λ c. search needs)  -- part-pack-end-2
     (λ c κs. search needs)  -- pack-requires
-    (λ c. search needs)  -- sub-note
-    (λ c. search needs)  -- part-note-start
-    (λ c. search needs)  -- part-note-end
-    (λ c κs. search needs)  -- note-requires
+    (λ c κs. search needs)  -- note-each-requires
     (λ c. search needs)  -- same-length
     (λ c. search needs)  -- same-length-2
     returns)

@@ -1,6 +1,6 @@
 -- `fft::complex::put` meets its contract. Assumes nothing.
 use borrow.Author.Needs.{needs}
-use Rattle.fft.specs.Parts.{putComplex}
+use Rattle.fft.specs.Private.{putComplex}
 use Rattle.fft.proofs.complex.put.Statement.{statement}
 use Rattle.fft.proofs.complex.put.Tie as tie
 

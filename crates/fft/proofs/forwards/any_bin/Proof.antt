@@ -13,4 +13,7 @@ any-bin-spec =
     (λ c. search needs)  -- sub-entry
     (λ c κs. search needs)  -- entry-requires-2
     (λ c κs. search needs)  -- split-requires
-    (λ c. bin-of (c .before .before .before .args .c .now) (c .before .before .before .args .z .now) (c .before .before .before .args .k) (c .before .before .before .args .k % 480) ((480 - c .before .before .before .args .k) % 480) (c .split .ensures) (c .before .before .entry .ensures) (c .before .entry2 .ensures) refl refl))  -- returns
+    (λ c. bin-of (c .before .before .before .args .c .now) (c .before .before .before .args .z .now)
+    (c .before .before .before .args .k) (c .before .before .before .args .k % 480)
+    ((480 - c .before .before .before .args .k) % 480) (c .split .ensures) (c .before .before .entry .ensures)
+    (c .before .entry2 .ensures) refl refl))  -- returns

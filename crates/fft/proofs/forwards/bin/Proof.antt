@@ -14,4 +14,7 @@ bin-spec =
     (λ c. search needs)  -- sub-entry
     (λ c κs. search needs)  -- entry-requires-2
     (λ c κs. search needs)  -- split-requires
-    (λ c. bin-of (c .before .before .before .args .c .now) (c .before .before .before .args .z .now) (c .before .before .before .args .k) (c .before .before .before .args .k) (480 - c .before .before .before .args .k) (c .split .ensures) (c .before .before .entry .ensures) (c .before .entry2 .ensures) (omega arith) (omega arith)))  -- returns
+    (λ c. bin-of (c .before .before .before .args .c .now) (c .before .before .before .args .z .now)
+    (c .before .before .before .args .k) (c .before .before .before .args .k) (480 - c .before .before .before .args .k)
+    (c .split .ensures) (c .before .before .entry .ensures) (c .before .entry2 .ensures) (omega arith)
+    (omega arith)))  -- returns

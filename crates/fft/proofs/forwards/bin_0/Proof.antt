@@ -12,4 +12,5 @@ bin-0-spec =
     (λ c. search needs)  -- element-copy-out-out-2
     (λ c. search needs)  -- slice-write-out
     (λ c. search needs)  -- same-length
-    (λ c. bin-0-filled (c .before .before .args .c .now) (c .before .before .args .z .now) (c .before .before .args .out .now) (c .before .before .pre)))  -- returns
+    (λ c. bin-0-filled (c .before .before .args .c .now) (c .before .before .args .z .now)
+    (c .before .before .args .out .now) (c .before .before .pre)))  -- returns

@@ -23,4 +23,27 @@ four-bins-spec =
     (λ c. search needs)  -- add-put-four
     (λ c κs. search needs)  -- put-four-requires-2
     (λ c. search needs)  -- same-length
-    (λ c. bins-filled (c .before .before .before .before .before .before .before .before .before .before .before .before .before .args .c .now) (c .before .before .before .before .before .before .before .before .before .before .before .before .before .args .z .now) (c .before .before .before .before .before .before .before .before .before .before .before .before .before .args .k) (omega (arith, (c .before .before .before .before .before .before .before .before .before .before .before .before .before .pre .1))) (omega (arith, (c .before .before .before .before .before .before .before .before .before .before .before .before .before .pre .1))) (c .before .before .before .before .before .before .before .before .before .before .before .before .before .pre .0) (c .before .before .before .before .before .before .before .before .before .before .before .bin .ensures) (c .before .before .before .before .before .before .before .before .before .before .bin2 .ensures) (c .before .before .before .before .before .before .before .before .before .bin3 .ensures) (c .before .before .before .before .before .before .before .before .bin4 .ensures) (c .before .before .before .before .before .before .put-four .ensures) (c .before .before .put-four2 .ensures)))  -- returns
+    (λ c.
+    bins-filled
+    (c .before .before .before .before .before .before .before .before .before .before .before .before .before .args .c
+    .now)
+    (c .before .before .before .before .before .before .before .before .before .before .before .before .before .args .z
+    .now)
+    (c .before .before .before .before .before .before .before .before .before .before .before .before .before .args .k)
+    (omega (
+      arith,
+      (c .before .before .before .before .before .before .before .before .before .before .before .before .before .pre
+          .1),
+    ))
+    (omega (
+      arith,
+      (c .before .before .before .before .before .before .before .before .before .before .before .before .before .pre
+          .1),
+    ))
+    (c .before .before .before .before .before .before .before .before .before .before .before .before .before .pre .0)
+    (c .before .before .before .before .before .before .before .before .before .before .before .bin .ensures)
+    (c .before .before .before .before .before .before .before .before .before .before .bin2 .ensures)
+    (c .before .before .before .before .before .before .before .before .before .bin3 .ensures)
+    (c .before .before .before .before .before .before .before .before .bin4 .ensures)
+    (c .before .before .before .before .before .before .put-four .ensures)
+    (c .before .before .put-four2 .ensures)))  -- returns

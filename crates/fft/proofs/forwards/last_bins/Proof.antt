@@ -16,4 +16,16 @@ last-bins-spec =
     (λ c κs. search needs)  -- put-four-requires
     (λ c κs. search needs)  -- put-four-requires-2
     (λ c. search needs)  -- same-length
-    (λ c. bins-filled (c .before .before .before .before .before .before .before .before .before .before .before .before .before .args .c .now) (c .before .before .before .before .before .before .before .before .before .before .before .before .before .args .z .now) 477 (omega arith) (omega arith) (c .before .before .before .before .before .before .before .before .before .before .before .before .before .pre) (c .before .before .before .before .before .before .before .before .before .before .before .any-bin .ensures) (c .before .before .before .before .before .before .before .before .before .before .any-bin2 .ensures) (c .before .before .before .before .before .before .before .before .before .any-bin3 .ensures) (c .before .before .before .before .before .before .before .before .any-bin4 .ensures) (c .before .before .before .before .before .before .put-four .ensures) (c .before .before .put-four2 .ensures)))  -- returns
+    (λ c.
+    bins-filled
+    (c .before .before .before .before .before .before .before .before .before .before .before .before .before .args .c
+    .now)
+    (c .before .before .before .before .before .before .before .before .before .before .before .before .before .args .z
+    .now) 477 (omega arith) (omega arith)
+    (c .before .before .before .before .before .before .before .before .before .before .before .before .before .pre)
+    (c .before .before .before .before .before .before .before .before .before .before .before .any-bin .ensures)
+    (c .before .before .before .before .before .before .before .before .before .before .any-bin2 .ensures)
+    (c .before .before .before .before .before .before .before .before .before .any-bin3 .ensures)
+    (c .before .before .before .before .before .before .before .before .any-bin4 .ensures)
+    (c .before .before .before .before .before .before .put-four .ensures)
+    (c .before .before .put-four2 .ensures)))  -- returns

@@ -4,7 +4,7 @@ use native.Mathlib.Omega.{arith}
 use Rattle.rules.proofs.Common.{_+_, _-_, _*_, _≤_, _≡_}
 use Rattle.fft.specs.Single.{single, of}
 use Rattle.fft.specs.Fast.{numberOut}
-use Rattle.fft.specs.Parts.{Filled}
+use Rattle.fft.specs.Private.{Filled}
 use Rattle.fft.proofs.forwards.middle_bins.Statement.{statement}
 use Rattle.fft.proofs.forwards.middle_bins.Tie as tie
 
@@ -32,7 +32,9 @@ middle-bins-spec =
     (λ c. (omega arith, (c .before .pre)))  -- loop-holds
     (λ c. search needs)  -- mul-four-bins
     (λ c. search needs)  -- add-four-bins
-    (λ c κs. let l = c .before .before .loop in let e : 2 * (4 * l .b + 1) - 1 ≡ 8 * l .b + 1 = omega arith in (rw e (l .inv .1), omega arith))  -- four-bins-requires
+    (λ c κs.
+    let l = c .before .before .loop in let e : 2 * (4 * l .b + 1) - 1 ≡ 8 * l .b + 1 = omega arith in
+    (rw e (l .inv .1), omega arith))  -- four-bins-requires
     (λ c. search needs)  -- add-b
     (λ c. search needs)  -- loop-less
     loop-again

@@ -3,8 +3,8 @@ use borrow.Author.Needs.{needs}
 use native.Mathlib.Omega.{arith}
 use Rattle.rules.proofs.Common.{_+_, _-_, _*_, _≤_, _≡_, refl}
 use Rattle.fft.specs.Single.{single}
-use Rattle.fft.specs.Fast.{pair, packed}
-use Rattle.fft.specs.Parts.{Laid}
+use Rattle.fft.specs.Fast.{pair, asComplex}
+use Rattle.fft.specs.Private.{Laid}
 use Rattle.fft.proofs.Laying.{begun, laid-single}
 use Rattle.fft.proofs.forwards.pack.Statement.{statement}
 use Rattle.fft.proofs.forwards.pack.Tie as tie
@@ -22,8 +22,10 @@ loop-again c =
     (omega arith, rw e (c .before .before .pack-block .ensures))
 
 returns : tie.Need-returns Inv-loop μ-loop
-unfolding packed
-returns c = let l = c .before .loop in laid-single (pair single (c .before .before .before .before .args .x .now)) (4 * l .b) (omega arith) (omega arith) (l .inv .1)
+unfolding asComplex
+returns c = let l = c .before .loop in
+    laid-single (pair single (c .before .before .before .before .args .x .now)) (4 * l .b) (omega arith) (omega arith)
+    (l .inv .1)
 
 pub pack-spec : {M : Type 1} → statement M
 pack-spec =
@@ -33,7 +35,10 @@ pack-spec =
     μ-loop
     (λ c. (omega arith, begun 1 480 _ refl _ (c .before .before .pre .0)))  -- loop-holds
     (λ c. search needs)  -- mul-pack-block
-    (λ c κs. ((c .before .before .loop .inv .1), ((c .before .before .before .before .before .pre .1), omega arith)))  -- pack-block-requires
+    (λ c κs. (
+      (c .before .before .loop .inv .1),
+      ((c .before .before .before .before .before .pre .1), omega arith),
+    ))  -- pack-block-requires
     (λ c. search needs)  -- add-b
     (λ c. search needs)  -- loop-less
     loop-again

@@ -18,4 +18,10 @@ pack-block-spec =
     (λ c κs. search needs)  -- pair-requires-4
     (λ c κs. search needs)  -- put-requires
     (λ c. search needs)  -- same-length
-    (λ c. laid-ones _ (c .before .before .before .before .before .before .before .before .before .before .args .i) (omega (arith, (c .before .before .before .before .before .before .before .before .before .before .pre .1))) (c .before .before .before .before .before .before .before .before .before .before .pre .0) (c .before .before .before .before .before .before .before .pair .ensures) (c .before .before .before .before .before .before .pair2 .ensures) (c .before .before .before .before .before .pair3 .ensures) (c .before .before .before .before .pair4 .ensures) (c .before .before .put .ensures)))  -- returns
+    (λ c. laid-ones _ (c .before .before .before .before .before .before .before .before .before .before .args .i)
+    (omega (arith, (c .before .before .before .before .before .before .before .before .before .before .pre .1)))
+    (c .before .before .before .before .before .before .before .before .before .before .pre .0)
+    (c .before .before .before .before .before .before .before .pair .ensures)
+    (c .before .before .before .before .before .before .pair2 .ensures)
+    (c .before .before .before .before .before .pair3 .ensures) (c .before .before .before .before .pair4 .ensures)
+    (c .before .before .put .ensures)))  -- returns

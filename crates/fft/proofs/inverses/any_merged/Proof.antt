@@ -12,4 +12,6 @@ any-merged-spec =
     (λ c. search needs)  -- sub-any-bin-in
     (λ c κs. search needs)  -- any-bin-in-requires-2
     (λ c κs. search needs)  -- merge-requires
-    (λ c. merged-of (c .before .before .before .before .args .c .now) (c .before .before .before .before .args .x .now) (c .before .before .before .before .args .k) (c .merge .ensures) (c .before .before .any-bin-in .ensures) (c .before .any-bin-in2 .ensures)))  -- returns
+    (λ c. merged-of (c .before .before .before .before .args .c .now) (c .before .before .before .before .args .x .now)
+    (c .before .before .before .before .args .k) (c .merge .ensures) (c .before .before .any-bin-in .ensures)
+    (c .before .any-bin-in2 .ensures)))  -- returns

@@ -2,7 +2,7 @@
 use borrow.Author.Needs.{needs}
 use native.Mathlib.Omega.{arith}
 use mathlib.Core.Path.{sym, ap}
-use Rattle.fft.specs.Parts.{cx}
+use Rattle.fft.specs.Private.{cx}
 use Rattle.fft.proofs.Ends.{bin-in-mid}
 use Rattle.fft.proofs.inverses.bin_in.Statement.{statement}
 use Rattle.fft.proofs.inverses.bin_in.Tie as tie
@@ -18,4 +18,7 @@ bin-in-spec =
     (λ c. search needs)  -- mul-t9
     (λ c. search needs)  -- mul-t10
     (λ c. search needs)  -- shared-slice-read-t12
-    (λ c. ap cx (sym (bin-in-mid (c .before .before .args .x .now) (c .before .before .args .k) (omega (arith, (c .before .before .pre))) (omega (arith, (c .before .before .pre)))))))  -- returns
+    (λ c.
+    ap cx
+    (sym (bin-in-mid (c .before .before .args .x .now) (c .before .before .args .k)
+    (omega (arith, (c .before .before .pre))) (omega (arith, (c .before .before .pre)))))))  -- returns

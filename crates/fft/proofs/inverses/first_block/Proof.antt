@@ -18,4 +18,12 @@ first-block-spec =
     (λ c κs. search needs)  -- any-merged-requires-4
     (λ c κs. search needs)  -- put-requires
     (λ c. search needs)  -- same-length
-    (λ c. laid-ones (mergedAt single (of (c .before .before .before .before .before .before .before .before .before .before .args .c .now)) (c .before .before .before .before .before .before .before .before .before .before .args .x .now)) 0 (omega arith) (begun 1 480 _ refl _ (c .before .before .before .before .before .before .before .before .before .before .pre .0)) (c .before .before .before .before .before .before .before .any-merged .ensures) (c .before .before .before .before .before .before .any-merged2 .ensures) (c .before .before .before .before .before .any-merged3 .ensures) (c .before .before .before .before .any-merged4 .ensures) (c .before .before .put .ensures)))  -- returns
+    (λ c.
+    laid-ones (mergedAt single
+    (of (c .before .before .before .before .before .before .before .before .before .before .args .c .now))
+    (c .before .before .before .before .before .before .before .before .before .before .args .x .now)) 0 (omega arith)
+    (begun 1 480 _ refl _ (c .before .before .before .before .before .before .before .before .before .before .pre .0))
+    (c .before .before .before .before .before .before .before .any-merged .ensures)
+    (c .before .before .before .before .before .before .any-merged2 .ensures)
+    (c .before .before .before .before .before .any-merged3 .ensures)
+    (c .before .before .before .before .any-merged4 .ensures) (c .before .before .put .ensures)))  -- returns

@@ -18,4 +18,10 @@ merge-block-spec =
     (λ c κs. search needs)  -- merged-requires-4
     (λ c κs. search needs)  -- put-requires
     (λ c. search needs)  -- same-length
-    (λ c. laid-ones _ (c .before .before .before .before .before .before .before .before .before .before .args .i) (omega (arith, (c .before .before .before .before .before .before .before .before .before .before .pre .1))) (c .before .before .before .before .before .before .before .before .before .before .pre .0) (c .before .before .before .before .before .before .before .merged .ensures) (c .before .before .before .before .before .before .merged2 .ensures) (c .before .before .before .before .before .merged3 .ensures) (c .before .before .before .before .merged4 .ensures) (c .before .before .put .ensures)))  -- returns
+    (λ c. laid-ones _ (c .before .before .before .before .before .before .before .before .before .before .args .i)
+    (omega (arith, (c .before .before .before .before .before .before .before .before .before .before .pre .1)))
+    (c .before .before .before .before .before .before .before .before .before .before .pre .0)
+    (c .before .before .before .before .before .before .before .merged .ensures)
+    (c .before .before .before .before .before .before .merged2 .ensures)
+    (c .before .before .before .before .before .merged3 .ensures) (c .before .before .before .before .merged4 .ensures)
+    (c .before .before .put .ensures)))  -- returns

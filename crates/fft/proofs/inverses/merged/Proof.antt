@@ -12,4 +12,6 @@ merged-spec =
     (λ c. search needs)  -- sub-bin-in
     (λ c κs. search needs)  -- bin-in-requires-2
     (λ c κs. search needs)  -- merge-requires
-    (λ c. merged-of (c .before .before .before .before .args .c .now) (c .before .before .before .before .args .x .now) (c .before .before .before .before .args .k) (c .merge .ensures) (c .before .before .bin-in .ensures) (c .before .bin-in2 .ensures)))  -- returns
+    (λ c. merged-of (c .before .before .before .before .args .c .now) (c .before .before .before .before .args .x .now)
+    (c .before .before .before .before .args .k) (c .merge .ensures) (c .before .before .bin-in .ensures)
+    (c .before .bin-in2 .ensures)))  -- returns

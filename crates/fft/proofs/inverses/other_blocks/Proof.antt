@@ -4,7 +4,7 @@ use native.Mathlib.Omega.{arith}
 use Rattle.rules.proofs.Common.{_+_, _-_, _*_, _≤_, _≡_}
 use Rattle.fft.specs.Single.{single, of}
 use Rattle.fft.specs.Fast.{mergedAt, mergedOf}
-use Rattle.fft.specs.Parts.{Laid}
+use Rattle.fft.specs.Private.{Laid}
 use Rattle.fft.proofs.Laying.{laid-single}
 use Rattle.fft.proofs.inverses.other_blocks.Statement.{statement}
 use Rattle.fft.proofs.inverses.other_blocks.Tie as tie
@@ -23,7 +23,9 @@ loop-again c =
 
 returns : tie.Need-returns Inv-loop μ-loop
 unfolding mergedOf
-returns c = let l = c .before .loop in laid-single (mergedAt single (of (c .before .before .before .before .args .c .now)) (c .before .before .before .before .args .x .now)) (4 * l .b + 4) (omega arith) (omega arith) (l .inv .1)
+returns c = let l = c .before .loop in
+    laid-single (mergedAt single (of (c .before .before .before .before .args .c .now))
+    (c .before .before .before .before .args .x .now)) (4 * l .b + 4) (omega arith) (omega arith) (l .inv .1)
 
 pub other-blocks-spec : {M : Type 1} → statement M
 other-blocks-spec =
@@ -34,7 +36,10 @@ other-blocks-spec =
     (λ c. (omega arith, (c .before .before .pre .0)))  -- loop-holds
     (λ c. search needs)  -- mul-merge-block
     (λ c. search needs)  -- add-merge-block
-    (λ c κs. ((c .before .before .loop .inv .1), ((c .before .before .before .before .before .pre .1), omega arith, omega arith)))  -- merge-block-requires
+    (λ c κs. (
+      (c .before .before .loop .inv .1),
+      ((c .before .before .before .before .before .pre .1), omega arith, omega arith),
+    ))  -- merge-block-requires
     (λ c. search needs)  -- add-b
     (λ c. search needs)  -- loop-less
     loop-again

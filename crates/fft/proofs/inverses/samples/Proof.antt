@@ -25,7 +25,8 @@ loop-again c =
     (omega arith, l .inv .1, rw e odd)
 
 returns : tie.Need-returns Inv-loop μ-loop
-returns c = let l = c .before .loop in filling-ended _ _ (2 * l .i) 960 (omega arith) (omega arith) (l .inv .1) (l .inv .2)
+returns c = let l = c .before .loop in
+    filling-ended _ _ (2 * l .i) 960 (omega arith) (omega arith) (l .inv .1) (l .inv .2)
 
 pub samples-spec : {M : Type 1} → statement M
 samples-spec =

@@ -5,7 +5,10 @@ use Rattle.fft.proofs.stages.join4.Statement.{statement}
 use Rattle.fft.proofs.stages.join4.Tie as tie
 
 returns : tie.Need-returns
-returns c = four-of (c .before .before .before .before .before .args .c .now) (c .four .ensures) (c .before .before .before .before .entry .ensures) (c .before .before .before .turned .ensures) (c .before .before .turned2 .ensures) (c .before .turned3 .ensures)
+returns c =
+    four-of (c .before .before .before .before .before .args .c .now) (c .four .ensures)
+    (c .before .before .before .before .entry .ensures) (c .before .before .before .turned .ensures)
+    (c .before .before .turned2 .ensures) (c .before .turned3 .ensures)
 
 pub join4-spec : {M : Type 1} → statement M
 join4-spec =

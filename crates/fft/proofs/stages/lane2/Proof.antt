@@ -6,7 +6,11 @@ use Rattle.fft.proofs.stages.lane2.Statement.{statement}
 use Rattle.fft.proofs.stages.lane2.Tie as tie
 
 returns : tie.Need-returns
-returns c = row2-of (c .before .before .before .args .c .now) (c .before .before .before .args .z .now) 4 (c .before .before .before .args .i) (omega arith) (omega arith) (two-of (c .before .before .before .args .c .now) (c .two .ensures) (c .before .before .entry .ensures) (c .before .turned .ensures))
+returns c =
+    row2-of (c .before .before .before .args .c .now) (c .before .before .before .args .z .now) 4
+    (c .before .before .before .args .i) (omega arith) (omega arith)
+    (two-of (c .before .before .before .args .c .now) (c .two .ensures) (c .before .before .entry .ensures)
+    (c .before .turned .ensures))
 
 pub lane2-spec : {M : Type 1} → statement M
 lane2-spec =

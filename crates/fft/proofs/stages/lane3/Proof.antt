@@ -6,7 +6,11 @@ use Rattle.fft.proofs.stages.lane3.Statement.{statement}
 use Rattle.fft.proofs.stages.lane3.Tie as tie
 
 returns : tie.Need-returns
-returns c = row3-of (c .before .before .before .before .args .c .now) (c .before .before .before .before .args .z .now) 32 (c .before .before .before .before .args .i) (omega arith) (omega arith) (three-of (c .before .before .before .before .args .c .now) (c .three .ensures) (c .before .before .before .entry .ensures) (c .before .before .turned .ensures) (c .before .turned2 .ensures))
+returns c =
+    row3-of (c .before .before .before .before .args .c .now) (c .before .before .before .before .args .z .now) 32
+    (c .before .before .before .before .args .i) (omega arith) (omega arith)
+    (three-of (c .before .before .before .before .args .c .now) (c .three .ensures)
+    (c .before .before .before .entry .ensures) (c .before .before .turned .ensures) (c .before .turned2 .ensures))
 
 pub lane3-spec : {M : Type 1} → statement M
 lane3-spec =

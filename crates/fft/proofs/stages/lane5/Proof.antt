@@ -7,7 +7,10 @@ use Rattle.fft.proofs.stages.lane5.Tie as tie
 
 returns : tie.Need-returns
 unfolding row5
-returns c = five-of (c .before .before .before .before .before .before .args .c .now) (c .five .ensures) (c .before .before .before .before .before .entry .ensures) (c .before .before .before .before .entry2 .ensures) (c .before .before .before .entry3 .ensures) (c .before .before .entry4 .ensures) (c .before .entry5 .ensures)
+returns c =
+    five-of (c .before .before .before .before .before .before .args .c .now) (c .five .ensures)
+    (c .before .before .before .before .before .entry .ensures) (c .before .before .before .before .entry2 .ensures)
+    (c .before .before .before .entry3 .ensures) (c .before .before .entry4 .ensures) (c .before .entry5 .ensures)
 
 pub lane5-spec : {M : Type 1} → statement M
 lane5-spec =

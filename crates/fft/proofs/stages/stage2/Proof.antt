@@ -4,7 +4,7 @@ use borrow.Author.Needs.{needs}
 use native.Mathlib.Omega.{arith}
 use Rattle.fft.specs.Fast.{row2}
 use Rattle.fft.specs.Single.{single, of}
-use Rattle.fft.specs.Parts.{Laid}
+use Rattle.fft.specs.Private.{Laid}
 use Rattle.fft.proofs.Laying.{begun, laid-all}
 use Rattle.fft.proofs.stages.stage2.Statement.{statement}
 use Rattle.fft.proofs.stages.stage2.Tie as tie
@@ -17,12 +17,15 @@ abbrev μ-loop : tie.MeasureT-loop
 
 loop-again : tie.Need-loop-again Inv-loop μ-loop
 loop-again c =
-    let l = c .before .before .before .before .before .before .before .before .before .before .before .before .before .before .before .before .before .loop in
+    let l =
+    c .before .before .before .before .before .before .before .before .before .before .before .before .before .before
+    .before .before .before .loop in
     let e : 16 * (l .b + 1) ≡ 16 * l .b + 4 + 4 + 4 + 4 = omega arith in
     (omega arith, rw e (c .before .before .block24 .ensures))
 
 returns : tie.Need-returns Inv-loop μ-loop
-returns c = let l = c .before .loop in laid-all 2 240 _ refl (omega arith) (16 * l .b) (omega arith) (omega arith) (l .inv .1)
+returns c = let l = c .before .loop in
+    laid-all 2 240 _ refl (omega arith) (16 * l .b) (omega arith) (omega arith) (l .inv .1)
 
 pub stage2-spec : {M : Type 1} → statement M
 stage2-spec =

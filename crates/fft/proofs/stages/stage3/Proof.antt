@@ -4,7 +4,7 @@ use borrow.Author.Needs.{needs}
 use native.Mathlib.Omega.{arith}
 use Rattle.fft.specs.Fast.{row3}
 use Rattle.fft.specs.Single.{single, of}
-use Rattle.fft.specs.Parts.{Laid}
+use Rattle.fft.specs.Private.{Laid}
 use Rattle.fft.proofs.Laying.{begun, laid-all}
 use Rattle.fft.proofs.stages.stage3.Statement.{statement}
 use Rattle.fft.proofs.stages.stage3.Tie as tie
@@ -22,7 +22,8 @@ loop-again c =
     (omega arith, rw e (c .before .before .block3 .ensures))
 
 returns : tie.Need-returns Inv-loop μ-loop
-returns c = let l = c .before .loop in laid-all 3 160 _ refl (omega arith) (4 * l .b) (omega arith) (omega arith) (l .inv .1)
+returns c = let l = c .before .loop in
+    laid-all 3 160 _ refl (omega arith) (4 * l .b) (omega arith) (omega arith) (l .inv .1)
 
 pub stage3-spec : {M : Type 1} → statement M
 stage3-spec =

@@ -10,13 +10,21 @@ returns-2 : tie.Need-returns-2
 returns-2 c =
     let far = c .before .before .before .before in
     let d = far .before .distance .ensures in
-    simp (lt-leb _ _ (rw d at (far .if1 .left)), le-leb _ _ (rw d at (c .before .before .before .if2 .taken)), lt-ltb _ _ (c .before .if3 .taken))
+    simp (
+      lt-leb _ _ (rw d at (far .if1 .left)),
+      le-leb _ _ (rw d at (c .before .before .before .if2 .taken)),
+      lt-ltb _ _ (c .before .if3 .taken),
+    )
 
 returns-3 : tie.Need-returns-3
 returns-3 c =
     let far = c .before .before .before in
     let d = far .before .distance .ensures in
-    simp (lt-leb _ _ (rw d at (far .if1 .left)), le-leb _ _ (rw d at (c .before .before .if2 .taken)), le-ltb _ _ (c .if3 .left))
+    simp (
+      lt-leb _ _ (rw d at (far .if1 .left)),
+      le-leb _ _ (rw d at (c .before .before .if2 .taken)),
+      le-ltb _ _ (c .if3 .left),
+    )
 
 returns-4 : tie.Need-returns-4
 returns-4 c =

@@ -18,7 +18,8 @@ returns c =
     let gained = c .before .before in
     let second = gained .before .before .before in
     let first = second .before in
-    better _ _ _ _ _ _ (first .before .second-place .ensures) (first .product-at .ensures) (second .product-at2 .ensures)
+    better _ _ _ _ _ _ (first .before .second-place .ensures) (first .product-at .ensures)
+    (second .product-at2 .ensures)
     (gained .pitch-gain .ensures) (c .before .threshold-at .ensures) (c .if1 .taken)
 
 returns-2 : tie.Need-returns-2
@@ -26,7 +27,8 @@ returns-2 c =
     let gained = c .before .before in
     let second = gained .before .before .before in
     let first = second .before in
-    better _ _ _ _ _ _ (first .before .second-place .ensures) (first .product-at .ensures) (second .product-at2 .ensures)
+    better _ _ _ _ _ _ (first .before .second-place .ensures) (first .product-at .ensures)
+    (second .product-at2 .ensures)
     (gained .pitch-gain .ensures) (c .before .threshold-at .ensures) (c .if1 .left)
 
 pub consider-spec : {M : Type 1} → statement M

@@ -13,15 +13,21 @@ use Rattle.finder.proofs.doubling.look_up.Tie as tie
 
 abbrev Inv-loop : tie.InvT-loop
 Inv-loop lookup₀ x xx yy₀ i₀ lookup yy i =
-    (1 ≤ i) × (i ≤ 385) × (length lookup₀ ≡ 385) × (yy ≡ range 1 i (yyStep x) xx) × Filling (lookupAt x xx) lookup₀ i lookup
+    (1 ≤ i) × (i ≤ 385) × (length lookup₀ ≡ 385) × (yy ≡ range 1 i (yyStep x) xx)
+    × Filling (lookupAt x xx) lookup₀ i lookup
 
 abbrev μ-loop : tie.MeasureT-loop
 μ-loop lookup₀ x xx yy₀ i₀ lookup yy i = 385 - i
 
 loop-holds : tie.Need-loop-holds Inv-loop μ-loop
 loop-holds c =
-    let a = c .before .before .args in
-    (omega arith, omega arith, simp length-set (omega arith), range-begin _ _ 1, filled-first (lookupAt (now (a .x)) (a .xx)) (now (a .lookup)) (omega arith) refl)
+    let a = c .before .before .args in (
+      omega arith,
+      omega arith,
+      simp length-set (omega arith),
+      range-begin _ _ 1,
+      filled-first (lookupAt (now (a .x)) (a .xx)) (now (a .lookup)) (omega arith) refl,
+    )
 
 loop-again : tie.Need-loop-again Inv-loop μ-loop
 loop-again c =
@@ -32,7 +38,8 @@ loop-again c =
       omega arith,
       l .inv .2,
       next,
-      filling-more _ _ (l .i) (l .inv .4) (omega arith) (rw (c .max .ensures, ne-eqb (l .i) 0 (λ z. omega arith), ← next)),
+      filling-more _ _ (l .i) (l .inv .4) (omega arith)
+          (rw (c .max .ensures, ne-eqb (l .i) 0 (λ z. omega arith), ← next)),
     )
 
 returns : tie.Need-returns Inv-loop μ-loop

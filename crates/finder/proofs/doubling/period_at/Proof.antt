@@ -12,11 +12,13 @@ use Rattle.finder.proofs.doubling.period_at.Tie as tie
 -- the products are those of the definition
 leant : (c : tie.After-lean)
     → let a = c .before .before .before .before .before .args in
-    c .lean .result ≡ leaning (productAt (now (a .x)) (a .t - 1)) (productAt (now (a .x)) (a .t)) (productAt (now (a .x)) (a .t + 1))
+    c .lean .result ≡ leaning (productAt (now (a .x)) (a .t - 1)) (productAt (now (a .x)) (a .t))
+    (productAt (now (a .x)) (a .t + 1))
 leant c =
     let third = c .before in
     let second = third .before in
-    rw (second .before .product-at .ensures, second .product-at2 .ensures, third .product-at3 .ensures) at (c .lean .ensures)
+    rw (second .before .product-at .ensures, second .product-at2 .ensures, third .product-at3 .ensures) at
+    (c .lean .ensures)
 
 pub period-at-spec : {M : Type 1} → statement M
 period-at-spec =

@@ -8,7 +8,8 @@ use Rattle.finder.proofs.doubling.remove_in.Tie as tie
 
 period-at-requires : tie.Need-period-at-requires
 period-at-requires c κs =
-    let inner = best-inner _ _ _ _ (c .try-shorter .ensures) (omega arith) (record { least = omega arith; most = omega arith }) in
+    let inner = best-inner _ _ _ _ (c .try-shorter .ensures) (omega arith)
+    (record { least = omega arith; most = omega arith }) in
     (omega arith, inner .least, inner .most)
 
 returns : tie.Need-returns
@@ -17,7 +18,8 @@ returns c =
     let gained = best .before .before in
     let table = gained .before .before .before .before in
     let second = table .before .before in
-    doubling-of _ _ _ _ (second .before .product-at .ensures) (second .product-at2 .ensures) (table .look-up .ensures) (gained .pitch-gain .ensures)
+    doubling-of _ _ _ _ (second .before .product-at .ensures) (second .product-at2 .ensures) (table .look-up .ensures)
+    (gained .pitch-gain .ensures)
     (best .try-shorter .ensures) (c .before .period-at .ensures) (c .gain-of .ensures)
 
 pub remove-in-spec : {M : Type 1} → statement M

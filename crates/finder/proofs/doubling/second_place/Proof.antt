@@ -19,9 +19,23 @@ second-place-spec =
     (λ c κs. search needs)  -- second-check-requires
     (λ c. search needs)  -- mul-result
     (λ c. search needs)  -- array-read-result
-    (λ c. omega (arith, check-small (c .before .before .args .k) (c .second-check .ensures) (omega arith) (c .before .if1 .left)))  -- mul-result-2
-    (λ c. omega (arith, check-product (c .before .before .args .t0) (c .before .before .args .k) (c .second-check .ensures) (omega arith) (omega arith) (c .before .if1 .left)))  -- mul-result-3
-    (λ c. omega (arith, check-product (c .before .before .args .t0) (c .before .before .args .k) (c .second-check .ensures) (omega arith) (omega arith) (c .before .if1 .left)))  -- add-result-2
+    (λ c.
+    omega (
+      arith,
+      check-small (c .before .before .args .k) (c .second-check .ensures) (omega arith) (c .before .if1 .left),
+    ))  -- mul-result-2
+    (λ c.
+    omega (
+      arith,
+      check-product (c .before .before .args .t0) (c .before .before .args .k) (c .second-check .ensures) (omega arith)
+          (omega arith) (c .before .if1 .left),
+    ))  -- mul-result-3
+    (λ c.
+    omega (
+      arith,
+      check-product (c .before .before .args .t0) (c .before .before .args .k) (c .second-check .ensures) (omega arith)
+          (omega arith) (c .before .if1 .left),
+    ))  -- add-result-2
     (λ c. search needs)  -- mul-result-4
     (λ c. search needs)  -- div-result
     (λ c. rw (ne-eqb _ _ (c .before .if1 .left), c .second-check .ensures)))  -- returns-3

@@ -10,8 +10,25 @@ threshold-at-spec =
     (tie.spec
     (λ c κs. search needs)  -- carry-requires
     (λ c κs. search needs)  -- max-requires
-    (λ c. rw (c .max .ensures, c .before .before .before .carry .ensures, lt-ltb _ _ (c .before .before .if1 .taken)))  -- returns
+    (λ c.
+    rw (
+      c .max .ensures,
+      c .before .before .before .carry .ensures,
+      lt-ltb _ _ (c .before .before .if1 .taken),
+    ))  -- returns
     (λ c κs. search needs)  -- max-requires-2
-    (λ c. rw (c .max2 .ensures, c .before .before .before .before .carry .ensures, le-ltb _ _ (c .before .before .before .if1 .left), lt-ltb _ _ (c .before .before .if2 .taken)))  -- returns-2
+    (λ c.
+    rw (
+      c .max2 .ensures,
+      c .before .before .before .before .carry .ensures,
+      le-ltb _ _ (c .before .before .before .if1 .left),
+      lt-ltb _ _ (c .before .before .if2 .taken),
+    ))  -- returns-2
     (λ c κs. search needs)  -- max-requires-3
-    (λ c. rw (c .max3 .ensures, c .before .before .before .before .carry .ensures, le-ltb _ _ (c .before .before .before .if1 .left), le-ltb _ _ (c .before .before .if2 .left))))  -- returns-3
+    (λ c.
+    rw (
+      c .max3 .ensures,
+      c .before .before .before .before .carry .ensures,
+      le-ltb _ _ (c .before .before .before .if1 .left),
+      le-ltb _ _ (c .before .before .if2 .left),
+    )))  -- returns-3

@@ -19,7 +19,8 @@ consider-requires : tie.Need-consider-requires Inv-loop μ-loop
 consider-requires c κs =
     let l = c .before .before .before in
     let a = l .before .before .before .args .a in
-    let small : c .before .shorten .result ≤ 383 = rw (c .before .shorten .ensures) (shortened-small (a .t0) (l .loop .i + 2) (omega arith) (omega arith)) in
+    let small : c .before .shorten .result ≤ 383 =
+    rw (c .before .shorten .ensures) (shortened-small (a .t0) (l .loop .i + 2) (omega arith) (omega arith)) in
     search (turns, small)
 
 -- the turn that leaves the loop
@@ -28,7 +29,8 @@ unfolding shorter
 returns c =
     let l = c .before .before .before .loop in
     walk-stop _ _ (l .i + 1) 14 (omega arith)
-    (walk-more _ _ _ {next = stop (l .best)} (l .inv .1) (rw (lt-ltb _ _ (rw (c .before .shorten .ensures) at (c .if1 .taken)))))
+    (walk-more _ _ _ {next = stop (l .best)} (l .inv .1)
+    (rw (lt-ltb _ _ (rw (c .before .shorten .ensures) at (c .if1 .taken)))))
 
 loop-again : tie.Need-loop-again Inv-loop μ-loop
 loop-again c =
@@ -36,7 +38,11 @@ loop-again c =
     let l = short .before .before .loop in (
       omega arith,
       walk-more _ _ _ (l .inv .1)
-          (rw (c .consider .ensures, short .shorten .ensures, le-ltb _ _ (rw (short .shorten .ensures) at (c .before .if1 .left)))),
+          (rw (
+            c .consider .ensures,
+            short .shorten .ensures,
+            le-ltb _ _ (rw (short .shorten .ensures) at (c .before .if1 .left)),
+          )),
     )
 
 returns-2 : tie.Need-returns-2 Inv-loop μ-loop

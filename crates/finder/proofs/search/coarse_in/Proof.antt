@@ -12,7 +12,8 @@ returns c =
     let second = xcorr .before .before .before .before .before .before in
     let first = second .before .before .before .before in
     let a = first .before .before .before .before .before .before .before .args in
-    coarse-of (now (a .buf)) (omega arith) (omega arith) (omega arith) (first .every-second .ensures) (second .every-second2 .ensures) (xcorr .pitch-xcorr .ensures)
+    coarse-of (now (a .buf)) (omega arith) (omega arith) (omega arith) (first .every-second .ensures)
+    (second .every-second2 .ensures) (xcorr .pitch-xcorr .ensures)
     (c .find-best-pitch .ensures)
 
 pub coarse-in-spec : {M : Type 1} → statement M

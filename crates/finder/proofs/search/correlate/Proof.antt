@@ -8,13 +8,19 @@ returns-2 : tie.Need-returns-2
 returns-2 c =
     let second = c .before .before in
     let far = second .before in
-    simp (lt-ltb _ _ (rw (far .before .distance .ensures) at (far .if1 .left)), le-ltb _ _ (rw (second .distance2 .ensures) at (c .before .if2 .taken)))
+    simp (
+      lt-ltb _ _ (rw (far .before .distance .ensures) at (far .if1 .left)),
+      le-ltb _ _ (rw (second .distance2 .ensures) at (c .before .if2 .taken)),
+    )
     (c .peak-at2 .ensures)
 
 returns-3 : tie.Need-returns-3
 returns-3 c =
     let far = c .before .before in
-    simp (lt-ltb _ _ (rw (far .before .distance .ensures) at (far .if1 .left)), lt-ltb _ _ (rw (c .before .distance2 .ensures) at (c .if2 .left)))
+    simp (
+      lt-ltb _ _ (rw (far .before .distance .ensures) at (far .if1 .left)),
+      lt-ltb _ _ (rw (c .before .distance2 .ensures) at (c .if2 .left)),
+    )
 
 pub correlate-spec : {M : Type 1} → statement M
 correlate-spec =
@@ -23,7 +29,8 @@ correlate-spec =
     (λ c. search needs)  -- mul-distance
     (λ c κs. search needs)  -- distance-requires
     (λ c κs. search needs)  -- peak-at-requires
-    (λ c. simp (le-ltb _ _ (rw (c .before .before .distance .ensures) at (c .before .if1 .taken))) (c .peak-at .ensures))  -- returns
+    (λ c. simp (le-ltb _ _ (rw (c .before .before .distance .ensures) at (c .before .if1 .taken)))
+    (c .peak-at .ensures))  -- returns
     (λ c. search needs)  -- mul-distance-2
     (λ c κs. search needs)  -- distance-requires-2
     (λ c κs. search needs)  -- peak-at-requires-2

@@ -12,7 +12,10 @@ unfolding peakAt
 returns c =
     let s = c .before in
     let a = s .before .before .before .before .before .args in
-    rw (c .max .ensures, inner-at (now (a .buf)) (a .i) (omega arith) (omega arith) (s .sum .ensures) (s .before .inner-prod .ensures))
+    rw (
+      c .max .ensures,
+      inner-at (now (a .buf)) (a .i) (omega arith) (omega arith) (s .sum .ensures) (s .before .inner-prod .ensures),
+    )
 
 pub peak-at-spec : {M : Type 1} → statement M
 peak-at-spec =

@@ -10,9 +10,9 @@ use Rattle.frame.proofs.Sizes.{ex-size}
 use Rattle.frame.proofs.heard.hear_in.Statement.{statement}
 use Rattle.frame.proofs.heard.hear_in.Tie as tie
 
-speak-requires : tie.Need-speak-requires
+process-heard-requires : tie.Need-process-heard-requires
 unfolding get
-speak-requires c κs =
+process-heard-requires c κs =
     let x = c .before .before .before .before .before .before .before .before .before in
     let k = x .before .before .before .before .before in
     let start = k .before .before .before .before .before .before .before .before .before .before .before .before in
@@ -24,9 +24,12 @@ returns : tie.Need-returns
 returns c m good =
     let s = c .before .before .before .before in
     let x = s .before .before .before .before .before .before .before .before .before .before in
-    let a = x .before .before .before .before .before .before .before .before .before .before .before .before .before .before .before .before .before .args in
-    s .speak .ensures m good
-    ∙ ap₂ (λ (p ep : List Float). spokenFrom (now (a .share)) (a .index) p ep (now (a .logs)) (now (a .model)) m) (x .transform .ensures .0) (x .transform .ensures .1)
+    let a =
+    x .before .before .before .before .before .before .before .before .before .before .before .before .before .before
+    .before .before .before .args in
+    s .process-heard .ensures m good
+    ∙ ap₂ (λ (p ep : List Float). spokenFrom (now (a .share)) (a .index) p ep (now (a .logs)) (now (a .model)) m)
+    (x .transform .ensures .0) (x .transform .ensures .1)
 
 pub hear-in-spec : {M : Type 1} → statement M
 hear-in-spec =
@@ -37,7 +40,7 @@ hear-in-spec =
     (λ c. search needs)  -- part-copy-end
     (λ c κs. search needs)  -- copy-requires
     (λ c κs. search needs)  -- transform-requires
-    speak-requires
+    process-heard-requires
     (λ c. search needs)  -- same-length
     (λ c. search needs)  -- same-length-2
     (λ c. search needs)  -- same-length-3

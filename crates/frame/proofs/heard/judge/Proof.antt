@@ -15,7 +15,8 @@ returns-2 c = search (tests, c .before .before .before .before .before .before .
 
 returns-3 : tie.Need-returns-3
 unfolding checked
-returns-3 c = search (tests, c .before .before .before .before .before .before .before .before .before .before .read2 .given .1)
+returns-3 c =
+    search (tests, c .before .before .before .before .before .before .before .before .before .before .read2 .given .1)
 
 returns-4 : tie.Need-returns-4
 unfolding checked
@@ -23,7 +24,8 @@ returns-4 c = rw (c .before .read .given .1)
 
 returns-5 : tie.Need-returns-5
 unfolding checked
-returns-5 c = search (tests, c .before .before .before .before .before .before .before .before .before .before .read2 .given .1)
+returns-5 c =
+    search (tests, c .before .before .before .before .before .before .before .before .before .before .read2 .given .1)
 
 pub judge-spec : {M : Type 1} → statement M
 judge-spec =

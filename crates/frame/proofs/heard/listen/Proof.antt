@@ -19,15 +19,21 @@ returns c m good =
     let share = now (a .share) in
     let x = fitted (k .copy .ensures) (start .pre .1 ∙ sym (x-size share (start .pre .0))) in
     let sound = fitting (l .listen .ensures) (ex-size share (start .pre .0)) in
-    is-silent share (a .index) (now (a .spectrum)) (now (a .logs)) (now (a .model)) m (now (a .out)) sound (sym (c .before .is-quiet .ensures) ∙ c .if1 .taken) x
+    is-silent share (a .index) (now (a .spectrum)) (now (a .logs)) (now (a .model)) m (now (a .out)) sound
+    (sym (c .before .is-quiet .ensures) ∙ c .if1 .taken) x
 
 hear-requires : tie.Need-hear-requires
 unfolding get
 hear-requires c κs =
     let k = c .before .before .before .before .before .before in
     let start = k .before .before .before .before .before .before .before .before .before .before .before .before in
-    let pre = start .pre in
-    (pre .0, fitted (k .copy .ensures) (pre .1 ∙ sym (x-size (now (start .args .share)) (pre .0))), pre .2, pre .3, pre .4)
+    let pre = start .pre in (
+      pre .0,
+      fitted (k .copy .ensures) (pre .1 ∙ sym (x-size (now (start .args .share)) (pre .0))),
+      pre .2,
+      pre .3,
+      pre .4,
+    )
 
 returns-2 : tie.Need-returns-2
 unfolding get
@@ -41,7 +47,8 @@ returns-2 c m good =
     let sound = fitting (l .listen .ensures) (ex-size share (start .pre .0)) in
     let loud = sym (i .before .is-quiet .ensures) ∙ i .if1 .left in
     rw (c .reply-of .ensures)
-    (is-heard share (a .index) (now (a .spectrum)) (now (a .logs)) (now (a .model)) m (now (a .out)) sound loud (h .hear .ensures m good))
+    (is-heard share (a .index) (now (a .spectrum)) (now (a .logs)) (now (a .model)) m (now (a .out)) sound loud
+    (h .hear .ensures m good))
 
 pub listen-spec : {M : Type 1} → statement M
 listen-spec =

@@ -1,5 +1,5 @@
--- `frame::input::shift` meets its contract. The loop's invariant: the first i places hold what stood a frame further on, and the others are as
--- they were. Assumes nothing.
+-- `frame::input::shift` meets its contract. The loop's invariant: the first i places hold what stood a frame further
+-- on, and the others are as they were. Assumes nothing.
 use Rattle.rules.proofs.Common.{_+_, _-_, _≤_, _≡_, ap, _∙_, take}
 use native.Mathlib.Omega.{arith}
 use lib.Seq.{take-at}
@@ -17,8 +17,10 @@ abbrev μ-loop : tie.MeasureT-loop
 
 loop-again : tie.Need-loop-again Inv-loop μ-loop
 loop-again c =
-    let l = c .before .before .loop in
-    (omega arith, filling-more _ _ _ (l .inv .1) (omega arith) (filling-ahead _ _ _ (l .i + 480) _ (l .inv .1) (omega arith)))
+    let l = c .before .before .loop in (
+      omega arith,
+      filling-more _ _ _ (l .inv .1) (omega arith) (filling-ahead _ _ _ (l .i + 480) _ (l .inv .1) (omega arith)),
+    )
 
 returns : tie.Need-returns Inv-loop μ-loop
 returns c =

@@ -1,5 +1,6 @@
 -- `frame::input::take_in` meets its contract: what each call leaves, in a row. Assumes nothing.
-use Rattle.rules.proofs.Common.{_+_, List, [], _++_, _≡_, ap, _∙_, length, take, drop, length-take, length-drop, length-append, Float}
+use Rattle.rules.proofs.Common.{_+_, List, [], _++_, _≡_, ap, _∙_, length, take, drop, length-take, length-drop}
+use Rattle.rules.proofs.Common.{length-append, Float}
 use mathlib.Core.List.{append-nil}
 use native.Mathlib.Omega.{arith}
 use borrow.Author.Needs.{needs}
@@ -17,11 +18,13 @@ use Rattle.frame.proofs.input.take_in.Statement.{statement}
 use Rattle.frame.proofs.input.take_in.Tie as tie
 
 -- what is written behind the moved numbers makes the input memory
-placed : (mem new m : List Float) {out : List Float} → length m ≡ 1728 → take 1248 m ≡ tab 1248 (λ i. at mem (i + 480)) → out ≡ new
+placed : (mem new m : List Float) {out : List Float} → length m ≡ 1728 → take 1248 m ≡ tab 1248 (λ i. at mem (i + 480))
+    → out ≡ new
     → take 1248 m ++ (out ++ drop 480 (drop 1248 m)) ≡ shifted mem new
 unfolding shifted
 placed mem new m size moved filtered =
-    let none : drop 480 (drop 1248 m) ≡ [] = drop-of-length-le (drop 1248 m) {i = 480} (simp length-drop (omega arith)) in
+    let none : drop 480 (drop 1248 m) ≡ [] =
+    drop-of-length-le (drop 1248 m) {i = 480} (simp length-drop (omega arith)) in
     rw (none, moved, filtered, append-nil new)
 
 returns : tie.Need-returns
@@ -34,9 +37,12 @@ returns c =
     let a = start .args in
     let m = s .shift .last .0 in
     let size : length m ≡ 1728 = omega arith in
-    let part : length (take 480 (drop 1248 m)) ≡ length (now (a .samples)) = simp (length-take, length-drop) (omega arith) in
-    let mem = placed (now (a .mem)) (outputs highPass (a .memory) (now (a .samples))) m size (s .shift .ensures) (fitted (f .filter .ensures) part) in
-    let window = fitted (w .apply-window .ensures) (record { into = omega arith; from = simp (length-take, length-drop, length-append) (omega arith) }) in (
+    let part : length (take 480 (drop 1248 m)) ≡ length (now (a .samples)) =
+    simp (length-take, length-drop) (omega arith) in
+    let mem = placed (now (a .mem)) (outputs highPass (a .memory) (now (a .samples))) m size (s .shift .ensures)
+    (fitted (f .filter .ensures) part) in
+    let window = fitted (w .apply-window .ensures)
+    (record { into = omega arith; from = simp (length-take, length-drop, length-append) (omega arith) }) in (
       ap (λ (x : Filtered × List Float). x .0 .memory) (fitting (f .filter .ensures) part),
       (mem, window ∙ ap (λ (l : List Float). windowed (take 960 (drop 768 l))) mem),
     )

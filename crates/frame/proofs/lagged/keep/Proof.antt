@@ -20,7 +20,8 @@ returns c =
     let lag = ofInt binary32 (pos (a .lag .0)) ∷ [] in
     let same = length-get keptEx share (omega arith) in
     let ex = fitted (k .copy .ensures) (omega arith) in
-    put-sets (put keptEx share (k .copy .last .0)) lag 3191 (omega (arith, length-put keptEx share (k .copy .last .0) (omega arith) (k .copy .kept .0 ∙ same)))
+    put-sets (put keptEx share (k .copy .last .0)) lag 3191
+    (omega (arith, length-put keptEx share (k .copy .last .0) (omega arith) (k .copy .kept .0 ∙ same)))
     ∙ ap (λ (l : List Float). put keptLag (put keptEx share l) lag) ex
 
 pub keep-spec : {M : Type 1} → statement M

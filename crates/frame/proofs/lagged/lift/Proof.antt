@@ -1,4 +1,5 @@
--- `frame::lagged::lift` meets its contract. The loop's invariant: the first i energies are plusHundredth, and the others are as they were. Assumes nothing.
+-- `frame::lagged::lift` meets its contract. The loop's invariant: the first i energies are plusHundredth, and the
+-- others are as they were. Assumes nothing.
 use Rattle.rules.proofs.Common.{_-_, _≤_, ap, Float}
 use native.Mathlib.Omega.{arith}
 use Rattle.rules.specs.F32.{_⊕_, at, f32}

@@ -14,7 +14,8 @@ returns c =
     let k = l .before .before .before .before in
     let s = k .before .before .before .before .before .before .before in
     let lag = ofInt binary32 (pos (s .before .before .before .before .before .before .args .lag .0)) ∷ [] in (
-      k .keep .ensures ∙ ap₂ (λ (x ex : List Float). put keptLag (put keptEx x ex) lag) (s .analyse .ensures .0) (s .analyse .ensures .1),
+      k .keep .ensures ∙ ap₂ (λ (x ex : List Float). put keptLag (put keptEx x ex) lag) (s .analyse .ensures .0)
+          (s .analyse .ensures .1),
       l .lift .ensures ∙ ap plusHundredth (s .analyse .ensures .1),
     )
 

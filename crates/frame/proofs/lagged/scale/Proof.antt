@@ -1,4 +1,5 @@
--- `frame::lagged::scale` meets its contract. The loop's invariant: the first i places are scaled, and the others are as they were. Assumes nothing.
+-- `frame::lagged::scale` meets its contract. The loop's invariant: the first i places are scaled, and the others are as
+-- they were. Assumes nothing.
 use Prim.Native.Nat.{_≤_, _-_}
 use native.Mathlib.Omega.{arith}
 use Rattle.rules.specs.F32.{_⊗_, at}

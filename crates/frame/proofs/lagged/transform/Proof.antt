@@ -12,8 +12,11 @@ returns : tie.Need-returns
 unfolding energies
 returns c =
     let b = c .before .before in
-    let p = b .before .before .before .before .before .scale .ensures in
-    (p, fitted (b .compute-band-corr .ensures) (record { bands = omega arith; left = omega arith; right = omega arith }) ∙ ap (λ (l : List Float). bandCorr l l) p)
+    let p = b .before .before .before .before .before .scale .ensures in (
+      p,
+      fitted (b .compute-band-corr .ensures) (record { bands = omega arith; left = omega arith; right = omega arith })
+          ∙ ap (λ (l : List Float). bandCorr l l) p,
+    )
 
 pub transform-spec : {M : Type 1} → statement M
 transform-spec =

@@ -1,4 +1,5 @@
--- `frame::output::overlap` meets its contract. The loop's invariant: of both slices the first i places are written, and the others are as they were.
+-- `frame::output::overlap` meets its contract. The loop's invariant: of both slices the first i places are written, and
+-- the others are as they were.
 -- Assumes nothing.
 use Rattle.rules.proofs.Common.{ℕ, _+_, _-_, _≤_, _<_, List, _≡_, sym, ap, _∙_, Float, nan}
 use native.Mathlib.Omega.{arith}
@@ -19,7 +20,8 @@ windowed-at table inverse i e h = rw (e, getD-tab 960 _ i nan h, getD-tab 960 _ 
 
 abbrev Inv-loop : tie.InvT-loop
 Inv-loop kept₀ table inverse out₀ i₀ kept out i =
-    (i ≤ 480) × Filling (λ k. at (windowBuf inverse) (480 + k)) kept₀ i kept × Filling (λ k. at (windowBuf inverse) k ⊕ at kept₀ k) out₀ i out
+    (i ≤ 480) × Filling (λ k. at (windowBuf inverse) (480 + k)) kept₀ i kept
+    × Filling (λ k. at (windowBuf inverse) k ⊕ at kept₀ k) out₀ i out
 
 abbrev μ-loop : tie.MeasureT-loop
 μ-loop kept₀ table inverse out₀ i₀ kept out i = 480 - i

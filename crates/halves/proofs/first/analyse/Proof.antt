@@ -13,7 +13,8 @@ returns c =
     let l = o .before .before .before .before .before .before .before in
     let f = l .before .before .before in
     let a = f .before .before .before .before .before .before .args in
-    analysed-by (now (a .share)) (a .way) (now (a .window)) (length (now (a .sums))) (l .lag .ensures .1) (f .forward .ensures) (l .lag .ensures .0) (omega arith) (o .call2 .ensures)
+    analysed-by (now (a .share)) (a .way) (now (a .window)) (length (now (a .sums))) (l .lag .ensures .1)
+    (f .forward .ensures) (l .lag .ensures .0) (omega arith) (o .call2 .ensures)
 
 pub analyse-spec : {M : Type 1} → statement M
 analyse-spec =

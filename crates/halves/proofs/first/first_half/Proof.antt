@@ -27,8 +27,11 @@ returns-4 c =
     let w = c .before .before .before .before .before in
     let a = w .before .before .before .before .before .before .before .before .before .args in
     as-is
-    (first-half-done (now (a .share)) (omega arith) (a .way) (now (a .samples)) (length (now (a .sums))) (omega arith) (omega arith))
-    (refused-first (w .call1 .ensures) (call1-writes _ _ _) (λ f. analysed (f .kept) (a .way) (firstIn (f .written)) (length (now (a .sums)))) (now (a .sums) ∷ []) (answered-no (c .before .passed .ensures) (c .if4 .taken)))
+    (first-half-done (now (a .share)) (omega arith) (a .way) (now (a .samples)) (length (now (a .sums))) (omega arith)
+    (omega arith))
+    (refused-first (w .call1 .ensures) (call1-writes _ _ _)
+    (λ f. analysed (f .kept) (a .way) (firstIn (f .written)) (length (now (a .sums)))) (now (a .sums) ∷ [])
+    (answered-no (c .before .passed .ensures) (c .if4 .taken)))
 
 returns-5 : tie.Need-returns-5
 returns-5 c =
@@ -37,8 +40,10 @@ returns-5 c =
     let w = e .before .before .before .before .before in
     let a = w .before .before .before .before .before .before .before .before .before .args in
     as-is
-    (first-half-done (now (a .share)) (omega arith) (a .way) (now (a .samples)) (length (now (a .sums))) (omega arith) (omega arith)
-    ∙ handed-on (w .call1 .ensures) (call1-writes _ _ _) (answered-yes (e .before .passed .ensures) (e .if4 .left)) (λ _ share window. analysed share (a .way) window (length (now (a .sums)))))
+    (first-half-done (now (a .share)) (omega arith) (a .way) (now (a .samples)) (length (now (a .sums))) (omega arith)
+    (omega arith)
+    ∙ handed-on (w .call1 .ensures) (call1-writes _ _ _) (answered-yes (e .before .passed .ensures) (e .if4 .left))
+    (λ _ share window. analysed share (a .way) window (length (now (a .sums)))))
     (n .analyse .ensures)
 
 pub first-half-spec : {M : Type 1} → statement M

@@ -1,4 +1,5 @@
--- `halves::call2_own` meets its contract: a short share is refused, and of a whole one call 2 gets the lag that was found. Assumes nothing.
+-- `halves::call2_own` meets its contract: a short share is refused, and of a whole one call 2 gets the lag that was
+-- found. Assumes nothing.
 use native.Mathlib.Omega.{arith}
 use borrow.Author.Needs.{needs}
 use denote.Ref.{now}

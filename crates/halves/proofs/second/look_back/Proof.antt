@@ -17,7 +17,8 @@ returns c =
     let l = w .before .before .before in
     let share = now (l .before .before .before .before .args .share) in
     let small : l .whole-lag .result ≤ 768 = rw (l .whole-lag .ensures) (lag-small _) in
-    let window = fitted (w .apply-window .ensures) (record { into = refl; from = simp (length-take, length-drop) (omega arith) }) in
+    let window = fitted (w .apply-window .ensures)
+    (record { into = refl; from = simp (length-take, length-drop) (omega arith) }) in
     f .forward .ensures
     ∙ ap (forwardBy _) (window ∙ looked-back share (omega arith) (l .whole-lag .ensures))
 

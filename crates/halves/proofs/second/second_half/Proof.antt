@@ -32,9 +32,12 @@ returns-5 c =
     let l = w .before .before .before .before .before in
     let a = l .before .before .before .before .before .before .before .before .before .before .before .before .args in
     as-is
-    (second-half-done (now (a .share)) (omega arith) (a .hearing) (now (a .logs)) (now (a .model)) (length (now (a .out)))
+    (second-half-done (now (a .share)) (omega arith) (a .hearing) (now (a .logs)) (now (a .model))
+    (length (now (a .out)))
     (omega arith) (omega arith) (omega arith) (l .look-back .ensures))
-    (refused-first (w .call3 .ensures) (call3-writes _ _ _ _ _ _) (λ f. synthesised (f .answer) (f .kept) (a .hearing .way) (firstIn (f .written)) (length (now (a .out)))) (now (a .out) ∷ [])
+    (refused-first (w .call3 .ensures) (call3-writes _ _ _ _ _ _)
+    (λ f. synthesised (f .answer) (f .kept) (a .hearing .way) (firstIn (f .written)) (length (now (a .out))))
+    (now (a .out) ∷ [])
     (answered-no (c .before .passed .ensures) (c .if5 .taken)))
 
 returns-6 : tie.Need-returns-6
@@ -50,9 +53,11 @@ returns-6 c =
     let inside = l .before .before .before .if4 .left in
     let yes = answered-yes (e .before .passed .ensures) (e .if5 .left) in
     as-is
-    (second-half-done (now (a .share)) (omega (arith, whole)) (a .hearing) (now (a .logs)) (now (a .model)) (length (now (a .out)))
+    (second-half-done (now (a .share)) (omega (arith, whole)) (a .hearing) (now (a .logs)) (now (a .model))
+    (length (now (a .out)))
     (omega (arith, few)) (omega (arith, room)) (omega (arith, inside)) (l .look-back .ensures)
-    ∙ handed-on (w .call3 .ensures) (call3-writes _ _ _ _ _ _) yes (λ reply share spectrum. synthesised reply share (a .hearing .way) spectrum (length (now (a .out)))))
+    ∙ handed-on (w .call3 .ensures) (call3-writes _ _ _ _ _ _) yes
+    (λ reply share spectrum. synthesised reply share (a .hearing .way) spectrum (length (now (a .out)))))
     (synthesised-by _ _ _ _ (n .synthesise .ensures))
 
 pub second-half-spec : {M : Type 1} → statement M

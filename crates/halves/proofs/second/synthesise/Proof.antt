@@ -12,7 +12,8 @@ returns c =
     let o = c .before .before .before .before in
     let f = o .before .before .before .before .before in
     let a = f .before .before .before .before .before .args in
-    as-is (ap (λ (x : List Float). call4 (now (a .share)) x (length (now (a .out)))) (sym (f .inverse .ensures))) (o .call4 .ensures)
+    as-is (ap (λ (x : List Float). call4 (now (a .share)) x (length (now (a .out)))) (sym (f .inverse .ensures)))
+    (o .call4 .ensures)
 
 pub synthesise-spec : {M : Type 1} → statement M
 synthesise-spec =

@@ -1,5 +1,7 @@
--- `halves::ways::find` meets its contract: what the finder says is what the share's part says, and an f32 holds its period. Assumes nothing.
-use Rattle.rules.proofs.Common.{ℕ, _≤_, List, [], _∷_, _≡_, ap, _∙_, length, set, length-set, pos, Float, binary32, ofInt}
+-- `halves::ways::find` meets its contract: what the finder says is what the share's part says, and an f32 holds its
+-- period. Assumes nothing.
+use Rattle.rules.proofs.Common.{ℕ, _≤_, List, [], _∷_, _≡_, ap, _∙_, length, set, length-set, pos, Float, binary32}
+use Rattle.rules.proofs.Common.{ofInt}
 use native.Mathlib.Omega.{arith}
 use borrow.Author.Needs.{needs}
 use denote.Ref.{now}
@@ -13,28 +15,34 @@ use Rattle.finder.specs.Finder.{find, periodIn, gainIn}
 use Rattle.finder.specs.declared.Found.{Found}
 use Rattle.finder.proofs.Ranges.{period-in-range}
 use Rattle.frame.specs.Share.{PART, inputMem, finderMem}
-use Rattle.frame.specs.declared.Way.the-variants.{Crate}
+use Rattle.frame.specs.declared.Way.the-variants.{Nnnoiseless}
 use Rattle.frame.proofs.Sizes.{at-get}
 use Rattle.halves.specs.Ways.{found, lagBy, remembered}
 use Rattle.halves.proofs.ways.find.Statement.{statement}
 use Rattle.halves.proofs.ways.find.Tie as tie
 
 module _ (share : List Float) (whole : length share ≡ PART) where
-  as-found : {answer : Found} → Leaf (length (get inputMem share) ≡ 1728) answer (Found.At (find (at share 3776) (at share 3777) (get inputMem share))) (Found.Refused 5)
+  as-found : {answer : Found}
+      → Leaf (length (get inputMem share) ≡ 1728) answer
+      (Found.At (find (at share 3776) (at share 3777) (get inputMem share))) (Found.Refused 5)
       → answer ≡ Found.At (found share)
   as-found leaf =
-      fitting leaf (length-get inputMem share (omega arith)) ∙ rw (at-get finderMem share 0 (omega arith), at-get finderMem share 1 (omega arith))
+      fitting leaf (length-get inputMem share (omega arith))
+      ∙ rw (at-get finderMem share 0 (omega arith), at-get finderMem share 1 (omega arith))
 
   noted : {period : ℕ} {gain : Float} → period ≡ found share .period → gain ≡ found share .gain
-      → set (set share 3776 (ofInt binary32 (pos period))) 3777 gain ≡ remembered Crate share
+      → set (set share 3776 (ofInt binary32 (pos period))) 3777 gain ≡ remembered Nnnoiseless share
   unfolding remembered
   noted {period} {gain} p g = put-sets share (ofInt binary32 (pos period) ∷ gain ∷ []) 3776 (omega arith) ∙ rw (p, g)
 
-answers : (c : tie.After-period) → let a = c .before .before .before .before .before .before .before .args in c .before .find .result ≡ Found.At (found (now (a .share)))
+answers : (c : tie.After-period) → let a = c .before .before .before .before .before .before .before .args in
+    c .before .find .result ≡ Found.At (found (now (a .share)))
 unfolding get
-answers c = let a = c .before .before .before .before .before .before .before .args in as-found (now (a .share)) (omega arith) (c .before .find .ensures)
+answers c = let a = c .before .before .before .before .before .before .before .args in
+    as-found (now (a .share)) (omega arith) (c .before .find .ensures)
 
-period-is : (c : tie.After-period) → let a = c .before .before .before .before .before .before .before .args in c .period .result ≡ found (now (a .share)) .period
+period-is : (c : tie.After-period) → let a = c .before .before .before .before .before .before .before .args in
+    c .period .result ≡ found (now (a .share)) .period
 period-is c = c .period .ensures ∙ ap periodIn (answers c)
 
 period-small : (c : tie.After-period) → c .period .result ≤ 767

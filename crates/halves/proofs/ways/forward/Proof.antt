@@ -7,11 +7,17 @@ use Rattle.halves.proofs.ways.forward.Tie as tie
 
 returns : tie.Need-returns
 unfolding forwardBy
-returns c = rw (c .before .before .before .before .enum-told .given .1) (fitted (c .before .before .forward .ensures) (c .before .before .before .before .before .before .before .before .pre))
+returns c =
+    rw (c .before .before .before .before .enum-told .given .1)
+    (fitted (c .before .before .forward .ensures)
+    (c .before .before .before .before .before .before .before .before .pre))
 
 returns-2 : tie.Need-returns-2
 unfolding forwardBy
-returns-2 c = rw (c .before .before .before .before .enum-told2 .given .1) (fitted (c .before .before .forward2 .ensures) (c .before .before .before .before .before .before .before .before .pre))
+returns-2 c =
+    rw (c .before .before .before .before .enum-told2 .given .1)
+    (fitted (c .before .before .forward2 .ensures)
+    (c .before .before .before .before .before .before .before .before .pre))
 
 pub forward-spec : {M : Type 1} → statement M
 forward-spec =

@@ -7,11 +7,17 @@ use Rattle.halves.proofs.ways.inverse.Tie as tie
 
 returns : tie.Need-returns
 unfolding inverseBy
-returns c = rw (c .before .before .before .before .enum-told .given .1) (fitted (c .before .before .inverse .ensures) (c .before .before .before .before .before .before .before .before .pre))
+returns c =
+    rw (c .before .before .before .before .enum-told .given .1)
+    (fitted (c .before .before .inverse .ensures)
+    (c .before .before .before .before .before .before .before .before .pre))
 
 returns-2 : tie.Need-returns-2
 unfolding inverseBy
-returns-2 c = rw (c .before .before .before .before .enum-told2 .given .1) (fitted (c .before .before .inverse2 .ensures) (c .before .before .before .before .before .before .before .before .pre))
+returns-2 c =
+    rw (c .before .before .before .before .enum-told2 .given .1)
+    (fitted (c .before .before .inverse2 .ensures)
+    (c .before .before .before .before .before .before .before .before .pre))
 
 pub inverse-spec : {M : Type 1} → statement M
 inverse-spec =

@@ -13,7 +13,8 @@ returns : tie.Need-returns
 unfolding lagBy remembered get
 returns c =
     let a = c .before .before .before .before .before .before .before .args in
-    rw (c .before .before .before .before .enum-told .given .1) (found (now (a .share)) (omega arith) (c .before .lag-of .ensures) (c .lag .ensures), refl)
+    rw (c .before .before .before .before .enum-told .given .1)
+    (found (now (a .share)) (omega arith) (c .before .lag-of .ensures) (c .lag .ensures), refl)
 
 returns-2 : tie.Need-returns-2
 returns-2 c = rw (c .before .before .before .before .enum-told2 .given .1) (c .before .before .find .ensures)

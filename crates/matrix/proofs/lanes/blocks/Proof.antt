@@ -3,14 +3,15 @@ use Rattle.rules.proofs.Common.{ℕ, _+_, _-_, _%_, _≤_, _<_, _++_, _≡_, re
 use native.Mathlib.Omega.{arith}
 use Rattle.rules.specs.Tab.{tab}
 use Rattle.rules.proofs.Lists.{tab-none, tab-done}
-use Rattle.matrix.specs.Parts.{neuron, spot, sixteenSums}
+use Rattle.matrix.specs.Private.{neuron, spot, sixteenSums}
 use Rattle.matrix.proofs.Neurons.{block-kept}
 use Rattle.matrix.proofs.lanes.blocks.Statement.{statement}
 use Rattle.matrix.proofs.lanes.blocks.Tie as tie
 
 abbrev Inv-loop : tie.InvT-loop
 Inv-loop kept₀ out weights stride offset input a₀ kept a =
-    (a ≤ length out) × (a % 16 ≡ 0) × (length kept ≡ length kept₀) × (kept ≡ tab a (λ i. neuron out weights stride offset input (spot i)) ++ drop a kept₀)
+    (a ≤ length out) × (a % 16 ≡ 0) × (length kept ≡ length kept₀)
+    × (kept ≡ tab a (λ i. neuron out weights stride offset input (spot i)) ++ drop a kept₀)
 
 abbrev μ-loop : tie.MeasureT-loop
 μ-loop kept₀ out weights stride offset input a₀ kept a = length out - a
@@ -19,12 +20,16 @@ more-room : {n a : ℕ} → a < n → a % 16 ≡ 0 → n % 16 ≡ 0 → a + 16 �
 more-room below even whole = omega arith
 
 -- another sixteen
-room : (c : tie.In-loop Inv-loop μ-loop) → c .before .loop .a + 16 ≤ length (c .before .before .before .before .before .before .args .out .now)
-room c = more-room (c .loop-test .taken) (c .before .loop .inv .1) (c .before .before .before .before .before .before .pre .even)
+room : (c : tie.In-loop Inv-loop μ-loop)
+    → c .before .loop .a + 16 ≤ length (c .before .before .before .before .before .before .args .out .now)
+room c =
+    more-room (c .loop-test .taken) (c .before .loop .inv .1)
+    (c .before .before .before .before .before .before .pre .even)
 
 -- and as many places for them
 places : (c : tie.In-loop Inv-loop μ-loop) → c .before .loop .a + 16 ≤ length (c .before .loop .kept)
-places c = omega (arith, room c, c .before .before .before .before .before .before .pre .places, c .before .loop .inv .2)
+places c =
+    omega (arith, room c, c .before .before .before .before .before .before .pre .places, c .before .loop .inv .2)
 
 sums-requires : tie.Need-sums-requires Inv-loop μ-loop
 sums-requires c κs =
@@ -68,10 +73,18 @@ loop-again c =
     let two = s .give2 in
     let three = t .give3 in
     let four = d .give4 in
-    let same = g .sums .ensures ∙ ap (sixteenSums (a .weights .now) (a .stride) (a .offset + l .a) (a .input .now) (length (a .input .now))) (g .before .take-sixteen .ensures) in
-    let kept = block-kept (a .weights .now) (a .stride) (a .offset) (a .input .now) (a .out .now) (l .a) (l .inv .1) (a .kept .now) (l .kept)
-    (omega (arith, inside, start .pre .places)) (l .inv .3) same (one .ensures) (two .ensures) (three .ensures) (four .ensures) in
-    (omega (arith, inside), omega (arith, l .inv .1), four .kept .0 ∙ three .kept .0 ∙ two .kept .0 ∙ one .kept .0 ∙ l .inv .2, kept)
+    let same = g .sums .ensures
+    ∙ ap (sixteenSums (a .weights .now) (a .stride) (a .offset + l .a) (a .input .now) (length (a .input .now)))
+    (g .before .take-sixteen .ensures) in
+    let kept = block-kept (a .weights .now) (a .stride) (a .offset) (a .input .now) (a .out .now) (l .a) (l .inv .1)
+    (a .kept .now) (l .kept)
+    (omega (arith, inside, start .pre .places)) (l .inv .3) same (one .ensures) (two .ensures) (three .ensures)
+    (four .ensures) in (
+      omega (arith, inside),
+      omega (arith, l .inv .1),
+      four .kept .0 ∙ three .kept .0 ∙ two .kept .0 ∙ one .kept .0 ∙ l .inv .2,
+      kept,
+    )
 
 pub blocks-spec : {M : Type 1} → statement M
 blocks-spec =
@@ -88,10 +101,14 @@ blocks-spec =
     (λ c κs. room c)  -- take-sixteen-requires
     sums-requires
     (λ c κs. omega (arith, places (c .before .before .before)))  -- give-requires
-    (λ c κs. let f = c .before .before .before in omega (arith, places (f .before .before .before .before), f .give .kept .0))  -- give-requires-2
+    (λ c κs.
+    let f = c .before .before .before in
+    omega (arith, places (f .before .before .before .before), f .give .kept .0))  -- give-requires-2
     give-requires-3
     give-requires-4
     loop-less
     loop-again
     (λ c. c .before .loop .inv .2)  -- same-length
-    (λ c. c .before .loop .inv .3 ∙ tab-done _ _ _ _ (omega arith) (omega (arith, c .before .before .before .before .before .before .pre .places))))  -- returns
+    (λ c. c .before .loop .inv .3
+    ∙ tab-done _ _ _ _ (omega arith)
+    (omega (arith, c .before .before .before .before .before .before .pre .places))))  -- returns

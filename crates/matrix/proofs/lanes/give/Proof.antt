@@ -2,7 +2,7 @@
 use native.Mathlib.Omega.{arith}
 use lib.ListN.{length-set}
 use borrow.Author.Needs.{needs}
-use Rattle.matrix.specs.Parts.{storeFour}
+use Rattle.matrix.specs.Private.{storeFour}
 use Rattle.matrix.proofs.lanes.give.Statement.{statement}
 use Rattle.matrix.proofs.lanes.give.Tie as tie
 

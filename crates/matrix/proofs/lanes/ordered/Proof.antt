@@ -4,7 +4,7 @@ use native.Mathlib.Omega.{arith}
 use Rattle.rules.specs.F32.{at}
 use Rattle.rules.specs.Tab.{tab}
 use Rattle.rules.proofs.Lists.{tab-none, tab-done}
-use Rattle.matrix.specs.Parts.{spot}
+use Rattle.matrix.specs.Private.{spot}
 use Rattle.matrix.proofs.Neurons.{block-ordered}
 use Rattle.matrix.proofs.lanes.ordered.Statement.{statement}
 use Rattle.matrix.proofs.lanes.ordered.Tie as tie
@@ -34,13 +34,19 @@ loop-again c =
     let two = s .back2 in
     let three = t .back3 in
     let four = d .back4 in
-    let done = block-ordered (start .args .kept .now) (start .args .out .now) (l .out) (l .a) (l .inv .1) inside (l .inv .3)
-    (one .ensures) (two .ensures) (three .ensures) (four .ensures) in
-    (omega (arith, inside, start .pre .0), omega (arith, l .inv .1), four .kept .0 ∙ three .kept .0 ∙ two .kept .0 ∙ one .kept .0 ∙ l .inv .2, done)
+    let done =
+    block-ordered (start .args .kept .now) (start .args .out .now) (l .out) (l .a) (l .inv .1) inside (l .inv .3)
+    (one .ensures) (two .ensures) (three .ensures) (four .ensures) in (
+      omega (arith, inside, start .pre .0),
+      omega (arith, l .inv .1),
+      four .kept .0 ∙ three .kept .0 ∙ two .kept .0 ∙ one .kept .0 ∙ l .inv .2,
+      done,
+    )
 
 -- in both slices
 places : (c : tie.In-loop Inv-loop μ-loop) →
-    let l = c .before .loop in (l .a + 16 ≤ length (l .out)) × (l .a + 16 ≤ length (c .before .before .before .before .args .kept .now))
+    let l = c .before .loop in
+    (l .a + 16 ≤ length (l .out)) × (l .a + 16 ≤ length (c .before .before .before .before .args .kept .now))
 places c =
     let l = c .before .loop in
     let start = c .before .before .before .before in
@@ -69,7 +75,11 @@ ordered-spec =
     (λ c. omega arith)  -- add-back
     (λ c κs. (omega (arith, c .before .before .before .back .kept .0), omega arith))  -- back-requires-2
     (λ c. omega arith)  -- add-back-2
-    (λ c κs. let s = c .before .before .before in (omega (arith, s .back2 .kept .0, s .before .before .before .before .back .kept .0), omega arith))  -- back-requires-3
+    (λ c κs.
+    let s = c .before .before .before in (
+      omega (arith, s .back2 .kept .0, s .before .before .before .before .back .kept .0),
+      omega arith,
+    ))  -- back-requires-3
     (λ c. omega arith)  -- add-back-3
     back-requires-4
     (λ c. omega arith)  -- add-a

@@ -1,6 +1,6 @@
 -- `matrix::lanes::plus` meets its contract. Assumes nothing.
 use borrow.Author.Needs.{needs}
-use Rattle.matrix.specs.Parts.{plusFour}
+use Rattle.matrix.specs.Private.{plusFour}
 use Rattle.matrix.proofs.lanes.plus.Statement.{statement}
 use Rattle.matrix.proofs.lanes.plus.Tie as tie
 

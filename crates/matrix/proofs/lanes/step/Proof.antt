@@ -1,6 +1,6 @@
 -- `matrix::lanes::step` meets its contract. Assumes nothing.
 use borrow.Author.Needs.{needs}
-use Rattle.matrix.specs.Parts.{plusSixteen}
+use Rattle.matrix.specs.Private.{plusSixteen}
 use Rattle.matrix.proofs.lanes.step.Statement.{statement}
 use Rattle.matrix.proofs.lanes.step.Tie as tie
 

@@ -3,7 +3,7 @@ use Rattle.rules.proofs.Common.{_+_, _-_, _*_, _≤_, _≡_, refl, length}
 use native.Mathlib.Omega.{arith}
 use Rattle.rules.proofs.Loops.{turns}
 use Rattle.rules.proofs.Numbers.{row-fits}
-use Rattle.matrix.specs.Parts.{sixteenSums}
+use Rattle.matrix.specs.Private.{sixteenSums}
 use Rattle.matrix.proofs.Neurons.{sums-none, sums-more, sums-ended}
 use Rattle.matrix.proofs.lanes.sums.Statement.{statement}
 use Rattle.matrix.proofs.lanes.sums.Tie as tie
@@ -16,7 +16,8 @@ abbrev μ-loop : tie.MeasureT-loop
 μ-loop weights stride place input r₀ i₀ i-end r i = i-end - i
 
 -- row i ends within the weights
-room : (c : tie.In-loop Inv-loop μ-loop) → let a = c .before .before .before .before .args in c .before .loop .i * a .stride + a .stride ≤ a .stride * length (a .input .now)
+room : (c : tie.In-loop Inv-loop μ-loop) → let a = c .before .before .before .before .args in
+    c .before .loop .i * a .stride + a .stride ≤ a .stride * length (a .input .now)
 room c = row-fits (c .loop-test .taken) _
 
 loop-again : tie.Need-loop-again Inv-loop μ-loop

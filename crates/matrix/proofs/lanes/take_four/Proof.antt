@@ -1,7 +1,7 @@
 -- `matrix::lanes::take_four` meets its contract. Assumes nothing.
 use mathlib.Core.Path.{refl}
 use borrow.Author.Needs.{needs}
-use Rattle.matrix.specs.Parts.{fourAt}
+use Rattle.matrix.specs.Private.{fourAt}
 use Rattle.matrix.proofs.lanes.take_four.Statement.{statement}
 use Rattle.matrix.proofs.lanes.take_four.Tie as tie
 

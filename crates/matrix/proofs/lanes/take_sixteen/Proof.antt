@@ -1,6 +1,6 @@
 -- `matrix::lanes::take_sixteen` meets its contract. Assumes nothing.
 use borrow.Author.Needs.{needs}
-use Rattle.matrix.specs.Parts.{sixteenAt}
+use Rattle.matrix.specs.Private.{sixteenAt}
 use Rattle.matrix.proofs.lanes.take_sixteen.Statement.{statement}
 use Rattle.matrix.proofs.lanes.take_sixteen.Tie as tie
 

@@ -10,7 +10,15 @@ wide-spec =
     tie.close
     (tie.spec
     (λ c κs. search needs)  -- blocks-requires
-    (λ c κs. (c .before .before .before .before .blocks2 .kept .0 ∙ c .before .before .before .before .before .before .before .before .before .before .before .pre .places, c .before .before .before .before .before .before .before .before .before .before .before .pre .even))  -- ordered-requires
+    (λ c κs. (
+      c .before .before .before .before .blocks2 .kept .0
+          ∙ c .before .before .before .before .before .before .before .before .before .before .before .pre .places,
+      c .before .before .before .before .before .before .before .before .before .before .before .pre .even,
+    ))  -- ordered-requires
     (λ c. search needs)  -- same-length
     (λ c. search needs)  -- same-length-2
-    (λ c. both-orders _ _ _ (c .before .before .before .before .before .before .before .before .before .before .before .before .before .before .pre .even) (c .before .before .before .before .before .before .before .blocks2 .ensures) (c .before .before .ordered .ensures)))  -- returns
+    (λ c.
+    both-orders
+    _ _ _ (c .before .before .before .before .before .before .before .before .before .before .before .before .before
+    .before .pre .even) (c .before .before .before .before .before .before .before .blocks2 .ensures)
+    (c .before .before .ordered .ensures)))  -- returns

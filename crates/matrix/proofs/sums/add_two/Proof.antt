@@ -16,14 +16,19 @@ abbrev μ-loop : tie.MeasureT-loop
 
 loop-again : tie.Need-loop-again Inv-loop μ-loop
 loop-again c =
-    let l = c .before .before .before .before .before .before .loop in
-    (omega arith, l .inv .1, simp length-set (l .inv .2), more _ _ _ (l .inv .3) (rw (c .weight2 .ensures, c .before .before .weight .ensures)))
+    let l = c .before .before .before .before .before .before .loop in (
+      omega arith,
+      l .inv .1,
+      simp length-set (l .inv .2),
+      more _ _ _ (l .inv .3) (rw (c .weight2 .ensures, c .before .before .weight .ensures)),
+    )
 
 returns : tie.Need-returns Inv-loop μ-loop
 returns c =
     let a = c .before .before .before .before .before .args in
     let l = c .before .loop in
-    two-columns (a .out .now) (a .first .now) (a .x) (a .second .now) (a .y) (ended _ _ _ _ (omega arith) (omega arith) (l .inv .3))
+    two-columns (a .out .now) (a .first .now) (a .x) (a .second .now) (a .y)
+    (ended _ _ _ _ (omega arith) (omega arith) (l .inv .3))
 
 pub add-two-spec : {M : Type 1} → statement M
 add-two-spec =

@@ -8,24 +8,32 @@ use Rattle.matrix.proofs.sums.both.Tie as tie
 
 columns-requires : tie.Need-columns-requires
 columns-requires c κs =
-    let start = c .before .before .before .before .before .before .before .before .before .before .before .before .before in
+    let start =
+    c .before .before .before .before .before .before .before .before .before .before .before .before .before in
     let a = start .args in
     let m = length (a .kept .now) in
-    rest-fits (a .weights .now) (a .stride) (a .offset) (a .input .now) (a .out .now) m (m - 0) (omega arith) (start .pre .0) _ (c .before .before .before .before .before .before .wide .ensures) (start .pre .2)
+    rest-fits (a .weights .now) (a .stride) (a .offset) (a .input .now) (a .out .now) m (m - 0) (omega arith)
+    (start .pre .0) _ (c .before .before .before .before .before .before .wide .ensures) (start .pre .2)
 
 returns : tie.Need-returns
 returns c =
-    let start = c .before .before .before .before .before .before .before .before .before .before .before .before .before .before .before .before in
+    let start =
+    c .before .before .before .before .before .before .before .before .before .before .before .before .before .before
+    .before .before in
     let a = start .args in
     let m = length (a .kept .now) in
-    both-parts (a .weights .now) (a .stride) (a .offset) (a .input .now) (a .out .now) m (m - 0) (omega arith) (start .pre .0) _ (c .before .before .before .before .before .before .before .before .before .wide .ensures) (start .pre .2) (c .before .before .columns .ensures)
+    both-parts (a .weights .now) (a .stride) (a .offset) (a .input .now) (a .out .now) m (m - 0) (omega arith)
+    (start .pre .0) _ (c .before .before .before .before .before .before .before .before .before .wide .ensures)
+    (start .pre .2) (c .before .before .columns .ensures)
 
 returns-2 : tie.Need-returns-2
 returns-2 c =
     let start = c .before .before .before .before .before .before .before .before .before .before .before .before in
     let a = start .args in
     let m = length (a .kept .now) in
-    front-alone (a .weights .now) (a .stride) (a .offset) (a .input .now) (a .out .now) m (m - 0) (omega arith) (start .pre .0) _ (c .before .before .before .before .before .wide .ensures) (start .pre .2) (omega (arith, c .if1 .left))
+    front-alone (a .weights .now) (a .stride) (a .offset) (a .input .now) (a .out .now) m (m - 0) (omega arith)
+    (start .pre .0) _ (c .before .before .before .before .before .wide .ensures) (start .pre .2)
+    (omega (arith, c .if1 .left))
 
 pub both-spec : {M : Type 1} → statement M
 both-spec =

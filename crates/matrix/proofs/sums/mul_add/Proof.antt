@@ -1,4 +1,5 @@
--- `matrix::sums::mul_add` meets its contract: each refusal by the test that failed, and the rest by what the core ensures. Assumes nothing.
+-- `matrix::sums::mul_add` meets its contract: each refusal by the test that failed, and the rest by what the core
+-- ensures. Assumes nothing.
 use mathlib.Core.Path.{refl, sym, _∙_}
 use native.Mathlib.Omega.{arith}
 use borrow.Author.Needs.{needs}
@@ -20,7 +21,10 @@ mul-add-spec =
     (λ c. refused (λ fits. omega arith) refl)  -- returns
     (λ c. refused (λ fits. omega arith) refl)  -- returns-2
     (λ c κs. search needs)  -- is-product-requires
-    (λ c. refused (λ fits. eqb-false _ _ (sym (c .before .is-product .ensures) ∙ not-true _ (c .if3 .taken)) (fits .columns)) refl)  -- returns-3
+    (λ c.
+    refused (λ fits. eqb-false _ _ (sym (c .before .is-product .ensures) ∙ not-true _ (c .if3 .taken)) (fits .columns))
+    refl)  -- returns-3
     core-requires
     (λ c. search needs)  -- same-length
-    (λ c. done (core-requires (c .before .before .before) (c .before .before .mul-add-core .lifetimes)) (leaves (c .before .before .mul-add-core .ensures))))  -- returns-4
+    (λ c. done (core-requires (c .before .before .before) (c .before .before .mul-add-core .lifetimes))
+    (leaves (c .before .before .mul-add-core .ensures))))  -- returns-4

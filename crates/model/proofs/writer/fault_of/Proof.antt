@@ -11,14 +11,18 @@ returns : tie.Need-returns
 returns c =
     let lf = c .before in
     let start = lf .before .before in
-    bad-rows (now (start .args .shapes)) (start .args .lengths) (18 + sum (start .args .lengths)) (start .args .buffer) (lf .layers-fault .ensures) (c .if1 .taken)
+    bad-rows (now (start .args .shapes)) (start .args .lengths) (18 + sum (start .args .lengths)) (start .args .buffer)
+    (lf .layers-fault .ensures) (c .if1 .taken)
 
 model-fault-requires : tie.Need-model-fault-requires
 model-fault-requires c κs =
     let lf = c .before .before in
     let start = lf .before .before in
-    let clear = clear-rows (now (start .args .shapes)) (start .args .lengths) (18 + sum (start .args .lengths)) (start .args .buffer) (lf .layers-fault .ensures) (c .before .if1 .left) in
-    rw (c .counts-given .ensures) (few-given (now (start .args .shapes)) (start .args .lengths) (18 + sum (start .args .lengths)) (start .args .buffer) clear)
+    let clear = clear-rows (now (start .args .shapes)) (start .args .lengths) (18 + sum (start .args .lengths))
+    (start .args .buffer) (lf .layers-fault .ensures) (c .before .if1 .left) in
+    rw (c .counts-given .ensures)
+    (few-given (now (start .args .shapes)) (start .args .lengths) (18 + sum (start .args .lengths))
+    (start .args .buffer) clear)
 
 returns-2 : tie.Need-returns-2
 returns-2 c =
@@ -26,8 +30,10 @@ returns-2 c =
     let mg = mf .before in
     let lf = mg .before .before in
     let start = lf .before .before in
-    let clear = clear-rows (now (start .args .shapes)) (start .args .lengths) (18 + sum (start .args .lengths)) (start .args .buffer) (lf .layers-fault .ensures) (mg .before .if1 .left) in
-    bad-model (now (start .args .shapes)) (start .args .lengths) (18 + sum (start .args .lengths)) (start .args .buffer) clear (rw (mg .counts-given .ensures) at (mf .model-fault .ensures)) (c .if2 .taken)
+    let clear = clear-rows (now (start .args .shapes)) (start .args .lengths) (18 + sum (start .args .lengths))
+    (start .args .buffer) (lf .layers-fault .ensures) (mg .before .if1 .left) in
+    bad-model (now (start .args .shapes)) (start .args .lengths) (18 + sum (start .args .lengths))
+    (start .args .buffer) clear (rw (mg .counts-given .ensures) at (mf .model-fault .ensures)) (c .if2 .taken)
 
 returns-3 : tie.Need-returns-3
 returns-3 c =
@@ -36,8 +42,10 @@ returns-3 c =
     let mg = mf .before in
     let lf = mg .before .before in
     let start = lf .before .before in
-    let clear = clear-rows (now (start .args .shapes)) (start .args .lengths) (18 + sum (start .args .lengths)) (start .args .buffer) (lf .layers-fault .ensures) (mg .before .if1 .left) in
-    sym (good-model (now (start .args .shapes)) (start .args .lengths) (18 + sum (start .args .lengths)) (start .args .buffer) clear (rw (mg .counts-given .ensures) at (mf .model-fault .ensures)) (ts .before .if2 .left)
+    let clear = clear-rows (now (start .args .shapes)) (start .args .lengths) (18 + sum (start .args .lengths))
+    (start .args .buffer) (lf .layers-fault .ensures) (mg .before .if1 .left) in
+    sym (good-model (now (start .args .shapes)) (start .args .lengths) (18 + sum (start .args .lengths))
+    (start .args .buffer) clear (rw (mg .counts-given .ensures) at (mf .model-fault .ensures)) (ts .before .if2 .left)
     ∙ rw (sym (ts .too-short .ensures) ∙ c .if3 .taken))
 
 returns-4 : tie.Need-returns-4
@@ -47,8 +55,10 @@ returns-4 c =
     let mg = mf .before in
     let lf = mg .before .before in
     let start = lf .before .before in
-    let clear = clear-rows (now (start .args .shapes)) (start .args .lengths) (18 + sum (start .args .lengths)) (start .args .buffer) (lf .layers-fault .ensures) (mg .before .if1 .left) in
-    sym (good-model (now (start .args .shapes)) (start .args .lengths) (18 + sum (start .args .lengths)) (start .args .buffer) clear (rw (mg .counts-given .ensures) at (mf .model-fault .ensures)) (ts .before .if2 .left)
+    let clear = clear-rows (now (start .args .shapes)) (start .args .lengths) (18 + sum (start .args .lengths))
+    (start .args .buffer) (lf .layers-fault .ensures) (mg .before .if1 .left) in
+    sym (good-model (now (start .args .shapes)) (start .args .lengths) (18 + sum (start .args .lengths))
+    (start .args .buffer) clear (rw (mg .counts-given .ensures) at (mf .model-fault .ensures)) (ts .before .if2 .left)
     ∙ rw (sym (ts .too-short .ensures) ∙ c .if3 .left))
 
 pub fault-of-spec : {M : Type 1} → statement M

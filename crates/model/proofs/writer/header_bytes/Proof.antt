@@ -1,7 +1,7 @@
 use Prim.Native.Nat.{_+_}
 use native.Mathlib.Omega.{arith}
 use borrow.Author.Needs.{needs}
-use Rattle.model.specs.Parts.{headerBytes}
+use Rattle.model.specs.Private.{headerBytes}
 use Rattle.model.proofs.writer.header_bytes.Statement.{statement}
 use Rattle.model.proofs.writer.header_bytes.Tie as tie
 

@@ -11,7 +11,8 @@ use Rattle.model.proofs.writer.layer_fault.Tie as tie
 returns : tie.Need-returns
 returns c =
     let a = c .before .before .args in
-    bad-layer (a .kind) (a .inputs) (a .neurons) (a .number) (a .weights ∷ a .recurrent ∷ a .bias ∷ []) (c .before .header-fault .ensures) (c .if1 .taken)
+    bad-layer (a .kind) (a .inputs) (a .neurons) (a .number) (a .weights ∷ a .recurrent ∷ a .bias ∷ [])
+    (c .before .header-fault .ensures) (c .if1 .taken)
 
 array-lengths-requires : tie.Need-array-lengths-requires
 array-lengths-requires c κs =
@@ -24,7 +25,8 @@ returns-2 c =
     let f = c .before .before in
     let a = f .before .before .args in
     let good = good-header (a .inputs) (a .neurons) (a .number) (f .before .header-fault .ensures) (f .if1 .left) in
-    first-differs (a .kind) (a .inputs) (a .neurons) (a .number) (a .weights) (a .recurrent) (a .bias) good (c .before .array-lengths .ensures)
+    first-differs (a .kind) (a .inputs) (a .neurons) (a .number) (a .weights) (a .recurrent) (a .bias) good
+    (c .before .array-lengths .ensures)
     (c .if2 .taken)
 
 returns-3 : tie.Need-returns-3
@@ -32,7 +34,8 @@ returns-3 c =
     let f = c .before .before .before in
     let a = f .before .before .args in
     let good = good-header (a .inputs) (a .neurons) (a .number) (f .before .header-fault .ensures) (f .if1 .left) in
-    second-differs (a .kind) (a .inputs) (a .neurons) (a .number) (a .weights) (a .recurrent) (a .bias) good (c .before .before .array-lengths .ensures)
+    second-differs (a .kind) (a .inputs) (a .neurons) (a .number) (a .weights) (a .recurrent) (a .bias) good
+    (c .before .before .array-lengths .ensures)
     (c .before .if2 .left) (c .if3 .taken)
 
 returns-4 : tie.Need-returns-4
@@ -40,7 +43,8 @@ returns-4 c =
     let f = c .before .before .before .before in
     let a = f .before .before .args in
     let good = good-header (a .inputs) (a .neurons) (a .number) (f .before .header-fault .ensures) (f .if1 .left) in
-    third-differs (a .kind) (a .inputs) (a .neurons) (a .number) (a .weights) (a .recurrent) (a .bias) good (c .before .before .before .array-lengths .ensures)
+    third-differs (a .kind) (a .inputs) (a .neurons) (a .number) (a .weights) (a .recurrent) (a .bias) good
+    (c .before .before .before .array-lengths .ensures)
     (c .before .before .if2 .left) (c .before .if3 .left) (c .if4 .taken)
 
 returns-5 : tie.Need-returns-5
@@ -48,7 +52,8 @@ returns-5 c =
     let f = c .before .before .before .before in
     let a = f .before .before .args in
     let good = good-header (a .inputs) (a .neurons) (a .number) (f .before .header-fault .ensures) (f .if1 .left) in
-    none-differs (a .kind) (a .inputs) (a .neurons) (a .number) (a .weights) (a .recurrent) (a .bias) good (c .before .before .before .array-lengths .ensures)
+    none-differs (a .kind) (a .inputs) (a .neurons) (a .number) (a .weights) (a .recurrent) (a .bias) good
+    (c .before .before .before .array-lengths .ensures)
     (c .before .before .if2 .left) (c .before .if3 .left) (c .if4 .left)
 
 pub layer-fault-spec : {M : Type 1} → statement M

@@ -3,13 +3,14 @@ use Rattle.rules.proofs.Common.{_-_, _≤_, _≡_, sym, _∙_}
 use denote.Ref.{now}
 use native.Mathlib.Omega.{arith}
 use borrow.Author.Needs.{needs}
-use Rattle.model.specs.Parts.{faultIn}
+use Rattle.model.specs.Private.{faultIn}
 use Rattle.model.proofs.Given.{rowsFrom, stopped, on, fault-small, none-behind}
 use Rattle.model.proofs.writer.layers_fault.Statement.{statement}
 use Rattle.model.proofs.writer.layers_fault.Tie as tie
 
 abbrev Inv-loop : tie.InvT-loop
-Inv-loop shapes lengths kinds layer₀ layer = (layer ≤ 6) × (faultIn (rowsFrom shapes lengths 0) ≡ faultIn (rowsFrom shapes lengths layer))
+Inv-loop shapes lengths kinds layer₀ layer =
+    (layer ≤ 6) × (faultIn (rowsFrom shapes lengths 0) ≡ faultIn (rowsFrom shapes lengths layer))
 
 abbrev μ-loop : tie.MeasureT-loop
 μ-loop shapes lengths kinds layer₀ layer = 6 - layer
@@ -22,8 +23,13 @@ add-result c =
     let w1 = w2 .before .before in
     let l = w1 .before .before .before .before in
     let start = l .before .before .before in
-    let e = rw (l .before .kinds-in-row .ensures, w1 .wide .ensures, w2 .wide2 .ensures, w3 .wide3 .ensures) at (lf .layer-fault .ensures) in
-    omega (arith, fault-small (now (start .args .shapes)) (start .args .t2) (start .pre) (search needs) (l .loop .layer) (omega arith) e)
+    let e = rw (l .before .kinds-in-row .ensures, w1 .wide .ensures, w2 .wide2 .ensures, w3 .wide3 .ensures) at
+    (lf .layer-fault .ensures) in
+    omega (
+      arith,
+      fault-small (now (start .args .shapes)) (start .args .t2) (start .pre) (search needs) (l .loop .layer)
+          (omega arith) e,
+    )
 
 returns : tie.Need-returns Inv-loop μ-loop
 returns c =
@@ -33,8 +39,10 @@ returns c =
     let w1 = w2 .before .before in
     let l = w1 .before .before .before .before in
     let start = l .before .before .before in
-    let e = rw (l .before .kinds-in-row .ensures, w1 .wide .ensures, w2 .wide2 .ensures, w3 .wide3 .ensures) at (lf .layer-fault .ensures) in
-    stopped (now (start .args .shapes)) (start .args .t2) (start .pre) (search needs) (l .loop .layer) (omega arith) e (c .if1 .taken) ∙ sym (l .loop .inv .1)
+    let e = rw (l .before .kinds-in-row .ensures, w1 .wide .ensures, w2 .wide2 .ensures, w3 .wide3 .ensures) at
+    (lf .layer-fault .ensures) in
+    stopped (now (start .args .shapes)) (start .args .t2) (start .pre) (search needs) (l .loop .layer) (omega arith) e
+    (c .if1 .taken) ∙ sym (l .loop .inv .1)
 
 loop-again : tie.Need-loop-again Inv-loop μ-loop
 loop-again c =
@@ -44,8 +52,12 @@ loop-again c =
     let w1 = w2 .before .before in
     let l = w1 .before .before .before .before in
     let start = l .before .before .before in
-    let e = rw (l .before .kinds-in-row .ensures, w1 .wide .ensures, w2 .wide2 .ensures, w3 .wide3 .ensures) at (lf .layer-fault .ensures) in
-    (omega arith, l .loop .inv .1 ∙ on (now (start .args .shapes)) (start .args .t2) (start .pre) (search needs) (l .loop .layer) (omega arith) e (c .if1 .left))
+    let e = rw (l .before .kinds-in-row .ensures, w1 .wide .ensures, w2 .wide2 .ensures, w3 .wide3 .ensures) at
+    (lf .layer-fault .ensures) in (
+      omega arith,
+      l .loop .inv .1 ∙ on (now (start .args .shapes)) (start .args .t2) (start .pre) (search needs) (l .loop .layer)
+          (omega arith) e (c .if1 .left),
+    )
 
 returns-2 : tie.Need-returns-2 Inv-loop μ-loop
 returns-2 c =

@@ -13,7 +13,9 @@ use Rattle.model.proofs.writer.model_fault.Tie as tie
 returns-2 : tie.Need-returns-2
 returns-2 c =
     let rows = matchFaults (c .before .before .args .counts) 0 in
-    sym (clear (λ n. n) 0 (inLayer 6 rows) (clear-shifted 6 rows (match-clear (c .before .before .args .counts) 0 (c .before .match-fault .ensures) (c .if1 .left))))
+    sym (clear (λ n. n) 0 (inLayer 6 rows)
+    (clear-shifted 6 rows (match-clear (c .before .before .args .counts) 0 (c .before .match-fault .ensures)
+    (c .if1 .left))))
 
 pub model-fault-spec : {M : Type 1} → statement M
 model-fault-spec =
@@ -21,6 +23,8 @@ model-fault-spec =
     (tie.spec
     (λ c κs. search needs)  -- match-fault-requires
     (λ c. search needs)  -- mul-result
-    (λ c. omega (arith, match-small (c .before .before .args .counts) 0 (c .before .match-fault .ensures)))  -- add-result
-    (λ c. shifted 6 (matchFaults (c .before .before .args .counts) 0) (c .before .match-fault .ensures) (c .if1 .taken))  -- returns
+    (λ c.
+    omega (arith, match-small (c .before .before .args .counts) 0 (c .before .match-fault .ensures)))  -- add-result
+    (λ c. shifted 6 (matchFaults (c .before .before .args .counts) 0) (c .before .match-fault .ensures)
+    (c .if1 .taken))  -- returns
     returns-2)

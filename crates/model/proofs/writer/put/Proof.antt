@@ -24,7 +24,8 @@ loop-again c =
     let a = l .before .args in (
       omega arith,
       simp length-set (l .loop .inv .1),
-      rw (l .loop .inv .2, add-one (l .loop .i)) (paste-suc (now (a .out)) (a .at) (now (a .bytes)) (l .loop .i) 0 (omega arith) (omega arith)),
+      rw (l .loop .inv .2, add-one (l .loop .i))
+          (paste-suc (now (a .out)) (a .at) (now (a .bytes)) (l .loop .i) 0 (omega arith) (omega arith)),
     )
 
 returns : tie.Need-returns Inv-loop μ-loop

@@ -16,16 +16,22 @@ abbrev μ-loop : tie.MeasureT-loop
 μ-loop buffer lengths left₀ i₀ left i = 18 - i
 
 returns : tie.Need-returns Inv-loop μ-loop
-returns c = let l = c .before .before in sym (lt-ltb (l .before .args .buffer) (18 + sum (l .before .args .t2)) (omega (arith, part-sum (l .before .args .t2) (l .loop .i))))
+returns c = let l = c .before .before in
+    sym (lt-ltb (l .before .args .buffer) (18 + sum (l .before .args .t2))
+    (omega (arith, part-sum (l .before .args .t2) (l .loop .i))))
 
 loop-again : tie.Need-loop-again Inv-loop μ-loop
 loop-again c = let l = c .before .before in omega (arith, sum-take (l .before .args .t2) (l .loop .i))
 
 returns-2 : tie.Need-returns-2 Inv-loop μ-loop
-returns-2 c = let l = c .before .before in sym (lt-ltb (l .before .args .buffer) (18 + sum (l .before .args .t2)) (omega (arith, all-passed (l .before .args .t2) (l .loop .i) (omega arith) (search needs))))
+returns-2 c = let l = c .before .before in
+    sym (lt-ltb (l .before .args .buffer) (18 + sum (l .before .args .t2))
+    (omega (arith, all-passed (l .before .args .t2) (l .loop .i) (omega arith) (search needs))))
 
 returns-3 : tie.Need-returns-3 Inv-loop μ-loop
-returns-3 c = let l = c .before .before in sym (le-ltb (l .before .args .buffer) (18 + sum (l .before .args .t2)) (omega (arith, all-passed (l .before .args .t2) (l .loop .i) (omega arith) (search needs))))
+returns-3 c = let l = c .before .before in
+    sym (le-ltb (l .before .args .buffer) (18 + sum (l .before .args .t2))
+    (omega (arith, all-passed (l .before .args .t2) (l .loop .i) (omega arith) (search needs))))
 
 pub too-short-spec : {M : Type 1} → statement M
 too-short-spec =

@@ -15,7 +15,9 @@ returns c = rw (ne-eqb _ 18 (c .if1 .taken))
 
 returns-2 : tie.Need-returns-2
 returns-2 c =
-    let start = c .before .before .before .before .before .before .before .before .before .before .before .before .before .before .before .before .before .before .before .before in
+    let start =
+    c .before .before .before .before .before .before .before .before .before .before .before .before .before .before
+    .before .before .before .before .before .before in
     let a = start .args in
     let f = c .before in
     let x : Arrays = record {
@@ -40,7 +42,9 @@ returns-2 c =
 
 put-three-requires : tie.Need-put-three-requires
 put-three-requires c κs =
-    let start = c .before .before .before .before .before .before .before .before .before .before .before .before .before .before .before .before .before .before .before .before .before .before in
+    let start =
+    c .before .before .before .before .before .before .before .before .before .before .before .before .before .before
+    .before .before .before .before .before .before .before .before in
     let a = start .args in
     let f = c .before .before .before in
     let x : Arrays = record {
@@ -61,13 +65,17 @@ put-three-requires c κs =
       b5 = now (a .b5);
     } in
     let s = now (a .shapes) in
-    let bytes = bytes-so s x (now (a .out)) (f .before .if1 .left) (f .fault-of .ensures) (c .before .before .if2 .left) in
-    let fits = fits-so s x (now (a .out)) (f .before .if1 .left) (f .fault-of .ensures) (c .before .before .if2 .left) in
+    let bytes =
+    bytes-so s x (now (a .out)) (f .before .if1 .left) (f .fault-of .ensures) (c .before .before .if2 .left) in
+    let fits =
+    fits-so s x (now (a .out)) (f .before .if1 .left) (f .fault-of .ensures) (c .before .before .if2 .left) in
     (omega arith, bytes, front 0 (head s x) (tail s x) _ fits)
 
 put-three-requires-2 : tie.Need-put-three-requires-2
 put-three-requires-2 c κs =
-    let start = c .before .before .before .before .before .before .before .before .before .before .before .before .before .before .before .before .before .before .before .before .before .before .before .before .before .before .before .before in
+    let start =
+    c .before .before .before .before .before .before .before .before .before .before .before .before .before .before
+    .before .before .before .before .before .before .before .before .before .before .before .before .before .before in
     let a = start .args in
     let f = c .before .before .before .before .before .before .before .before .before in
     let x : Arrays = record {
@@ -88,13 +96,18 @@ put-three-requires-2 c κs =
       b5 = now (a .b5);
     } in
     let s = now (a .shapes) in
-    let bytes = bytes-so s x (now (a .out)) (f .before .if1 .left) (f .fault-of .ensures) (c .before .before .before .before .before .before .before .before .if2 .left) in
-    let fits = fits-so s x (now (a .out)) (f .before .if1 .left) (f .fault-of .ensures) (c .before .before .before .before .before .before .before .before .if2 .left) in
+    let bytes = bytes-so s x (now (a .out)) (f .before .if1 .left) (f .fault-of .ensures)
+    (c .before .before .before .before .before .before .before .before .if2 .left) in
+    let fits = fits-so s x (now (a .out)) (f .before .if1 .left) (f .fault-of .ensures)
+    (c .before .before .before .before .before .before .before .before .if2 .left) in
     (omega arith, bytes, behind (c .before .before .before .before .before .put-three .ensures) (tail s x) fits)
 
 returns-3 : tie.Need-returns-3
 returns-3 c =
-    let start = c .before .before .before .before .before .before .before .before .before .before .before .before .before .before .before .before .before .before .before .before .before .before .before .before .before .before .before .before .before .before .before in
+    let start =
+    c .before .before .before .before .before .before .before .before .before .before .before .before .before .before
+    .before .before .before .before .before .before .before .before .before .before .before .before .before .before
+    .before .before .before in
     let a = start .args in
     let f = c .before .before .before .before .before .before .before .before .before .before .before .before in
     let x : Arrays = record {
@@ -115,9 +128,12 @@ returns-3 c =
       b5 = now (a .b5);
     } in
     let s = now (a .shapes) in
-    let fits = fits-so s x (now (a .out)) (f .before .if1 .left) (f .fault-of .ensures) (c .before .before .before .before .before .before .before .before .before .before .before .if2 .left) in
-    written-so s x (now (a .out)) (f .before .if1 .left) (f .fault-of .ensures) (c .before .before .before .before .before .before .before .before .before .before .before .if2 .left)
-    (both (c .before .before .before .before .before .before .before .before .put-three .ensures) (tail s x) fits (c .before .before .put-three2 .ensures))
+    let fits = fits-so s x (now (a .out)) (f .before .if1 .left) (f .fault-of .ensures)
+    (c .before .before .before .before .before .before .before .before .before .before .before .if2 .left) in
+    written-so s x (now (a .out)) (f .before .if1 .left) (f .fault-of .ensures)
+    (c .before .before .before .before .before .before .before .before .before .before .before .if2 .left)
+    (both (c .before .before .before .before .before .before .before .before .put-three .ensures) (tail s x) fits
+    (c .before .before .put-three2 .ensures))
 
 pub write-spec : {M : Type 1} → statement M
 write-spec =

@@ -14,7 +14,8 @@ returns c =
     let told = called .before .before in
     let scaled = told .before .before .before .before in
     let start = scaled .before .before .before in
-    activated-by Tanh (tansigIn (start .args .table .now)) (start .args .sums .now) (told .enum-told .given .1) (λ x. ap (λ (t : List Float). tansigIn t x) (start .pre)) (scaled .scale .ensures) (called .tansigs .ensures)
+    activated-by Tanh (tansigIn (start .args .table .now)) (start .args .sums .now) (told .enum-told .given .1)
+    (λ x. ap (λ (t : List Float). tansigIn t x) (start .pre)) (scaled .scale .ensures) (called .tansigs .ensures)
 
 returns-2 : tie.Need-returns-2
 returns-2 c =
@@ -22,7 +23,8 @@ returns-2 c =
     let told = called .before .before in
     let scaled = told .before .before .before .before in
     let start = scaled .before .before .before in
-    activated-by Sigmoid (sigmoidIn (start .args .table .now)) (start .args .sums .now) (told .enum-told2 .given .1) (λ x. ap (λ (t : List Float). sigmoidIn t x) (start .pre)) (scaled .scale .ensures) (called .sigmoids .ensures)
+    activated-by Sigmoid (sigmoidIn (start .args .table .now)) (start .args .sums .now) (told .enum-told2 .given .1)
+    (λ x. ap (λ (t : List Float). sigmoidIn t x) (start .pre)) (scaled .scale .ensures) (called .sigmoids .ensures)
 
 returns-3 : tie.Need-returns-3
 returns-3 c =
@@ -30,7 +32,8 @@ returns-3 c =
     let told = called .before .before in
     let scaled = told .before .before .before .before in
     let start = scaled .before .before .before in
-    activated-by Relu (rectified) (start .args .sums .now) (told .enum-told3 .given .1) (λ x. refl) (scaled .scale .ensures) (called .relus .ensures)
+    activated-by Relu (rectified) (start .args .sums .now) (told .enum-told3 .given .1) (λ x. refl)
+    (scaled .scale .ensures) (called .relus .ensures)
 
 pub activate-spec : {M : Type 1} → statement M
 activate-spec =

@@ -10,7 +10,8 @@ returns c =
     let at-add = c .before .before .before .before .before .before in
     let at-copy = at-add .before .before .before .before in
     let start = at-copy .before .before .before .before .before .before in
-    dense-joined _ _ _ _ (start .pre .1) (at-copy .copy-weights .ensures) (at-copy .copy-weights .kept .0) (at-add .mul-add-at .ensures) (at-add .mul-add-at .kept .1 .1 .1 .0)
+    dense-joined _ _ _ _ (start .pre .1) (at-copy .copy-weights .ensures) (at-copy .copy-weights .kept .0)
+    (at-add .mul-add-at .ensures) (at-add .mul-add-at .kept .1 .1 .1 .0)
     (activate .ensures)
 
 pub dense-spec : {M : Type 1} → statement M

@@ -4,7 +4,8 @@ use Rattle.network.proofs.layers.gru_alone.Statement.{statement}
 use Rattle.network.proofs.layers.gru_alone.Tie as tie
 
 gru-requires : tie.Need-gru-requires
-gru-requires c κs = let start = c .before .before .before .before .before .before .before .before .before in (start .pre .2, (start .pre .0, search needs))
+gru-requires c κs = let start = c .before .before .before .before .before .before .before .before .before in
+    (start .pre .2, (start .pre .0, search needs))
 
 pub gru-alone-spec : {M : Type 1} → statement M
 gru-alone-spec =

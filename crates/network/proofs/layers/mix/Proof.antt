@@ -2,7 +2,7 @@
 use Rattle.rules.proofs.Common.{_-_, _≤_, _≡_, length}
 use Rattle.rules.specs.Loop.{loop}
 use Rattle.rules.proofs.Loops.{turns}
-use Rattle.network.specs.Parts.{mixStep}
+use Rattle.network.specs.Private.{mixStep}
 use Rattle.network.proofs.layers.mix.Statement.{statement}
 use Rattle.network.proofs.layers.mix.Tie as tie
 

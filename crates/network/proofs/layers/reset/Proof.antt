@@ -9,7 +9,8 @@ returns c =
     let multiplied = c .before .before in
     let opened = multiplied .before .before .before .before in
     let start = opened .before .before .before .before in
-    reset-joined (start .args .state .now) (start .args .r .now) (opened .update .ensures) (opened .update .kept .0) (multiplied .times .ensures)
+    reset-joined (start .args .state .now) (start .args .r .now) (opened .update .ensures) (opened .update .kept .0)
+    (multiplied .times .ensures)
 
 pub reset-spec : {M : Type 1} → statement M
 reset-spec =

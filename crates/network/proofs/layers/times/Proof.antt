@@ -2,7 +2,7 @@
 use Rattle.rules.proofs.Common.{_-_, _≤_, _≡_, length}
 use Rattle.rules.specs.Loop.{loop}
 use Rattle.rules.proofs.Loops.{turns}
-use Rattle.network.specs.Parts.{timesStep}
+use Rattle.network.specs.Private.{timesStep}
 use Rattle.network.proofs.layers.times.Statement.{statement}
 use Rattle.network.proofs.layers.times.Tie as tie
 

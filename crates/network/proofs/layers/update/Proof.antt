@@ -9,7 +9,8 @@ returns c =
     let opened = c .before .before in
     let scaled = opened .before .before .before .before in
     let start = scaled .before .before .before in
-    updated (start .args .table .now) (start .args .gates .now) (start .pre) (scaled .scale .ensures) (opened .sigmoids .ensures)
+    updated (start .args .table .now) (start .args .gates .now) (start .pre) (scaled .scale .ensures)
+    (opened .sigmoids .ensures)
 
 pub update-spec : {M : Type 1} → statement M
 update-spec =

@@ -5,7 +5,7 @@ use native.Mathlib.Omega.{arith}
 use Rattle.rules.specs.F32.{part}
 use Rattle.rules.specs.Place.{get, put}
 use Rattle.network.specs.Compute.{gruAt}
-use Rattle.network.specs.Parts.{stateAt}
+use Rattle.network.specs.Private.{stateAt}
 use Rattle.network.proofs.Parts.{cut-length, cut}
 use Rattle.network.proofs.Pieces.{as-inputs}
 use Rattle.network.proofs.six.denoise_of.Statement.{statement}
@@ -26,8 +26,10 @@ returns c =
     let long′ = cut-length s 128 (128 + k) k refl (omega (arith, start .pre .1, fit .within .inputs, fit .inputs)) in
     g .gru .ensures
     ∙ ap (λ (i : List Float). put (stateAt 256 h) s (gruAt (a .bytes .now) h i (get (stateAt 256 h) s)))
-    (as-inputs (part 0 n s) (part 128 (128 + k) s) (a .features .now) (j .join .last .0) (h .inputs - 0) (cut s 0 n (stateAt 0 (a .m .«vad_gru»)) refl (omega arith))
-    (cut s 128 (128 + k) (stateAt 128 (a .m .«noise_gru»)) refl refl) (omega (arith, long, long′, fit .inputs)) (j .join .ensures))
+    (as-inputs (part 0 n s) (part 128 (128 + k) s) (a .features .now) (j .join .last .0) (h .inputs - 0)
+    (cut s 0 n (stateAt 0 (a .m .«vad_gru»)) refl (omega arith))
+    (cut s 128 (128 + k) (stateAt 128 (a .m .«noise_gru»)) refl refl) (omega (arith, long, long′, fit .inputs))
+    (j .join .ensures))
 
 pub denoise-of-spec : {M : Type 1} → statement M
 denoise-of-spec =

@@ -42,8 +42,11 @@ dense-requires c κs =
     let two = c .before .before .before .before .before in
     let one = two .before in
     let start = one .before .before .before .before in
-    let within = start .pre .1 .within in
-    (start .pre .0, dense-arrays (start .args .bytes .now) (start .args .h) (found 0 within (one .place-in .ensures)) (found 2 within (two .place-in2 .ensures)) (start .pre .1))
+    let within = start .pre .1 .within in (
+      start .pre .0,
+      dense-arrays (start .args .bytes .now) (start .args .h) (found 0 within (one .place-in .ensures))
+          (found 2 within (two .place-in2 .ensures)) (start .pre .1),
+    )
 
 returns : tie.Need-returns
 returns c =
@@ -52,7 +55,8 @@ returns c =
     let one = two .before in
     let start = one .before .before .before .before in
     let within = start .pre .1 .within in
-    dense-at (start .args .bytes .now) (start .args .h) (found 0 within (one .place-in .ensures)) (found 2 within (two .place-in2 .ensures)) _ (call .dense .ensures)
+    dense-at (start .args .bytes .now) (start .args .h) (found 0 within (one .place-in .ensures))
+    (found 2 within (two .place-in2 .ensures)) _ (call .dense .ensures)
 
 pub dense-spec : {M : Type 1} → statement M
 dense-spec =

@@ -15,7 +15,9 @@ dense-requires c κs =
 returns : tie.Need-returns
 returns c =
     let a = c .before .before .before .before .before .before .before .before .args in
-    c .before .before .dense .ensures ∙ ap (denseAt (a .bytes .now) (a .h)) (cut (a .states .now) (a .at) _ (record { at = a .at; size = a .n }) refl refl)
+    c .before .before .dense .ensures
+    ∙ ap (denseAt (a .bytes .now) (a .h))
+    (cut (a .states .now) (a .at) _ (record { at = a .at; size = a .n }) refl refl)
 
 pub dense-on-spec : {M : Type 1} → statement M
 dense-on-spec =

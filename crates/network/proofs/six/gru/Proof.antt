@@ -67,10 +67,13 @@ gru-alone-requires c κs =
     let one = two .before in
     let start = one .before .before .before .before in
     let fit = start .pre .2 in
-    let long = cut-length (start .args .states .now) (start .args .at) _ (start .args .h .neurons) refl (start .pre .1) in (
+    let long = cut-length (start .args .states .now) (start .args .at) _ (start .args .h .neurons) refl
+    (start .pre .1) in (
       start .pre .0,
       omega (arith, long, fit .within .neurons),
-      gru-arrays (start .args .bytes .now) (start .args .h) (found 0 (fit .within) (one .place-in .ensures)) (found 1 (fit .within) (two .place-in2 .ensures)) (found 2 (fit .within) (three .place-in3 .ensures)) (record { within = fit .within; neurons = long; inputs = fit .inputs }),
+      gru-arrays (start .args .bytes .now) (start .args .h) (found 0 (fit .within) (one .place-in .ensures))
+          (found 1 (fit .within) (two .place-in2 .ensures)) (found 2 (fit .within) (three .place-in3 .ensures))
+          (record { within = fit .within; neurons = long; inputs = fit .inputs }),
     )
 
 returns : tie.Need-returns
@@ -81,7 +84,10 @@ returns c =
     let one = two .before in
     let start = one .before .before .before .before in
     let fit = start .pre .2 in
-    gru-at (start .args .bytes .now) (start .args .h) (found 0 (fit .within) (one .place-in .ensures)) (found 1 (fit .within) (two .place-in2 .ensures)) (found 2 (fit .within) (three .place-in3 .ensures)) _ (start .args .states .now) (start .args .at) (call .gru-alone .ensures)
+    gru-at (start .args .bytes .now) (start .args .h) (found 0 (fit .within) (one .place-in .ensures))
+    (found 1 (fit .within) (two .place-in2 .ensures))
+    (found 2 (fit .within) (three .place-in3 .ensures)) _ (start .args .states .now) (start .args .at)
+    (call .gru-alone .ensures)
 
 pub gru-spec : {M : Type 1} → statement M
 gru-spec =

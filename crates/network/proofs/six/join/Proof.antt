@@ -10,7 +10,8 @@ returns c =
     let middle = last .before .before .before .before in
     let front = middle .before .before .before .before in
     let args = front .before .before .before .before .before .before .args in
-    joined (args .first .now) (args .second .now) (args .third .now) (args .buf .now) (front .put .last .0) (middle .put2 .last .0) (last .put3 .last .0)
+    joined (args .first .now) (args .second .now) (args .third .now) (args .buf .now) (front .put .last .0)
+    (middle .put2 .last .0) (last .put3 .last .0)
     (front .put .ensures) (middle .put2 .ensures) (last .put3 .ensures)
 
 pub join-spec : {M : Type 1} → statement M

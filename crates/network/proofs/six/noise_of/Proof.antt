@@ -5,7 +5,7 @@ use native.Mathlib.Omega.{arith}
 use Rattle.rules.specs.F32.{part}
 use Rattle.rules.specs.Place.{get, put}
 use Rattle.network.specs.Compute.{gruAt}
-use Rattle.network.specs.Parts.{stateAt}
+use Rattle.network.specs.Private.{stateAt}
 use Rattle.network.proofs.Parts.{cut-length, cut}
 use Rattle.network.proofs.Pieces.{as-inputs}
 use Rattle.network.proofs.six.noise_of.Statement.{statement}
@@ -24,7 +24,8 @@ returns c =
     let long = cut-length s 0 n n (omega arith) (omega (arith, start .pre .1, fit .within .inputs, fit .inputs)) in
     g .gru .ensures
     ∙ ap (λ (i : List Float). put (stateAt 128 h) s (gruAt (a .bytes .now) h i (get (stateAt 128 h) s)))
-    (as-inputs (a .hidden .now) (part 0 n s) (a .features .now) (j .join .last .0) (h .inputs - 0) refl (cut s 0 n (stateAt 0 (a .m .«vad_gru»)) refl (omega arith))
+    (as-inputs (a .hidden .now) (part 0 n s) (a .features .now) (j .join .last .0) (h .inputs - 0) refl
+    (cut s 0 n (stateAt 0 (a .m .«vad_gru»)) refl (omega arith))
     (omega (arith, long, fit .inputs)) (j .join .ensures))
 
 pub noise-of-spec : {M : Type 1} → statement M

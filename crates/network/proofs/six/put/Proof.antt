@@ -17,8 +17,13 @@ abbrev μ-loop : tie.MeasureT-loop
 loop-again : tie.Need-loop-again Inv-loop μ-loop
 loop-again c =
     let l = c .before .before .loop in
-    let start = c .before .before .before in
-    (omega arith, refl, simp length-set (l .inv .2), put-more nan _ (start .args .at) (start .args .src .now) (l .i) (start .pre) (c .before .loop-test .taken) (l .inv .3))
+    let start = c .before .before .before in (
+      omega arith,
+      refl,
+      simp length-set (l .inv .2),
+      put-more nan _ (start .args .at) (start .args .src .now) (l .i) (start .pre) (c .before .loop-test .taken)
+          (l .inv .3),
+    )
 
 pub put-spec : {M : Type 1} → statement M
 put-spec =
@@ -26,7 +31,12 @@ put-spec =
     (tie.spec
     Inv-loop
     μ-loop
-    (λ c. (search turns, search turns, search turns, paste-zero (c .args .buf .now) (c .args .at) (c .args .src .now)))  -- loop-holds
+    (λ c. (
+      search turns,
+      search turns,
+      search turns,
+      paste-zero (c .args .buf .now) (c .args .at) (c .args .src .now),
+    ))  -- loop-holds
     (λ c. search turns)  -- mul-buf
     (λ c. search turns)  -- shared-slice-read-buf
     (λ c. search turns)  -- add-buf
@@ -36,4 +46,5 @@ put-spec =
     (λ c. search turns)  -- loop-less
     loop-again
     (λ c. search turns)  -- same-length
-    (λ c. put-ended _ (c .before .before .args .at) (c .before .before .args .src .now) (c .before .loop .i) (c .before .before .pre) (omega arith) (omega arith) (c .before .loop .inv .3)))  -- returns
+    (λ c. put-ended _ (c .before .before .args .at) (c .before .before .args .src .now) (c .before .loop .i)
+    (c .before .before .pre) (omega arith) (omega arith) (c .before .loop .inv .3)))  -- returns

@@ -9,4 +9,6 @@ wide-spec =
     tie.close
     (tie.spec
     (λ c κs. search needs)  -- f32-to-f64-with-nan-requires
-    (λ c. let same = c .f32-to-f64-with-nan .ensures in (same, rw same (subst T (sym (c .before .good .0 .1)) tt))))  -- returns
+    (λ c.
+    let same = c .f32-to-f64-with-nan .ensures in
+    (same, rw same (subst T (sym (c .before .good .0 .1)) tt))))  -- returns

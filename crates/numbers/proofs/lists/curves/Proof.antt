@@ -3,7 +3,7 @@ use Rattle.rules.proofs.Common.{_-_, _≤_, _≡_, refl, ap, _∙_, length, Flo
 use native.Mathlib.Omega.{arith}
 use Rattle.rules.specs.F32.{at}
 use Rattle.rules.proofs.Lists.{Filling, filling-more, filling-ahead, fills}
-use Rattle.numbers.specs.Parts.{followed}
+use Rattle.numbers.specs.Private.{followed}
 use Rattle.numbers.proofs.lists.curves.Statement.{statement}
 use Rattle.numbers.proofs.lists.curves.Tie as tie
 
@@ -18,8 +18,12 @@ loop-again : tie.Need-loop-again Inv-loop μ-loop
 loop-again c =
     let l = c .before .before .before .before .loop in
     let spare = c .before .before .before .before .before .before .before .args .spare .now in
-    let same = filling-ahead _ _ _ (l .j) nan (l .inv .2) (omega arith) in
-    (omega arith, refl, filling-more _ _ _ (l .inv .2) (omega arith) (c .follow .ensures ∙ ap (λ (x : Float). followed x (at spare (l .j))) same))
+    let same = filling-ahead _ _ _ (l .j) nan (l .inv .2) (omega arith) in (
+      omega arith,
+      refl,
+      filling-more _ _ _ (l .inv .2) (omega arith)
+          (c .follow .ensures ∙ ap (λ (x : Float). followed x (at spare (l .j))) same),
+    )
 
 pub curves-spec : {M : Type 1} → statement M
 curves-spec =

@@ -3,13 +3,14 @@ use Rattle.rules.proofs.Common.{_-_, _≤_, List, _≡_, refl, ap, _∙_, lengt
 use native.Mathlib.Omega.{arith}
 use Rattle.rules.specs.F32.{at}
 use Rattle.rules.proofs.Lists.{Filling, filling-begin, filling-ahead, fills, length-tab, getD-tab}
-use Rattle.numbers.specs.Parts.{entryIn}
+use Rattle.numbers.specs.Private.{entryIn}
 use Rattle.numbers.proofs.lists.entries.Statement.{statement}
 use Rattle.numbers.proofs.lists.entries.Tie as tie
 
 abbrev Inv-loop : tie.InvT-loop
 Inv-loop spare₀ xs table j₀ j-end spare j =
-    (j ≤ j-end) × (j-end ≡ length xs) × (length spare₀ ≡ length xs) × Filling (λ k. entryIn table (at xs k)) spare₀ j spare
+    (j ≤ j-end) × (j-end ≡ length xs) × (length spare₀ ≡ length xs)
+    × Filling (λ k. entryIn table (at xs k)) spare₀ j spare
 
 abbrev μ-loop : tie.MeasureT-loop
 μ-loop spare₀ xs table j₀ j-end spare j = j-end - j
@@ -18,7 +19,8 @@ entry-at-requires : tie.Need-entry-at-requires Inv-loop μ-loop
 entry-at-requires c κs =
     let l = c .before .before .before .loop in
     let start = c .before .before .before .before .before .before in
-    filling-ahead _ _ _ (l .j) nan (l .inv .3) (omega arith) ∙ ap (λ (s : List Float). at s (l .j)) (start .pre) ∙ getD-tab _ _ (l .j) nan (omega arith)
+    filling-ahead _ _ _ (l .j) nan (l .inv .3) (omega arith) ∙ ap (λ (s : List Float). at s (l .j)) (start .pre)
+    ∙ getD-tab _ _ (l .j) nan (omega arith)
 
 pub entries-spec : {M : Type 1} → statement M
 entries-spec =

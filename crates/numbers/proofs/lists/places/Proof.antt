@@ -2,7 +2,7 @@
 use Rattle.rules.proofs.Common.{_-_, _≤_, _≡_, length}
 use Rattle.rules.specs.F32.{at}
 use Rattle.rules.proofs.Lists.{Filling, fills}
-use Rattle.numbers.specs.Parts.{placeIn}
+use Rattle.numbers.specs.Private.{placeIn}
 use Rattle.numbers.proofs.Floors.{inside-within}
 use Rattle.numbers.proofs.lists.places.Statement.{statement}
 use Rattle.numbers.proofs.lists.places.Tie as tie

@@ -12,13 +12,18 @@ returns : tie.Need-returns
 returns c =
     let t = c .before .before .before .before in
     let a = t .before .before .before .before .args in
-    rest-waits (now (a .share)) (a .way) (now (a .samples)) (a .from) (now (a .sums)) (t .if1 .taken) (c .before .before .keep .ensures)
+    rest-waits (now (a .share)) (a .way) (now (a .samples)) (a .from) (now (a .sums)) (t .if1 .taken)
+    (c .before .before .keep .ensures)
 
 enter-requires : tie.Need-enter-requires
 enter-requires c κs =
     let s = c .before .before .before .before .before .before .before in
-    let a = s .args in
-    (s .pre .0, simp (length-take, length-drop) (omega arith), good-take (a .from + 480 - a .from) _ (good-drop (a .from) (now (a .samples)) (s .pre .2)), s .pre .3)
+    let a = s .args in (
+      s .pre .0,
+      simp (length-take, length-drop) (omega arith),
+      good-take (a .from + 480 - a .from) _ (good-drop (a .from) (now (a .samples)) (s .pre .2)),
+      s .pre .3,
+    )
 
 returns-2 : tie.Need-returns-2
 returns-2 c =

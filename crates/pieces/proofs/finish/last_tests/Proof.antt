@@ -11,10 +11,20 @@ last-tests-spec =
     (tie.spec
     (λ c κs. search needs)  -- check-requires
     (λ c κs. search needs)  -- passed-requires
-    (λ c. let k = c .before .before .check .ensures in rw (← k, answered-no (c .before .passed .ensures) (c .if1 .taken)))  -- returns
+    (λ c.
+    let k = c .before .before .check .ensures in
+    rw (← k, answered-no (c .before .passed .ensures) (c .if1 .taken)))  -- returns
     (λ c.
     let e = c .before in
-    rw (← e .before .before .check .ensures, answered-yes (e .before .passed .ensures) (e .if1 .left), not-true (e .before .before .before .before .args .fine) (c .if2 .taken)))  -- returns-2
+    rw (
+      ← e .before .before .check .ensures,
+      answered-yes (e .before .passed .ensures) (e .if1 .left),
+      not-true (e .before .before .before .before .args .fine) (c .if2 .taken),
+    ))  -- returns-2
     (λ c.
     let e = c .before in
-    rw (← e .before .before .check .ensures, answered-yes (e .before .passed .ensures) (e .if1 .left), not-false (e .before .before .before .before .args .fine) (c .if2 .left))))  -- returns-3
+    rw (
+      ← e .before .before .check .ensures,
+      answered-yes (e .before .passed .ensures) (e .if1 .left),
+      not-false (e .before .before .before .before .args .fine) (c .if2 .left),
+    )))  -- returns-3

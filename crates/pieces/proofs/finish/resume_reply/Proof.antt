@@ -4,11 +4,13 @@ use borrow.Author.Needs.{needs}
 use denote.Ref.{now}
 use Rattle.rules.proofs.Tests.{tests, answered-no, answered-yes}
 use Rattle.pieces.specs.Pieces.{resumeFits}
-use Rattle.pieces.specs.Parts.{resumeReply}
+use Rattle.pieces.specs.Private.{resumeReply}
 use Rattle.pieces.proofs.finish.resume_reply.Statement.{statement}
 use Rattle.pieces.proofs.finish.resume_reply.Tie as tie
 
-fits : (c : tie.Else2) → let a = c .before .before .before .before .before .before .before .args in resumeFits (a .hearing .index) (a .piece) (a .progress) (length (now (a .samples))) (length (now (a .logs))) (a .out) (a .sums) ≡ true
+fits : (c : tie.Else2) → let a = c .before .before .before .before .before .before .before .args in
+    resumeFits (a .hearing .index) (a .piece) (a .progress) (length (now (a .samples))) (length (now (a .logs)))
+    (a .out) (a .sums) ≡ true
 fits c = answered-yes (c .before .resume-fits .ensures) (c .if2 .left)
 
 returns-3 : tie.Need-returns-3

@@ -11,7 +11,8 @@ unfolding get put
 returns c =
     let h = c .before .before .before .before .first-half in
     let e = c .before .before .before .before .before .before .before .before .before .before in
-    entered (now (e .args .share)) (e .pre .0) (e .args .way) (now (e .args .samples)) (now (e .args .sums)) (e .pre .1) (e .pre .2) (e .pre .3) (h .ensures)
+    entered (now (e .args .share)) (e .pre .0) (e .args .way) (now (e .args .samples)) (now (e .args .sums)) (e .pre .1)
+    (e .pre .2) (e .pre .3) (h .ensures)
 
 pub enter-spec : {M : Type 1} → statement M
 enter-spec =

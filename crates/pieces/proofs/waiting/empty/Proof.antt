@@ -23,4 +23,5 @@ empty-spec =
     (λ c.
     let share = now (c .before .before .before .before .before .args .share) in
     let room : length (take 479 (drop PART share)) ≡ 479 = simp (length-take, length-drop) (omega arith) in
-    ap (put (waitingPlace 479) share) (c .before .before .clear .ensures ∙ padded-none 479 (take 479 (drop PART share)) room)))  -- returns
+    ap (put (waitingPlace 479) share)
+    (c .before .before .clear .ensures ∙ padded-none 479 (take 479 (drop PART share)) room)))  -- returns

@@ -7,7 +7,8 @@ use Rattle.pieces.proofs.waiting.join.Statement.{statement}
 use Rattle.pieces.proofs.waiting.join.Tie as tie
 
 abbrev Inv-loop : tie.InvT-loop
-Inv-loop out₀ front rest i₀ i-end out i = (i ≤ i-end) × (i-end ≡ length out₀) × Filling (λ k. getD (front ++ rest) k (f32 0)) out₀ i out
+Inv-loop out₀ front rest i₀ i-end out i =
+    (i ≤ i-end) × (i-end ≡ length out₀) × Filling (λ k. getD (front ++ rest) k (f32 0)) out₀ i out
 
 abbrev μ-loop : tie.MeasureT-loop
 μ-loop out₀ front rest i₀ i-end out i = i-end - i

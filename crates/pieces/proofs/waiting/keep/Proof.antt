@@ -30,6 +30,8 @@ keep-spec =
     (λ c.
     let a = c .before .before .before .before .before .before .before .before .args in
     let room : length (take 479 (drop PART (now (a .share)))) ≡ 479 = simp (length-take, length-drop) (omega arith) in
-    let all = take-all (length (now (a .samples)) - a .from) (drop (a .from) (now (a .samples))) (simp length-drop (omega arith)) in
-    let kept : c .before .before .join .last .0 ≡ paddedTo 479 (drop (a .from) (now (a .samples))) = c .before .before .join .ensures ∙ rw (room, all) in
+    let all = take-all (length (now (a .samples)) - a .from) (drop (a .from) (now (a .samples)))
+    (simp length-drop (omega arith)) in
+    let kept : c .before .before .join .last .0 ≡ paddedTo 479 (drop (a .from) (now (a .samples))) =
+    c .before .before .join .ensures ∙ rw (room, all) in
     ap (put (waitingPlace 479) (now (a .share))) kept))  -- returns

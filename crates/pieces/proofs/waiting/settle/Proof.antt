@@ -22,4 +22,5 @@ settle-spec =
     (λ c. search needs)  -- part-copy-end-2
     (λ c κs. search needs)  -- copy-requires
     (λ c. search needs)  -- same-length
-    (λ c. ap (put (waitingPlace 479) (now (c .before .before .before .before .before .before .before .args .share))) (fitted (c .before .before .copy .ensures) (simp (length-take, length-drop) (omega arith)))))  -- returns
+    (λ c. ap (put (waitingPlace 479) (now (c .before .before .before .before .before .before .before .args .share)))
+    (fitted (c .before .before .copy .ensures) (simp (length-take, length-drop) (omega arith)))))  -- returns

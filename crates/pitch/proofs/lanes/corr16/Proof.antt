@@ -2,14 +2,15 @@
 use Rattle.rules.proofs.Common.{_+_, _-_, _≤_, _≡_, refl, length}
 use native.Mathlib.Omega.{arith}
 use Rattle.rules.proofs.Loops.{turns}
-use Rattle.pitch.specs.Parts.{fourSums}
+use Rattle.pitch.specs.Private.{fourSums}
 use Rattle.pitch.proofs.Sums.{sums-begin, sums-more, sums-ended, together}
 use Rattle.pitch.proofs.lanes.corr16.Statement.{statement}
 use Rattle.pitch.proofs.lanes.corr16.Tie as tie
 
 abbrev Inv-loop : tie.InvT-loop
 Inv-loop xs ys i a₀ b₀ c₀ d₀ j₀ j-end a b c d j =
-    (j ≤ j-end) × (j-end ≡ length xs) × (a ≡ fourSums xs ys j i) × (b ≡ fourSums xs ys j (i + 4)) × (c ≡ fourSums xs ys j (i + 8)) × (d ≡ fourSums xs ys j (i + 12))
+    (j ≤ j-end) × (j-end ≡ length xs) × (a ≡ fourSums xs ys j i) × (b ≡ fourSums xs ys j (i + 4))
+    × (c ≡ fourSums xs ys j (i + 8)) × (d ≡ fourSums xs ys j (i + 12))
 
 abbrev μ-loop : tie.MeasureT-loop
 μ-loop xs ys i a₀ b₀ c₀ d₀ j₀ j-end a b c d j = j-end - j
@@ -31,8 +32,10 @@ returns : tie.Need-returns Inv-loop μ-loop
 returns c =
     let l = c .before .loop in
     together _ _ _
-    (sums-ended _ _ _ _ (omega arith) (omega arith) (l .inv .2)) (sums-ended _ _ _ _ (omega arith) (omega arith) (l .inv .3))
-    (sums-ended _ _ _ _ (omega arith) (omega arith) (l .inv .4)) (sums-ended _ _ _ _ (omega arith) (omega arith) (l .inv .5))
+    (sums-ended _ _ _ _ (omega arith) (omega arith) (l .inv .2))
+    (sums-ended _ _ _ _ (omega arith) (omega arith) (l .inv .3))
+    (sums-ended _ _ _ _ (omega arith) (omega arith) (l .inv .4))
+    (sums-ended _ _ _ _ (omega arith) (omega arith) (l .inv .5))
 
 pub corr16-spec : {M : Type 1} → statement M
 corr16-spec =

@@ -2,7 +2,7 @@
 use Rattle.rules.proofs.Common.{_-_, _≤_, _≡_, refl, length}
 use native.Mathlib.Omega.{arith}
 use Rattle.rules.proofs.Loops.{turns}
-use Rattle.pitch.specs.Parts.{fourSums}
+use Rattle.pitch.specs.Private.{fourSums}
 use Rattle.pitch.proofs.Sums.{sums-begin, sums-more, sums-ended}
 use Rattle.pitch.proofs.lanes.corr4.Statement.{statement}
 use Rattle.pitch.proofs.lanes.corr4.Tie as tie
@@ -26,5 +26,9 @@ corr4-spec =
     (λ c κs. search turns)  -- add-four-requires
     (λ c. search turns)  -- add-j
     (λ c. search turns)  -- loop-less
-    (λ c. (omega arith, refl, sums-more _ _ _ _ _ refl (c .before .before .before .loop .inv .2) (c .add-four .ensures)))  -- loop-again
+    (λ c. (
+      omega arith,
+      refl,
+      sums-more _ _ _ _ _ refl (c .before .before .before .loop .inv .2) (c .add-four .ensures),
+    ))  -- loop-again
     (λ c. sums-ended _ _ _ _ (omega arith) (omega arith) (c .before .loop .inv .2)))  -- returns

@@ -2,7 +2,7 @@
 use Rattle.rules.proofs.Common.{refl, length-set}
 use native.Mathlib.Omega.{arith}
 use borrow.Author.Needs.{needs}
-use Rattle.pitch.specs.Parts.{storeFour}
+use Rattle.pitch.specs.Private.{storeFour}
 use Rattle.pitch.proofs.lanes.put_four.Statement.{statement}
 use Rattle.pitch.proofs.lanes.put_four.Tie as tie
 

@@ -1,6 +1,6 @@
 -- `pitch::lanes::put_sixteen` meets its contract. Assumes nothing.
 use borrow.Author.Needs.{needs}
-use Rattle.pitch.specs.Parts.{storeSixteen}
+use Rattle.pitch.specs.Private.{storeSixteen}
 use Rattle.pitch.proofs.Sums.{then-store}
 use Rattle.pitch.proofs.lanes.put_sixteen.Statement.{statement}
 use Rattle.pitch.proofs.lanes.put_sixteen.Tie as tie
@@ -10,7 +10,10 @@ unfolding storeSixteen
 returns c =
     then-store _ _ (c .before .before .put-four4 .ensures)
     (then-store _ _ (c .before .before .before .before .before .before .put-four3 .ensures)
-    (then-store _ _ (c .before .before .before .before .before .before .before .before .before .before .put-four2 .ensures) (c .before .before .before .before .before .before .before .before .before .before .before .before .before .before .put-four .ensures)))
+    (then-store
+    _ _ (c .before .before .before .before .before .before .before .before .before .before .put-four2 .ensures)
+    (c .before .before .before .before .before .before .before .before .before .before .before .before .before .before
+    .put-four .ensures)))
 
 pub put-sixteen-spec : {M : Type 1} → statement M
 put-sixteen-spec =

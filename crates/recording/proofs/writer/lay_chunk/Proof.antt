@@ -16,11 +16,26 @@ lay-chunk-spec =
     (λ c. search needs)  -- slice-relend-prefix-lay
     (λ c. simp length-take (omega arith))  -- slice-aggregate-lay
     (λ c. search needs)  -- slice-aggregate-lay-2
-    (λ c κs. simp length-take (omega (arith, ap length (c .before .before .before .name-of .ensures) ∙ length-name (c .before .before .before .before .before .args .front .first) (c .before .before .before .before .before .args .size))))  -- lay-requires
+    (λ c κs. simp length-take
+    (omega (
+      arith,
+      ap length (c .before .before .before .name-of .ensures)
+          ∙ length-name (c .before .before .before .before .before .args .front .first)
+          (c .before .before .before .before .before .args .size),
+    )))  -- lay-requires
     (λ c. search needs)  -- sub-lay
     (λ c. search needs)  -- part-lay-start
     (λ c. search needs)  -- part-lay-end
     (λ c. search needs)  -- slice-aggregate-lay-3
     (λ c κs. search needs)  -- lay-requires-2
     (λ c. search needs)  -- same-length
-    (λ c. chunk-parts _ _ _ (now (c .before .before .before .before .before .before .before .before .before .before .before .before .before .args .out)) (c .before .before .before .before .before .before .before .before .before .before .before .before .before .pre) (c .before .before .before .before .before .before .before .lay .ensures ∙ c .before .before .before .before .before .before .before .before .before .before .before .name-of .ensures) (c .before .before .lay2 .ensures ∙ c .before .before .before .before .before .before .before .before .before .before .of .ensures)))  -- returns
+    (λ c.
+    chunk-parts
+    _ _ _ (now
+    (c .before .before .before .before .before .before .before .before .before .before .before .before .before .args
+    .out))
+    (c .before .before .before .before .before .before .before .before .before .before .before .before .before .pre)
+    (c .before .before .before .before .before .before .before .lay .ensures
+    ∙ c .before .before .before .before .before .before .before .before .before .before .before .name-of .ensures)
+    (c .before .before .lay2 .ensures
+    ∙ c .before .before .before .before .before .before .before .before .before .before .of .ensures)))  -- returns

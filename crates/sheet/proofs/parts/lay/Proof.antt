@@ -14,7 +14,8 @@ slice-aggregate-total c = simp length-take (omega arith)
 total-requires : tie.Need-total-requires
 total-requires c κs =
     let a = c .before .before .before .before .before .before .before in
-    let size = ap length (c .before .before .before .write-records .ensures) ∙ length-records (a .args .side) (now (a .args .entries)) in
+    let size = ap length (c .before .before .before .write-records .ensures)
+    ∙ length-records (a .args .side) (now (a .args .entries)) in
     simp length-take (omega (arith, a .pre .3))
 
 returns : tie.Need-returns

@@ -15,30 +15,59 @@ returns-2 : tie.Need-returns-2
 returns-2 c = rows-32 _ _ _ _ (c .before .before .before .if1 .left) (omega (arith, c .if2 .taken))
 
 returns-3 : tie.Need-returns-3
-returns-3 c = rows-32 _ _ _ _ (c .before .before .before .before .if1 .left) (omega (arith, c .if3 .taken, c .before .if2 .left))
+returns-3 c =
+    rows-32 _ _ _ _ (c .before .before .before .before .if1 .left) (omega (arith, c .if3 .taken, c .before .if2 .left))
 
 returns-4 : tie.Need-returns-4
-returns-4 c = rows-33 _ _ _ _ (c .before .before .before .before .before .if1 .left) (omega (arith, c .before .if3 .left, c .before .before .if2 .left)) (c .if4 .taken)
+returns-4 c =
+    rows-33 _ _ _ _ (c .before .before .before .before .before .if1 .left)
+    (omega (arith, c .before .if3 .left, c .before .before .if2 .left)) (c .if4 .taken)
 
 returns-5 : tie.Need-returns-5
-returns-5 c = rows-34 _ _ _ _ (c .before .before .before .before .before .before .before .if1 .left) (omega (arith, c .before .before .before .if3 .left, c .before .before .before .before .if2 .left)) (c .before .before .if4 .left) (answered-no (c .before .kinds-good .ensures) (c .if5 .taken))
+returns-5 c =
+    rows-34 _ _ _ _ (c .before .before .before .before .before .before .before .if1 .left)
+    (omega (arith, c .before .before .before .if3 .left, c .before .before .before .before .if2 .left))
+    (c .before .before .if4 .left) (answered-no (c .before .kinds-good .ensures) (c .if5 .taken))
 
 returns-6 : tie.Need-returns-6
-returns-6 c = rows-36 _ _ _ _ (c .before .before .before .before .before .before .before .before .if1 .left) (omega (arith, c .before .before .before .before .if3 .left, c .before .before .before .before .before .if2 .left)) (c .before .before .before .if4 .left) (answered-yes (c .before .before .kinds-good .ensures) (c .before .if5 .left)) (c .if6 .taken)
+returns-6 c =
+    rows-36 _ _ _ _ (c .before .before .before .before .before .before .before .before .if1 .left)
+    (omega (arith, c .before .before .before .before .if3 .left, c .before .before .before .before .before .if2 .left))
+    (c .before .before .before .if4 .left)
+    (answered-yes (c .before .before .kinds-good .ensures) (c .before .if5 .left)) (c .if6 .taken)
 
 slice-aggregate-lay : tie.Need-slice-aggregate-lay
 slice-aggregate-lay c = simp length-take (omega (arith, c .before .if6 .left))
 
 lay-requires : tie.Need-lay-requires
-lay-requires c κs =
-    (simp length-take (omega (arith, c .before .if6 .left)), c .before .before .before .before .if4 .left, all-heard _ (answered-yes (c .before .before .before .kinds-good .ensures) (c .before .before .if5 .left)), omega (arith, c .before .before .before .before .before .before .if2 .left))
+lay-requires c κs = (
+  simp length-take (omega (arith, c .before .if6 .left)),
+  c .before .before .before .before .if4 .left,
+  all-heard _ (answered-yes (c .before .before .before .kinds-good .ensures) (c .before .before .if5 .left)),
+  omega (arith, c .before .before .before .before .before .before .if2 .left),
+)
 
 slice-write-numbers-2 : tie.Need-slice-write-numbers-2
-slice-write-numbers-2 c = simp length-set (omega (arith, c .before .before .before .before .before .before .before .before .before .before .before .before .if1 .left))
+slice-write-numbers-2 c =
+    simp length-set
+    (omega (
+      arith,
+      c .before .before .before .before .before .before .before .before .before .before .before .before .if1 .left,
+    ))
 
 returns-7 : tie.Need-returns-7
 returns-7 c =
-    rows-laid _ _ _ _ (c .before .before .before .before .before .before .before .before .before .before .before .before .if1 .left) (omega (arith, c .before .before .before .before .before .before .before .before .if3 .left, c .before .before .before .before .before .before .before .before .before .if2 .left)) (c .before .before .before .before .before .before .before .if4 .left) (answered-yes (c .before .before .before .before .before .before .kinds-good .ensures) (c .before .before .before .before .before .if5 .left)) (c .before .before .before .before .if6 .left) (c .before .before .lay .ensures .0) (c .before .before .lay .ensures .1)
+    rows-laid
+    _ _ _ _ (c .before .before .before .before .before .before .before .before .before .before .before .before .if1
+    .left)
+    (omega (
+      arith,
+      c .before .before .before .before .before .before .before .before .if3 .left,
+      c .before .before .before .before .before .before .before .before .before .if2 .left,
+    )) (c .before .before .before .before .before .before .before .if4 .left)
+    (answered-yes (c .before .before .before .before .before .before .kinds-good .ensures)
+    (c .before .before .before .before .before .if5 .left)) (c .before .before .before .before .if6 .left)
+    (c .before .before .lay .ensures .0) (c .before .before .lay .ensures .1)
 
 pub records-spec : {M : Type 1} → statement M
 records-spec =

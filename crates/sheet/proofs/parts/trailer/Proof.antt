@@ -25,11 +25,19 @@ slice-aggregate-copy : tie.Need-slice-aggregate-copy
 slice-aggregate-copy c = simp length-take (omega (arith, c .before .before .if3 .left))
 
 copy-requires : tie.Need-copy-requires
-copy-requires c κs = let size = ap length (c .before .before .trailer-of .ensures) ∙ length-trailer _ _ _ in simp length-take (omega (arith, c .before .before .before .if3 .left))
+copy-requires c κs = let size = ap length (c .before .before .trailer-of .ensures) ∙ length-trailer _ _ _ in
+    simp length-take (omega (arith, c .before .before .before .if3 .left))
 
 returns-4 : tie.Need-returns-4
 unfolding trailerLaid
-returns-4 c = rw (le-ltb _ _ (c .before .before .before .before .before .before .before .before .if1 .left), le-ltb 1 _ (c .before .before .before .before .before .before .before .if2 .left), le-ltb _ 16 (c .before .before .before .before .before .before .if3 .left), c .before .before .copy .ensures, c .before .before .before .before .before .trailer-of .ensures)
+returns-4 c =
+    rw (
+      le-ltb _ _ (c .before .before .before .before .before .before .before .before .if1 .left),
+      le-ltb 1 _ (c .before .before .before .before .before .before .before .if2 .left),
+      le-ltb _ 16 (c .before .before .before .before .before .before .if3 .left),
+      c .before .before .copy .ensures,
+      c .before .before .before .before .before .trailer-of .ensures,
+    )
 
 pub trailer-spec : {M : Type 1} → statement M
 trailer-spec =

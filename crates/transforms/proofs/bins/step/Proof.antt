@@ -9,7 +9,8 @@ returns : tie.Need-returns
 returns c =
     let first = c .before .before .before .before .before .before .before in
     let pre = first .pre in
-    bin-stepped (first .args .x .now) _ _ _ (pre .1 .small) (pre .0 .2) (pre .1 .sums) (c .before .before .before .before .read .ensures) (c .before .before .read2 .ensures)
+    bin-stepped (first .args .x .now) _ _ _ (pre .1 .small) (pre .0 .2) (pre .1 .sums)
+    (c .before .before .before .before .read .ensures) (c .before .before .read2 .ensures)
     (c .before .before .before .times .ensures) (c .before .times2 .ensures) (c .add-terms .ensures)
 
 pub step-spec : {M : Type 1} → statement M

@@ -1,6 +1,6 @@
 -- `transforms::lanes::all_of` meets its contract, by computing. Assumes nothing.
 use mathlib.Core.Path.{refl}
-use Rattle.transforms.specs.Parts.{sumsOf}
+use Rattle.transforms.specs.Private.{sumsOf}
 use Rattle.transforms.proofs.lanes.all_of.Statement.{statement}
 use Rattle.transforms.proofs.lanes.all_of.Tie as tie
 

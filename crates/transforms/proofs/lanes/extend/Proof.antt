@@ -6,7 +6,8 @@ use Rattle.transforms.proofs.lanes.extend.Statement.{statement}
 use Rattle.transforms.proofs.lanes.extend.Tie as tie
 
 abbrev Inv-loop : tie.InvT-loop
-Inv-loop table₀ cosine i₀ table i = (i ≤ 1200) × (length table₀ ≡ 1200) × Filling (λ j. getD cosine (j % 960) nan) table₀ i table
+Inv-loop table₀ cosine i₀ table i =
+    (i ≤ 1200) × (length table₀ ≡ 1200) × Filling (λ j. getD cosine (j % 960) nan) table₀ i table
 
 abbrev μ-loop : tie.MeasureT-loop
 μ-loop table₀ cosine i₀ table i = 1200 - i
@@ -24,6 +25,9 @@ extend-spec =
     (λ c. search fills)  -- slice-write-table
     (λ c. search fills)  -- add-i
     (λ c. search fills)  -- loop-less
-    (λ c. let l = c .before .before .loop in (omega arith, l .inv .1, filling-more _ _ _ (l .inv .2) (omega arith) refl))  -- loop-again
+    (λ c.
+    let l = c .before .before .loop in
+    (omega arith, l .inv .1, filling-more _ _ _ (l .inv .2) (omega arith) refl))  -- loop-again
     (λ c. search fills)  -- same-length
-    (λ c. filling-ended _ _ _ 1200 (omega arith) (omega arith) (c .before .loop .inv .1) (c .before .loop .inv .2)))  -- returns
+    (λ c. filling-ended _ _ _ 1200 (omega arith) (omega arith) (c .before .loop .inv .1)
+    (c .before .loop .inv .2)))  -- returns

@@ -17,6 +17,12 @@ next-spec =
     (λ c. omega (arith, small _ _ _ (c .before .before .before .before .before .pre .0)))  -- add-wrapped-5
     (λ c κs. omega (arith, small _ _ _ (c .before .before .before .before .before .pre .0)))  -- wrapped-requires-3
     (λ c. omega (arith, small _ _ _ (c .before .before .before .before .before .before .pre .0)))  -- add-wrapped-6
-    (λ c. omega (arith, small _ _ _ (c .before .before .before .before .before .before .before .pre .0)))  -- add-wrapped-7
-    (λ c κs. omega (arith, small _ _ _ (c .before .before .before .before .before .before .before .pre .0)))  -- wrapped-requires-4
-    (λ c. cc (next-places _ _ _ (c .before .before .before .before .before .before .before .before .pre .0))))  -- returns
+    (λ c.
+    omega (arith, small _ _ _ (c .before .before .before .before .before .before .before .pre .0)))  -- add-wrapped-7
+    (λ c κs.
+    omega (
+      arith,
+      small _ _ _ (c .before .before .before .before .before .before .before .pre .0),
+    ))  -- wrapped-requires-4
+    (λ c.
+    cc (next-places _ _ _ (c .before .before .before .before .before .before .before .before .pre .0))))  -- returns

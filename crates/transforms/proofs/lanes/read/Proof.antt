@@ -17,7 +17,14 @@ read-spec =
     (λ c. omega (arith, small _ _ _ (c .before .before .before .before .before .pre .1)))  -- mul-t14
     (λ c. omega (arith, small _ _ _ (c .before .before .before .before .before .pre .1)))  -- element-copy-out-t17
     (λ c. omega (arith, small _ _ _ (c .before .before .before .before .before .before .pre .1)))  -- mul-t18
-    (λ c. omega (arith, small _ _ _ (c .before .before .before .before .before .before .pre .1)))  -- element-copy-out-t21
+    (λ c.
+    omega (arith, small _ _ _ (c .before .before .before .before .before .before .pre .1)))  -- element-copy-out-t21
     (λ c. omega (arith, small _ _ _ (c .before .before .before .before .before .before .before .pre .1)))  -- mul-t22
-    (λ c. omega (arith, small _ _ _ (c .before .before .before .before .before .before .before .pre .1)))  -- element-copy-out-t25
-    (λ c. let pre = c .before .before .before .before .before .before .before .before .pre in read-four _ _ _ _ _ (pre .0) (pre .1) (pre .2)))  -- returns
+    (λ c.
+    omega (
+      arith,
+      small _ _ _ (c .before .before .before .before .before .before .before .pre .1),
+    ))  -- element-copy-out-t25
+    (λ c.
+    let pre = c .before .before .before .before .before .before .before .before .pre in
+    read-four _ _ _ _ _ (pre .0) (pre .1) (pre .2)))  -- returns

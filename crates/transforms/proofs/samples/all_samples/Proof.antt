@@ -2,7 +2,7 @@
 use Rattle.rules.proofs.Common.{_+_, _-_, _*_, _≤_, _≡_, refl, _∙_, length}
 use native.Mathlib.Omega.{arith}
 use borrow.Author.Needs.{needs}
-use Rattle.transforms.specs.Parts.{Keeps, wholePart}
+use Rattle.transforms.specs.Private.{Keeps, wholePart}
 use Rattle.transforms.proofs.Stored.{none-kept}
 use Rattle.transforms.proofs.samples.all_samples.Statement.{statement}
 use Rattle.transforms.proofs.samples.all_samples.Tie as tie
@@ -21,14 +21,21 @@ all-samples-spec =
     μ-loop
     (λ c. (omega arith, c .before .before .pre .0, none-kept _ _))  -- loop-holds
     (λ c. search needs)  -- mul-four-samples
-    (λ c κs. (c .before .before .before .before .pre .1 .0, c .before .before .before .before .pre .1 .1, omega arith))  -- four-samples-requires
+    (λ c κs. (
+      c .before .before .before .before .pre .1 .0,
+      c .before .before .before .before .pre .1 .1,
+      omega arith,
+    ))  -- four-samples-requires
     (λ c. search needs)  -- mul-put
     (λ c κs. (c .before .before .before .loop .inv .1, omega arith))  -- put-requires
     (λ c. search needs)  -- add-g
     (λ c. search needs)  -- loop-less
     (λ c. let l = c .before .before .before .before .before .before .loop in
     let next : 32 * (l .g) + 32 ≡ 32 * (l .g + 1) = omega arith in
-    let put = c .before .before .put in
-    (omega arith, put .kept .0 ∙ l .inv .1, rw next at (put .ensures _ _ refl (c .before .before .before .before .four-samples .ensures) (l .inv .2))))  -- loop-again
+    let put = c .before .before .put in (
+      omega arith,
+      put .kept .0 ∙ l .inv .1,
+      rw next at (put .ensures _ _ refl (c .before .before .before .before .four-samples .ensures) (l .inv .2)),
+    ))  -- loop-again
     (λ c. search needs)  -- same-length
     (λ c. let l = c .before .loop in let end : 32 * (l .g) ≡ 992 = omega arith in rw end at (l .inv .2)))  -- returns

@@ -2,7 +2,7 @@
 use Rattle.rules.proofs.Common.{_+_, _-_, _*_, _≤_, _≡_, _∙_}
 use native.Mathlib.Omega.{arith}
 use borrow.Author.Needs.{needs}
-use Rattle.transforms.specs.Parts.{Reached, samplePart}
+use Rattle.transforms.specs.Private.{Reached, samplePart}
 use Rattle.transforms.proofs.Placed.{places-one}
 use Rattle.transforms.proofs.Terms.{inverse-start}
 use Rattle.transforms.proofs.samples.four_samples.Statement.{statement}
@@ -26,13 +26,19 @@ four-samples-spec =
     (λ c. search needs)  -- add-t11
     (λ c. search needs)  -- add-t12
     (λ c. let first = c .before .before .before in
-    let sums = c .all-of .ensures ∙ inverse-start (first .args .x .now) (first .args .n) in
-    (omega arith, record { by = first .pre .1; small = first .pre .2; sums = sums; here = places-one _ (first .pre .2) }))  -- loop-holds
+    let sums = c .all-of .ensures ∙ inverse-start (first .args .x .now) (first .args .n) in (
+      omega arith,
+      record { by = first .pre .1; small = first .pre .2; sums = sums; here = places-one _ (first .pre .2) },
+    ))  -- loop-holds
     (λ c. search needs)  -- mul-four-steps
     (λ c. search needs)  -- add-four-steps
     (λ c κs. ((search needs, omega arith, omega arith), c .before .loop .inv .1))  -- four-steps-requires
     (λ c. search needs)  -- add-i
     (λ c. search needs)  -- loop-less
-    (λ c. let i = c .before .before .loop .i in let next : 4 * i + 1 + 1 + 1 + 1 + 1 ≡ 4 * (i + 1) + 1 = omega arith in (omega arith, rw next at (c .four-steps .ensures)))  -- loop-again
-    (λ c κs. let l = c .before .loop in let end : 4 * (l .i) + 1 ≡ 477 = omega arith in (search needs, rw end at (l .inv .1)))  -- last-steps-requires
+    (λ c.
+    let i = c .before .before .loop .i in let next : 4 * i + 1 + 1 + 1 + 1 + 1 ≡ 4 * (i + 1) + 1 = omega arith in
+    (omega arith, rw next at (c .four-steps .ensures)))  -- loop-again
+    (λ c κs.
+    let l = c .before .loop in let end : 4 * (l .i) + 1 ≡ 477 = omega arith in
+    (search needs, rw end at (l .inv .1)))  -- last-steps-requires
     (λ c. c .last-steps .ensures))  -- returns

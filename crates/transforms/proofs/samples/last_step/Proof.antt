@@ -9,7 +9,9 @@ returns : tie.Need-returns
 returns c =
     let first = c .before .before .before .before .before .before .before in
     let pre = first .pre in
-    last-stepped (first .args .x .now) (c .before .before .before .before .before .before .shared-slice-known .given 0) _ (pre .1 .small) (pre .1 .sums) (c .before .before .before .before .read .ensures) (c .before .before .read2 .ensures)
+    last-stepped (first .args .x .now)
+    (c .before .before .before .before .before .before .shared-slice-known .given 0) _ (pre .1 .small) (pre .1 .sums)
+    (c .before .before .before .before .read .ensures) (c .before .before .read2 .ensures)
     (c .before .before .before .times .ensures) (c .before .times2 .ensures) (c .add-terms .ensures)
 
 pub last-step-spec : {M : Type 1} → statement M

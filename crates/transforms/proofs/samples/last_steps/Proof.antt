@@ -15,6 +15,11 @@ last-steps-spec =
     (λ c κs. search needs)  -- step-requires-2
     (λ c κs. search needs)  -- next-requires-2
     (λ c κs. search needs)  -- step-requires-3
-    (λ c κs. (c .before .next2 .ensures, c .before .before .before .before .before .before .pre .1 .small))  -- next-requires-3
-    (λ c κs. let pre = c .before .before .before .before .before .before .before .pre in (pre .0, onward (pre .1) (c .before .step3 .ensures) (c .next3 .ensures)))  -- last-step-requires
+    (λ c κs. (
+      c .before .next2 .ensures,
+      c .before .before .before .before .before .before .pre .1 .small,
+    ))  -- next-requires-3
+    (λ c κs.
+    let pre = c .before .before .before .before .before .before .before .pre in
+    (pre .0, onward (pre .1) (c .before .step3 .ensures) (c .next3 .ensures)))  -- last-step-requires
     (λ c. search needs))  -- returns

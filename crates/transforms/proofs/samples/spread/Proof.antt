@@ -3,21 +3,23 @@ use Rattle.rules.proofs.Common.{_-_, _≤_, List, _≡_, _∙_, length, length-
 use native.Mathlib.Omega.{arith}
 use Rattle.rules.proofs.Lists.{Filling, fills, filling-begin, filling-more, filling-ended}
 use Rattle.transforms.specs.Transform.{sample, inverseOf}
-use Rattle.transforms.specs.Parts.{Keeps, wholePart}
+use Rattle.transforms.specs.Private.{Keeps, wholePart}
 use Rattle.transforms.proofs.Stored.{kept-at}
 use Rattle.transforms.proofs.samples.spread.Statement.{statement}
 use Rattle.transforms.proofs.samples.spread.Tie as tie
 
 abbrev Inv-loop : tie.InvT-loop
 Inv-loop out₀ parts n₀ out n =
-    (n ≤ 960) × (length out₀ ≡ 960) × (length out ≡ 960) × ((x : List Float) → Keeps (wholePart x) 992 parts → Filling (λ i. sample x i) out₀ n out)
+    (n ≤ 960) × (length out₀ ≡ 960) × (length out ≡ 960)
+    × ((x : List Float) → Keeps (wholePart x) 992 parts → Filling (λ i. sample x i) out₀ n out)
 
 abbrev μ-loop : tie.MeasureT-loop
 μ-loop out₀ parts n₀ out n = 960 - n
 
 returns : tie.Need-returns Inv-loop μ-loop
 unfolding inverseOf
-returns c x k = filling-ended _ _ _ 960 (omega arith) (omega arith) (c .before .loop .inv .1) (c .before .loop .inv .3 x k)
+returns c x k =
+    filling-ended _ _ _ 960 (omega arith) (omega arith) (c .before .loop .inv .1) (c .before .loop .inv .3 x k)
 
 pub spread-spec : {M : Type 1} → statement M
 spread-spec =
@@ -34,7 +36,11 @@ spread-spec =
     (λ c. search fills)  -- add-n
     (λ c. search fills)  -- loop-less
     (λ c. let l = c .before .before .before .loop in
-    let spot = c .before .sample-spot .ensures in
-    (omega arith, l .inv .1, simp length-set (l .inv .2), λ x k. filling-more _ _ _ (l .inv .3 x k) (omega arith) (kept-at (wholePart x) _ _ (spot .0) k ∙ spot .1 x)))  -- loop-again
+    let spot = c .before .sample-spot .ensures in (
+      omega arith,
+      l .inv .1,
+      simp length-set (l .inv .2),
+      λ x k. filling-more _ _ _ (l .inv .3 x k) (omega arith) (kept-at (wholePart x) _ _ (spot .0) k ∙ spot .1 x),
+    ))  -- loop-again
     (λ c. search fills)  -- same-length
     returns)

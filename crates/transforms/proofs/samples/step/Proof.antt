@@ -11,8 +11,10 @@ returns c =
     let pre = first .pre in
     let known = c .before .before .before .before .before .before .before .before .before .before .shared-slice-known in
     sample-stepped (first .args .x .now) (known .given 0) _ (pre .1 .small) _ _ (pre .0 .3) (pre .1 .sums)
-    (c .before .before .before .before .before .before .before .read .ensures) (c .before .before .before .before .before .before .read2 .ensures) (pre .0 .1)
-    (c .before .before .before .before .before .times .ensures) (c .before .before .before .before .times2 .ensures) (c .before .before .before .add-terms .ensures)
+    (c .before .before .before .before .before .before .before .read .ensures)
+    (c .before .before .before .before .before .before .read2 .ensures) (pre .0 .1)
+    (c .before .before .before .before .before .times .ensures) (c .before .before .before .before .times2 .ensures)
+    (c .before .before .before .add-terms .ensures)
     (c .before .before .times3 .ensures) (c .before .times4 .ensures) (c .add-terms2 .ensures)
 
 pub step-spec : {M : Type 1} → statement M
@@ -29,8 +31,14 @@ step-spec =
     (λ c κs. search needs)  -- read-requires-2
     (λ c κs. search needs)  -- times-requires
     (λ c κs. search needs)  -- times-requires-2
-    (λ c κs. (omega (arith, c .before .before .before .before .before .before .before .pre .0 .3), omega arith))  -- add-terms-requires
+    (λ c κs. (
+      omega (arith, c .before .before .before .before .before .before .before .pre .0 .3),
+      omega arith,
+    ))  -- add-terms-requires
     (λ c κs. search needs)  -- times-requires-3
     (λ c κs. search needs)  -- times-requires-4
-    (λ c κs. (omega (arith, c .before .before .before .before .before .before .before .before .before .before .pre .0 .3), omega arith))  -- add-terms-requires-2
+    (λ c κs. (
+      omega (arith, c .before .before .before .before .before .before .before .before .before .before .pre .0 .3),
+      omega arith,
+    ))  -- add-terms-requires-2
     returns)

@@ -6,7 +6,8 @@ use Rattle.wav.proofs.bytes.four_at.Statement.{statement}
 use Rattle.wav.proofs.bytes.four_at.Tie as tie
 
 returns : tie.Need-returns
-returns c = let a = c .before .before .before .before .before .before .args in (c .joined .ensures .0 ∙ sym (four-at (now (a .bytes)) (a .at)), c .joined .ensures .1)
+returns c = let a = c .before .before .before .before .before .before .args in
+    (c .joined .ensures .0 ∙ sym (four-at (now (a .bytes)) (a .at)), c .joined .ensures .1)
 
 pub four-at-spec : {M : Type 1} → statement M
 four-at-spec =

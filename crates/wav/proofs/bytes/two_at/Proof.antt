@@ -16,10 +16,22 @@ mul-result : tie.Need-mul-result
 mul-result c = omega (arith, c .shared-slice-known2 .given (c .before .before .args .at + 1))
 
 add-result-2 : tie.Need-add-result-2
-add-result-2 c = omega (arith, c .shared-slice-known2 .given (c .before .before .args .at), c .shared-slice-known2 .given (c .before .before .args .at + 1))
+add-result-2 c =
+    omega (
+      arith,
+      c .shared-slice-known2 .given (c .before .before .args .at),
+      c .shared-slice-known2 .given (c .before .before .args .at + 1),
+    )
 
 returns : tie.Need-returns
-returns c = (sym (two-at (now (c .before .before .args .bytes)) (c .before .before .args .at)), omega (arith, c .shared-slice-known2 .given (c .before .before .args .at), c .shared-slice-known2 .given (c .before .before .args .at + 1)))
+returns c = (
+  sym (two-at (now (c .before .before .args .bytes)) (c .before .before .args .at)),
+  omega (
+    arith,
+    c .shared-slice-known2 .given (c .before .before .args .at),
+    c .shared-slice-known2 .given (c .before .before .args .at + 1),
+  ),
+)
 
 pub two-at-spec : {M : Type 1} → statement M
 two-at-spec =

@@ -12,19 +12,42 @@ returns-2 : tie.Need-returns-2
 returns-2 c = chunk-42′ _ _ (c .before .before .if1 .left) (c .if2 .taken)
 
 returns-3 : tie.Need-returns-3
-returns-3 c = chunk-43 _ _ (c .before .before .before .before .before .before .before .if1 .left) (c .before .before .before .before .before .if2 .left) (c .before .before .before .before .four-at .ensures .0) (c .before .before .before .four-at2 .ensures .0) (c .before .before .if3 .taken) (c .if4 .taken)
+returns-3 c =
+    chunk-43 _ _ (c .before .before .before .before .before .before .before .if1 .left)
+    (c .before .before .before .before .before .if2 .left) (c .before .before .before .before .four-at .ensures .0)
+    (c .before .before .before .four-at2 .ensures .0) (c .before .before .if3 .taken) (c .if4 .taken)
 
 returns-4 : tie.Need-returns-4
-returns-4 c = chunk-audio _ _ (c .before .before .before .before .before .before .before .before .if1 .left) (c .before .before .before .before .before .before .if2 .left) (c .before .before .before .before .before .four-at .ensures .0) (c .before .before .before .before .four-at2 .ensures .0) (c .before .before .before .if3 .taken) (c .before .if4 .left)
+returns-4 c =
+    chunk-audio _ _ (c .before .before .before .before .before .before .before .before .if1 .left)
+    (c .before .before .before .before .before .before .if2 .left)
+    (c .before .before .before .before .before .four-at .ensures .0)
+    (c .before .before .before .before .four-at2 .ensures .0) (c .before .before .before .if3 .taken)
+    (c .before .if4 .left)
 
 returns-5 : tie.Need-returns-5
-returns-5 c = chunk-on _ _ (c .before .before .before .before .before .before .before .if1 .left) (c .before .before .before .before .before .if2 .left) (c .before .before .before .before .four-at .ensures .0) (c .before .before .before .four-at2 .ensures .0) (c .before .before .if3 .left) (c .before .if5 .taken) (c .pass .ensures)
+returns-5 c =
+    chunk-on _ _ (c .before .before .before .before .before .before .before .if1 .left)
+    (c .before .before .before .before .before .if2 .left) (c .before .before .before .before .four-at .ensures .0)
+    (c .before .before .before .four-at2 .ensures .0) (c .before .before .if3 .left) (c .before .if5 .taken)
+    (c .pass .ensures)
 
 returns-6 : tie.Need-returns-6
-returns-6 c = chunk-again _ _ (c .before .before .before .before .before .before .before .before .before .if1 .left) (c .before .before .before .before .before .before .before .if2 .left) (c .before .before .before .before .before .before .four-at .ensures .0) (c .before .before .before .before .before .four-at2 .ensures .0) (c .before .before .before .before .if3 .left) (c .before .before .before .if5 .left) (c .before .if6 .taken) (c .pass2 .ensures)
+returns-6 c =
+    chunk-again _ _ (c .before .before .before .before .before .before .before .before .before .if1 .left)
+    (c .before .before .before .before .before .before .before .if2 .left)
+    (c .before .before .before .before .before .before .four-at .ensures .0)
+    (c .before .before .before .before .before .four-at2 .ensures .0) (c .before .before .before .before .if3 .left)
+    (c .before .before .before .if5 .left) (c .before .if6 .taken) (c .pass2 .ensures)
 
 returns-7 : tie.Need-returns-7
-returns-7 c = c .format .ensures ∙ chunk-format _ _ (c .before .before .before .before .before .before .before .before .before .if1 .left) (c .before .before .before .before .before .before .before .if2 .left) (c .before .before .before .before .before .before .four-at .ensures .0) (c .before .before .before .before .before .four-at2 .ensures .0) (c .before .before .before .before .if3 .left) (c .before .before .before .if5 .left) (c .before .if6 .left)
+returns-7 c =
+    c .format .ensures ∙ chunk-format
+    _ _ (c .before .before .before .before .before .before .before .before .before .if1 .left)
+    (c .before .before .before .before .before .before .before .if2 .left)
+    (c .before .before .before .before .before .before .four-at .ensures .0)
+    (c .before .before .before .before .before .four-at2 .ensures .0) (c .before .before .before .before .if3 .left)
+    (c .before .before .before .if5 .left) (c .before .if6 .left)
 
 pub chunk-spec : {M : Type 1} → statement M
 chunk-spec =

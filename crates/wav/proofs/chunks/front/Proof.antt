@@ -11,10 +11,14 @@ returns-2 : tie.Need-returns-2
 returns-2 c = at-41′ _ (c .before .before .if1 .left) (c .before .four-at .ensures .0) (c .if2 .taken)
 
 returns-3 : tie.Need-returns-3
-returns-3 c = at-41″ _ (c .before .before .before .before .if1 .left) (c .before .before .before .four-at .ensures .0) (c .before .before .if2 .left) (c .before .four-at2 .ensures .0) (c .if3 .taken)
+returns-3 c =
+    at-41″ _ (c .before .before .before .before .if1 .left) (c .before .before .before .four-at .ensures .0)
+    (c .before .before .if2 .left) (c .before .four-at2 .ensures .0) (c .if3 .taken)
 
 returns-4 : tie.Need-returns-4
-returns-4 c = at-first _ (c .before .before .before .before .if1 .left) (c .before .before .before .four-at .ensures .0) (c .before .before .if2 .left) (c .before .four-at2 .ensures .0) (c .if3 .left)
+returns-4 c =
+    at-first _ (c .before .before .before .before .if1 .left) (c .before .before .before .four-at .ensures .0)
+    (c .before .before .if2 .left) (c .before .four-at2 .ensures .0) (c .if3 .left)
 
 pub front-spec : {M : Type 1} → statement M
 front-spec =

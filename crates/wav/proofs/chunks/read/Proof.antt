@@ -14,15 +14,33 @@ returns c = search tests
 
 returns-2 : tie.Need-returns-2
 unfolding stepTold
-returns-2 c = rw (eq-eqb _ 5 (c .before .before .before .before .before .before .before .before .before .before .before .before .before .if1 .left), ← sym (c .before .before .before .before .before .found .given .1) ∙ c .before .before .before .before .before .before .before .go-on .ensures) (leaves (c .before .before .tell .ensures))
+returns-2 c =
+    rw (
+      eq-eqb _ 5
+          (c .before .before .before .before .before .before .before .before .before .before .before .before .before
+          .if1 .left),
+      ← sym (c .before .before .before .before .before .found .given .1)
+          ∙ c .before .before .before .before .before .before .before .go-on .ensures,
+    ) (leaves (c .before .before .tell .ensures))
 
 returns-3 : tie.Need-returns-3
 unfolding stepTold
-returns-3 c = rw (eq-eqb _ 5 (c .before .before .before .before .before .before .before .before .before .before .before .before .before .if1 .left), ← sym (c .before .before .before .before .before .next .given .1) ∙ c .before .before .before .before .before .before .before .go-on .ensures) (leaves (c .before .before .tell2 .ensures))
+returns-3 c =
+    rw (
+      eq-eqb _ 5
+          (c .before .before .before .before .before .before .before .before .before .before .before .before .before
+          .if1 .left),
+      ← sym (c .before .before .before .before .before .next .given .1)
+          ∙ c .before .before .before .before .before .before .before .go-on .ensures,
+    ) (leaves (c .before .before .tell2 .ensures))
 
 returns-4 : tie.Need-returns-4
 unfolding stepTold
-returns-4 c = rw (eq-eqb _ 5 (c .before .before .before .before .before .before .before .before .before .if1 .left), ← sym (c .before .number .given .1) ∙ c .before .before .before .go-on .ensures)
+returns-4 c =
+    rw (
+      eq-eqb _ 5 (c .before .before .before .before .before .before .before .before .before .if1 .left),
+      ← sym (c .before .number .given .1) ∙ c .before .before .before .go-on .ensures,
+    )
 
 pub read-spec : {M : Type 1} → statement M
 read-spec =

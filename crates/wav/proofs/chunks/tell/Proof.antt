@@ -10,7 +10,8 @@ slice-write-numbers-5 : tie.Need-slice-write-numbers-5
 slice-write-numbers-5 c = simp length-set (omega (arith, c .pre))
 
 returns : tie.Need-returns
-returns c = let h = c .args .head in all-stored (now (c .args .numbers)) (h .place ∷ h .format ∷ h .channels ∷ h .rate ∷ h .size ∷ []) (c .pre)
+returns c = let h = c .args .head in
+    all-stored (now (c .args .numbers)) (h .place ∷ h .format ∷ h .channels ∷ h .rate ∷ h .size ∷ []) (c .pre)
 
 pub tell-spec : {M : Type 1} → statement M
 tell-spec =

@@ -13,7 +13,9 @@ returns c = search tests
 
 returns-2 : tie.Need-returns-2
 unfolding headWritten
-returns-2 c = rw (eq-eqb _ 44 (c .before .before .before .before .before .before .if1 .left)) (leaves (c .before .before .copy .ensures ∙ c .before .before .before .before .before .head-of .ensures))
+returns-2 c =
+    rw (eq-eqb _ 44 (c .before .before .before .before .before .before .if1 .left))
+    (leaves (c .before .before .copy .ensures ∙ c .before .before .before .before .before .head-of .ensures))
 
 pub write-spec : {M : Type 1} → statement M
 write-spec =

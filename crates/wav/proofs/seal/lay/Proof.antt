@@ -11,12 +11,24 @@ slice-aggregate-copy : tie.Need-slice-aggregate-copy
 slice-aggregate-copy c = simp length-take (omega arith)
 
 copy-requires : tie.Need-copy-requires
-copy-requires c κs = let size = ap length (c .before .before .before .before .before .said-by .ensures) ∙ length-said _ _ in simp length-take (omega arith)
+copy-requires c κs = let size = ap length (c .before .before .before .before .before .said-by .ensures)
+    ∙ length-said _ _ in simp length-take (omega arith)
 
 returns : tie.Need-returns
 returns c =
-    let a = c .before .before .before .before .before .before .before .before .before .before .before .before .before .before .before .args in
-    laid (a .word) (a .seal) (now (a .out)) (c .before .before .before .before .before .before .before .before .before .before .before .before .before .before .before .pre) (c .before .before .before .before .before .before .before .copy .ensures ∙ c .before .before .before .before .before .before .before .before .before .before .before .before .before .said-by .ensures) (c .before .before .copy2 .ensures ∙ c .before .before .before .before .before .before .before .before .before .before .four-of .ensures) (c .before .before .before .before .before .before .before .before .before .before .before .crc32 .ensures ∙ ap (crc32 0) (c .before .before .before .before .before .before .before .before .before .before .before .before .before .said-by .ensures))
+    let a =
+    c .before .before .before .before .before .before .before .before .before .before .before .before .before .before
+    .before .args in
+    laid (a .word) (a .seal) (now (a .out))
+    (c .before .before .before .before .before .before .before .before .before .before .before .before .before .before
+    .before .pre) (c .before .before .before .before .before .before .before .copy .ensures
+    ∙ c .before .before .before .before .before .before .before .before .before .before .before .before .before .said-by
+    .ensures) (c .before .before .copy2 .ensures
+    ∙ c .before .before .before .before .before .before .before .before .before .before .four-of .ensures)
+    (c .before .before .before .before .before .before .before .before .before .before .before .crc32 .ensures
+    ∙ ap (crc32 0)
+    (c .before .before .before .before .before .before .before .before .before .before .before .before .before .said-by
+    .ensures))
 
 pub lay-spec : {M : Type 1} → statement M
 lay-spec =

@@ -5,7 +5,8 @@ use Rattle.wav.proofs.seal.said_by.Tie as tie
 
 returns : tie.Need-returns
 unfolding said
-returns c = rw (← c .before .before .before .word-of .ensures, ← c .before .before .letters .ensures) (c .twenty .ensures)
+returns c =
+    rw (← c .before .before .before .word-of .ensures, ← c .before .before .letters .ensures) (c .twenty .ensures)
 
 pub said-by-spec : {M : Type 1} → statement M
 said-by-spec =

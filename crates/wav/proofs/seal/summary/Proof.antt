@@ -18,12 +18,21 @@ returns-2 : tie.Need-returns-2
 unfolding sealSummary
 returns-2 c =
     let s = c .before .before .before .seal .given .0 .0 in
-    rw (c .before .number .ensures .0, eq-eqb _ 3 (c .before .before .before .before .before .before .if1 .left), ← sym (c .before .before .before .seal .given .1) ∙ c .before .before .before .before .before .read .ensures)
-    (leaves (all-stored (now (c .before .before .before .before .before .before .before .before .before .args .numbers)) (numberOf (s .side) ∷ s .long ∷ s .short ∷ []) (c .before .before .before .before .before .before .if1 .left)))
+    rw (
+      c .before .number .ensures .0,
+      eq-eqb _ 3 (c .before .before .before .before .before .before .if1 .left),
+      ← sym (c .before .before .before .seal .given .1) ∙ c .before .before .before .before .before .read .ensures,
+    )
+    (leaves (all-stored (now (c .before .before .before .before .before .before .before .before .before .args .numbers))
+    (numberOf (s .side) ∷ s .long ∷ s .short ∷ []) (c .before .before .before .before .before .before .if1 .left)))
 
 returns-3 : tie.Need-returns-3
 unfolding sealSummary
-returns-3 c = rw (eq-eqb _ 3 (c .before .before .before .before .if1 .left), ← sym (c .before .number2 .given .1) ∙ c .before .before .before .read .ensures)
+returns-3 c =
+    rw (
+      eq-eqb _ 3 (c .before .before .before .before .if1 .left),
+      ← sym (c .before .number2 .given .1) ∙ c .before .before .before .read .ensures,
+    )
 
 pub summary-spec : {M : Type 1} → statement M
 summary-spec =

@@ -8,14 +8,29 @@ use Rattle.wav.proofs.seal.twenty.Tie as tie
 returns : tie.Need-returns
 unfolding four
 returns c =
-    also (c .before .before .before .before .before .before .before .before .before .before .before .before .before .before .before .before .before .before .before .low .ensures)
-    (also (c .before .before .before .before .before .before .before .before .before .before .before .before .before .before .before .before .before .before .low2 .ensures)
-    (also (c .before .before .before .before .before .before .before .before .before .before .before .before .before .before .before .before .before .low3 .ensures)
-    (also (c .before .before .before .before .before .before .before .before .before .before .before .before .before .before .before .before .low4 .ensures)
-    (also (c .before .before .before .before .before .before .before .before .before .before .before .before .before .before .before .low5 .ensures)
-    (also (c .before .before .before .before .before .before .before .before .before .before .before .before .before .before .low6 .ensures)
-    (also (c .before .before .before .before .before .before .before .before .before .before .before .before .before .low7 .ensures)
-    (also (c .before .before .before .before .before .before .before .before .before .before .before .before .low8 .ensures)
+    also
+    (c .before .before .before .before .before .before .before .before .before .before .before .before .before .before
+    .before .before .before .before .before .low .ensures)
+    (also
+    (c .before .before .before .before .before .before .before .before .before .before .before .before .before .before
+    .before .before .before .before .low2 .ensures)
+    (also
+    (c .before .before .before .before .before .before .before .before .before .before .before .before .before .before
+    .before .before .before .low3 .ensures)
+    (also
+    (c .before .before .before .before .before .before .before .before .before .before .before .before .before .before
+    .before .before .low4 .ensures)
+    (also
+    (c .before .before .before .before .before .before .before .before .before .before .before .before .before .before
+    .before .low5 .ensures)
+    (also
+    (c .before .before .before .before .before .before .before .before .before .before .before .before .before .before
+    .low6 .ensures)
+    (also
+    (c .before .before .before .before .before .before .before .before .before .before .before .before .before .low7
+    .ensures)
+    (also
+    (c .before .before .before .before .before .before .before .before .before .before .before .before .low8 .ensures)
     (also (c .before .before .before .before .before .before .before .before .before .before .before .low9 .ensures)
     (also (c .before .before .before .before .before .before .before .before .before .before .low10 .ensures)
     (also (c .before .before .before .before .before .before .before .before .before .low11 .ensures)

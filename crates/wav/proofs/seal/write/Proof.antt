@@ -13,5 +13,8 @@ write-spec =
     (λ c κs. search needs)  -- lay-requires
     (λ c. search needs)  -- enum-told
     (λ c. search needs)  -- same-length
-    (λ c. write-done _ _ _ _ _ (c .before .before .before .before .before .before .before .before .if1 .left) (c .before .before .before .before .before .before .before .of-number .ensures) (search needs) (c .before .before .lay .ensures))  -- returns-2
-    (λ c. write-53 _ _ _ _ _ (c .before .before .before .if1 .left) (c .before .before .of-number .ensures) (search needs)))  -- returns-3
+    (λ c. write-done _ _ _ _ _ (c .before .before .before .before .before .before .before .before .if1 .left)
+    (c .before .before .before .before .before .before .before .of-number .ensures) (search needs)
+    (c .before .before .lay .ensures))  -- returns-2
+    (λ c. write-53 _ _ _ _ _ (c .before .before .before .if1 .left) (c .before .before .of-number .ensures)
+    (search needs)))  -- returns-3

@@ -20,15 +20,18 @@ known : (c : tie.Else1) → let a = c .before .before .before .before .before .b
     Frame BENCHES (a .side .0) (a .rec) (now (a .store)) (now (a .samples)) (now (a .model)) (length (now (a .out)))
 known c =
     let a = c .before .before .before .before .before .before .before .args in
-    frame-known BENCHES (a .side .0) (a .rec) (now (a .store)) (now (a .samples)) (now (a .model)) (length (now (a .out)))
+    frame-known BENCHES (a .side .0) (a .rec) (now (a .store)) (now (a .samples)) (now (a .model))
+    (length (now (a .out)))
     (c .before .before .frame-reply .ensures) (answered-yes (c .before .passed .ensures) (c .if1 .left))
 
-inside : (c : tie.Else1) → let a = c .before .before .before .before .before .before .before .args in (a .side .0 < BENCHES) × (length (now (a .store)) ≡ BENCHES * SHARE)
-inside c = let a = c .before .before .before .before .before .before .before .args in through BENCHES (a .side .0) (a .rec) (length (now (a .store))) 1 (known c .gated)
+inside : (c : tie.Else1) → let a = c .before .before .before .before .before .before .before .args in
+    (a .side .0 < BENCHES) × (length (now (a .store)) ≡ BENCHES * SHARE)
+inside c = let a = c .before .before .before .before .before .before .before .args in
+    through BENCHES (a .side .0) (a .rec) (length (now (a .store))) 1 (known c .gated)
 
-speak-requires : tie.Need-speak-requires
+process-frame-requires : tie.Need-process-frame-requires
 unfolding get
-speak-requires c κs =
+process-frame-requires c κs =
     let e = c .before .before .before in
     let a = e .before .before .before .before .before .before .before .args in
     frame-ready BENCHES (a .side .0) (a .rec) (now (a .store)) (now (a .samples)) (now (a .model)) (known e)
@@ -38,7 +41,8 @@ unfolding frame
 returns c =
     let r = c .before .before in
     let a = r .before .before .before .before .before .args in
-    refused _ (a .side .0) (a .rec) (now (a .store)) (λ share. frameOn (a .rec) share (now (a .samples)) (ourLent (now (a .model)))) (r .frame-reply .ensures)
+    refused _ (a .side .0) (a .rec) (now (a .store))
+    (λ share. frameOn (a .rec) share (now (a .samples)) (ourLent (now (a .model)))) (r .frame-reply .ensures)
     (answered-no (c .before .passed .ensures) (c .if1 .taken))
 
 returns-2 : tie.Need-returns-2
@@ -48,8 +52,9 @@ returns-2 c =
     let e = d .before .before .before .before in
     let r = e .before .before in
     let a = r .before .before .before .before .before .args in
-    done-there _ (a .side .0) (a .rec) (now (a .store)) (λ share. frameOn (a .rec) share (now (a .samples)) (ourLent (now (a .model)))) (r .frame-reply .ensures)
-    (answered-yes (e .before .passed .ensures) (e .if1 .left)) (d .speak .ensures)
+    done-there _ (a .side .0) (a .rec) (now (a .store))
+    (λ share. frameOn (a .rec) share (now (a .samples)) (ourLent (now (a .model)))) (r .frame-reply .ensures)
+    (answered-yes (e .before .passed .ensures) (e .if1 .left)) (d .process-frame .ensures)
 
 pub frame-spec : {M : Type 1} → statement M
 frame-spec =
@@ -60,11 +65,11 @@ frame-spec =
     returns
     (λ c. omega (arith, inside (c .before)))  -- mul-start
     (λ c. omega (arith, inside (c .before)))  -- add-end
-    (λ c. omega (arith, inside (c .before)))  -- mul-speak
-    (λ c. omega (arith, inside (c .before)))  -- sub-speak
-    (λ c. omega (arith, inside (c .before)))  -- part-speak-start
-    (λ c. omega (arith, inside (c .before)))  -- part-speak-end
-    speak-requires
+    (λ c. omega (arith, inside (c .before)))  -- mul-process-frame
+    (λ c. omega (arith, inside (c .before)))  -- sub-process-frame
+    (λ c. omega (arith, inside (c .before)))  -- part-process-frame-start
+    (λ c. omega (arith, inside (c .before)))  -- part-process-frame-end
+    process-frame-requires
     (λ c. search needs)  -- same-length
     (λ c. search needs)  -- same-length-2
     returns-2)

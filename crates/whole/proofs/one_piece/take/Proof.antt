@@ -1,4 +1,5 @@
--- `whole::one_piece::take` meets its contract: it is refused, or its samples are dictated over the side's share. Assumes nothing.
+-- `whole::one_piece::take` meets its contract: it is refused, or its samples are dictated over the side's share.
+-- Assumes nothing.
 use borrow.Author.Needs.{needs}
 use native.Mathlib.Omega.{arith}
 use Rattle.rules.proofs.Common.{_*_, _<_, _≡_}
@@ -17,14 +18,18 @@ use Rattle.whole.proofs.one_piece.take.Tie as tie
 
 -- past the tests
 known : (c : tie.Else1) → let a = c .before .before .before .before .before .before .before .before .before .args in
-    Take BENCHES (a .side .0) (a .rec) (now (a .store)) (now (a .piece)) (now (a .model)) (length (now (a .out))) (length (now (a .answers)))
+    Take BENCHES (a .side .0) (a .rec) (now (a .store)) (now (a .piece)) (now (a .model)) (length (now (a .out)))
+    (length (now (a .answers)))
 known c =
     let a = c .before .before .before .before .before .before .before .before .before .args in
-    take-known BENCHES (a .side .0) (a .rec) (now (a .store)) (now (a .piece)) (now (a .model)) (length (now (a .out))) (length (now (a .answers)))
+    take-known BENCHES (a .side .0) (a .rec) (now (a .store)) (now (a .piece)) (now (a .model)) (length (now (a .out)))
+    (length (now (a .answers)))
     (c .before .before .take-reply .ensures) (answered-yes (c .before .passed .ensures) (c .if1 .left))
 
-inside : (c : tie.Else1) → let a = c .before .before .before .before .before .before .before .before .before .args in (a .side .0 < BENCHES) × (length (now (a .store)) ≡ BENCHES * SHARE)
-inside c = let a = c .before .before .before .before .before .before .before .before .before .args in through BENCHES (a .side .0) (a .rec) (length (now (a .store))) 5 (known c .gated)
+inside : (c : tie.Else1) → let a = c .before .before .before .before .before .before .before .before .before .args in
+    (a .side .0 < BENCHES) × (length (now (a .store)) ≡ BENCHES * SHARE)
+inside c = let a = c .before .before .before .before .before .before .before .before .before .args in
+    through BENCHES (a .side .0) (a .rec) (length (now (a .store))) 5 (known c .gated)
 
 dictate-requires : tie.Need-dictate-requires
 unfolding get
@@ -38,7 +43,8 @@ unfolding take
 returns c =
     let r = c .before .before in
     let a = r .before .before .before .before .before .before .before .args in
-    refused _ (a .side .0) (a .rec) (now (a .store)) (λ share. takenOn (a .rec) share (now (a .piece)) (now (a .model))) (r .take-reply .ensures)
+    refused _ (a .side .0) (a .rec) (now (a .store)) (λ share. takenOn (a .rec) share (now (a .piece)) (now (a .model)))
+    (r .take-reply .ensures)
     (answered-no (c .before .passed .ensures) (c .if1 .taken))
 
 returns-2 : tie.Need-returns-2
@@ -48,7 +54,8 @@ returns-2 c =
     let e = d .before .before .before .before .before in
     let r = e .before .before in
     let a = r .before .before .before .before .before .before .before .args in
-    done-there _ (a .side .0) (a .rec) (now (a .store)) (λ share. takenOn (a .rec) share (now (a .piece)) (now (a .model))) (r .take-reply .ensures)
+    done-there _ (a .side .0) (a .rec) (now (a .store))
+    (λ share. takenOn (a .rec) share (now (a .piece)) (now (a .model))) (r .take-reply .ensures)
     (answered-yes (e .before .passed .ensures) (e .if1 .left)) (d .dictate .ensures)
 
 pub take-spec : {M : Type 1} → statement M

@@ -14,7 +14,8 @@ use Rattle.whole.proofs.spoken.gather.Tie as tie
 
 returns : tie.Need-returns
 unfolding get
-returns c = let t = c .before .before .before .before .before in let a = t .before .before .before .before .args in c .before .before .join .ensures ∙ rw (t .if1 .taken, add-sub-cancel-left PART (a .waiting))
+returns c = let t = c .before .before .before .before .before in let a = t .before .before .before .before .args in
+    c .before .before .join .ensures ∙ rw (t .if1 .taken, add-sub-cancel-left PART (a .waiting))
 
 returns-2 : tie.Need-returns-2
 unfolding get
@@ -29,7 +30,8 @@ returns-2 c =
     let ws = waitingIn (a .waiting) (now (a .share)) in
     let long = waiting-length (now (a .share)) (s .pre .0) (a .waiting) (s .pre .1) in
     let rest : drop (480 * a .j) (ws ++ piece) ≡ drop start piece =
-    ap (λ (m : ℕ). drop m (ws ++ piece)) (sym (ap (λ (m : ℕ). m + start) long ∙ sum)) ∙ drop-append-add ws piece start in
+    ap (λ (m : ℕ). drop m (ws ++ piece)) (sym (ap (λ (m : ℕ). m + start) long ∙ sum))
+    ∙ drop-append-add ws piece start in
     c .before .before .join2 .ensures ∙ rw (all, rest)
 
 pub gather-spec : {M : Type 1} → statement M

@@ -18,7 +18,8 @@ returns c =
     let s = g .before .before .before .before .before in
     let share = now (s .args .share) in
     let room : length (take 479 (drop PART share)) ≡ 479 = simp (length-take, length-drop) (omega arith) in
-    ap (put (waitingPlace 479) share) (left (k .copy .ensures) (omega (arith, room, g .gather .kept)) ∙ g .gather .ensures)
+    ap (put (waitingPlace 479) share)
+    (left (k .copy .ensures) (omega (arith, room, g .gather .kept)) ∙ g .gather .ensures)
 
 pub settle-spec : {M : Type 1} → statement M
 settle-spec =

@@ -11,9 +11,9 @@ use Rattle.whole.proofs.Said.{samples-length, gathered, gathered-length
 use Rattle.whole.proofs.spoken.step.Statement.{statement}
 use Rattle.whole.proofs.spoken.step.Tie as tie
 
-speak-requires : tie.Need-speak-requires
+process-frame-requires : tie.Need-process-frame-requires
 unfolding get
-speak-requires c κs =
+process-frame-requires c κs =
     let g = c .before .before .before .before in
     let s = g .before .before .before .before .before .before .before .before in
     let a = s .args in
@@ -28,7 +28,9 @@ speak-requires c κs =
     )
 
 tell-requires : tie.Need-tell-requires
-tell-requires c κs = let r = c .before .before .before .before .before .before .before .before .before .before .before .before .before .before .before .before .before .before .pre .1 in omega (arith, r .places)
+tell-requires c κs = let r =
+    c .before .before .before .before .before .before .before .before .before .before .before .before .before .before
+    .before .before .before .before .pre .1 in omega (arith, r .places)
 
 returns : tie.Need-returns
 unfolding get put
@@ -40,22 +42,26 @@ returns c =
     let a = s .args in
     let r = s .pre .1 in
     let long = samples-length (a .j) (s .pre .0 .whole) r in
-    stepped (a .rec) (now (a .share)) (now (a .model)) (now (a .out)) (a .j) (s .pre .0) (waitingIn (a .waiting) (now (a .share)) ++ now (a .piece)) (now (a .answers)) (gathered _ (a .j) long (g .gather .ensures)) (k .speak .ensures) (t .tell .ensures)
+    stepped (a .rec) (now (a .share)) (now (a .model)) (now (a .out)) (a .j) (s .pre .0)
+    (waitingIn (a .waiting) (now (a .share)) ++ now (a .piece)) (now (a .answers))
+    (gathered _ (a .j) long (g .gather .ensures)) (k .process-frame .ensures) (t .tell .ensures)
 
 pub step-spec : {M : Type 1} → statement M
 step-spec =
     tie.close
     (tie.spec
     (λ c. search needs)  -- slice-aggregate-gather
-    (λ c κs. let r = c .before .before .before .before .before .before .before .pre in (r .0 .whole, r .1 .few, r .1 .short, omega (arith, r .1 .enough)))  -- gather-requires
+    (λ c κs.
+    let r = c .before .before .before .before .before .before .before .pre in
+    (r .0 .whole, r .1 .few, r .1 .short, omega (arith, r .1 .enough)))  -- gather-requires
     (λ c. search needs)  -- mul-start
     (λ c. search needs)  -- add-end
-    (λ c. search needs)  -- slice-aggregate-speak
-    (λ c. search needs)  -- mul-speak
-    (λ c. search needs)  -- sub-speak
-    (λ c. search needs)  -- part-speak-start
-    (λ c. search needs)  -- part-speak-end
-    speak-requires
+    (λ c. search needs)  -- slice-aggregate-process-frame
+    (λ c. search needs)  -- mul-process-frame
+    (λ c. search needs)  -- sub-process-frame
+    (λ c. search needs)  -- part-process-frame-start
+    (λ c. search needs)  -- part-process-frame-end
+    process-frame-requires
     tell-requires
     (λ c. search needs)  -- same-length
     (λ c. search needs)  -- same-length-2

@@ -6,14 +6,15 @@ use Rattle.rules.specs.Leaf.{_leaving_, done, refused}
 use Rattle.rules.proofs.Loops.{turns}
 use Rattle.numbers.specs.declared.filter.Memory.{Memory}
 use Rattle.numbers.specs.Filter.{memoryAfter, outputs, answer}
-use Rattle.numbers.specs.Parts.{memoryIn}
+use Rattle.numbers.specs.Private.{memoryIn}
 use Rattle.numbers.proofs.Outputs.{Filtering, filter-begin, filter-more, filter-ended}
 use Rattle.numbers.proofs.filter.Biquad.filter.Statement.{statement}
 use Rattle.numbers.proofs.filter.Biquad.filter.Tie as tie
 
 abbrev Inv-loop : tie.InvT-loop
 Inv-loop self output₀ input kept₀ i₀ i-end output kept i =
-    (i ≤ i-end) × (i-end ≡ length input) × (length output ≡ length output₀) × Filtering self (memoryIn kept₀) input output₀ i (memoryIn kept) output
+    (i ≤ i-end) × (i-end ≡ length input) × (length output ≡ length output₀)
+    × Filtering self (memoryIn kept₀) input output₀ i (memoryIn kept) output
 
 abbrev μ-loop : tie.MeasureT-loop
 μ-loop self output₀ input kept₀ i₀ i-end output kept i = i-end - i
@@ -32,9 +33,13 @@ returns-2 c =
     let start = w₀ .before .before .before .before in
     let k = start .args .self in
     let xs = start .args .input .now in
-    let e = filter-ended _ _ _ _ _ (l .inv .3) (omega arith) (omega arith) record { first = w₀ .wide .ensures .1; second = w₁ .wide2 .ensures .1 } (c .before .narrow .ensures) (c .narrow2 .ensures) in
-    let same : memoryIn record { m0 = w₀ .wide .result; m1 = w₁ .wide2 .result } ≡ start .args .memory = λ i. record { m0 = w₀ .wide .ensures .0 i; m1 = w₁ .wide2 .ensures .0 i } in
-    done (omega arith) ((λ i. (answer 0 (e .0 i), e .1 i)) ∙ ap (λ (m : Memory). (answer 0 (memoryAfter k m xs) leaving outputs k m xs)) same)
+    let e = filter-ended _ _ _ _ _ (l .inv .3) (omega arith)
+    (omega arith) record { first = w₀ .wide .ensures .1; second = w₁ .wide2 .ensures .1 } (c .before .narrow .ensures)
+    (c .narrow2 .ensures) in
+    let same : memoryIn record { m0 = w₀ .wide .result; m1 = w₁ .wide2 .result } ≡ start .args .memory =
+    λ i. record { m0 = w₀ .wide .ensures .0 i; m1 = w₁ .wide2 .ensures .0 i } in
+    done (omega arith) ((λ i. (answer 0 (e .0 i), e .1 i))
+    ∙ ap (λ (m : Memory). (answer 0 (memoryAfter k m xs) leaving outputs k m xs)) same)
 
 pub filter-spec : {M : Type 1} → statement M
 filter-spec =

@@ -1,0 +1,5 @@
+pub mod InRow
+pub mod Answers
+pub mod GoesOn
+pub mod Whole
+pub mod Goods

@@ -1,0 +1,4 @@
+pub mod Recorder
+pub mod Numbers
+pub mod Private
+pub mod Laws
